@@ -1,0 +1,5 @@
+pub mod Faults
+pub mod Desk
+pub mod Sink
+pub mod MemDesk
+pub mod MemSink

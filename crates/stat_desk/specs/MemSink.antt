@@ -1,0 +1,40 @@
+-- The sink in memory, as its callers see it.
+use Rattle.std.specs.Prelude.{◌==◌, ◌||◌, ◌&&◌, not, ℕ, ◌-◌, ◌^◌, ◌<◌, ◌≤◌, min, length, List, ◌++◌, take, Result, Ok, Err, if◌then◌else◌}
+use Rattle.std.specs.List.{list_any}
+use Rattle.stat_desk.specs.Faults.{next_count}
+use Rattle.stat_desk.specs.declared.sink.SinkError.{SinkError}
+use Rattle.stat_desk.specs.declared.sink.SinkError.TheVariants.{Failed}
+
+-- what a sink holds, and how its writes have gone
+pub record MemSinkView : Type 0 where
+  pub bytes : List ℕ
+  -- how much a write takes at most, and how much the sink takes in all
+  pub at_once : ℕ
+  pub room : ℕ
+  -- the numbers of the writes that are to fail
+  pub failing : List ℕ
+  -- how many writes there were, and how many of them were faults
+  pub calls : ℕ
+  pub faults : ℕ
+
+-- a write may take a byte, and the memory for all the room is there
+pub record HasRoom (at_once held room capacity faults : ℕ) : Type 0 where
+  pub some_at_once : 1 ≤ at_once
+  pub within : held ≤ room
+  pub reserved : room ≤ capacity
+  pub small : faults < 2 ^ 64
+
+-- how much of a piece the next write takes, if it takes any
+abbrev pub taken_of : MemSinkView → List ℕ → ℕ
+taken_of s piece = min (min (length piece) s.at_once) (s.room - length s.bytes)
+
+-- what the next write gives: it fails where it is told to, and where no room is left for a byte of the piece
+abbrev pub write_answer : MemSinkView → List ℕ → Result ℕ SinkError
+write_answer s piece =
+    if list_any (λ call. call == next_count s.calls) s.failing || (taken_of s piece == 0 && not (length piece == 0))
+    then Err Failed else Ok (taken_of s piece)
+
+-- the sink after a write: a fault is counted, and otherwise the bytes are appended
+abbrev pub after_write : {E : Type 0} → MemSinkView → List ℕ → Result ℕ E → MemSinkView
+after_write s piece (Ok n) = record s { calls = next_count s.calls; bytes = s.bytes ++ take n piece }
+after_write s piece (Err e) = record s { calls = next_count s.calls; faults = next_count s.faults }

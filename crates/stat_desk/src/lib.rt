@@ -1,0 +1,23 @@
+//! The outside as traits. A desk gives whole files by name, and a sink takes bytes; each counts its
+//! faults, so that a caller can tell a fault of the outside from a fault of its own. Also the events
+//! of the machine, and the journal that lists them.
+#![tactic(auto)]
+
+mod desk;
+mod event;
+mod journal;
+mod mem_desk;
+mod mem_sink;
+mod sink;
+mod system;
+
+pub use desk::{Desk, DeskError};
+pub use event::Event;
+pub use journal::Journal;
+pub use mem_desk::MemDesk;
+pub use mem_sink::MemSink;
+pub use sink::{Sink, SinkError, write_all_to};
+pub use system::{FileDesk, StdSink};
+
+#[cfg(test)]
+mod tests;

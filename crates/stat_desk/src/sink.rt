@@ -1,0 +1,43 @@
+//! A sink takes bytes, perhaps fewer than it is offered.
+ghost use Rattle.std.specs.Prelude.{◌≡◌, ◌<◌, ◌^◌, [], ℕ, List, Option, IfOk, OnErr, OnOk};
+ghost use Rattle.std.specs.Io.KnownBytes.{Appends};
+ghost use Rattle.stat_desk.specs.Sink.{AppendsPrefix, HasCause, TakesFirst};
+
+/// Why a write took nothing.
+#[derive(Clone, Copy, Debug, PartialEq, Eq)]
+pub enum SinkError {
+    /// The outside failed, or took nothing of a piece that is not empty. The sink counted it.
+    Failed,
+}
+
+/// Takes bytes in order, and counts its faults.
+pub trait Sink {
+    /// How often writes have failed, up to 2^64 - 1.
+    ghost faults: { Self → ℕ };
+
+    /// The bytes that the sink holds, where it tells them. `None` says nothing.
+    ghost held: { Self → Option (List ℕ) };
+
+    /// Takes bytes from the front of the piece, at least one where there is one, and says how many.
+    /// Answers `Failed` only where the sink counted a fault, and then it took nothing.
+    fn write(&mut self, piece: &[u8]) -> Result<usize, SinkError>
+        ensures taken { IfOk result (TakesFirst (held self.old) (held self.new) piece.now) }
+        ensures err { OnErr result (held self.new ≡ held self.old) }
+        ensures cause { HasCause (faults self.old) (faults self.new) result }
+        ensures small { faults self.new < 2 ^ 64 };
+}
+
+/// Offers what is left of the bytes until all is taken, or a write fails. Takes no memory, and offers
+/// nothing where there are no bytes.
+pub fn write_all_to<S: Sink>(sink: &mut S, bytes: &[u8]) -> Result<(), SinkError>
+    ensures ok { OnOk result (Appends (S.held sink.old) (S.held sink.new) bytes.now) }
+    ensures err { OnErr result (AppendsPrefix (S.held sink.old) (S.held sink.new) bytes.now) }
+    ensures cause { HasCause (S.faults sink.old) (S.faults sink.new) result }
+    ensures nothing { bytes.now ≡ [] → sink.new ≡ sink.old }
+{
+    let mut taken = 0;
+    while taken < bytes.len() {
+        taken += sink.write(bytes.split_at(taken).1)?;
+    }
+    Ok(())
+}

@@ -1,0 +1,123 @@
+//! The real desk and sink. They tell no content, and count each error of the system.
+ghost use Rattle.std.specs.Prelude.{◌≡◌, ◌<◌, ◌≤◌, ◌^◌, None, IfOk, vec_len, option_map, string_bytes};
+ghost use Rattle.stat_desk.specs.Desk.{CountsAt, FailedAt};
+
+use crate::{Desk, DeskError, Sink, SinkError};
+use std::alloc::Global;
+use std::fs;
+use std::io::Read;
+use std::rt::Files;
+
+/// The files of the system. A name is a path, and a file that is absent is a fault.
+#[derive(Drop)]
+pub struct FileDesk<'a, R: Files> {
+    rt: &'a R,
+    alloc: Global,
+    faults: u64,
+    last_fault: Option<String>,
+    ghost small: { faults < 2 ^ 64 },
+}
+
+impl<'a, R: Files> FileDesk<'a, R> {
+    /// A desk with no fault.
+    pub fn new(alloc: Global, rt: &'a R) -> FileDesk<'a, R>
+        ensures faults { ⟦<FileDesk<'a, R> as Desk>⟧.faults result ≡ 0 }
+        ensures last_fault { ⟦<FileDesk<'a, R> as Desk>⟧.last_fault result ≡ None }
+    {
+        FileDesk {
+            rt,
+            alloc,
+            faults: 0,
+            last_fault: None,
+        }
+    }
+
+    // Counts a read that failed at this name.
+    fn refuse(&mut self, name: String) -> DeskError
+        ensures why { result ≡ DeskError.Failed }
+        ensures counts { CountsAt self.old.faults self.new.faults (option_map string_bytes self.old.last_fault) (option_map string_bytes self.new.last_fault) (string_bytes name) }
+        ensures failed { FailedAt self.old.faults self.new.faults (option_map string_bytes self.new.last_fault) (string_bytes name) }
+        ensures small { self.new.faults < 2 ^ 64 }
+    {
+        self.faults = self.faults.saturating_add(1);
+        self.last_fault = Some(name);
+        DeskError::Failed
+    }
+}
+
+// All bytes that a file gives, if they are at most `max`. It takes at most one more from the file.
+fn read_up_to<F: Read>(alloc: Global, file: &mut F, max: u64) -> Result<Vec<u8>, DeskError>
+    ensures { IfOk result (λ bytes. vec_len bytes ≤ max) }
+{
+    let mut bytes = Vec::new(alloc);
+    let mut buffer = [0u8; 4096];
+    while bytes.len() as u64 <= max {
+        let wanted = (max - bytes.len() as u64).saturating_add(1).min(4096) as usize;
+        let Ok(count) = file.read(&mut buffer[..wanted]) else {
+            return Err(DeskError::Failed);
+        };
+        if count == 0 {
+            return Ok(bytes);
+        }
+        if bytes.extend_from_slice(&buffer[..count]).is_err() {
+            return Err(DeskError::OutOfMemory);
+        }
+    }
+    Err(DeskError::TooLong)
+}
+
+impl<R: Files> Desk for FileDesk<'_, R> {
+    ghost faults = { λ d. d.faults };
+
+    ghost last_fault = { λ d. option_map string_bytes d.last_fault };
+
+    ghost told = { λ d name. None };
+
+    // The memory for the name is taken first, so that a fault can always be counted with its name.
+    fn read(&mut self, name: &str, max: u64) -> Result<Vec<u8>, DeskError> {
+        let Ok(kept) = String::from_str(self.alloc, name) else {
+            return Err(DeskError::OutOfMemory);
+        };
+        let Ok(mut file) = fs::open(self.rt, name) else {
+            return Err(self.refuse(kept));
+        };
+        match read_up_to(self.alloc, &mut file, max) {
+            Ok(bytes) => Ok(bytes),
+            Err(DeskError::Failed) => Err(self.refuse(kept)),
+            Err(other) => Err(other),
+        }
+    }
+}
+
+/// The standard output.
+#[derive(Drop)]
+pub struct StdSink<'a, R: Print> {
+    rt: &'a R,
+    faults: u64,
+    ghost small: { faults < 2 ^ 64 },
+}
+
+impl<'a, R: Print> StdSink<'a, R> {
+    /// A sink with no fault.
+    pub fn new(rt: &'a R) -> StdSink<'a, R>
+        ensures { ⟦<StdSink<'a, R> as Sink>⟧.faults result ≡ 0 }
+    {
+        StdSink { rt, faults: 0 }
+    }
+}
+
+impl<R: Print> Sink for StdSink<'_, R> {
+    ghost faults = { λ s. s.faults };
+
+    ghost held = { λ s. None };
+
+    fn write(&mut self, piece: &[u8]) -> Result<usize, SinkError> {
+        match self.rt.write_some(piece) {
+            Ok(count) if count > 0 || piece.is_empty() => Ok(count),
+            _ => {
+                self.faults = self.faults.saturating_add(1);
+                Err(SinkError::Failed)
+            }
+        }
+    }
+}

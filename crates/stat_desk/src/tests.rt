@@ -1,0 +1,119 @@
+//! Each public call once with ample memory, faults at numbered calls, and the real files.
+use super::*;
+use std::alloc::{AllocError, Global};
+use std::fs;
+
+fn text_of(alloc: Global, text: &str) -> Result<String, AllocError> {
+    String::from_str(alloc, text)
+}
+
+#[test]
+fn journal_lists_events(rt: HostRuntime) -> Result<(), AllocError> {
+    let events = [
+        Event::Sample {
+            node: 3,
+            stream: 1,
+            wave: 0,
+        },
+        Event::Recv { node: 0, from: 3 },
+        Event::Tick { node: 2 },
+        Event::Lose { node: 3 },
+    ];
+    let mut journal = Journal::new(rt.alloc());
+    assert!(rt; journal.is_empty());
+    for event in events {
+        journal.push(event)?;
+    }
+    assert!(rt; !journal.is_empty());
+    assert_eq!(rt; journal.len(), 4);
+    for (number, event) in events.iter().enumerate() {
+        if (number as u64) < journal.len() {
+            assert_eq!(rt; journal.at(number as u64), *event);
+        }
+    }
+    Ok(())
+}
+
+#[test]
+fn memory_desk_gives_and_fails(rt: HostRuntime) -> Result<(), AllocError> {
+    let alloc = rt.alloc();
+    let mut desk = MemDesk::new(alloc);
+    desk.put(text_of(alloc, "a")?, b"old".to_vec(alloc)?)?;
+    desk.put(text_of(alloc, "b")?, b"".to_vec(alloc)?)?;
+    desk.put(text_of(alloc, "a")?, b"four".to_vec(alloc)?)?;
+    desk.fail_at(2)?;
+    let reads: [(&str, u64, Result<&[u8], DeskError>); 7] = [
+        ("a", 4, Ok(b"four")),
+        ("a", 4, Err(DeskError::Failed)),
+        ("a", 4, Ok(b"four")),
+        ("a", 3, Err(DeskError::TooLong)),
+        ("absent", 4, Err(DeskError::Failed)),
+        ("b", 0, Ok(b"")),
+        ("a", 100, Ok(b"four")),
+    ];
+    for (name, max, want) in reads {
+        match (desk.read(name, max), want) {
+            (Ok(bytes), Ok(file)) => assert_eq!(rt; bytes.as_slice(), file, "{name} {max}"),
+            (Err(fault), Err(why)) => assert_eq!(rt; fault, why, "{name} {max}"),
+            _ => assert!(rt; false, "{name} {max}"),
+        }
+    }
+    Ok(())
+}
+
+#[test]
+fn memory_sink_takes_and_fails(rt: HostRuntime) -> Result<(), AllocError> {
+    let alloc = rt.alloc();
+    let text: &[u8] = b"a text of forty bytes, taken by sixteens";
+    let mut sink = MemSink::new(alloc, 16, 40)?;
+    assert_eq!(rt; write_all_to(&mut sink, text), Ok(()));
+    assert_eq!(rt; sink.bytes(), text);
+    assert_eq!(rt; sink.write(b""), Ok(0));
+    assert_eq!(rt; sink.write(b"x"), Err(SinkError::Failed));
+
+    let mut sink = MemSink::new(alloc, 16, 40)?;
+    sink.fail_at(2)?;
+    assert_eq!(rt; write_all_to(&mut sink, b""), Ok(()));
+    assert_eq!(rt; write_all_to(&mut sink, text), Err(SinkError::Failed));
+    assert_eq!(rt; sink.bytes(), b"a text of forty ".as_slice());
+    assert_eq!(rt; sink.write(b"more than sixteen bytes"), Ok(16));
+    Ok(())
+}
+
+#[test]
+fn file_desk_reads_real_files(rt: HostRuntime) -> Result<(), AllocError> {
+    let alloc = rt.alloc();
+    let mut long = Vec::new(alloc);
+    for number in 0..10_000u32 {
+        long.push((number % 251) as u8)?;
+    }
+    assert!(rt; fs::write(&rt, "short", "four").is_ok());
+    assert!(rt; fs::write(&rt, "empty", "").is_ok());
+    assert!(rt; fs::write(&rt, "long", long.as_slice()).is_ok());
+    let mut desk = FileDesk::new(alloc, &rt);
+    let reads: [(&str, u64, Result<&[u8], DeskError>); 8] = [
+        ("short", 4, Ok(b"four")),
+        ("short", u64::MAX, Ok(b"four")),
+        ("short", 3, Err(DeskError::TooLong)),
+        ("empty", 0, Ok(b"")),
+        ("short", 0, Err(DeskError::TooLong)),
+        ("absent", 4, Err(DeskError::Failed)),
+        ("long", 10_000, Ok(long.as_slice())),
+        ("long", 9_999, Err(DeskError::TooLong)),
+    ];
+    for (name, max, want) in reads {
+        match (desk.read(name, max), want) {
+            (Ok(bytes), Ok(file)) => assert_eq!(rt; bytes.as_slice(), file, "{name} {max}"),
+            (Err(fault), Err(why)) => assert_eq!(rt; fault, why, "{name} {max}"),
+            _ => assert!(rt; false, "{name} {max}"),
+        }
+    }
+    Ok(())
+}
+
+#[test]
+fn standard_output_takes_bytes(rt: HostRuntime) {
+    let mut sink = StdSink::new(&rt);
+    assert_eq!(rt; write_all_to(&mut sink, b"a line\n"), Ok(()));
+    assert_eq!(rt; sink.write(b""), Ok(0));
+}
