@@ -1,0 +1,13 @@
+//! Who has a node out.
+use stat_desk::Event;
+
+/// A node that is out.
+#[derive(Clone, Copy, Debug, PartialEq, Eq)]
+pub struct Holding {
+    /// The number of the seat that has it out.
+    pub seat: u32,
+    /// The event that was claimed. Its node is the node that is out.
+    pub event: Event,
+    /// The journal's length at the claim.
+    pub since: u64,
+}
