@@ -1,0 +1,9 @@
+pub mod Ordered
+pub mod WordSets
+pub mod Members
+pub mod Changes
+pub mod Trimming
+pub mod RunSets
+pub mod Runs
+pub mod NextBits
+pub mod Reading

@@ -1,0 +1,12 @@
+use Rattle.std.proofs.Common.{◌≡◌, ◌+◌, length}
+use Rattle.rank_set.specs.RanksText.{ranks_at, items}
+use Rattle.rank_set.proofs.read.read_items.Given as goal
+
+abbrev pub invariant-loop-run : goal.invariant-loop-run
+invariant-loop-run l = record {
+  place : l.place + length l.rest ≡ length l.text;
+  ranks : ranks_at l.place l.ranks (items l.rest) ≡ ranks_at 0 l.fn.ranks (items l.text);
+}
+
+abbrev pub decreases-loop-run : goal.decreases-loop-run
+decreases-loop-run l = length l.rest

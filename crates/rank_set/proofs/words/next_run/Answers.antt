@@ -1,0 +1,38 @@
+use Rattle.std.proofs.Common.{◌≡◌, ◌∙◌, ℕ, ◌<◌, ◌≤◌, ◌*◌, ◌+◌, ◌-◌, length, Bool, true, false, Option, None, Some, sym, ap, subst, inl, inr, arith}
+use Rattle.std.specs.Prelude.{IfNone}
+use Rattle.std.proofs.lemmas.Bool.{cases_lt, true≢false}
+use Rattle.rank_set.specs.Words.{bit_in, ranks_in}
+use Rattle.rank_set.specs.Runs.{IsRun}
+use Rattle.rank_set.proofs.WordSets.{has-ranks_in, no_bit_past}
+use Rattle.rank_set.proofs.RunSets.{run_from}
+use Rattle.rank_set.proofs.words.next_run.Goals.{in-Some, in-None}
+use Rattle.rank_set.proofs.words.next_run.Goals as goal
+
+told_none : {A : Type 0} (o : Option A) (P : Type 0) → P → IfNone o P
+told_none None P p = p
+told_none (Some a) P p = tt
+
+pub returns-in_err-first-clause-none : goal.returns-in_err-first-clause-none
+returns-in_err-first-clause-none c = told_none c.from_residual.result _ (λ q le. has-ranks_in c.args.offset c.args.words.now q ∙ elim (cases_lt q (64 * (c.args.offset + length c.args.words.now))) [
+  | inl lt ↦ c.in_err-first.ensures.none q le lt
+  | inr past ↦ no_bit_past c.args.offset c.args.words.now q past
+])
+
+apart : (t : ℕ → Bool) (p q : ℕ) → p ≤ q → t p ≡ true → t q ≡ false → p < q
+apart t p q le one none = elim (cases_lt p q) [ inl lt ↦ lt | inr ge ↦ let e : p ≡ q = omega arith in absurd (true≢false (sym one ∙ ap t e ∙ none)) ]
+
+pub returns-clause-some : goal.returns-clause-some
+returns-clause-some c =
+    let first : ℕ = c.in_ok-first.first in
+    let n : ℕ = 64 * (c.args.offset + length c.args.words.now) in
+    let t : ℕ → Bool = bit_in c.args.offset c.args.words.now in
+    let next = c.in_ok-first.ensures.some in
+    elim c.match-next_bit.branch [
+      | in-Some w ↦
+          let gap = w.in-Some.ensures.some in
+          subst (λ e. IsRun (ranks_in c.args.offset c.args.words.now) c.args.from first (e - 1)) (sym w.end-is)
+          (run_from c.args.offset c.args.words.now c.args.from first w.in-Some.gap next (apart t first w.in-Some.gap gap.start next.bit gap.bit) gap.before gap.bit)
+      | in-None w ↦
+          subst (λ e. IsRun (ranks_in c.args.offset c.args.words.now) c.args.from first (e - 1)) (sym w.end-is)
+          (run_from c.args.offset c.args.words.now c.args.from first n next next.end (λ q le lt. w.in-None.ensures.none q le lt) (no_bit_past c.args.offset c.args.words.now n (omega arith)))
+    ]

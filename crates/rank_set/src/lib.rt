@@ -1,0 +1,291 @@
+//! Sets of ranks, held as words of 64 bits that are trimmed at both ends.
+//!
+//! A contract sees a `RankSet` as a value of `Ranks`: the members in ascending order. Two sets with the same members are
+//! equal. A union of two full sets takes one operation a word, and at most one allocation.
+#![tactic(auto)]
+
+ghost use Rattle.std.specs.Prelude.{◌≡◌, ℕ, ◌<◌, ◌≤◌, ◌↔◌, true, false, OnOk, OnErr, IfOk, IfSome, IfNone, Some, slice_get, not, ◌++◌};
+ghost use Rattle.rank_set.specs.Ranks.{none, has, with_rank, union, those, in_order, is_subset, size};
+ghost use Rattle.rank_set.specs.Runs.{ranks_between, IsRun};
+ghost use Rattle.rank_set.specs.Words.{ranks_in, AreWords, offset_of};
+ghost use Rattle.rank_set.specs.Text.{text_of};
+
+mod read;
+#[cfg(test)]
+mod tests;
+mod text;
+mod words;
+
+pub use read::{RanksError, read_ranks};
+use std::alloc::{AllocError, Global};
+use std::marker::Model;
+use text::{write_number, write_runs};
+use words::Words;
+
+/// How many words a set spans at most.
+pub const WORD_LIMIT: u32 = 256;
+
+/// Ranks are below this.
+pub const RANK_LIMIT: u32 = 64 * WORD_LIMIT;
+
+/// Why ranks were not added.
+#[derive(Debug, PartialEq, Eq, Clone, Copy)]
+pub enum RankError {
+    /// A rank is `RANK_LIMIT` or more.
+    OverLimit,
+    /// There was no memory.
+    OutOfMemory,
+}
+
+impl From<AllocError> for RankError {
+    ghost use Rattle.std.specs.Prelude.{◌≡◌};
+    ghost use Rattle.rank_set.specs.declared.RankError.TheVariants.{OutOfMemory};
+
+    ghost from_gives = { λ _ e. e ≡ OutOfMemory };
+
+    fn from(_: AllocError) -> Self {
+        RankError::OutOfMemory
+    }
+}
+
+/// Neighbouring ranks, from the first to the last.
+#[derive(Debug, PartialEq, Eq, Clone, Copy)]
+pub struct Run {
+    pub first: u32,
+    pub last: u32,
+}
+
+/// A set of ranks, each below `RANK_LIMIT`.
+#[derive(Drop)]
+pub struct RankSet {
+    // The place of the first word among all words: bit i of word k stands for rank 64 * k + i.
+    offset: u32,
+    // Neither the first nor the last is 0, and with no words the offset is 0.
+    words: Words,
+}
+
+impl Model for RankSet {
+    ghost use Rattle.rank_set.specs.Ranks.{Ranks, coded_ranks};
+    ghost use Rattle.rank_set.specs.Words.{ranks_in, AreWords};
+
+    ghost Value = { Ranks };
+
+    ghost coded = { coded_ranks };
+
+    ghost view = { λ a. ranks_in a.offset a.words.items };
+
+    ghost invariant = { λ a. AreWords a.offset a.words.items };
+}
+
+impl RankSet {
+    /// The empty set, which takes no memory.
+    pub fn new(alloc: Global) -> RankSet
+        ensures { result ≡ none }
+    {
+        RankSet {
+            offset: 0,
+            words: Words::new(alloc),
+        }
+    }
+
+    /// The set of trimmed words, the first of which is word `offset` of all. It takes no memory.
+    pub fn from_words(offset: u32, words: Vec<u64>) -> RankSet
+        requires { AreWords offset words.items }
+        ensures { result ≡ ranks_in offset words.items }
+    {
+        RankSet {
+            offset,
+            words: Words::from_vec(words),
+        }
+    }
+
+    /// Another set of the same ranks.
+    pub fn copy(&self) -> Result<RankSet, AllocError>
+        ensures { IfOk result (λ copy. copy ≡ self.now) }
+    {
+        Ok(RankSet {
+            offset: self.offset,
+            words: Words::from_slice(*self.words.allocator(), self.words.as_slice())?,
+        })
+    }
+
+    /// Adds a rank. A refusal leaves the set as it was.
+    pub fn insert(&mut self, r: u32) -> Result<(), RankError>
+        ensures ok { OnOk result (self.new ≡ with_rank self.old r) }
+        ensures over { (result ≡ Err RankError.OverLimit) ↔ (RANK_LIMIT ≤ r) }
+        ensures err { OnErr result (self.new ≡ self.old) }
+    {
+        if r >= RANK_LIMIT {
+            return Err(RankError::OverLimit);
+        }
+        self.put_run(r, r)?;
+        Ok(())
+    }
+
+    /// Adds the ranks from `first` to `last`, none where `last` is less. A refusal leaves the set as it was.
+    pub fn insert_run(&mut self, first: u32, last: u32) -> Result<(), RankError>
+        ensures ok { OnOk result (self.new ≡ union self.old (ranks_between first last)) }
+        ensures over { (result ≡ Err RankError.OverLimit) ↔ (RANK_LIMIT ≤ last) }
+        ensures err { OnErr result (self.new ≡ self.old) }
+    {
+        if last >= RANK_LIMIT {
+            return Err(RankError::OverLimit);
+        }
+        if first <= last {
+            self.put_run(first, last)?;
+        }
+        Ok(())
+    }
+
+    /// Adds the ranks of a run that is not empty and within the limit.
+    pub(crate) fn put_run(&mut self, first: u32, last: u32) -> Result<(), AllocError>
+        requires some { first ≤ last }
+        requires small { last < RANK_LIMIT }
+        ensures ok { OnOk result (self.new ≡ union self.old (ranks_between first last)) }
+        ensures err { OnErr result (self.new ≡ self.old) }
+    {
+        words::add_run(&mut self.offset, &mut self.words, first, last)
+    }
+
+    /// Adds the ranks of the other set. A refusal leaves the set as it was.
+    pub fn union_into(&mut self, other: &RankSet) -> Result<(), AllocError>
+        ensures ok { OnOk result (self.new ≡ union self.old other.now) }
+        ensures err { OnErr result (self.new ≡ self.old) }
+    {
+        words::add_words(
+            &mut self.offset,
+            &mut self.words,
+            other.offset,
+            other.words.as_slice(),
+        )
+    }
+
+    /// Leaves the ranks alone that the other set has too. It takes no memory.
+    pub fn keep(&mut self, other: &RankSet)
+        ensures { self.new ≡ those (λ r. has other.now r) self.old }
+    {
+        words::keep_words(
+            self.words.as_mut_slice(),
+            self.offset,
+            other.offset,
+            other.words.as_slice(),
+        );
+        words::trim(&mut self.offset, &mut self.words);
+    }
+
+    /// Takes the ranks of the other set away. It takes no memory.
+    pub fn remove(&mut self, other: &RankSet)
+        ensures { self.new ≡ those (λ r. not (has other.now r)) self.old }
+    {
+        words::clear_words(
+            self.words.as_mut_slice(),
+            self.offset,
+            other.offset,
+            other.words.as_slice(),
+        );
+        words::trim(&mut self.offset, &mut self.words);
+    }
+
+    /// The ranks that are not in the other set.
+    pub fn difference(&self, other: &RankSet) -> Result<RankSet, AllocError>
+        ensures { IfOk result (λ rest. rest ≡ those (λ r. not (has other.now r)) self.now) }
+    {
+        let mut rest = self.copy()?;
+        rest.remove(other);
+        Ok(rest)
+    }
+
+    /// Whether the rank is in the set.
+    pub fn contains(&self, r: u32) -> bool
+        ensures { result ≡ has self.now r }
+    {
+        words::word_of(self.offset, self.words.as_slice(), r / 64) >> (r % 64) & 1 == 1
+    }
+
+    /// Whether each rank of the set is in the other.
+    pub fn is_subset(&self, other: &RankSet) -> bool
+        ensures { result ≡ is_subset self.now other.now }
+    {
+        words::all_are_in(
+            self.offset,
+            self.words.as_slice(),
+            other.offset,
+            other.words.as_slice(),
+        )
+    }
+
+    /// Whether the two sets have the same ranks.
+    pub fn equals(&self, other: &RankSet) -> bool
+        ensures { (result ≡ true) ↔ (self.now ≡ other.now) }
+    {
+        words::are_same(
+            self.offset,
+            self.words.as_slice(),
+            other.offset,
+            other.words.as_slice(),
+        )
+    }
+
+    /// How many ranks the set has.
+    pub fn count(&self) -> u32
+        ensures count { result ≡ size self.now }
+        ensures few { result ≤ RANK_LIMIT }
+    {
+        words::ones(self.words.as_slice())
+    }
+
+    /// The least rank, `None` for the empty set.
+    pub fn first(&self) -> Option<u32>
+        ensures none { IfNone result (self.now ≡ none) }
+        ensures least { IfSome result (λ r. slice_get (in_order self.now) 0 ≡ Some r) }
+        ensures small { IfSome result (λ r. r < RANK_LIMIT) }
+    {
+        words::least(self.offset, self.words.as_slice())
+    }
+
+    /// The longest run of neighbours that begins with the least rank at or above `from`, `None` where there is no such rank.
+    pub fn next_run(&self, from: u32) -> Option<Run>
+        ensures none { IfNone result ((q : ℕ) → from ≤ q → has self.now q ≡ false) }
+        ensures some { IfSome result (λ run. IsRun self.now from run.first run.last) }
+        ensures small { IfSome result (λ run. run.last < RANK_LIMIT) }
+    {
+        words::next_run(self.offset, self.words.as_slice(), from)
+    }
+
+    /// Appends the set's text, as `4:[0-2,7]`. A refusal leaves `out` as it was.
+    pub fn write_text(&self, out: &mut Vec<u8>) -> Result<(), AllocError>
+        ensures ok { OnOk result (out.new.items ≡ out.old.items ++ text_of self.now) }
+        ensures err { OnErr result (out.new.items ≡ out.old.items) }
+    {
+        let text = self.to_text(*out.allocator())?;
+        out.extend_from_slice(&text)?;
+        Ok(())
+    }
+
+    fn to_text(&self, alloc: Global) -> Result<Vec<u8>, AllocError>
+        ensures { IfOk result (λ text. text.items ≡ text_of self.now) }
+    {
+        let mut text = Vec::new(alloc);
+        write_number(self.count(), &mut text)?;
+        text.extend_from_slice(b":[")?;
+        write_runs(self.offset, self.words.as_slice(), &mut text)?;
+        text.push(b']')?;
+        Ok(text)
+    }
+
+    /// Which word of all the first one is: the least rank / 64, 0 for the empty set.
+    pub fn word_offset(&self) -> u32
+        ensures { result ≡ offset_of self.now }
+    {
+        words::offset_in(self.offset, self.words.as_slice())
+    }
+
+    /// The words from that of the least rank to that of the greatest: bit i of the j-th stands for rank
+    /// 64 * (word_offset + j) + i.
+    pub fn words(&self) -> &[u64]
+        ensures trimmed { AreWords (offset_of self.now) result.now }
+        ensures ranks { ranks_in (offset_of self.now) result.now ≡ self.now }
+    {
+        words::words_in(self.offset, self.words.as_slice())
+    }
+}

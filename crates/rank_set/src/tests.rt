@@ -1,0 +1,264 @@
+//! What no clause says: the forms of text, and that each call succeeds with ample memory.
+
+use crate::{RANK_LIMIT, RankError, RankSet, RanksError, Run, read_ranks};
+use std::alloc::Global;
+use std::process::Abort;
+use std::test::Fail;
+
+// Two sets by their texts, and the texts of what is made of them.
+struct Pair {
+    left: &'static str,
+    right: &'static str,
+    union: &'static str,
+    difference: &'static str,
+    common: &'static str,
+}
+
+const PAIRS: [Pair; 9] = [
+    Pair {
+        left: "0-1",
+        right: "1-2",
+        union: "3:[0-2]",
+        difference: "1:[0]",
+        common: "1:[1]",
+    },
+    Pair {
+        left: "0-2",
+        right: "1",
+        union: "3:[0-2]",
+        difference: "2:[0,2]",
+        common: "1:[1]",
+    },
+    Pair {
+        left: "63",
+        right: "64",
+        union: "2:[63-64]",
+        difference: "1:[63]",
+        common: "0:[]",
+    },
+    Pair {
+        left: "64",
+        right: "63-64",
+        union: "2:[63-64]",
+        difference: "0:[]",
+        common: "1:[64]",
+    },
+    Pair {
+        left: "127-128",
+        right: "128",
+        union: "2:[127-128]",
+        difference: "1:[127]",
+        common: "1:[128]",
+    },
+    Pair {
+        left: "64-127",
+        right: "0-63",
+        union: "128:[0-127]",
+        difference: "64:[64-127]",
+        common: "0:[]",
+    },
+    Pair {
+        left: "0,16383",
+        right: "16383",
+        union: "2:[0,16383]",
+        difference: "1:[0]",
+        common: "1:[16383]",
+    },
+    Pair {
+        left: "16383",
+        right: "16383",
+        union: "1:[16383]",
+        difference: "0:[]",
+        common: "1:[16383]",
+    },
+    Pair {
+        left: "0-16383",
+        right: "64-16319",
+        union: "16384:[0-16383]",
+        difference: "128:[0-63,16320-16383]",
+        common: "16256:[64-16319]",
+    },
+];
+
+fn assert_text(rt: &impl Abort, alloc: Global, set: &RankSet, text: &str) -> Result<(), Fail> {
+    let mut out = Vec::new(alloc);
+    set.write_text(&mut out)?;
+    assert_eq!(rt; out.as_slice(), text.as_bytes());
+    Ok(())
+}
+
+fn assert_union(
+    rt: &impl Abort,
+    alloc: Global,
+    left: &RankSet,
+    right: &RankSet,
+    text: &str,
+) -> Result<(), Fail> {
+    let mut set = left.copy()?;
+    assert!(rt; set.equals(left));
+    set.union_into(right)?;
+    assert!(rt; left.is_subset(&set) && right.is_subset(&set));
+    assert_text(rt, alloc, &set, text)
+}
+
+fn assert_difference(
+    rt: &impl Abort,
+    alloc: Global,
+    left: &RankSet,
+    right: &RankSet,
+    text: &str,
+) -> Result<(), Fail> {
+    let mut set = left.copy()?;
+    set.remove(right);
+    assert!(rt; left.difference(right)?.equals(&set));
+    assert_text(rt, alloc, &set, text)
+}
+
+fn assert_common(
+    rt: &impl Abort,
+    alloc: Global,
+    left: &RankSet,
+    right: &RankSet,
+    text: &str,
+) -> Result<(), Fail> {
+    let mut set = left.copy()?;
+    set.keep(right);
+    assert_eq!(rt; set.count() == left.count(), left.is_subset(right));
+    assert_text(rt, alloc, &set, text)
+}
+
+#[test]
+fn combines_sets_at_the_borders_of_words(rt: HostRuntime) -> Result<(), Fail> {
+    let alloc = rt.alloc();
+    for pair in &PAIRS {
+        let left = read_ranks(alloc, pair.left.as_bytes())?;
+        let right = read_ranks(alloc, pair.right.as_bytes())?;
+        assert_union(&rt, alloc, &left, &right, pair.union)?;
+        assert_difference(&rt, alloc, &left, &right, pair.difference)?;
+        assert_common(&rt, alloc, &left, &right, pair.common)?;
+    }
+    Ok(())
+}
+
+#[test]
+fn writes_a_few_ranks(rt: HostRuntime) -> Result<(), Fail> {
+    let alloc = rt.alloc();
+    let mut set = RankSet::new(alloc);
+    assert_text(&rt, alloc, &set, "0:[]")?;
+    assert_eq!(rt; set.first(), None);
+    for r in [7, 0, 64] {
+        set.insert(r)?;
+    }
+    assert_eq!(rt; set.first(), Some(0));
+    assert_text(&rt, alloc, &set, "3:[0,7,64]")
+}
+
+#[test]
+fn has_the_ranks_that_were_inserted(rt: HostRuntime) -> Result<(), Fail> {
+    let mut set = RankSet::new(rt.alloc());
+    for r in [16_383, 128, 63, 64, 127] {
+        set.insert(r)?;
+    }
+    assert_eq!(rt; set.insert(RANK_LIMIT), Err(RankError::OverLimit));
+    for r in [63, 64, 127, 128, 16_383] {
+        assert!(rt; set.contains(r));
+    }
+    for r in [0, 62, 65, 126, 129, 16_382, RANK_LIMIT, u32::MAX] {
+        assert!(rt; !set.contains(r));
+    }
+    assert_text(&rt, rt.alloc(), &set, "5:[63-64,127-128,16383]")
+}
+
+#[test]
+fn inserts_runs(rt: HostRuntime) -> Result<(), Fail> {
+    let mut set = RankSet::new(rt.alloc());
+    set.insert_run(130, 300)?;
+    set.insert_run(60, 130)?;
+    set.insert_run(9, 8)?;
+    assert_eq!(rt; set.insert_run(16_000, u32::MAX), Err(RankError::OverLimit));
+    assert_text(&rt, rt.alloc(), &set, "241:[60-300]")
+}
+
+#[test]
+fn gives_the_next_run(rt: HostRuntime) -> Result<(), Fail> {
+    let set = read_ranks(rt.alloc(), b"3-5,63-64,16383")?;
+    for (from, first, last) in [
+        (0, 3, 5),
+        (4, 4, 5),
+        (6, 63, 64),
+        (64, 64, 64),
+        (65, 16_383, 16_383),
+    ] {
+        assert_eq!(rt; set.next_run(from), Some(Run { first, last }));
+    }
+    assert_eq!(rt; set.next_run(RANK_LIMIT), None);
+    Ok(())
+}
+
+#[test]
+fn keeps_its_words(rt: HostRuntime) -> Result<(), Fail> {
+    let alloc = rt.alloc();
+    let set = read_ranks(alloc, b"130,200")?;
+    assert_eq!(rt; set.word_offset(), 2);
+    assert_eq!(rt; set.words(), [4, 256].as_slice());
+    let words = Vec::from_slice(alloc, set.words())?;
+    assert!(rt; RankSet::from_words(set.word_offset(), words).equals(&set));
+    Ok(())
+}
+
+const TEXTS: [(&str, &str); 5] = [
+    ("7,0-2,1", "4:[0-2,7]"),
+    ("0", "1:[0]"),
+    ("16383", "1:[16383]"),
+    ("000000000000000000000000000005-0000000006", "2:[5-6]"),
+    ("9-9,8-9", "2:[8-9]"),
+];
+
+#[test]
+fn reads_ranks(rt: HostRuntime) -> Result<(), Fail> {
+    let alloc = rt.alloc();
+    for (text, ranks) in &TEXTS {
+        assert_text(&rt, alloc, &read_ranks(alloc, text.as_bytes())?, ranks)?;
+    }
+    Ok(())
+}
+
+const REFUSALS: [(&str, RanksError); 15] = [
+    ("", RanksError::Empty),
+    ("1,,2", RanksError::BadNumber(2)),
+    ("1,", RanksError::BadNumber(2)),
+    (",1", RanksError::BadNumber(0)),
+    ("5-", RanksError::BadNumber(2)),
+    ("-5", RanksError::BadNumber(0)),
+    ("1-2-3", RanksError::BadNumber(3)),
+    ("1 ,2", RanksError::BadNumber(1)),
+    ("3-1", RanksError::Backward(2)),
+    ("5-3x", RanksError::Backward(2)),
+    ("10,8,20-18", RanksError::Backward(8)),
+    ("16384", RanksError::OverLimit(0)),
+    ("16384x", RanksError::OverLimit(0)),
+    ("16384-", RanksError::OverLimit(0)),
+    ("0-99999999999999999999999999", RanksError::OverLimit(2)),
+];
+
+#[test]
+fn refuses_texts_at_the_first_fault(rt: HostRuntime) {
+    for (text, error) in &REFUSALS {
+        assert_eq!(rt;
+            read_ranks(rt.alloc(), text.as_bytes()).err(),
+            Some(*error),
+            "at {text}"
+        );
+    }
+}
+
+#[test]
+fn reads_many_runs_that_overlap(rt: HostRuntime) -> Result<(), Fail> {
+    let alloc = rt.alloc();
+    let mut text = Vec::new(alloc);
+    for _ in 0..100_000 {
+        text.extend_from_slice(b"0-16383,")?;
+    }
+    text.push(b'1')?;
+    assert_text(&rt, alloc, &read_ranks(alloc, &text)?, "16384:[0-16383]")
+}

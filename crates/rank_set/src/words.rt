@@ -1,0 +1,326 @@
+//! Rank sets as words of 64 bits: functions over the place of the first word among all words, and the words.
+
+ghost use Rattle.std.specs.Prelude.{◌≡◌, ℕ, ◌<◌, ◌≤◌, ◌+◌, ◌-◌, ◌*◌, ◌/◌, ◌↔◌, true, false, OnOk, OnErr, IfOk, IfSome, IfNone, Some, slice_get, not, length, get_or, map, bit_or};
+ghost use Rattle.std.specs.List.{range_with_len};
+ghost use Rattle.rank_set.specs.Ranks.{none, has, those, union, in_order, is_subset, size};
+ghost use Rattle.rank_set.specs.Runs.{ranks_between, IsRun};
+ghost use Rattle.rank_set.specs.Words.{word_at, bit_in, ranks_in, AreWords, Covers, IsNext, offset_of, run_word};
+
+use crate::{RANK_LIMIT, Run, WORD_LIMIT};
+use smallvec::SmallVec;
+use std::alloc::{AllocError, Global};
+
+/// The words of a set: a single one stands in the set itself, and takes no memory.
+pub(crate) type Words = SmallVec<u64, 1>;
+
+// Word k, 0 where none is held.
+pub(crate) fn word_of(offset: u32, words: &[u64], k: u32) -> u64
+    ensures { result ≡ word_at offset words.now k }
+{
+    if k < offset {
+        return 0;
+    }
+    match words.get((k - offset) as usize) {
+        Some(word) => *word,
+        None => 0,
+    }
+}
+
+// The words from one place up to another.
+fn words_between(
+    alloc: Global,
+    offset: u32,
+    words: &[u64],
+    start: u32,
+    stop: u32,
+) -> Result<Words, AllocError>
+    requires { start ≤ stop }
+    ensures { IfOk result (λ all. all.items ≡ map (word_at offset words.now) (range_with_len start (stop - start))) }
+{
+    let mut all = Words::with_capacity(alloc, (stop - start) as usize)?;
+    for k in start..stop {
+        all.push(word_of(offset, words, k))?;
+    }
+    Ok(all)
+}
+
+// Makes the words reach from one place up to another. A refusal leaves them as they were.
+fn cover(offset: &mut u32, words: &mut Words, low: u32, high: u32) -> Result<(), AllocError>
+    requires trimmed { AreWords offset.old words.old.items }
+    requires some { low < high }
+    requires few { high ≤ WORD_LIMIT }
+    ensures ok { OnOk result (Covers offset.old words.old.items low high offset.new words.new.items) }
+    ensures err_offset { OnErr result (offset.new ≡ offset.old) }
+    ensures err_words { OnErr result (words.new.items ≡ words.old.items) }
+{
+    let held = words.as_slice();
+    let end = *offset + held.len() as u32;
+    if *offset <= low && high <= end {
+        return Ok(());
+    }
+    let start = if held.is_empty() {
+        low
+    } else {
+        low.min(*offset)
+    };
+    let stop = high.max(end);
+    *words = words_between(*words.allocator(), *offset, held, start, stop)?;
+    *offset = start;
+    Ok(())
+}
+
+// Sets the bits of the other words.
+fn or_words(words: &mut [u64], offset: u32, other_offset: u32, others: &[u64])
+    requires begins { offset ≤ other_offset }
+    requires stops { other_offset + length others.now ≤ offset + length words.old }
+    ensures { (j : ℕ) → get_or words.new j 0 ≡ bit_or (get_or words.old j 0) (word_at other_offset others.now (offset + j)) }
+{
+    let at = (other_offset - offset) as usize;
+    for (i, word) in others.iter().enumerate() {
+        words[at + i] |= *word;
+    }
+}
+
+// Word k of the ranks from the first to the last, which has some of them.
+fn word_of_run(first: u32, last: u32, k: u32) -> u64
+    requires some { first ≤ last }
+    requires begins { first / 64 ≤ k }
+    requires stops { k ≤ last / 64 }
+    ensures { result ≡ run_word first last k }
+{
+    let from = if k == first / 64 { first % 64 } else { 0 };
+    let to = if k == last / 64 { last % 64 } else { 63 };
+    u64::MAX << from & u64::MAX >> (63 - to)
+}
+
+// Sets the bits of the ranks from the first to the last.
+fn or_run(words: &mut [u64], offset: u32, first: u32, last: u32)
+    requires some { first ≤ last }
+    requires begins { offset ≤ first / 64 }
+    requires stops { last / 64 < offset + length words.old }
+    ensures { (j : ℕ) → get_or words.new j 0 ≡ bit_or (get_or words.old j 0) (run_word first last (offset + j)) }
+{
+    for k in first / 64..last / 64 + 1 {
+        words[(k - offset) as usize] |= word_of_run(first, last, k);
+    }
+}
+
+// Adds the ranks of the other words. A refusal leaves the words as they were.
+pub(crate) fn add_words(
+    offset: &mut u32,
+    words: &mut Words,
+    other_offset: u32,
+    others: &[u64],
+) -> Result<(), AllocError>
+    requires trimmed { AreWords offset.old words.old.items }
+    requires trimmed_others { AreWords other_offset others.now }
+    ensures trimmed { AreWords offset.new words.new.items }
+    ensures ok { OnOk result (ranks_in offset.new words.new.items ≡ union (ranks_in offset.old words.old.items) (ranks_in other_offset others.now)) }
+    ensures err { OnErr result (ranks_in offset.new words.new.items ≡ ranks_in offset.old words.old.items) }
+{
+    if others.is_empty() {
+        return Ok(());
+    }
+    cover(
+        offset,
+        words,
+        other_offset,
+        other_offset + others.len() as u32,
+    )?;
+    or_words(words.as_mut_slice(), *offset, other_offset, others);
+    Ok(())
+}
+
+// Adds the ranks from the first to the last. A refusal leaves the words as they were.
+pub(crate) fn add_run(
+    offset: &mut u32,
+    words: &mut Words,
+    first: u32,
+    last: u32,
+) -> Result<(), AllocError>
+    requires trimmed { AreWords offset.old words.old.items }
+    requires some { first ≤ last }
+    requires small { last < RANK_LIMIT }
+    ensures trimmed { AreWords offset.new words.new.items }
+    ensures ok { OnOk result (ranks_in offset.new words.new.items ≡ union (ranks_in offset.old words.old.items) (ranks_between first last)) }
+    ensures err { OnErr result (ranks_in offset.new words.new.items ≡ ranks_in offset.old words.old.items) }
+{
+    cover(offset, words, first / 64, last / 64 + 1)?;
+    or_run(words.as_mut_slice(), *offset, first, last);
+    Ok(())
+}
+
+// Clears the bits that the second words have.
+pub(crate) fn clear_words(words: &mut [u64], offset: u32, other_offset: u32, others: &[u64])
+    requires { offset + length words.old ≤ WORD_LIMIT }
+    ensures { ranks_in offset words.new ≡ those (λ r. not (has (ranks_in other_offset others.now) r)) (ranks_in offset words.old) }
+{
+    for i in 0..words.len() {
+        words[i] &= !word_of(other_offset, others, offset + i as u32);
+    }
+}
+
+// Clears the bits that the second words do not have.
+pub(crate) fn keep_words(words: &mut [u64], offset: u32, other_offset: u32, others: &[u64])
+    requires { offset + length words.old ≤ WORD_LIMIT }
+    ensures { ranks_in offset words.new ≡ those (λ r. has (ranks_in other_offset others.now) r) (ranks_in offset words.old) }
+{
+    for i in 0..words.len() {
+        words[i] &= word_of(other_offset, others, offset + i as u32);
+    }
+}
+
+// How many zeros are in front.
+fn zeros_in_front(words: &[u64]) -> usize
+    ensures within { result ≤ length words.now }
+    ensures zeros { (j : ℕ) → j < result → get_or words.now j 0 ≡ 0 }
+    ensures word { result < length words.now → 0 < get_or words.now result 0 }
+{
+    for (i, word) in words.iter().enumerate() {
+        if *word != 0 {
+            return i;
+        }
+    }
+    words.len()
+}
+
+// How many are left without the zeros at the end.
+fn without_zeros_at_end(words: &[u64]) -> usize
+    ensures within { result ≤ length words.now }
+    ensures zeros { (j : ℕ) → result ≤ j → get_or words.now j 0 ≡ 0 }
+    ensures word { 0 < result → 0 < get_or words.now (result - 1) 0 }
+{
+    let mut n = words.len();
+    while n > 0 && words[n - 1] == 0 {
+        n -= 1;
+    }
+    n
+}
+
+// Takes away the words at both ends that are 0.
+pub(crate) fn trim(offset: &mut u32, words: &mut Words)
+    requires { offset.old + length words.old.items ≤ WORD_LIMIT }
+    ensures trimmed { AreWords offset.new words.new.items }
+    ensures ranks { ranks_in offset.new words.new.items ≡ ranks_in offset.old words.old.items }
+{
+    let front = zeros_in_front(words.as_slice());
+    let end = without_zeros_at_end(words.as_slice());
+    if end == 0 {
+        words.clear();
+        *offset = 0;
+        return;
+    }
+    words.as_mut_slice().rotate_left(front);
+    words.truncate(end - front);
+    *offset += front as u32;
+}
+
+// Whether each rank of the first words is one of the second's.
+pub(crate) fn all_are_in(offset: u32, words: &[u64], other_offset: u32, others: &[u64]) -> bool
+    requires { offset + length words.now ≤ WORD_LIMIT }
+    ensures { result ≡ is_subset (ranks_in offset words.now) (ranks_in other_offset others.now) }
+{
+    for k in offset..offset + words.len() as u32 {
+        if word_of(offset, words, k) & !word_of(other_offset, others, k) != 0 {
+            return false;
+        }
+    }
+    true
+}
+
+// How many bits are 1.
+pub(crate) fn ones(words: &[u64]) -> u32
+    requires { length words.now ≤ WORD_LIMIT }
+    ensures ones { (o : ℕ) → result ≡ size (ranks_in o words.now) }
+    ensures few { result ≤ 64 * length words.now }
+{
+    let mut total = 0;
+    for word in words {
+        total += word.count_ones();
+    }
+    total
+}
+
+// Whether the two have the same ranks: trimmed words that do are equal.
+pub(crate) fn are_same(offset: u32, words: &[u64], other_offset: u32, others: &[u64]) -> bool
+    requires trimmed { AreWords offset words.now }
+    requires trimmed_others { AreWords other_offset others.now }
+    ensures { (result ≡ true) ↔ (ranks_in offset words.now ≡ ranks_in other_offset others.now) }
+{
+    offset == other_offset && are_equal(words, others)
+}
+
+// Whether the words are equal, one by one.
+fn are_equal(xs: &[u64], ys: &[u64]) -> bool
+    ensures { (result ≡ true) ↔ (xs.now ≡ ys.now) }
+{
+    xs == ys
+}
+
+// The least rank.
+pub(crate) fn least(offset: u32, words: &[u64]) -> Option<u32>
+    requires { AreWords offset words.now }
+    ensures none { IfNone result (ranks_in offset words.now ≡ none) }
+    ensures least { IfSome result (λ r. slice_get (in_order (ranks_in offset words.now)) 0 ≡ Some r) }
+    ensures small { IfSome result (λ r. r < RANK_LIMIT) }
+{
+    if words.is_empty() {
+        return None;
+    }
+    Some(offset * 64 + words[0].trailing_zeros())
+}
+
+// Which word of all the least rank is in, 0 for no ranks.
+pub(crate) fn offset_in(offset: u32, words: &[u64]) -> u32
+    requires { AreWords offset words.now }
+    ensures { result ≡ offset_of (ranks_in offset words.now) }
+{
+    if words.is_empty() { 0 } else { offset }
+}
+
+// The words, which begin with that of the least rank.
+pub(crate) fn words_in(offset: u32, words: &[u64]) -> &[u64]
+    requires { AreWords offset words.now }
+    ensures trimmed { AreWords (offset_of (ranks_in offset words.now)) result.now }
+    ensures ranks { ranks_in (offset_of (ranks_in offset words.now)) result.now ≡ ranks_in offset words.now }
+{
+    words
+}
+
+// The least place from the given one on, within the words, that is a rank, or with `gap` is none.
+fn next_bit(offset: u32, words: &[u64], from: u32, gap: bool) -> Option<u32>
+    requires { offset + length words.now ≤ WORD_LIMIT }
+    ensures some { IfSome result (IsNext offset words.now gap from) }
+    ensures none { IfNone result ((q : ℕ) → from ≤ q → q < 64 * (offset + length words.now) → bit_in offset words.now q ≡ gap) }
+{
+    let end = offset + words.len() as u32;
+    let mut mask = u64::MAX << (from % 64);
+    for k in from / 64..end {
+        let word = word_of(offset, words, k);
+        let seen = if gap { !word } else { word };
+        let left = seen & mask;
+        if left != 0 {
+            return Some(64 * k + left.trailing_zeros());
+        }
+        mask = u64::MAX;
+    }
+    None
+}
+
+// The longest run of neighbours that begins with the least rank at or above `from`.
+pub(crate) fn next_run(offset: u32, words: &[u64], from: u32) -> Option<Run>
+    requires { offset + length words.now ≤ WORD_LIMIT }
+    ensures none { IfNone result ((q : ℕ) → from ≤ q → has (ranks_in offset words.now) q ≡ false) }
+    ensures some { IfSome result (λ run. IsRun (ranks_in offset words.now) from run.first run.last) }
+    ensures small { IfSome result (λ run. run.last < 64 * (offset + length words.now)) }
+{
+    let first = next_bit(offset, words, from, false)?;
+    let end = match next_bit(offset, words, first, true) {
+        Some(gap) => gap,
+        None => 64 * (offset + words.len() as u32),
+    };
+    Some(Run {
+        first,
+        last: end - 1,
+    })
+}
