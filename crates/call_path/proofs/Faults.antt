@@ -1,0 +1,198 @@
+-- The frames of a text, and their first fault.
+use Rattle.std.proofs.Common.{◌≡◌, ℕ, suc, ◌+◌, ◌<◌, ◌≤◌, Bool, true, false, not, cond, List, [], ◌∷◌, ◌++◌, length, drop, take, get_or, refl, sym, ap, ◌∙◌, arith}
+use Rattle.std.specs.Prelude.{Option, None, Some, All, IsTrue, nat_eq, nat_lt, nat_le, ◌&&◌, ◌==◌, position}
+use Rattle.std.specs.List.{slice_split, onto_first, list_all, position_or_len}
+use Rattle.std.proofs.lemmas.Bool.{ltb-false, leb-false, eqb-false, le-leb, lt-ltb, eq-eqb, ne_eqb, and_parts, and_from, or_parts, not_from_false, not-true}
+use Rattle.std.proofs.lemmas.List.Elements.{All-nil, All-cons}
+use Rattle.std.proofs.lemmas.Option.{none-some}
+use Rattle.std.specs.Option.{option_or}
+use Rattle.std.proofs.lemmas.List.{append_assoc, drop_more}
+use Rattle.std.proofs.lemmas.List.Splits.{join_with_byte-slice_split}
+use Rattle.call_path.specs.declared.read.PathError.{PathError}
+use Rattle.call_path.specs.declared.read.PathError.TheVariants.{EmptyFrame, ControlByte, FrameTooLong, TooDeep}
+use Rattle.call_path.specs.Path.{Path, path_text}
+use Rattle.call_path.specs.Good.{is_plain, is_good_frame, AreGoodFrames}
+use Rattle.call_path.specs.Reading.{frames, frame_len, frame_fault, first_fault, control_fault, is_control}
+use Rattle.call_path.specs.Cuts.{ends_from}
+
+-- the frames joined again are the text
+pub text-frames : (text : List ℕ) → text ≡ path_text (frames text)
+unfolding frames
+text-frames text = sym (join_with_byte-slice_split 59 text)
+
+-- the frames after a frame, by what is left of the text
+abbrev pub frames_after : List ℕ → Path
+frames_after [] = []
+frames_after (b ∷ rest) = frames rest
+
+module _ (b : ℕ) (rest : List ℕ) (n : ℕ) (first : slice_split (λ b. b == 59) rest ≡ take n rest ∷ frames_after (drop n rest)) where
+  first_by : (t : Bool) → cond t ([] ∷ slice_split (λ b. b == 59) rest) (onto_first b (slice_split (λ b. b == 59) rest)) ≡ take (cond (not t) (1 + n) 0) (b ∷ rest) ∷ frames_after (drop (cond (not t) (1 + n) 0) (b ∷ rest))
+  unfolding frames
+  first_by true = refl
+  first_by false = ap (onto_first b) first ∙ (let e : suc n ≡ 1 + n = omega arith in ap (λ k. take k (b ∷ rest) ∷ frames_after (drop k (b ∷ rest))) e)
+
+frames_first : (text : List ℕ) → frames text ≡ take (frame_len text) text ∷ frames_after (drop (frame_len text) text)
+unfolding frames
+frames_first [] = refl
+frames_first (b ∷ rest) = first_by b rest (frame_len rest) (frames_first rest) (nat_eq b 59)
+
+-- the first frame of what is left, as a reader cuts it
+module _ (i place len : ℕ) (rest frame after : List ℕ) (is : len ≡ frame_len rest) (front : frame ≡ take len rest) (back : after ≡ drop len rest) where
+  first_frame : frames rest ≡ frame ∷ frames_after after
+  first_frame = frames_first rest ∙ ap (λ n. take n rest ∷ frames_after (drop n rest)) (sym is) ∙ (λ k. sym front k ∷ frames_after (sym back k))
+
+  -- its fault is the first
+  pub frame_bad : (e : PathError) → frame_fault i place frame ≡ Some e → first_fault i place (frames rest) ≡ Some e
+  unfolding first_fault
+  frame_bad e bad = ap (first_fault i place) first_frame ∙ rw (bad, first_fault) refl
+
+  -- without one, the first fault is that of the frames after it
+  pub frame_good : frame_fault i place frame ≡ None → first_fault i place (frames rest) ≡ first_fault (i + 1) (place + (length frame + 1)) (frames_after after)
+  unfolding first_fault
+  frame_good good =
+      let e : suc i ≡ i + 1 = omega arith in
+      let f : suc (place + length frame) ≡ place + (length frame + 1) = omega arith in
+      ap (first_fault i place) first_frame ∙ rw (good, first_fault) (λ k. first_fault (e k) (f k) (frames_after after))
+
+  -- and where no text is left there is none
+  pub frame_last : frame_fault i place frame ≡ None → length after ≡ 0 → first_fault i place (frames rest) ≡ None
+  unfolding first_fault
+  frame_last good none = frame_good good ∙ ended after none
+    where
+      ended : (t : List ℕ) → length t ≡ 0 → first_fault (i + 1) (place + (length frame + 1)) (frames_after t) ≡ None
+      ended [] e = refl
+      ended (b ∷ t) e = absurd (omega arith)
+
+-- no byte is a `;`
+abbrev is_whole : List ℕ → Bool
+is_whole f = list_all (λ b. not (nat_eq b 59)) f
+
+whole_onto : (b : ℕ) (fs : Path) → nat_eq b 59 ≡ false → list_all is_whole fs ≡ true → list_all is_whole (onto_first b fs) ≡ true
+whole_onto b [] other h = rw other refl
+whole_onto b (f ∷ fs) other h =
+    let a = and_parts (is_whole f) (list_all is_whole fs) h in
+    and_from (is_whole (b ∷ f)) (list_all is_whole fs) (and_from (not (nat_eq b 59)) (is_whole f) (not_from_false _ other) a.0) a.1
+
+-- no frame of a text has a `;`
+frames_whole : (text : List ℕ) → list_all is_whole (slice_split (λ b. b == 59) text) ≡ true
+frames_whole [] = refl
+frames_whole (b ∷ rest) = by_test (nat_eq b 59) refl (frames_whole rest)
+  where
+    by_test : (t : Bool) → nat_eq b 59 ≡ t → list_all is_whole (slice_split (λ b. b == 59) rest) ≡ true → list_all is_whole (cond t ([] ∷ slice_split (λ b. b == 59) rest) (onto_first b (slice_split (λ b. b == 59) rest))) ≡ true
+    by_test true e h = h
+    by_test false e h = whole_onto b _ e h
+
+-- where no byte passes a test, each byte fails it
+none_passes : (test : ℕ → Bool) (f : List ℕ) → length f ≤ position_or_len test f → list_all (λ b. not (test b)) f ≡ true
+none_passes test [] le = refl
+none_passes test (b ∷ f) le = by_test (not (test b)) le (none_passes test f)
+  where
+    by_test : (t : Bool) → suc (length f) ≤ cond t (1 + position_or_len test f) 0 → (length f ≤ position_or_len test f → list_all (λ b. not (test b)) f ≡ true) → (t && list_all (λ b. not (test b)) f) ≡ true
+    by_test true le h = h (omega arith)
+    by_test false le h = absurd (omega arith)
+
+no_place : (test : ℕ → Bool) (f : List ℕ) → position test f ≡ None → list_all (λ b. not (test b)) f ≡ true
+no_place test f none = none_passes test f (by_test (nat_lt (position_or_len test f) (length f)) refl none)
+  where
+    by_test : (t : Bool) → nat_lt (position_or_len test f) (length f) ≡ t → cond t (Some (position_or_len test f)) None ≡ None → length f ≤ position_or_len test f
+    by_test true e n = absurd (none-some (position_or_len test f) (sym n))
+    by_test false e n = ltb-false (position_or_len test f) (length f) e
+
+-- a byte that is neither a control byte nor a `;` is plain
+plain_byte : (b : ℕ) → not (is_control b) ≡ true → not (nat_eq b 59) ≡ true → is_plain b ≡ true
+plain_byte b c w =
+    let parts = or_parts (nat_lt b 32) (nat_eq b 127) (not-true (is_control b) c) in
+    and_from (nat_le 32 b) (not (nat_eq b 127) && not (nat_eq b 59)) (le-leb 32 b (ltb-false b 32 parts.0))
+    (and_from (not (nat_eq b 127)) (not (nat_eq b 59)) (not_from_false (nat_eq b 127) parts.1) w)
+
+plain : (f : List ℕ) → list_all (λ b. not (is_control b)) f ≡ true → is_whole f ≡ true → list_all is_plain f ≡ true
+plain [] c w = refl
+plain (b ∷ f) c w =
+    let a = and_parts (not (is_control b)) (list_all (λ b. not (is_control b)) f) c in
+    let d = and_parts (not (nat_eq b 59)) (is_whole f) w in
+    and_from (is_plain b) (list_all is_plain f) (plain_byte b a.0 d.0) (plain f a.1 d.1)
+
+unless_none : (t : Bool) (x : PathError) (y : Option PathError) → cond t (Some x) y ≡ None → (t ≡ false) × (y ≡ None)
+unless_none true x y e = absurd (none-some x (sym e))
+unless_none false x y e = (refl, e)
+
+or_none : (o r : Option PathError) → option_or o r ≡ None → (o ≡ None) × (r ≡ None)
+or_none None r e = (refl, e)
+or_none (Some x) r e = absurd (none-some x (sym e))
+
+control_none : (place : ℕ) (o : Option ℕ) → control_fault place o ≡ None → o ≡ None
+control_none place None e = refl
+control_none place (Some n) e = absurd (none-some (ControlByte (place + n)) (sym e))
+
+-- a frame without a fault is good, and not too deep
+good_frame : (i place : ℕ) (f : List ℕ) → frame_fault i place f ≡ None → is_whole f ≡ true → (i < 128) × IsTrue (is_good_frame f)
+unfolding frame_fault
+good_frame i place f none whole =
+    let deep = unless_none (nat_le 128 i) TooDeep _ none in
+    let empty = unless_none (nat_eq (length f) 0) (EmptyFrame i) _ deep.1 in
+    let long = unless_none (nat_lt 1023 (length f)) (FrameTooLong i) (control_fault place (position is_control f)) empty.1 in
+    let bytes = plain f (no_place is_control f (control_none place (position is_control f) long.1)) whole in
+    let ne = eqb-false (length f) 0 empty.0 in (
+      leb-false 128 i deep.0,
+      and_from (nat_lt 0 (length f)) (nat_le (length f) 1023 && list_all is_plain f) (lt-ltb 0 (length f) (omega (arith, ne)))
+          (and_from (nat_le (length f) 1023) (list_all is_plain f) (le-leb (length f) 1023 (ltb-false 1023 (length f) long.0)) bytes),
+    )
+
+good_frames : (i place : ℕ) (fs : Path) → first_fault i place fs ≡ None → list_all is_whole fs ≡ true → i ≤ 128 → (i + length fs ≤ 128) × All (λ f. IsTrue (is_good_frame f)) fs
+unfolding first_fault
+good_frames i place [] none whole le = (omega arith, All-nil (λ f. IsTrue (is_good_frame f)))
+good_frames i place (f ∷ fs) none whole le =
+    let parts = or_none (frame_fault i place f) (first_fault (suc i) (suc (place + length f)) fs) none in
+    let w = and_parts (is_whole f) (list_all is_whole fs) whole in
+    let here = good_frame i place f parts.0 w.0 in
+    let rest = good_frames (suc i) (suc (place + length f)) fs parts.1 w.1 (omega (arith, here.0)) in
+    (omega (arith, rest.0), All-cons (λ f. IsTrue (is_good_frame f)) f fs here.1 rest.1)
+
+-- a text without a fault has good frames
+pub good_text : (text : List ℕ) → first_fault 0 0 (frames text) ≡ None → AreGoodFrames (frames text)
+unfolding frames
+good_text text none = let h = good_frames 0 0 (frames text) none (frames_whole text) (omega arith) in record { few = omega (arith, h.0); good = h.1 }
+
+-- some frames, as a reader finds them
+pub frames_some : (text : List ℕ) → 0 < length (frames text)
+frames_some text = let e = ap length (frames_first text) in omega (arith, e)
+
+-- where the frames of a text end: at each `;` on the way
+module _ (n b : ℕ) (rest : List ℕ) where
+  -- a `;` is an end
+  pub ends_mark : nat_eq b 59 ≡ true → ends_from n (frames (b ∷ rest)) ≡ n ∷ ends_from (n + 1) (frames rest)
+  unfolding frames
+  ends_mark e =
+      let a : n + 0 ≡ n = omega arith in
+      let s : suc (n + 0) ≡ n + 1 = omega arith in
+      ap (λ t. ends_from n (cond t ([] ∷ frames rest) (onto_first b (frames rest)))) e ∙ (λ k. a k ∷ ends_from (s k) (frames rest))
+
+  onto_ends : (fs : Path) (f : List ℕ) (gs : Path) → fs ≡ f ∷ gs → ends_from n (onto_first b fs) ≡ ends_from (n + 1) fs
+  onto_ends fs f gs is =
+      let e : n + suc (length f) ≡ (n + 1) + length f = omega arith in
+      ap (λ h. ends_from n (onto_first b h)) is ∙ ap (λ k. k ∷ ends_from (suc k) gs) e ∙ ap (ends_from (n + 1)) (sym is)
+
+  -- another byte is none
+  pub ends_other : nat_eq b 59 ≡ false → ends_from n (frames (b ∷ rest)) ≡ ends_from (n + 1) (frames rest)
+  unfolding frames
+  ends_other e =
+      ap (λ t. ends_from n (cond t ([] ∷ frames rest) (onto_first b (frames rest)))) e
+      ∙ onto_ends (frames rest) (take (frame_len rest) rest) (frames_after (drop (frame_len rest) rest)) (frames_first rest)
+
+-- and at the end of the text
+pub ends_last : (n : ℕ) → ends_from n (frames []) ≡ n ∷ []
+unfolding frames
+ends_last n = let a : n + 0 ≡ n = omega arith in ap (λ k. k ∷ []) a
+
+-- a step over a text: its `;` is an end
+module _ (done text : List ℕ) (i : ℕ) (lt : i < length text) where
+  from_byte : ends_from i (frames (drop i text)) ≡ ends_from i (frames (get_or text i 0 ∷ drop (i + 1) text))
+  from_byte = ap (λ t. ends_from i (frames t)) (drop_more text i 0 lt)
+
+  -- an end more
+  pub step_mark : get_or text i 0 ≡ 59 → (done ++ i ∷ []) ++ ends_from (i + 1) (frames (drop (i + 1) text)) ≡ done ++ ends_from i (frames (drop i text))
+  step_mark e = append_assoc done (i ∷ []) _ ∙ ap (λ es. done ++ es) (sym (from_byte ∙ ends_mark i (get_or text i 0) (drop (i + 1) text) (eq-eqb _ 59 e)))
+
+  -- and any other byte is not
+  pub step_other : (get_or text i 0 ≡ 59 → ⊥) → done ++ ends_from (i + 1) (frames (drop (i + 1) text)) ≡ done ++ ends_from i (frames (drop i text))
+  step_other ne = ap (λ es. done ++ es) (sym (from_byte ∙ ends_other i (get_or text i 0) (drop (i + 1) text) (ne_eqb _ 59 ne)))

@@ -1,0 +1,5 @@
+pub mod Path
+pub mod Good
+pub mod Reading
+pub mod Cuts
+pub mod Rows

@@ -1,0 +1,38 @@
+-- Texts and what they are read as; and that order goes by frames, not by joined texts.
+use Rattle.std.specs.Prelude.{◌≡◌, refl, [], ◌∷◌, ◌++◌, false, Ok, Err, codes}
+use Rattle.std.specs.declared.cmp.Ordering.TheVariants.{Less}
+use Rattle.call_path.specs.declared.read.PathError.TheVariants.{EmptyFrame, ControlByte}
+use Rattle.call_path.specs.Path.{path_cmp, is_prefix, path_text}
+use Rattle.call_path.specs.Reading.{path_of, first_fault, frame_fault, frames}
+
+-- two frames
+two : path_of (codes "main;a") ≡ Ok (codes "main" ∷ codes "a" ∷ [])
+unfolding first_fault frame_fault frames
+two = refl
+
+-- the frame between two `;` is empty
+empty_frame : path_of (codes "a;;b") ≡ Err (EmptyFrame 1)
+unfolding first_fault frame_fault frames
+empty_frame = refl
+
+-- no bytes are one empty frame
+no_bytes : path_of [] ≡ Err (EmptyFrame 0)
+unfolding first_fault frame_fault frames
+no_bytes = refl
+
+-- a place is counted from the start of the text
+control : path_of (codes "a;b" ++ 9 ∷ codes "c") ≡ Err (ControlByte 3)
+unfolding first_fault frame_fault frames
+control = refl
+
+-- the texts of these paths stand in the other order
+by_frames : path_cmp (codes "a" ∷ codes "b" ∷ []) (codes "a!" ∷ []) ≡ Less
+by_frames = refl
+
+-- a frame that begins alike is another frame
+no_prefix : is_prefix (codes "a" ∷ []) (codes "a!" ∷ codes "b" ∷ []) ≡ false
+no_prefix = refl
+
+-- the frames are joined by `;`
+joined : path_text (codes "main" ∷ codes "a" ∷ []) ≡ codes "main;a"
+joined = refl

@@ -1,0 +1,185 @@
+//! Frames held as one text, with the place where each ends.
+
+ghost use Rattle.std.specs.Prelude.{◌≡◌, ◌<◌, ◌≤◌, ◌+◌, ◌^◌, ◌++◌, [], ◌∷◌, length, IfOk, OnOk, OnErr, IsTrue, take, slice_get, Some};
+ghost use Rattle.call_path.specs.Path.{path_cmp, is_prefix, path_text};
+ghost use Rattle.call_path.specs.Good.{is_good_frame, AreGoodFrames};
+ghost use Rattle.call_path.specs.Reading.{frames};
+ghost use Rattle.call_path.specs.Cuts.{ends_from, start_in, end_in};
+
+use crate::FRAME_LIMIT;
+use std::alloc::{AllocError, Global};
+use std::cmp::Ordering;
+use std::marker::Model;
+
+/// None up to 128 good frames, joined by `;`.
+#[derive(Drop)]
+pub struct FrameText {
+    text: String,
+    // Where each frame ends in the text.
+    ends: Vec<u32>,
+}
+
+impl Model for FrameText {
+    ghost use Rattle.std.specs.Prelude.{string_bytes};
+    ghost use Rattle.call_path.specs.Path.{Path};
+    ghost use Rattle.call_path.specs.Cuts.{cut_from, AreCuts};
+
+    ghost Value = { Path };
+
+    ghost view = { λ a. cut_from 0 a.ends.items (string_bytes a.text) };
+
+    ghost invariant = { λ a. AreCuts (cut_from 0 a.ends.items (string_bytes a.text)) (string_bytes a.text) a.ends.items };
+}
+
+impl FrameText {
+    /// No frames.
+    pub fn new(alloc: Global) -> FrameText
+        ensures { result ≡ [] }
+    {
+        FrameText {
+            text: String::new(alloc),
+            ends: Vec::new(alloc),
+        }
+    }
+
+    /// The frames of a text.
+    pub fn of(alloc: Global, text: &str) -> Result<FrameText, AllocError>
+        requires { AreGoodFrames (frames text.now) }
+        ensures { IfOk result (λ all. all ≡ frames text.now) }
+    {
+        let ends = frame_ends(alloc, text.as_bytes())?;
+        let text = String::from_str(alloc, text)?;
+        Ok(FrameText { text, ends })
+    }
+
+    /// How many frames.
+    pub fn len(&self) -> usize
+        ensures len { result ≡ length self.now }
+        ensures few { length self.now ≤ FRAME_LIMIT }
+        ensures good { AreGoodFrames self.now }
+    {
+        self.ends.as_slice().len()
+    }
+
+    /// Frame `i`.
+    pub fn frame(&self, i: usize) -> &str
+        requires { i < length self.now }
+        ensures frame { slice_get self.now i ≡ Some result.now }
+        ensures good { IsTrue (is_good_frame result.now) }
+    {
+        let start = start_in(&self.ends, i);
+        let end = self.ends[i] as usize;
+        &self.text.as_str()[start..end]
+    }
+
+    /// The frames joined by `;`.
+    pub fn text(&self) -> &str
+        ensures { result.now ≡ path_text self.now }
+    {
+        self.text.as_str()
+    }
+
+    /// Frame by frame in byte order, a prefix first.
+    pub fn cmp(&self, other: &FrameText) -> Ordering
+        ensures { result ≡ path_cmp self.now other.now }
+    {
+        for i in 0..self.len().min(other.len()) {
+            match self.frame(i).cmp(other.frame(i)) {
+                Ordering::Less => return Ordering::Less,
+                Ordering::Equal => {}
+                Ordering::Greater => return Ordering::Greater,
+            }
+        }
+        self.len().cmp(&other.len())
+    }
+
+    /// Whether the other frames begin with these.
+    pub fn is_prefix_of(&self, other: &FrameText) -> bool
+        ensures { result ≡ is_prefix self.now other.now }
+    {
+        if self.len() > other.len() {
+            return false;
+        }
+        for i in 0..self.len() {
+            if self.frame(i) != other.frame(i) {
+                return false;
+            }
+        }
+        true
+    }
+
+    /// The first `depth` frames.
+    pub fn first(&self, depth: usize) -> Result<FrameText, AllocError>
+        requires { depth ≤ length self.now }
+        ensures { IfOk result (λ first. first ≡ take depth self.now) }
+    {
+        let end = end_in(&self.ends, depth);
+        let text = String::from_str(*self.ends.allocator(), &self.text.as_str()[..end])?;
+        let ends = Vec::from_slice(*self.ends.allocator(), &self.ends[..depth])?;
+        Ok(FrameText { text, ends })
+    }
+
+    /// Keeps the first `depth` frames.
+    pub fn cut(&mut self, depth: usize)
+        ensures { self.new ≡ take depth self.old }
+    {
+        if depth < self.ends.as_slice().len() {
+            self.text.truncate(end_in(&self.ends, depth));
+            self.ends.truncate(depth);
+        }
+    }
+
+    /// Puts a frame at the end.
+    pub fn push(&mut self, frame: &str) -> Result<(), AllocError>
+        requires few { length self.old < FRAME_LIMIT }
+        requires good { IsTrue (is_good_frame frame.now) }
+        ensures ok { OnOk result (self.new ≡ self.old ++ frame.now ∷ []) }
+        ensures err { OnErr result (self.new ≡ self.old) }
+    {
+        self.ends.reserve(1)?;
+        self.text.reserve(frame.len() + 1)?;
+        if !self.ends.as_slice().is_empty() {
+            self.text.push(';')?;
+        }
+        self.text.push_str(frame)?;
+        self.ends.push(self.text.as_str().len() as u32)?;
+        Ok(())
+    }
+}
+
+// Where frame `i` begins.
+fn start_in(ends: &[u32], i: usize) -> usize
+    requires { i ≤ length ends.now }
+    ensures { result ≡ start_in ends.now i }
+{
+    if i == 0 {
+        return 0;
+    }
+    ends[i - 1] as usize + 1
+}
+
+// Where the first `depth` frames end.
+fn end_in(ends: &[u32], depth: usize) -> usize
+    requires { depth ≤ length ends.now }
+    ensures { result ≡ end_in ends.now depth }
+{
+    if depth == 0 {
+        return 0;
+    }
+    ends[depth - 1] as usize
+}
+
+// Where each frame of a text ends.
+fn frame_ends(alloc: Global, text: &[u8]) -> Result<Vec<u32>, AllocError>
+    requires { length text.now < 2 ^ 32 }
+    ensures { IfOk result (λ ends. ends.items ≡ ends_from 0 (frames text.now)) }
+{
+    let mut ends = Vec::new(alloc);
+    for (place, byte) in text.iter().enumerate() {
+        if *byte == b';' {
+            ends.push(place as u32)?;
+        }
+    }
+    ends.push(text.len() as u32)?;
+    Ok(ends)
+}

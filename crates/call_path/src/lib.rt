@@ -1,0 +1,185 @@
+//! Call paths: the frames of a call stack, root first.
+//!
+//! A path has 1 to 128 frames. A frame is a text of 1 to 1,023 bytes without control bytes and
+//! without `;`, and so the frames joined by `;` are a text that gives the path back.
+#![tactic(auto)]
+
+ghost use Rattle.std.specs.Prelude.{List, ℕ, ◌≡◌, ◌≢◌, ◌<◌, ◌≤◌, ◌++◌, [], ◌∷◌, length, IfOk, IfErr, OnOk, OnErr, Ok, Err, IsTrue, take, slice_get, Some};
+ghost use Rattle.call_path.specs.Path.{Path, path_cmp, is_prefix, path_text};
+ghost use Rattle.call_path.specs.Good.{is_good_frame, AreGoodFrames, IsGoodPath};
+ghost use Rattle.call_path.specs.Reading.{path_of};
+ghost use Rattle.call_path.specs.declared.read.PathError.TheVariants.{OutOfMemory};
+
+use frame_text::FrameText;
+pub use read::PathError;
+use std::alloc::{AllocError, Global};
+use std::cmp::Ordering;
+use std::marker::Model;
+
+mod frame_text;
+mod read;
+#[cfg(test)]
+mod tests;
+
+/// The most frames of a path.
+pub const FRAME_LIMIT: usize = 128;
+
+/// The most bytes of a frame.
+pub const FRAME_BYTES: usize = 1_023;
+
+/// A call stack: 1 to 128 frames, root first.
+#[derive(Drop)]
+pub struct CallPath {
+    frames: FrameText,
+}
+
+impl Model for CallPath {
+    ghost use Rattle.std.specs.Prelude.{length, ◌<◌};
+    ghost use Rattle.call_path.specs.Path.{Path};
+
+    ghost Value = { Path };
+
+    ghost view = { λ a. a.frames };
+
+    ghost invariant = { λ a. 0 < length a.frames };
+}
+
+impl CallPath {
+    /// Reads frames that are parted by `;`, from the left.
+    pub fn read(alloc: Global, text: &str) -> Result<CallPath, PathError>
+        ensures ok { IfOk result (λ path. path_of text.now ≡ Ok path) }
+        ensures err { IfErr result (λ e. e ≢ OutOfMemory → path_of text.now ≡ Err e) }
+    {
+        if let Some(fault) = read::first_fault(text.as_bytes()) {
+            return Err(fault);
+        }
+        let frames = FrameText::of(alloc, text)?;
+        Ok(CallPath { frames })
+    }
+
+    /// How many frames.
+    pub fn len(&self) -> usize
+        ensures len { result ≡ length self.now }
+        ensures some { 0 < length self.now }
+        ensures few { length self.now ≤ FRAME_LIMIT }
+        ensures good { IsGoodPath self.now }
+    {
+        self.frames.len()
+    }
+
+    /// Frame `i`, counted from the root.
+    pub fn frame(&self, i: usize) -> &str
+        requires { i < length self.now }
+        ensures frame { slice_get self.now i ≡ Some result.now }
+        ensures good { IsTrue (is_good_frame result.now) }
+    {
+        self.frames.frame(i)
+    }
+
+    /// Whether the other path begins with this one.
+    pub fn is_prefix_of(&self, other: &CallPath) -> bool
+        ensures { result ≡ is_prefix self.now other.now }
+    {
+        self.frames.is_prefix_of(&other.frames)
+    }
+
+    /// Frame by frame in byte order, a prefix first. This is not the order of the joined texts.
+    pub fn cmp(&self, other: &CallPath) -> Ordering
+        ensures { result ≡ path_cmp self.now other.now }
+    {
+        self.frames.cmp(&other.frames)
+    }
+
+    /// The path of the first `depth` frames.
+    pub fn prefix(&self, depth: usize) -> Result<CallPath, AllocError>
+        requires some { 0 < depth }
+        requires within { depth ≤ length self.now }
+        ensures { IfOk result (λ prefix. prefix ≡ take depth self.now) }
+    {
+        let frames = self.frames.first(depth)?;
+        Ok(CallPath { frames })
+    }
+
+    /// The same path once more.
+    pub fn copy(&self) -> Result<CallPath, AllocError>
+        ensures { IfOk result (λ copy. copy ≡ self.now) }
+    {
+        self.prefix(self.len())
+    }
+
+    /// Appends the frames, joined by `;`.
+    pub fn write_text(&self, out: &mut Vec<u8>) -> Result<(), AllocError>
+        ensures ok { OnOk result (out.new.items ≡ out.old.items ++ path_text self.now) }
+        ensures err { OnErr result (out.new.items ≡ out.old.items) }
+    {
+        out.extend_from_slice(self.frames.text().as_bytes())?;
+        Ok(())
+    }
+}
+
+/// The frames of a path that is being built, root first: none up to 128.
+#[derive(Drop)]
+pub struct PathBuilder {
+    frames: FrameText,
+}
+
+impl Model for PathBuilder {
+    ghost use Rattle.call_path.specs.Path.{Path};
+
+    ghost Value = { Path };
+
+    ghost view = { λ a. a.frames };
+}
+
+impl PathBuilder {
+    /// No frames.
+    pub fn new(alloc: Global) -> PathBuilder
+        ensures { result ≡ [] }
+    {
+        PathBuilder {
+            frames: FrameText::new(alloc),
+        }
+    }
+
+    /// How many frames.
+    pub fn len(&self) -> usize
+        ensures len { result ≡ length self.now }
+        ensures few { length self.now ≤ FRAME_LIMIT }
+        ensures good { AreGoodFrames self.now }
+    {
+        self.frames.len()
+    }
+
+    /// Puts a frame at the end.
+    pub fn push(&mut self, frame: &str) -> Result<(), AllocError>
+        requires few { length self.old < FRAME_LIMIT }
+        requires good { IsTrue (is_good_frame frame.now) }
+        ensures ok { OnOk result (self.new ≡ self.old ++ frame.now ∷ []) }
+        ensures err { OnErr result (self.new ≡ self.old) }
+    {
+        self.frames.push(frame)
+    }
+
+    /// Keeps the first `depth` frames.
+    pub fn cut(&mut self, depth: usize)
+        ensures { self.new ≡ take depth self.old }
+    {
+        self.frames.cut(depth);
+    }
+
+    /// The path of the frames.
+    pub fn path(&self) -> Result<CallPath, AllocError>
+        requires { 0 < length self.now }
+        ensures { IfOk result (λ path. path ≡ self.now) }
+    {
+        let frames = self.frames.first(self.frames.len())?;
+        Ok(CallPath { frames })
+    }
+}
+
+/// A law of texts: a good path is read from its text, and what is read from a text is a good path
+/// with that text.
+pub fn texts_are_read_back()
+    ensures read { (p : Path) → IsGoodPath p → path_of (path_text p) ≡ Ok p }
+    ensures good { (text : List ℕ) (p : Path) → path_of text ≡ Ok p → IsGoodPath p × (path_text p ≡ text) }
+{}
