@@ -1,0 +1,11 @@
+pub mod Rows
+pub mod PairLemmas
+pub mod TreeLemmas
+pub mod Edits
+pub mod OwnedLemmas
+pub mod TreeLaws
+pub mod Walking
+pub mod GoodPaths
+pub mod ChangeLemmas
+pub mod Places
+pub mod Putting

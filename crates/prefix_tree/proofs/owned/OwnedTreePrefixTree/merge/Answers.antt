@@ -1,0 +1,51 @@
+use Rattle.std.proofs.Common.{◌∙◌, ap, sym, subst, arith, length, map}
+use Rattle.std.proofs.lemmas.Bool.{leb-true, leb-false}
+use Rattle.prefix_tree.specs.Tree.{merged, Unites}
+use Rattle.prefix_tree.specs.Owned.{below_in, entries_in}
+use Rattle.prefix_tree.specs.Changes.{changed, new_among, puts}
+use Rattle.prefix_tree.proofs.TreeLemmas.{merged_unites}
+use Rattle.prefix_tree.proofs.ChangeLemmas.{apart_from_order}
+use Rattle.prefix_tree.proofs.OwnedLemmas.{MakesTree, makes_merged, from_equal_ranks, count_merged, puts_count, puts_in_order, puts_are_united}
+use Rattle.prefix_tree.proofs.owned.OwnedTreePrefixTree.merge.Goals as goal
+
+-- too many
+pub returns-then-not-has_room-clause-full : goal.returns-then-not-has_room-clause-full
+returns-then-not-has_room-clause-full c _ =
+    let count = count_merged c.self.inside.coverage c.other.inside.coverage c.self.inside.rows.items c.other.inside.rows.items c.args.self.now c.args.other.now c.self.view_is c.other.view_is c.self.invariant.tree c.other.invariant.tree in
+    let new = c.in_ok-changes.ensures.added ∙ (λ i. new_among (below_in (c.deref.ensures.value i)) (entries_in (c.deref-2.ensures.value i))) in
+    omega (arith, count, new, ap length c.deref-3.ensures.value, leb-false _ _ (sym c.has_room.ensures ∙ c.if-not-has_room.true))
+
+pub put_rows-requires-clause-room : goal.put_rows-requires-clause-room
+put_rows-requires-clause-room c =
+    let count = ap (λ rows. length (puts (entries_in rows) (entries_in c.in_ok-changes.changes.rows.items))) c.in_ok-reserve.ensures.items
+    ∙ puts_count c.self.inside.rows.items c.self.inside.rows.items c.in_ok-changes.changes.rows.items (entries_in c.other.inside.rows.items) c.self.invariant.tree.in_order (apart_from_order (entries_in c.other.inside.rows.items) c.other.invariant.tree.in_order) (c.in_ok-changes.ensures.rows ∙ (λ i. map (changed (below_in (c.deref.ensures.value i))) (entries_in (c.deref-2.ensures.value i)))) in
+    let new = c.in_ok-changes.ensures.added ∙ (λ i. new_among (below_in (c.deref.ensures.value i)) (entries_in (c.deref-2.ensures.value i))) in
+    omega (arith, count, new, c.in_ok-reserve.ensures.ok, c.in_ok-reserve.ensures.len, ap length c.deref-3.ensures.value, c.deref-3.ensures.len)
+
+makes : (c : goal.After-put_rows) → MakesTree c.union_into.new.self c.put_rows.new.rows.items (merged c.args.self.now c.args.other.now)
+makes c =
+    from_equal_ranks _ _ _ _ c.in_ok-union_into.ensures.ok
+    (makes_merged c.self.inside.coverage c.other.inside.coverage c.self.inside.rows.items c.other.inside.rows.items c.put_rows.new.rows.items c.args.self.now c.args.other.now c.self.view_is c.other.view_is c.self.invariant.tree c.other.invariant.tree
+    (puts_in_order c.self.inside.rows.items c.put_rows.new.rows.items c.in_ok-changes.changes.rows.items (entries_in c.other.inside.rows.items) c.self.invariant.tree.in_order (apart_from_order (entries_in c.other.inside.rows.items) c.other.invariant.tree.in_order) (c.in_ok-changes.ensures.rows ∙ (λ i. map (changed (below_in (c.deref.ensures.value i))) (entries_in (c.deref-2.ensures.value i)))) (c.put_rows.ensures ∙ ap (λ rows. puts (entries_in rows) (entries_in c.in_ok-changes.changes.rows.items)) c.in_ok-reserve.ensures.items))
+    (puts_are_united c.self.inside.rows.items c.put_rows.new.rows.items c.in_ok-changes.changes.rows.items (entries_in c.other.inside.rows.items) c.self.invariant.tree.in_order (apart_from_order (entries_in c.other.inside.rows.items) c.other.invariant.tree.in_order) (c.in_ok-changes.ensures.rows ∙ (λ i. map (changed (below_in (c.deref.ensures.value i))) (entries_in (c.deref-2.ensures.value i)))) (c.put_rows.ensures ∙ ap (λ rows. puts (entries_in rows) (entries_in c.in_ok-changes.changes.rows.items)) c.in_ok-reserve.ensures.items)))
+
+pub returns-clause-fits : goal.returns-clause-fits
+returns-clause-fits c =
+    let count = count_merged c.self.inside.coverage c.other.inside.coverage c.self.inside.rows.items c.other.inside.rows.items c.args.self.now c.args.other.now c.self.view_is c.other.view_is c.self.invariant.tree c.other.invariant.tree in
+    let new = c.in_ok-changes.ensures.added ∙ (λ i. new_among (below_in (c.deref.ensures.value i)) (entries_in (c.deref-2.ensures.value i))) in
+    let few = c.self.invariant.tree.few in
+    omega (arith, count, new, few, ap length c.deref-3.ensures.value, leb-true _ _ (sym c.has_room.ensures ∙ c.if-not-has_room.false))
+
+pub invariant_of-self-2 : goal.invariant_of-self-2
+invariant_of-self-2 c =
+    let size = (makes c).size in
+    let count = count_merged c.self.inside.coverage c.other.inside.coverage c.self.inside.rows.items c.other.inside.rows.items c.args.self.now c.args.other.now c.self.view_is c.other.view_is c.self.invariant.tree c.other.invariant.tree in
+    let new = c.in_ok-changes.ensures.added ∙ (λ i. new_among (below_in (c.deref.ensures.value i)) (entries_in (c.deref-2.ensures.value i))) in
+    let few = c.self.invariant.tree.few in
+    record { tree = (makes c).tree (omega (arith, size, count, new, few, ap length c.deref-3.ensures.value, leb-true _ _ (sym c.has_room.ensures ∙ c.if-not-has_room.false))); nobody = c.self.invariant.nobody }
+
+pub returns-clause-ok : goal.returns-clause-ok
+returns-clause-ok c = (makes c).is
+
+pub returns-clause-pairs : goal.returns-clause-pairs
+returns-clause-pairs c = subst (Unites c.args.self.now c.args.other.now) (sym (makes c).is) (merged_unites c.args.self.now c.args.other.now)

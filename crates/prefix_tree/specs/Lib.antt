@@ -1,0 +1,9 @@
+pub mod Pairs
+pub mod Tree
+pub mod Joined
+pub mod Code
+pub mod Owned
+pub mod Shown
+pub mod Walk
+pub mod Changes
+pub mod Rows

@@ -1,0 +1,121 @@
+use super::*;
+use std::process::Abort;
+use std::test::Fail;
+
+fn ranks(rt: &impl Abort, alloc: Global, members: &[u32]) -> RankSet {
+    let mut set = RankSet::new(alloc);
+    for rank in members {
+        set.insert(*rank).expect(rt, "below the limit");
+    }
+    set
+}
+
+fn path(rt: &impl Abort, alloc: Global, text: &str) -> CallPath {
+    CallPath::read(alloc, text).expect(rt, "good")
+}
+
+// Each row as a line: its depth, its frame, its label and its ends.
+fn rows_text<T: PrefixTree>(alloc: Global, tree: &T) -> Result<Vec<u8>, AllocError> {
+    let mut text = Vec::new(alloc);
+    for i in 0..tree.rows() {
+        let row = tree.row(i);
+        text.extend_from_slice(row.depth.to_string(alloc)?.as_bytes())?;
+        text.push(b' ')?;
+        text.extend_from_slice(row.frame.as_bytes())?;
+        text.push(b' ')?;
+        row.label.write_text(&mut text)?;
+        text.push(b' ')?;
+        row.ends.write_text(&mut text)?;
+        text.push(b'\n')?;
+    }
+    Ok(text)
+}
+
+fn assert_rows<T: PrefixTree>(
+    rt: &impl Abort,
+    alloc: Global,
+    tree: &T,
+    want: &[u8],
+) -> Result<(), AllocError> {
+    let text = rows_text(alloc, tree)?;
+    assert_eq!(rt; text.as_slice(), want);
+    Ok(())
+}
+
+fn covered<T: PrefixTree>(
+    rt: &impl Abort,
+    alloc: Global,
+    members: &[u32],
+) -> Result<T, AllocError> {
+    let mut tree = T::empty(alloc);
+    tree.cover(&ranks(rt, alloc, members))?;
+    Ok(tree)
+}
+
+fn add<T: PrefixTree>(
+    rt: &impl Abort,
+    alloc: Global,
+    tree: &mut T,
+    members: &[u32],
+    text: &str,
+) -> Result<(), TreeError> {
+    let ranks = ranks(rt, alloc, members);
+    let path = path(rt, alloc, text);
+    assert!(rt; ranks.count() > 0);
+    assert!(rt; ranks.is_subset(tree.row(0).label));
+    tree.add(&ranks, &path)
+}
+
+fn merges<T: PrefixTree>(rt: &impl Abort, alloc: Global) -> Result<(), TreeError> {
+    let mut left = covered::<T>(rt, alloc, &[0, 1])?;
+    assert_rows(rt, alloc, &left, b"0 / 2:[0-1] 0:[]\n")?;
+    add(rt, alloc, &mut left, &[0], "a;b")?;
+    add(rt, alloc, &mut left, &[1], "a")?;
+    let mut right = covered::<T>(rt, alloc, &[1, 2])?;
+    add(rt, alloc, &mut right, &[1, 2], "a")?;
+    left.merge(&right)?;
+    let want = b"0 / 3:[0-2] 0:[]\n1 a 3:[0-2] 2:[1-2]\n2 b 1:[0] 1:[0]\n";
+    assert_rows(rt, alloc, &left, want)?;
+    assert_rows(rt, alloc, &left.copy()?, want)?;
+    Ok(())
+}
+
+// A tree with 2,048 rows besides the root.
+fn full<T: PrefixTree>(rt: &impl Abort, alloc: Global) -> Result<T, TreeError> {
+    let mut tree = covered::<T>(rt, alloc, &[0, 1])?;
+    for i in 0..2_048u32 {
+        let text = format!(in alloc; "f{i}")?;
+        add(rt, alloc, &mut tree, &[1], &text)?;
+    }
+    Ok(tree)
+}
+
+fn refuses_when_full<T: PrefixTree>(rt: &impl Abort, alloc: Global) -> Result<(), TreeError> {
+    let mut tree = full::<T>(rt, alloc)?;
+    let before = rows_text(alloc, &tree)?;
+    let refused = add(rt, alloc, &mut tree, &[1], "g");
+    assert_eq!(rt; refused, Err(TreeError::TooManyPrefixes));
+    assert_rows(rt, alloc, &tree, &before)?;
+
+    let mut other = covered::<T>(rt, alloc, &[0, 1])?;
+    add(rt, alloc, &mut other, &[0], "f0;g")?;
+    assert_eq!(rt; tree.merge(&other), Err(TreeError::TooManyPrefixes));
+    assert_rows(rt, alloc, &tree, &before)?;
+
+    add(rt, alloc, &mut tree, &[0], "f0")?;
+    assert_eq!(rt; tree.rows(), 2_049);
+    assert_eq!(rt; tree.row(1).ends.count(), 2);
+    Ok(())
+}
+
+#[test]
+fn merges_owned(rt: HostRuntime) -> Result<(), Fail> {
+    merges::<OwnedTree>(&rt, rt.alloc())?;
+    Ok(())
+}
+
+#[test]
+fn refuses_when_full_owned(rt: HostRuntime) -> Result<(), Fail> {
+    refuses_when_full::<OwnedTree>(&rt, rt.alloc())?;
+    Ok(())
+}
