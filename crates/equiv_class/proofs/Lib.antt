@@ -1,0 +1,9 @@
+pub mod Ordered
+pub mod Alike
+pub mod Blocks
+pub mod PathsInOrder
+pub mod TreePaths
+pub mod Walk
+pub mod SamePairs
+pub mod Cuts
+pub mod Partition

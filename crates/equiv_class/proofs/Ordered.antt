@@ -1,0 +1,67 @@
+-- Sets of ranks, and their members in order.
+use Rattle.std.proofs.Common.{◌≡◌, ℕ, ◌<◌, Bool, true, false, cond, ◌&&◌, ◌||◌, nat_lt, List, [], ◌∷◌, map, refl, sym, ap, ◌∙◌, subst, inl, inr}
+use Rattle.std.specs.List.{list_any, list_all, filter}
+use Rattle.std.specs.Ordering.{nat_cmp, eq_by_cmp, is_eq}
+use Rattle.std.specs.Cmp.{nat_cmp_total, unsigned_tied, tied_itself}
+use Rattle.std.proofs.lemmas.Bool.{true≢false, and_parts, or_cases, or_right, eqb-true, ltb-true}
+use Rattle.rank_set.specs.Ranks.{Ranks, in_order, those, is_rising, from_T}
+
+-- a number is tied with itself
+pub tied_self : (r : ℕ) → eq_by_cmp nat_cmp r r ≡ true
+tied_self r = ap is_eq (tied_itself nat_cmp_total r)
+
+-- tied numbers are equal
+pub same_number : (x y : ℕ) → eq_by_cmp nat_cmp x y ≡ true → x ≡ y
+same_number x y e = eqb-true x y (sym (unsigned_tied x y) ∙ e)
+
+-- what is left in order, after a test
+pub in_order-those : (t : ℕ → Bool) (s : Ranks) → in_order (those t s) ≡ filter t (in_order s)
+unfolding those
+in_order-those t s = refl
+
+-- a later member is above the first
+pub first_below : (s : Ranks) (x : ℕ) (xs : List ℕ) → in_order s ≡ x ∷ xs → (y : ℕ) → list_any (eq_by_cmp nat_cmp y) xs ≡ true → x < y
+first_below s x xs is y one =
+    let up : is_rising (x ∷ xs) ≡ true = subst (λ zs. is_rising zs ≡ true) is (from_T _ s.rises) in
+    member xs (and_parts (list_all (λ z. nat_lt x z) xs) (is_rising xs) up).0 one
+  where
+    member : (ys : List ℕ) → list_all (λ z. nat_lt x z) ys ≡ true → list_any (eq_by_cmp nat_cmp y) ys ≡ true → x < y
+    member [] a e = absurd (true≢false (sym e))
+    member (z ∷ ys) a e =
+        let parts = and_parts (nat_lt x z) (list_all (λ w. nat_lt x w) ys) a in
+        elim (or_cases (eq_by_cmp nat_cmp y z) (list_any (eq_by_cmp nat_cmp y) ys) e) [
+          | inl same ↦ subst (λ w. x < w) (sym (same_number y z same)) (ltb-true x z parts.0)
+          | inr later ↦ member ys parts.1 later
+        ]
+
+-- tests that agree at each member keep the same members
+pub filter_on : (p q : ℕ → Bool) (xs : List ℕ) → ((x : ℕ) → list_any (eq_by_cmp nat_cmp x) xs ≡ true → p x ≡ q x) → filter p xs ≡ filter q xs
+filter_on p q [] each = refl
+filter_on p q (x ∷ xs) each =
+    (λ i. cond (each x (ap (λ b. b || list_any (eq_by_cmp nat_cmp x) xs) (tied_self x)) i) (x ∷ filter p xs) (filter p xs))
+    ∙ ap (λ ys. cond (q x) (x ∷ ys) ys) (filter_on p q xs (λ y one. each y (or_right (eq_by_cmp nat_cmp y x) (list_any (eq_by_cmp nat_cmp y) xs) one)))
+
+-- functions that agree at each member give the same list
+pub map_on : {B : Type 0} (f g : ℕ → B) (xs : List ℕ) → ((x : ℕ) → list_any (eq_by_cmp nat_cmp x) xs ≡ true → f x ≡ g x) → map f xs ≡ map g xs
+map_on f g [] each = refl
+map_on f g (x ∷ xs) each =
+    (λ i. each x (ap (λ b. b || list_any (eq_by_cmp nat_cmp x) xs) (tied_self x)) i ∷ map_on f g xs (λ y one. each y (or_right (eq_by_cmp nat_cmp y x) (list_any (eq_by_cmp nat_cmp y) xs) one)) i)
+
+-- two tests, one after the other
+pub filter_twice : (p q : ℕ → Bool) (xs : List ℕ) → filter p (filter q xs) ≡ filter (λ x. q x && p x) xs
+filter_twice p q [] = refl
+filter_twice p q (x ∷ xs) = elim (q x) as (λ b. filter p (cond b (x ∷ filter q xs) (filter q xs)) ≡ cond (b && p x) (x ∷ filter (λ y. q y && p y) xs) (filter (λ y. q y && p y) xs)) [
+  | true ↦ ap (λ ys. cond (p x) (x ∷ ys) ys) (filter_twice p q xs)
+  | false ↦ filter_twice p q xs
+]
+
+-- a member that passed a test was a member
+pub kept_in : (p : ℕ → Bool) (xs : List ℕ) (s : ℕ) → list_any (eq_by_cmp nat_cmp s) (filter p xs) ≡ true → list_any (eq_by_cmp nat_cmp s) xs ≡ true
+kept_in p [] s e = e
+kept_in p (x ∷ xs) s e = elim (p x) as (λ b. list_any (eq_by_cmp nat_cmp s) (cond b (x ∷ filter p xs) (filter p xs)) ≡ true → (eq_by_cmp nat_cmp s x || list_any (eq_by_cmp nat_cmp s) xs) ≡ true) [
+  | true ↦ λ one. elim (or_cases (eq_by_cmp nat_cmp s x) (list_any (eq_by_cmp nat_cmp s) (filter p xs)) one) [
+    | inl here ↦ ap (λ b. b || list_any (eq_by_cmp nat_cmp s) xs) here
+    | inr later ↦ or_right (eq_by_cmp nat_cmp s x) (list_any (eq_by_cmp nat_cmp s) xs) (kept_in p xs s later)
+  ]
+  | false ↦ λ one. or_right (eq_by_cmp nat_cmp s x) (list_any (eq_by_cmp nat_cmp s) xs) (kept_in p xs s one)
+] e

@@ -1,0 +1,4 @@
+pub mod Classes
+pub mod ClassList
+pub mod SeenPaths
+pub mod Rows

@@ -1,0 +1,248 @@
+//! Classes: the groups of ranks that were seen in just the same call paths. A debugger is attached to one
+//! rank of each.
+#![tactic(auto)]
+
+ghost use Rattle.std.specs.Prelude.{◌≡◌, ◌||◌, ℕ, true, false, not, [], IsTrue, IfOk, OnOk};
+ghost use Rattle.rank_set.specs.Ranks.{Ranks, has, none, those};
+ghost use Rattle.std.specs.List.{list_any};
+ghost use Rattle.std.specs.List.Sorted.{IsStrictlySortedBy};
+ghost use Rattle.call_path.specs.Path.{Path, is_path, path_cmp};
+ghost use Rattle.prefix_tree.specs.Pairs.{HasNoEmptyPath, Pairs, is_pair};
+ghost use Rattle.prefix_tree.specs.Tree.{tree_of, pairs_of};
+ghost use Rattle.equiv_class.specs.Classes.{HaveOwnPaths, alike, classes_of, classes_with, paths_of};
+ghost use Rattle.equiv_class.specs.ClassList.{class_view, class_views};
+ghost use Rattle.equiv_class.specs.SeenPaths.{AreSeveral, Lists, entries_in, same_in, seen_in, shares_all, times, paths_to};
+
+use call_path::{CallPath, PathBuilder};
+use prefix_tree::PrefixTree;
+use rank_set::RankSet;
+use std::alloc::{AllocError, Global};
+
+#[cfg(test)]
+mod tests;
+
+/// Ranks that were seen in just the same paths, and those paths.
+#[derive(Drop)]
+pub struct Class {
+    /// At least one rank.
+    pub ranks: RankSet,
+    /// The paths in their order: frame by frame in byte order, a prefix first. None for ranks that were
+    /// seen in no path.
+    pub paths: Vec<CallPath>,
+}
+
+// A path in which some rank was seen, with the ranks that were seen in it.
+#[derive(Drop)]
+struct SeenPath<'a> {
+    path: CallPath,
+    ranks: &'a RankSet,
+}
+
+/// A law of classes: two ranks are alike exactly where they were seen in the same paths.
+pub fn alike_by_paths()
+    ensures same { (P : Pairs) (r s : ℕ) → ((p : Path) → is_pair P r p ≡ is_pair P s p) → alike P r s ≡ true }
+    ensures alike { (P : Pairs) (r s : ℕ) → alike P r s ≡ true → (p : Path) → is_pair P r p ≡ is_pair P s p }
+{}
+
+/// A law of classes: each covered rank stands in just one of them, and no other rank in any.
+pub fn classes_part_ranks()
+    ensures covered { (P : Pairs) (C : Ranks) (r : ℕ) → has C r ≡ true → classes_with r (classes_of P C) ≡ 1 }
+    ensures others { (P : Pairs) (C : Ranks) (r : ℕ) → has C r ≡ false → classes_with r (classes_of P C) ≡ 0 }
+{}
+
+/// A law of classes: the paths of a class are those that each of its ranks was seen in, in order, each once.
+pub fn paths_of_classes()
+    ensures own { (P : Pairs) (C : Ranks) → HaveOwnPaths P (classes_of P C) }
+    ensures members { (P : Pairs) (r : ℕ) (p : Path) → list_any (is_path p) (paths_of P r) ≡ is_pair P r p }
+    ensures order { (P : Pairs) (r : ℕ) → IsStrictlySortedBy path_cmp (paths_of P r) }
+{}
+
+/// The classes of a tree's covered ranks, by their least ranks. Covered ranks that were seen in no path
+/// are a class too.
+///
+/// `own` says it of the pairs that the tree's rows give, and `pairs` of any pairs that the tree is of.
+pub fn classes<T: PrefixTree>(alloc: Global, tree: &T) -> Result<Vec<Class>, AllocError>
+    ensures own { IfOk result (λ all. class_views all.items ≡ classes_of (pairs_of (T.tree tree.now)) (T.tree tree.now).coverage) }
+    ensures pairs { IfOk result (λ all. (P : Pairs) (C : Ranks) → HasNoEmptyPath P → T.tree tree.now ≡ tree_of P C → class_views all.items ≡ classes_of P C) }
+{
+    let mut frames = PathBuilder::new(alloc);
+    let seen = seen_paths(alloc, tree, &mut frames)?;
+    let several = ranks_in_several(alloc, &seen)?;
+    let mut left = tree.row(0).label.copy()?;
+    take_classes(alloc, &seen, &several, &mut left)
+}
+
+// The paths in which ranks were seen, in order, found with an empty path.
+fn seen_paths<'a, T: PrefixTree>(
+    alloc: Global,
+    tree: &'a T,
+    frames: &mut PathBuilder,
+) -> Result<Vec<SeenPath<'a>>, AllocError>
+    requires { frames.old ≡ [] }
+    ensures { IfOk result (λ seen. entries_in seen.items ≡ seen_in (T.tree tree.now)) }
+{
+    let mut seen = Vec::new(alloc);
+    for i in 1..tree.rows() {
+        let row = tree.row(i);
+        frames.cut(row.depth - 1);
+        frames.push(row.frame)?;
+        if row.ends.count() > 0 {
+            let path = frames.path()?;
+            seen.push(SeenPath {
+                path,
+                ranks: row.ends,
+            })?;
+        }
+    }
+    Ok(seen)
+}
+
+// The ranks that were seen in more than one of the paths.
+fn ranks_in_several(alloc: Global, seen: &[SeenPath<'_>]) -> Result<RankSet, AllocError>
+    ensures { IfOk result (λ several. AreSeveral several (entries_in seen.now)) }
+{
+    let mut once = RankSet::new(alloc);
+    let mut several = RankSet::new(alloc);
+    count_ranks(seen, &mut once, &mut several)?;
+    Ok(several)
+}
+
+// Counts each rank up to two: those that were seen, and those that were seen in more than one path.
+fn count_ranks(
+    seen: &[SeenPath<'_>],
+    once: &mut RankSet,
+    several: &mut RankSet,
+) -> Result<(), AllocError>
+    requires once { once.old ≡ none }
+    requires several { several.old ≡ none }
+    ensures { OnOk result (AreSeveral several.new (entries_in seen.now)) }
+{
+    for path in seen {
+        several.union_into(&common(path.ranks, once)?)?;
+        once.union_into(path.ranks)?;
+    }
+    Ok(())
+}
+
+// Takes the classes of the ranks that are left, the class of the least one first.
+fn take_classes(
+    alloc: Global,
+    seen: &[SeenPath<'_>],
+    several: &RankSet,
+    left: &mut RankSet,
+) -> Result<Vec<Class>, AllocError>
+    requires { AreSeveral several.now (entries_in seen.now) }
+    ensures { IfOk result (λ all. (P : Pairs) → Lists P (entries_in seen.now) → class_views all.items ≡ classes_of P left.old) }
+{
+    let mut all = Vec::new(alloc);
+    while let Some(r) = left.first() {
+        let class = take_class(alloc, seen, several, r, left)?;
+        all.push(class)?;
+    }
+    Ok(all)
+}
+
+// Takes the class of a rank out of the ranks that are left.
+fn take_class(
+    alloc: Global,
+    seen: &[SeenPath<'_>],
+    several: &RankSet,
+    r: u32,
+    left: &mut RankSet,
+) -> Result<Class, AllocError>
+    requires several { AreSeveral several.now (entries_in seen.now) }
+    requires member { IsTrue (has left.old r) }
+    ensures class { IfOk result (λ class. class_view class ≡ (those (λ s. same_in r s (entries_in seen.now)) left.old, paths_to r (entries_in seen.now))) }
+    ensures left { OnOk result (left.new ≡ those (λ s. not (same_in r s (entries_in seen.now))) left.old) }
+{
+    let paths = rank_paths(alloc, seen, r)?;
+    let ranks = block(seen, several, r, paths.len(), left)?;
+    *left = left.difference(&ranks)?;
+    Ok(Class { ranks, paths })
+}
+
+// The paths of a rank.
+fn rank_paths(alloc: Global, seen: &[SeenPath<'_>], r: u32) -> Result<Vec<CallPath>, AllocError>
+    ensures { IfOk result (λ paths. paths.items ≡ paths_to r (entries_in seen.now)) }
+{
+    let mut paths = Vec::new(alloc);
+    for path in seen {
+        if path.ranks.contains(r) {
+            paths.push(path.path.copy()?)?;
+        }
+    }
+    Ok(paths)
+}
+
+// The ranks that were seen in the same paths as r, which was seen in so many.
+fn block(
+    seen: &[SeenPath<'_>],
+    several: &RankSet,
+    r: u32,
+    count: usize,
+    left: &RankSet,
+) -> Result<RankSet, AllocError>
+    requires several { AreSeveral several.now (entries_in seen.now) }
+    requires member { IsTrue (has left.now r) }
+    requires count { count ≡ times r (entries_in seen.now) }
+    ensures { IfOk result (λ block. block ≡ those (λ s. same_in r s (entries_in seen.now)) left.now) }
+{
+    let mut block = left.copy()?;
+    keep_sharers(seen, r, &mut block)?;
+    if count == 1 {
+        return block.difference(several);
+    }
+    drop_others(seen, r, &mut block)?;
+    Ok(block)
+}
+
+// Keeps the ranks that were seen in each path of r.
+fn keep_sharers(seen: &[SeenPath<'_>], r: u32, block: &mut RankSet) -> Result<(), AllocError>
+    ensures { OnOk result (block.new ≡ those (λ s. shares_all r s (entries_in seen.now)) block.old) }
+{
+    for path in seen {
+        keep_if_shared(path.ranks, r, block)?;
+    }
+    Ok(())
+}
+
+// Where r was seen in the path, keeps the ranks that were seen in it too. Makes no set where all were.
+fn keep_if_shared(ranks: &RankSet, r: u32, block: &mut RankSet) -> Result<(), AllocError>
+    ensures { OnOk result (block.new ≡ those (λ s. not (has ranks.now r) || has ranks.now s) block.old) }
+{
+    if ranks.contains(r) && !block.is_subset(ranks) {
+        *block = common(block, ranks)?;
+    }
+    Ok(())
+}
+
+// Keeps the ranks that were seen in no other path than those of r.
+fn drop_others(seen: &[SeenPath<'_>], r: u32, block: &mut RankSet) -> Result<(), AllocError>
+    requires { IsTrue (has block.old r) }
+    ensures { OnOk result (block.new ≡ those (λ s. shares_all s r (entries_in seen.now)) block.old) }
+{
+    for path in seen {
+        drop_if_unshared(path.ranks, r, block)?;
+    }
+    Ok(())
+}
+
+// Where r was not seen in the path, drops the ranks that were. Makes no set where r alone is left.
+fn drop_if_unshared(ranks: &RankSet, r: u32, block: &mut RankSet) -> Result<(), AllocError>
+    requires { IsTrue (has block.old r) }
+    ensures ok { OnOk result (block.new ≡ those (λ s. not (has ranks.now s) || has ranks.now r) block.old) }
+    ensures member { OnOk result (IsTrue (has block.new r)) }
+{
+    if block.count() > 1 && !ranks.contains(r) {
+        *block = block.difference(ranks)?;
+    }
+    Ok(())
+}
+
+// The ranks of both.
+fn common(a: &RankSet, b: &RankSet) -> Result<RankSet, AllocError>
+    ensures { IfOk result (λ both. both ≡ those (has b.now) a.now) }
+{
+    let others = a.difference(b)?;
+    a.difference(&others)
+}
