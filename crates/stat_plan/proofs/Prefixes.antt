@@ -1,0 +1,91 @@
+-- How many prefixes a tree has.
+use Rattle.std.proofs.Common.{◌≡◌, ℕ, ◌≤◌, Bool, true, false, cond, ◌&&◌, nat_eq, List, [], ◌∷◌, length, map, Some, None, refl, sym, ap, subst, ◌∙◌, T}
+use Rattle.std.proofs.lemmas.Bool.{true≢false, eqb-true}
+use Rattle.std.proofs.lemmas.List.{length-map}
+use Rattle.std.proofs.lemmas.Cmp.{eq_by_cmp_equiv}
+use Rattle.std.proofs.lemmas.Map.Made.{length-le_from_is_member}
+use Rattle.std.specs.List.{list_any, IsDistinct, AllByRecursion}
+use Rattle.std.specs.Option.{is_some}
+use Rattle.std.specs.Ordering.{is_eq, is_lt}
+use Rattle.std.specs.declared.cmp.Ordering.{Ordering}
+use Rattle.std.specs.declared.cmp.Ordering.TheVariants.{Less, Equal, Greater}
+use Rattle.std.specs.FinMap as finmap
+use Rattle.std.specs.FinMap.Entries.{below_all}
+use Rattle.rank_set.specs.Ranks.{Ranks, has, size, has-those, none_from_size, has-none}
+use Rattle.call_path.specs.Path.{Path, path_cmp, is_path, path_cmp_total}
+use Rattle.prefix_tree.specs.Pairs.{Pairs, passes, label, ends}
+use Rattle.prefix_tree.specs.Tree.{Marks, Tree, tree_of, row_at, marks_of, count_below}
+use Rattle.prefix_tree.proofs.TreeLemmas.{get-tree_of, some_member}
+use Rattle.prefix_tree.proofs.Rows.{first, second}
+
+not_equal : (o : Ordering) → T (is_lt o) → is_eq o ≡ false
+not_equal Less lt = refl
+not_equal Equal lt = absurd lt
+not_equal Greater lt = absurd lt
+
+-- a key below all of some entries is at none of them
+apart : (x : Path) (es : List (Path × Marks)) → T (below_all path_cmp x es) → AllByRecursion (λ y. is_path x y ≡ false) (map (λ e. e.0) es)
+apart x [] below = tt
+apart x (e ∷ es) below =
+    (not_equal (path_cmp x e.0) (first (is_lt (path_cmp x e.0)) (below_all path_cmp x es) below), apart x es (second (is_lt (path_cmp x e.0)) (below_all path_cmp x es) below))
+
+-- the keys of entries in order are all different
+keys_differ : (es : List (Path × Marks)) → T (finmap.is_sorted path_cmp es) → IsDistinct is_path (map (λ e. e.0) es)
+unfolding IsDistinct
+keys_differ [] up = tt
+keys_differ (e ∷ es) up = (apart e.0 es (first (below_all path_cmp e.0 es) (finmap.is_sorted path_cmp es) up), keys_differ es (second (below_all path_cmp e.0 es) (finmap.is_sorted path_cmp es) up))
+
+-- the prefixes of a tree, in order
+abbrev pub prefixes_in : Tree → List Path
+prefixes_in t = finmap.keys t.below
+
+length-prefixes_in : (t : Tree) → length (prefixes_in t) ≡ count_below t
+length-prefixes_in t = length-map (finmap.entries t.below) (λ (e : Path × Marks). e.0) ∙ sym (finmap.len-entries t.below)
+
+-- a prefix of a tree is one at which ranks pass
+pub any-prefixes_in : (P : Pairs) (C : Ranks) (p : Path) → list_any (is_path p) (prefixes_in (tree_of P C)) ≡ is_some (row_at P C p)
+any-prefixes_in P C p = sym (finmap.contains_key-keys (tree_of P C).below p) ∙ ap is_some (get-tree_of P C p)
+
+-- a tree whose every prefix stands in a list has at most as many as the list
+pub count-within : (P : Pairs) (C : Ranks) (ps : List Path) → ((p : Path) → is_some (row_at P C p) ≡ true → list_any (is_path p) ps ≡ true) → count_below (tree_of P C) ≤ length ps
+count-within P C ps each =
+    let t : Tree = tree_of P C in
+    let fewer : length (prefixes_in t) ≤ length ps =
+    length-le_from_is_member (eq_by_cmp_equiv path_cmp_total) (prefixes_in t) ps (keys_differ (finmap.entries t.below) (finmap.entries_sorted t.below))
+    (λ p there. each p (sym (any-prefixes_in P C p) ∙ there)) in
+    subst (λ n. n ≤ length ps) (length-prefixes_in t) fewer
+
+-- a row stands where some covered rank passes
+row_from_member : (P : Pairs) (C : Ranks) (f : List ℕ) (p : Path) (r : ℕ) → has (label P C (f ∷ p)) r ≡ true → is_some (row_at P C (f ∷ p)) ≡ true
+row_from_member P C f p r there = by (nat_eq (size (label P C (f ∷ p))) 0) refl
+  where
+    by : (b : Bool) → nat_eq (size (label P C (f ∷ p))) 0 ≡ b → is_some {T = Marks} (cond b None (Some (label P C (f ∷ p), ends P C (f ∷ p)))) ≡ true
+    by false e = refl
+    by true e = absurd (true≢false (sym there ∙ ap (λ s. has s r) (none_from_size (label P C (f ∷ p)) (eqb-true (size (label P C (f ∷ p))) 0 e)) ∙ has-none r))
+
+-- a row has a rank that passes there
+pub member_from_row : (P : Pairs) (C : Ranks) (f : List ℕ) (p : Path) → is_some (row_at P C (f ∷ p)) ≡ true → (r : ℕ) × (has (label P C (f ∷ p)) r ≡ true)
+member_from_row P C f p there = some_member (label P C (f ∷ p)) (λ e. true≢false (sym there ∙ ap (λ s. is_some (marks_of s (ends P C (f ∷ p)))) e))
+
+both_from : (a b : Bool) → (a && b) ≡ true → (a ≡ true) × (b ≡ true)
+both_from true true e = (refl, refl)
+both_from true false e = absurd (true≢false (sym e))
+both_from false b e = absurd (true≢false (sym e))
+
+both : (a b : Bool) → a ≡ true → b ≡ true → (a && b) ≡ true
+both true true e f = refl
+both true false e f = f
+both false b e f = e
+
+-- more pairs over more ranks have the prefixes of fewer, and maybe others
+pub count-more : (P Q : Pairs) (C D : Ranks) → ((r : ℕ) (p : Path) → passes P r p ≡ true → passes Q r p ≡ true) → ((r : ℕ) → has C r ≡ true → has D r ≡ true) → count_below (tree_of P C) ≤ count_below (tree_of Q D)
+count-more P Q C D pairs ranks =
+    subst (λ n. count_below (tree_of P C) ≤ n) (length-prefixes_in (tree_of Q D))
+    (count-within P C (prefixes_in (tree_of Q D)) (λ p there. any-prefixes_in Q D p ∙ row p there))
+  where
+    row : (p : Path) → is_some (row_at P C p) ≡ true → is_some (row_at Q D p) ≡ true
+    row [] there = there
+    row (f ∷ p) there =
+        let m = member_from_row P C f p there in
+        let parts = both_from (has C m.0) (passes P m.0 (f ∷ p)) (sym (has-those (λ r. passes P r (f ∷ p)) C m.0) ∙ m.1) in
+        row_from_member Q D f p m.0 (has-those (λ r. passes Q r (f ∷ p)) D m.0 ∙ both (has D m.0) (passes Q m.0 (f ∷ p)) (ranks m.0 parts.0) (pairs m.0 (f ∷ p) parts.1))
