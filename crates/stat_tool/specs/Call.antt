@@ -1,0 +1,120 @@
+-- What a call answers, and why.
+use Rattle.std.specs.Prelude.{◌≡◌, ◌⊎◌, if◌then◌else◌, nat_le, length, ℕ, List, [], ◌∷◌, Option, Some, None}
+use Rattle.std.specs.Io.KnownBytes.{Appends}
+use Rattle.stat_desk.specs.Desk.{FailedAt, IsLonger}
+use Rattle.stat_desk.specs.Faults.{Rose}
+use Rattle.stat_desk.specs.Sink.{AppendsPrefix}
+use Rattle.small_files.specs.declared.error.FormError.{FormError}
+use Rattle.small_files.specs.declared.error.FormError.TheVariants.{OtherForm, OutOfMemory as NoMemory}
+use Rattle.stat_tool.specs.Course.{Answers, Bytes, Does, Gave, Got, Progress, TooLong, Wants, course, limit}
+use Rattle.stat_tool.specs.Words.{Names, in_order, name_of}
+use Rattle.stat_tool.specs.Work.{ComesTo, Job, Work}
+use Rattle.stat_tool.specs.declared.status.FileRole.{FileRole}
+use Rattle.stat_tool.specs.declared.status.WordFault.TheVariants.{Options}
+use Rattle.stat_tool.specs.declared.status.Status.{Status}
+use Rattle.stat_tool.specs.declared.status.Status.TheVariants.{Done, BadWords, DeskFault, SinkFault, OutOfMemory, NotYet}
+
+-- a desk before and after a call: its count, the last name at which it rose, and what it told
+pub record DeskSeen : Type 0 where
+  pub before : ℕ
+  pub now : ℕ
+  pub last_fault : Option (List ℕ)
+  pub told : List ℕ → Option (List ℕ)
+
+-- a sink before and after a call: its count, and what it holds
+pub record SinkSeen : Type 0 where
+  pub before : ℕ
+  pub now : ℕ
+  pub held_before : Option (List ℕ)
+  pub held_now : Option (List ℕ)
+
+-- the sink holds what it held
+abbrev pub IsAsBefore : SinkSeen → Type 0
+IsAsBefore sink = sink.held_now ≡ sink.held_before
+
+-- the sink took the whole text
+abbrev pub GotAll : SinkSeen → List ℕ → Type 0
+GotAll sink text = Appends sink.held_before sink.held_now text
+
+-- the sink took a front of the text, and its count rose
+pub record GotPart (sink : SinkSeen) (text : List ℕ) : Type 0 where
+  pub front : AppendsPrefix sink.held_before sink.held_now text
+  pub rose : Rose sink.before sink.now
+
+-- what the sink has at the end of a work, by the status
+abbrev pub Written : Work → SinkSeen → Status → Type 0
+Written work out Done = GotAll out work.report
+Written work out (SinkFault target) = GotPart out work.report
+Written work out status = ⊥
+
+-- the job was done: it came to a work, which was written so
+pub record Finishes (progress : Progress) (out : SinkSeen) (status : Status) : Type 0 where
+  pub job : Job
+  pub work : Work
+  pub stands : progress ≡ Does job
+  pub came : ComesTo job work
+  pub written : Written work out status
+
+-- Why a call stops before it writes: memory ran out; the file that it reads next did not come; or a
+-- file is of another form.
+abbrev pub Prevents : Names → DeskSeen → Progress → Status → Type 0
+Prevents names desk progress OutOfMemory = Unit {0}
+Prevents names desk progress (DeskFault role) = (progress ≡ Wants role) × FailedAt desk.before desk.now desk.last_fault (name_of names role)
+Prevents names desk progress (NotYet role) = progress ≡ Answers (NotYet role)
+Prevents names desk progress status = ⊥
+
+-- Why a call gives a status, and what it leaves in the sink: it did the job, or it stopped before it wrote.
+abbrev pub Explains : Names → DeskSeen → SinkSeen → Progress → Status → Type 0
+Explains names desk out progress Done = Finishes progress out Done
+Explains names desk out progress (SinkFault target) = Finishes progress out (SinkFault target)
+Explains names desk out progress status = Prevents names desk progress status × IsAsBefore out
+
+-- Good words: some files gave what the answer rests on. Bad words are told as such.
+abbrev pub Answered : Option Names → DeskSeen → SinkSeen → Status → Type 0
+Answered None desk out status = (status ≡ BadWords Options) × IsAsBefore out
+Answered (Some names) desk out status =
+    (got : List Got) × (Gave desk.told (in_order names) got × Explains names desk out (course got) status)
+
+-- what a read gives of a text, where nothing fails
+abbrev pub given : List ℕ → Got
+given text = if nat_le (length text) limit then Bytes text else TooLong
+
+-- the answer at the end of a course, where nothing fails
+abbrev pub answer_of : Progress → Status
+answer_of (Does job) = Done
+answer_of (Answers status) = status
+answer_of (Wants role) = OutOfMemory
+
+-- Where the desk tells the three texts and nothing fails, they determine the answer, but for want of memory.
+abbrev pub IsDetermined : Names → DeskSeen → SinkSeen → Status → Type 0
+IsDetermined names desk out status = (topology samples script : List ℕ)
+    → desk.told names.topology ≡ Some topology → desk.told names.samples ≡ Some samples → desk.told names.script ≡ Some script
+    → ¬ Rose desk.before desk.now → ¬ Rose out.before out.now
+    → (status ≡ answer_of (course (given topology ∷ given samples ∷ given script ∷ []))) ⊎ (status ≡ OutOfMemory)
+
+-- ---- the parts of a call
+
+-- why one file did not come
+abbrev pub Refuses : FileRole → List ℕ → DeskSeen → Status → Type 0
+Refuses role name desk OutOfMemory = Unit {0}
+Refuses role name desk (DeskFault r) = (r ≡ role) × FailedAt desk.before desk.now desk.last_fault name
+Refuses role name desk (NotYet r) = (r ≡ role) × IsLonger (desk.told name) limit
+Refuses role name desk status = ⊥
+
+-- the status of a file that wasn't taken
+abbrev pub refusal_of : FormError → FileRole → Status
+refusal_of OtherForm role = NotYet role
+refusal_of NoMemory role = OutOfMemory
+
+-- the files gave what led to this work
+abbrev pub Prepared : Names → (List ℕ → Option (List ℕ)) → List ℕ → Type 0
+Prepared names told report = (got : List Got) × (Gave told (in_order names) got
+    × ((job : Job) × ((course got ≡ Does job) × ComesTo job (record { report = report }))))
+
+-- the files gave what the plan of this job rests on
+abbrev pub IsPlanned : Names → (List ℕ → Option (List ℕ)) → Job → Type 0
+IsPlanned names told job = (got : List Got) × (Gave told (in_order names) got × (course got ≡ Does job))
+
+-- the files gave why the call stops
+abbrev pub Prevented : Names → DeskSeen → Status → Type 0
+Prevented names desk status = (got : List Got) × (Gave desk.told (in_order names) got × Prevents names desk (course got) status)

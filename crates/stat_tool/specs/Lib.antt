@@ -1,0 +1,5 @@
+pub mod Words
+pub mod Status
+pub mod Work
+pub mod Course
+pub mod Call
