@@ -1,5 +1,6 @@
 -- The text of a report.
 use Rattle.std.specs.Prelude.{ℕ, List, ◌++◌, codes}
+use Rattle.std.specs.Fmt.{decimal}
 use Rattle.rank_set.specs.Ranks.{Ranks}
 use Rattle.rank_set.specs.Text.{text_of}
 use Rattle.call_path.specs.Path.{Path}
@@ -14,7 +15,10 @@ abbrev pub release_body : Ranks → Tree → List (Ranks × List Path) → List 
 release_body covered tree blocks =
     codes "covered " ++ text_of covered ++ codes "\ntree\n" ++ tree_text tree ++ codes "classes\n" ++ classes_text blocks
 
--- the report of one final release of one wave: its samples, merged directly over the covered ranks
-unfoldable pub direct_report : Pairs → Ranks → List ℕ
-direct_report samples covered =
-    codes "stream 0 wave 0 release 1 final\n" ++ release_body covered (tree_of samples covered) (classes_of samples covered) ++ codes "end\n"
+-- the line above a final release of a stream's first wave, which is its first release
+abbrev pub heading : ℕ → List ℕ
+heading stream = codes "stream " ++ decimal stream ++ codes " wave 0 release 1 final\n"
+
+-- the report of one final release of a stream's first wave: its samples, merged directly over the covered ranks
+unfoldable pub direct_report : ℕ → Pairs → Ranks → List ℕ
+direct_report stream samples covered = heading stream ++ release_body covered (tree_of samples covered) (classes_of samples covered) ++ codes "end\n"

@@ -48,7 +48,8 @@ fn write_path(path: &CallPath, out: &mut Vec<u8>) -> Result<(), AllocError>
     Ok(())
 }
 
-fn write_number(n: usize, out: &mut Vec<u8>) -> Result<(), AllocError>
+/// Appends the decimal digits of a number.
+pub fn write_number(n: usize, out: &mut Vec<u8>) -> Result<(), AllocError>
     ensures { OnOk result (out.new.items ≡ out.old.items ++ decimal n) }
 {
     let digits = n.to_string(*out.allocator())?;

@@ -1,2 +1,4 @@
-pub mod OneLine
-pub mod Waves
+pub mod Standing
+pub mod Daemons
+pub mod Pendings
+pub mod Takings

@@ -1,79 +1,196 @@
-//! Merges the trees of a wave's samples, daemon by daemon.
+//! What the nodes of a job know of a wave, and how it is merged.
+//!
+//! A [`Contribution`] is a stream, a wave and a tree. It stands for a plan where its tree is that of the wave's samples over
+//! the ranks that it covers. Contributions of one wave that stand for a plan can be absorbed in any order and as often as one
+//! likes: the result stands for the plan, and covers the ranks of all.
 #![tactic(auto)]
 
-ghost use Rattle.std.specs.Prelude.{◌≡◌, IfOk, OnOk, ℕ, true};
-ghost use Rattle.rank_set.specs.Ranks.{Ranks, has, union};
-ghost use Rattle.prefix_tree.specs.Pairs.{Pairs};
-ghost use Rattle.prefix_tree.specs.Tree.{tree_of};
-ghost use Rattle.stat_plan.specs.Samples.{all_ranks, first_wave};
-ghost use Rattle.merge_filter.specs.Merging.{FitTogether, HasRoomFor, with_line};
+ghost use Rattle.std.specs.Prelude.{◌≡◌, IfOk, IsSome, OnOk, OnErr};
+ghost use Rattle.rank_set.specs.Ranks.{none, union};
+ghost use Rattle.stat_plan.specs.NodeSets.{In};
+ghost use Rattle.stat_plan.specs.Plans.{Plan, daemons, ranks, sample_count, stream_of, stream_ranks};
+ghost use Rattle.merge_filter.specs.Contributions.{HasWave, StandsFor, contrib, cov_of};
 
+mod own_tree;
+
+use own_tree::own_tree;
 use prefix_tree::{PrefixTree, TreeError};
 use rank_set::RankSet;
-use stat_plan::{Plan, SampleLine};
+use stat_plan::Plan;
 use std::alloc::{AllocError, Global};
+use std::marker::Model;
 
-/// Adds the samples of one line, as far as they are of these ranks, to a tree over the ranks.
-fn add_line<T: PrefixTree>(
-    tree: &mut T,
-    ranks: &RankSet,
-    line: &SampleLine,
-) -> Result<(), AllocError>
-    requires { HasRoomFor (T.tree tree.old) ranks.now line.now }
-    ensures { OnOk result ((P : Pairs) → T.tree tree.old ≡ tree_of P ranks.now → T.tree tree.new ≡ tree_of (with_line P line.now) ranks.now) }
+// How many sample times each wave of a stream has.
+fn sample_count(plan: &Plan, s: u8) -> u8
+    requires { IsSome (stream_of plan.now s) }
+    ensures { result ≡ sample_count plan.now s }
 {
-    let mut here = ranks.copy()?;
-    here.keep(&line.ranks);
-    if here.count() == 0 {
-        return Ok(());
-    }
-    match tree.add(&here, &line.path) {
-        Ok(()) => Ok(()),
-        Err(TreeError::OutOfMemory) => Err(AllocError),
-        Err(TreeError::TooManyPrefixes) => unreachable!(),
+    match plan.stream(s) {
+        Some(stream) => stream.samples(),
+        None => unreachable!(),
     }
 }
 
-/// The tree of the wave's samples of some of the plan's ranks.
-pub fn tree_of_ranks<T: PrefixTree>(
-    alloc: Global,
-    plan: &Plan,
-    ranks: &RankSet,
-) -> Result<T, AllocError>
-    requires { (r : ℕ) → has ranks.now r ≡ true → has (all_ranks plan.now.placed.items) r ≡ true }
-    ensures { IfOk result (λ tree. T.tree tree ≡ tree_of (first_wave plan.now.samples plan.now.lines.items) ranks.now) }
+// The daemons of a stream.
+fn daemons_of(plan: &Plan, s: u8) -> &[u32]
+    requires { IsSome (stream_of plan.now s) }
+    ensures { result.now ≡ daemons plan.now s }
 {
-    let mut tree = T::empty(alloc);
-    tree.cover(ranks)?;
-    for line in &plan.lines {
-        if line.time < plan.samples {
-            add_line(&mut tree, ranks, line)?;
+    match plan.stream(s) {
+        Some(stream) => stream.daemons(),
+        None => unreachable!(),
+    }
+}
+
+/// What is known of a wave: a stream, a wave, and a tree of samples of the wave.
+#[derive(Drop)]
+pub struct Contribution<T: PrefixTree> {
+    stream: u8,
+    wave: u8,
+    tree: T,
+}
+
+impl<T: PrefixTree> Model for Contribution<T> {
+    ghost use Rattle.merge_filter.specs.Contributions.{Contrib, coded_contrib, contrib};
+
+    ghost Value = { Contrib };
+
+    ghost coded = { coded_contrib };
+
+    ghost view = { λ c. contrib c.stream c.wave (T.tree c.tree) };
+}
+
+impl<T: PrefixTree> Contribution<T> {
+    /// Nothing yet.
+    pub fn none(alloc: Global, s: u8, w: u8) -> Contribution<T>
+        ensures stream { result.stream ≡ s }
+        ensures wave { result.wave ≡ w }
+        ensures cov { cov_of result ≡ none }
+        ensures stands { (p : Plan) → HasWave p s w → StandsFor p result }
+    {
+        Contribution::of_tree(s, w, T::empty(alloc))
+    }
+
+    /// A daemon's own part: its samples of the wave.
+    pub fn of_daemon(
+        alloc: Global,
+        plan: &Plan,
+        d: u32,
+        s: u8,
+        w: u8,
+    ) -> Result<Contribution<T>, AllocError>
+        requires daemon { In d (daemons plan.now s) }
+        requires wave { HasWave plan.now s w }
+        ensures stream { IfOk result (λ c. c.stream ≡ s) }
+        ensures wave { IfOk result (λ c. c.wave ≡ w) }
+        ensures cov { IfOk result (λ c. cov_of c ≡ ranks plan.now d) }
+        ensures stands { IfOk result (StandsFor plan.now) }
+    {
+        plan.is_plan();
+        let samples = sample_count(plan, s);
+        let all = plan.lines();
+        let numbers = plan.own_lines(d);
+        let own = plan.ranks(d);
+        let tree = own_tree(alloc, all.lines, all.paths, numbers, samples, w, own)?;
+        Ok(Contribution::of_tree(s, w, tree))
+    }
+
+    /// Just that tree. It takes no memory.
+    pub fn of_tree(s: u8, w: u8, tree: T) -> Contribution<T>
+        ensures { result ≡ contrib s w (T.tree tree) }
+    {
+        Contribution {
+            stream: s,
+            wave: w,
+            tree,
         }
     }
-    Ok(tree)
-}
 
-/// Merges another tree of the same samples into it: it is then their tree over the ranks of both.
-pub fn absorb<T: PrefixTree>(into: &mut T, other: &T) -> Result<(), AllocError>
-    requires { FitTogether (T.tree into.old) (T.tree other.now) }
-    ensures { OnOk result ((S : Pairs) (A B : Ranks) → T.tree into.old ≡ tree_of S A → T.tree other.now ≡ tree_of S B → T.tree into.new ≡ tree_of S (union A B)) }
-{
-    match into.merge(other) {
-        Ok(()) => Ok(()),
-        Err(TreeError::OutOfMemory) => Err(AllocError),
-        Err(TreeError::TooManyPrefixes) => unreachable!(),
+    /// Unites another part of the wave into it. A refusal leaves it as it was.
+    pub fn absorb(&mut self, plan: &Plan, other: &Contribution<T>) -> Result<(), AllocError>
+        requires stands { StandsFor plan.now self.old }
+        requires other { StandsFor plan.now other.now }
+        requires stream { other.now.stream ≡ self.old.stream }
+        requires wave { other.now.wave ≡ self.old.wave }
+        ensures stream { OnOk result (self.new.stream ≡ self.old.stream) }
+        ensures wave { OnOk result (self.new.wave ≡ self.old.wave) }
+        ensures stands { OnOk result (StandsFor plan.now self.new) }
+        ensures cov { OnOk result (cov_of self.new ≡ union (cov_of self.old) (cov_of other.now)) }
+        ensures err { OnErr result (self.new ≡ self.old) }
+    {
+        plan.is_plan();
+        match self.tree.merge(&other.tree) {
+            Ok(()) => {}
+            Err(TreeError::OutOfMemory) => return Err(AllocError),
+            Err(TreeError::TooManyPrefixes) => unreachable!(),
+        }
+        Ok(())
+    }
+
+    /// The same contribution once more.
+    pub fn copy(&self) -> Result<Contribution<T>, AllocError>
+        ensures { IfOk result (λ c. c ≡ self.now) }
+    {
+        Ok(Contribution {
+            stream: self.stream,
+            wave: self.wave,
+            tree: self.tree.copy()?,
+        })
+    }
+
+    /// The tree.
+    pub fn tree(&self) -> &T
+        ensures { T.tree result.now ≡ self.now.tree }
+    {
+        &self.tree
+    }
+
+    /// The tree alone.
+    pub fn into_tree(self) -> T
+        ensures { T.tree result ≡ self.tree }
+    {
+        self.tree
+    }
+
+    /// The number of the stream.
+    pub fn stream(&self) -> u8
+        ensures { result ≡ self.now.stream }
+    {
+        self.stream
+    }
+
+    /// The number of the wave.
+    pub fn wave(&self) -> u8
+        ensures { result ≡ self.now.wave }
+    {
+        self.wave
+    }
+
+    /// The ranks that it covers.
+    pub fn coverage(&self) -> &RankSet
+        ensures { result.now ≡ cov_of self.now }
+    {
+        self.tree.row(0).label
     }
 }
 
-/// The tree of all samples of the wave over all ranks: each daemon's own tree is made, and they
-/// are merged one after another, in the daemons' order.
-pub fn direct<T: PrefixTree>(alloc: Global, plan: &Plan) -> Result<T, AllocError>
-    ensures { IfOk result (λ tree. T.tree tree ≡ tree_of (first_wave plan.now.samples plan.now.lines.items) (all_ranks plan.now.placed.items)) }
+/// All samples of a wave: each daemon's own part is made, and they are absorbed one after another, in the daemons' order.
+pub fn direct<T: PrefixTree>(
+    alloc: Global,
+    plan: &Plan,
+    s: u8,
+    w: u8,
+) -> Result<Contribution<T>, AllocError>
+    requires { HasWave plan.now s w }
+    ensures stream { IfOk result (λ c. c.stream ≡ s) }
+    ensures wave { IfOk result (λ c. c.wave ≡ w) }
+    ensures cov { IfOk result (λ c. cov_of c ≡ stream_ranks plan.now s) }
+    ensures stands { IfOk result (StandsFor plan.now) }
 {
-    let mut tree = T::empty(alloc);
-    for ranks in &plan.placed {
-        let own: T = tree_of_ranks(alloc, plan, ranks)?;
-        absorb(&mut tree, &own)?;
+    let mut all: Contribution<T> = Contribution::none(alloc, s, w);
+    for d in daemons_of(plan, s) {
+        let own: Contribution<T> = Contribution::of_daemon(alloc, plan, *d, s, w)?;
+        all.absorb(plan, &own)?;
     }
-    Ok(tree)
+    Ok(all)
 }

@@ -1,2 +1,13 @@
 pub mod Prefixes
-pub mod Limit
+pub mod LinePrefixes
+pub mod Cuts
+pub mod NameNumbers
+pub mod Leaves
+pub mod InLists
+pub mod Expecting
+pub mod Noting
+pub mod OwnLines
+pub mod Limiting
+pub mod FirstOver
+pub mod LookupLemmas
+pub mod TableLemmas

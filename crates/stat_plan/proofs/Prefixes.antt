@@ -77,9 +77,9 @@ both true true e f = refl
 both true false e f = f
 both false b e f = e
 
--- more pairs over more ranks have the prefixes of fewer, and maybe others
-pub count-more : (P Q : Pairs) (C D : Ranks) → ((r : ℕ) (p : Path) → passes P r p ≡ true → passes Q r p ≡ true) → ((r : ℕ) → has C r ≡ true → has D r ≡ true) → count_below (tree_of P C) ≤ count_below (tree_of Q D)
-count-more P Q C D pairs ranks =
+-- where each prefix that a rank of C passes in P is passed by a rank of D in Q, there are no more prefixes
+pub count-passed : (P Q : Pairs) (C D : Ranks) → ((r : ℕ) (p : Path) → has C r ≡ true → passes P r p ≡ true → (q : ℕ) × ((has D q ≡ true) × (passes Q q p ≡ true))) → count_below (tree_of P C) ≤ count_below (tree_of Q D)
+count-passed P Q C D passed =
     subst (λ n. count_below (tree_of P C) ≤ n) (length-prefixes_in (tree_of Q D))
     (count-within P C (prefixes_in (tree_of Q D)) (λ p there. any-prefixes_in Q D p ∙ row p there))
   where
@@ -88,4 +88,9 @@ count-more P Q C D pairs ranks =
     row (f ∷ p) there =
         let m = member_from_row P C f p there in
         let parts = both_from (has C m.0) (passes P m.0 (f ∷ p)) (sym (has-those (λ r. passes P r (f ∷ p)) C m.0) ∙ m.1) in
-        row_from_member Q D f p m.0 (has-those (λ r. passes Q r (f ∷ p)) D m.0 ∙ both (has D m.0) (passes Q m.0 (f ∷ p)) (ranks m.0 parts.0) (pairs m.0 (f ∷ p) parts.1))
+        let other = passed m.0 (f ∷ p) parts.0 parts.1 in
+        row_from_member Q D f p other.0 (has-those (λ r. passes Q r (f ∷ p)) D other.0 ∙ both (has D other.0) (passes Q other.0 (f ∷ p)) other.1.0 other.1.1)
+
+-- more pairs over more ranks have the prefixes of fewer, and maybe others
+pub count-more : (P Q : Pairs) (C D : Ranks) → ((r : ℕ) (p : Path) → passes P r p ≡ true → passes Q r p ≡ true) → ((r : ℕ) → has C r ≡ true → has D r ≡ true) → count_below (tree_of P C) ≤ count_below (tree_of Q D)
+count-more P Q C D pairs ranks = count-passed P Q C D (λ r p in_C passing. (r, (ranks r in_C, pairs r p passing)))

@@ -1,23 +1,28 @@
--- The samples of a job: which rank was seen in which path.
-use Rattle.std.specs.Prelude.{◌≡◌, ℕ, ◌<◌, ◌≤◌, true, nat_lt, List, [], ◌∷◌, filter, length}
+-- The samples of a job: which rank was seen in which path, at which time.
+use Rattle.std.specs.Prelude.{◌≡◌, ℕ, ◌<◌, ◌≤◌, ◌*◌, ◌+◌, Bool, true, ◌&&◌, nat_le, nat_lt, List, [], ◌∷◌, filter, length}
 use Rattle.std.specs.List.{flat_map, AllByRecursion}
 use Rattle.rank_set.specs.Ranks.{Ranks, in_order, none, union}
 use Rattle.call_path.specs.Path.{Path}
 use Rattle.prefix_tree.specs.Pairs.{Pairs, pairs_at, passes}
 use Rattle.prefix_tree.specs.Tree.{tree_of, count_below}
-use Rattle.stat_plan.specs.declared.SampleLine.{SampleLine}
+
+-- at a time, each of some ranks was seen in a path
+pub record SampleLine : Type 0 where
+  pub time : ℕ
+  pub ranks : Ranks
+  pub path : Path
 
 -- each line's ranks, each with the line's path
 abbrev pub samples_of : List SampleLine → Pairs
 samples_of lines = flat_map (λ line. pairs_at (in_order line.ranks) line.path) lines
 
--- the lines at the times of the first wave, of so many samples
-abbrev pub first_lines : ℕ → List SampleLine → List SampleLine
-first_lines times lines = filter (λ line. nat_lt line.time times) lines
+-- whether a time is one of a wave's: wave w of k sample times has the times w * k to w * k + k - 1
+abbrev pub is_in_wave : ℕ → ℕ → ℕ → Bool
+is_in_wave k w time = nat_le (w * k) time && nat_lt time (w * k + k)
 
--- the samples of the first wave
-abbrev pub first_wave : ℕ → List SampleLine → Pairs
-first_wave times lines = samples_of (first_lines times lines)
+-- the lines at the times of a wave
+abbrev pub wave_lines : ℕ → ℕ → List SampleLine → List SampleLine
+wave_lines k w lines = filter (λ line. is_in_wave k w line.time) lines
 
 -- the ranks of some sets, beside those of a first one
 abbrev pub ranks_with : Ranks → List Ranks → Ranks

@@ -1,46 +1,43 @@
-//! What the files of a job stand for: which ranks there are, and what they were seen in.
+//! What the files of a job stand for: its nodes, which ranks there are, what they were seen in, and what a text of a job is
+//! refused for.
+//!
+//! A [`Topology`] is a tree of named nodes, as a contract sees it a value of `Nodes`: the names in order of number, and each
+//! node's parent. What every topology of a job is, `IsTopology` says. The module [`lines`] cuts a text into lines and words
+//! for those who read what stands on them. A [`Plan`] is a job of one wave.
 #![tactic(auto)]
 
-ghost use Rattle.std.specs.Prelude.{◌≡◌, ◌≤◌, ◌*◌, ℕ, List, length, true};
-ghost use Rattle.stat_plan.specs.declared.SampleLine.{SampleLine};
+ghost use Rattle.std.specs.Prelude.{◌≡◌, ◌≤◌, ℕ, true};
 ghost use Rattle.rank_set.specs.Ranks.{Ranks, has};
-ghost use Rattle.prefix_tree.specs.Pairs.{HasNoEmptyPath, Pairs};
+ghost use Rattle.prefix_tree.specs.Pairs.{Pairs};
 ghost use Rattle.prefix_tree.specs.Tree.{tree_of, count_below};
-ghost use Rattle.stat_plan.specs.Samples.{AreNoDeeper, HasNoMore, IsWithinLimit, all_ranks, first_wave};
+ghost use Rattle.stat_plan.specs.Samples.{HasNoMore};
 
-use call_path::CallPath;
-use rank_set::RankSet;
+mod act;
+mod ancestors;
+mod expected;
+mod job;
+mod limit;
+pub mod lines;
+mod lookup;
+mod own_lines;
+mod plan;
+mod plan_error;
+mod samples;
+mod script;
+#[cfg(test)]
+mod tests;
+mod text_error;
+mod topology;
 
-/// One line of samples: at a time, each of some ranks was seen in a path.
-#[derive(Drop)]
-pub struct SampleLine {
-    /// The number of the sample, from 0 on.
-    pub time: u32,
-    /// The ranks, at least one.
-    pub ranks: RankSet,
-    /// The path, root first.
-    pub path: CallPath,
-}
-
-/// A job of one wave: where its ranks are, and what they were seen in.
-#[derive(Drop)]
-pub struct Plan {
-    /// The ranks of each daemon, by the daemons' order; no rank is at two of them.
-    pub placed: Vec<RankSet>,
-    /// The samples, in the order in which they were given.
-    pub lines: Vec<SampleLine>,
-    /// How many sample times the wave has, from time 0 on; 1 to 64.
-    pub samples: u32,
-    // Each sample's path has a frame.
-    pub ghost has_paths: { HasNoEmptyPath (first_wave samples lines.items) },
-    // The wave's tree has no more prefixes than a tree can have.
-    pub ghost within_limit: { IsWithinLimit (first_wave samples lines.items) (all_ranks placed.items) },
-}
-
-/// A law: a few lines of paths that are not too deep have few prefixes.
-pub fn few_lines_have_few_prefixes()
-    ensures { (times depth : ℕ) (lines : List SampleLine) (C : Ranks) → AreNoDeeper depth lines → count_below (tree_of (first_wave times lines) C) ≤ length lines * depth }
-{}
+pub use act::{Act, Timer};
+pub use plan::Plan;
+pub use plan_error::PlanError;
+pub use samples::{LINE_LIMIT, Line, Lines, Samples, StackLine, TIME_LIMIT, is_in_wave};
+pub use script::{
+    FAULT_LIMIT, Fault, Mode, SAMPLE_LIMIT, STREAM_LIMIT, Script, StreamDef, TICK_LIMIT, WAVE_LIMIT,
+};
+pub use text_error::{Quantity, Reason, TextError};
+pub use topology::{DEPTH_LIMIT, NODE_LIMIT, Topology};
 
 /// A law: fewer pairs over fewer ranks have no more prefixes.
 pub fn fewer_pairs_have_fewer_prefixes()

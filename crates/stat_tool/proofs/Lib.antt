@@ -1,1 +1,4 @@
+pub mod Determined
+pub mod Plains
+pub mod Reports
 pub mod Stopping

@@ -1,82 +1,151 @@
--- From why one file did not come, or was not taken, to why the call stops.
-use Rattle.std.proofs.Common.{◌≡◌, ◌≤◌, ℕ, List, [], ◌∷◌, Option, Some, None, sym, ap, subst, ◌∙◌, arith}
+-- From why one file's text was not read to why the call stops.
+use Rattle.std.proofs.Common.{◌≡◌, ◌≢◌, ◌≤◌, inl, inr, ℕ, List, [], ◌∷◌, ◌++◌, Option, Ok, Err, refl, sym, ap, subst, ◌∙◌, arith}
+use Rattle.std.specs.Prelude.{Result, IfErr, IfOk}
 use Rattle.stat_desk.specs.Desk.{FailedAt, IsLonger, IsWhole}
-use Rattle.small_files.specs.Forms.{IfOtherForm}
-use Rattle.small_files.specs.declared.error.FormError.{FormError}
-use Rattle.small_files.specs.declared.error.FormError.TheVariants.{OtherForm, OutOfMemory as NoMemory}
-use Rattle.stat_tool.specs.Call.{DeskSeen, Prevented, Refuses, refusal_of}
-use Rattle.small_files.specs.Samples.{Said, said_by}
-use Rattle.small_files.specs.Script.{samples_of_script}
-use Rattle.small_files.specs.Topology.{daemons_of}
-use Rattle.stat_tool.specs.Course.{Answers, Bytes, Gave, Got, Wants, at_samples, at_script, by_samples, by_script, by_topology, course, limit}
+use Rattle.stat_plan.specs.declared.text_error.TextError.{TextError}
+use Rattle.stat_plan.specs.declared.text_error.TextError.TheVariants.{Bad, Over, OutOfMemory as NoMemory}
+use Rattle.stat_plan.specs.Topologies.{Nodes}
+use Rattle.stat_plan.specs.Plans.{Plan, Sampled, Scripted, plan_of}
+use Rattle.stat_plan.specs.Limits.{first_over}
+use Rattle.topology_text.specs.Whole.{topology_of}
+use Rattle.sample_text.specs.Whole.{samples_of_text}
+use Rattle.script_text.specs.Script.{script_of}
+use Rattle.stat_tool.specs.Status.{refusal_of}
+use Rattle.stat_tool.specs.Call.{DeskSeen, IsPlanRefusal, IsPlanned, IsRefused, Prevented, Refuses, StopsAt, Tells}
+use Rattle.stat_tool.specs.Course.{Agrees, Answers, Bytes, Does, Gave, Got, TooLong, Wants, at_samples, at_script, by_limit, by_samples, by_script, by_topology, course, limit, too_long}
+use Rattle.stat_tool.specs.Work.{RunJob}
 use Rattle.stat_tool.specs.Words.{Names, in_order, name_of}
 use Rattle.stat_tool.specs.declared.status.FileRole.{FileRole}
+use Rattle.stat_tool.specs.declared.status.FileRole.TheVariants.{Topology, Samples, Script}
 use Rattle.stat_tool.specs.declared.status.Status.{Status}
-use Rattle.stat_tool.specs.declared.status.Status.TheVariants.{Done, BadWords, DeskFault, SinkFault, OutOfMemory, NotYet}
+use Rattle.stat_tool.specs.declared.status.Status.TheVariants.{Done, BadWords, DeskFault, BadInput, OverLimit, SinkFault, OutOfMemory, NotYet}
 
--- a file that did not come, seen from an earlier moment of the same desk
-pub Refuses-earlier : (role : FileRole) (name : List ℕ) (old mid : DeskSeen) (status : Status)
+-- a file that did not come was not read
+pub stops_unread : {A : Type 0} (read : List ℕ → Result A TextError) (role : FileRole) (name : List ℕ) (desk : DeskSeen) (status : Status) → Refuses role name desk status → StopsAt read role name desk status
+stops_unread read role name desk OutOfMemory r = tt
+stops_unread read role name desk (DeskFault at) r = r
+stops_unread read role name desk (OverLimit file line what most) r = inl r
+stops_unread read role name desk Done r = absurd r
+stops_unread read role name desk (BadWords fault) r = absurd r
+stops_unread read role name desk (BadInput file line reason) r = absurd r
+stops_unread read role name desk (SinkFault target) r = absurd r
+stops_unread read role name desk (NotYet at) r = absurd r
+
+-- a text that was refused
+pub stops_refused : {A : Type 0} (read : List ℕ → Result A TextError) (role : FileRole) (name : List ℕ) (desk : DeskSeen) (error : TextError) (bytes text : List ℕ) (status : Status)
+    → status ≡ refusal_of role error → IsWhole (desk.told name) limit bytes → text ≡ bytes → (error ≢ NoMemory → read text ≡ Err error) → StopsAt read role name desk status
+stops_refused read role name desk (Bad line reason) bytes text status is whole same says =
+    subst (StopsAt read role name desk) (sym is) (bytes, (whole, (Bad line reason, (ap read (sym same) ∙ says (λ e. cc), refl))))
+stops_refused read role name desk (Over line what most) bytes text status is whole same says =
+    subst (StopsAt read role name desk) (sym is) (inr (bytes, (whole, (Over line what most, (ap read (sym same) ∙ says (λ e. cc), refl)))))
+stops_refused read role name desk NoMemory bytes text status is whole same says = subst (StopsAt read role name desk) (sym is) tt
+
+refused_earlier : {A : Type 0} (read : List ℕ → Result A TextError) (role : FileRole) (name : List ℕ) (old mid : DeskSeen) (status : Status) → mid.told ≡ old.told → IsRefused (mid.told name) read role status → IsRefused (old.told name) read role status
+refused_earlier read role name old mid status told r = (r.0, (subst (λ (t : List ℕ → Option (List ℕ)). IsWhole (t name) limit r.0) told r.1.0, r.1.1))
+
+-- the same, seen from an earlier moment of the same desk
+pub stops_earlier : {A : Type 0} (read : List ℕ → Result A TextError) (role : FileRole) (name : List ℕ) (old mid : DeskSeen) (status : Status)
     → old.before ≤ mid.before → old.now ≡ mid.now → old.last_fault ≡ mid.last_fault → mid.told ≡ old.told
-    → Refuses role name mid status → Refuses role name old status
-Refuses-earlier role name old mid OutOfMemory le now last told r = tt
-Refuses-earlier role name old mid (DeskFault at) le now last told r =
-    (r.0, record { rose = omega (arith, r.1.rose, le, now); last = last ∙ r.1.last })
-Refuses-earlier role name old mid (NotYet at) le now last told r =
-    (r.0, subst (λ (t : List ℕ → Option (List ℕ)). IsLonger (t name) limit) told r.1)
-Refuses-earlier role name old mid Done le now last told r = absurd r
-Refuses-earlier role name old mid (BadWords fault) le now last told r = absurd r
-Refuses-earlier role name old mid (SinkFault target) le now last told r = absurd r
+    → StopsAt read role name mid status → StopsAt read role name old status
+stops_earlier read role name old mid OutOfMemory le now last told r = tt
+stops_earlier read role name old mid (DeskFault at) le now last told r = (r.0, record { rose = omega (arith, r.1.rose, le, now); last = last ∙ r.1.last })
+stops_earlier read role name old mid (BadInput file line reason) le now last told r = refused_earlier read role name old mid (BadInput file line reason) told r
+stops_earlier read role name old mid (OverLimit file line what most) le now last told (inl r) =
+    inl (r.0, subst (λ (t : List ℕ → Option (List ℕ)). IsLonger (t name) limit) told r.1)
+stops_earlier read role name old mid (OverLimit file line what most) le now last told (inr r) = inr (refused_earlier read role name old mid (OverLimit file line what most) told r)
+stops_earlier read role name old mid Done le now last told r = absurd r
+stops_earlier read role name old mid (BadWords fault) le now last told r = absurd r
+stops_earlier read role name old mid (SinkFault target) le now last told r = absurd r
+stops_earlier read role name old mid (NotYet at) le now last told r = absurd r
 
--- the call stops at a file that did not come, where it got all before it
-pub Stops-at : (names : Names) (desk : DeskSeen) (role : FileRole) (status : Status) (before after : List Got)
-    → course before ≡ Wants role → course after ≡ Answers (NotYet role)
-    → Gave desk.told (in_order names) before
-    → (IsLonger (desk.told (name_of names role)) limit → Gave desk.told (in_order names) after)
-    → Refuses role (name_of names role) desk status → Prevented names desk status
-Stops-at names desk role OutOfMemory before after wants answers gave more r = (before, (gave, tt))
-Stops-at names desk role (DeskFault at) before after wants answers gave more r = (
-  before,
-  (
-    gave,
-    (
-      wants ∙ ap Wants (sym r.0),
-      subst (λ (q : FileRole). FailedAt desk.before desk.now desk.last_fault (name_of names q)) (sym r.0) r.1,
-    ),
-  ),
-)
-Stops-at names desk role (NotYet at) before after wants answers gave more r =
-    (after, (more r.1, answers ∙ ap (λ (q : FileRole). Answers (NotYet q)) (sym r.0)))
-Stops-at names desk role Done before after wants answers gave more r = absurd r
-Stops-at names desk role (BadWords fault) before after wants answers gave more r = absurd r
-Stops-at names desk role (SinkFault target) before after wants answers gave more r = absurd r
+-- the call stops at a file whose text was not read, where it got all before it
+module _ {A : Type 0} (names : Names) (desk : DeskSeen) (role : FileRole) (read : List ℕ → Result A TextError) (before : List Got)
+    (wants : course before ≡ Wants role)
+    (long : course (before ++ TooLong ∷ []) ≡ Answers (too_long role))
+    (bad : (bytes : List ℕ) (e : TextError) → read bytes ≡ Err e → course (before ++ Bytes bytes ∷ []) ≡ Answers (refusal_of role e))
+    (gave : Gave desk.told (in_order names) before)
+    (more : (g : Got) → Agrees (desk.told (name_of names role)) g → Gave desk.told (in_order names) (before ++ g ∷ [])) where
+  refused : (status : Status) → IsRefused (desk.told (name_of names role)) read role status → (got : List Got) × (Gave desk.told (in_order names) got × (course got ≡ Answers status))
+  refused status r = (before ++ Bytes r.0 ∷ [], (more (Bytes r.0) r.1.0, bad r.0 r.1.1.0 r.1.1.1.0 ∙ ap Answers r.1.1.1.1))
 
--- the call stops at a file that isn't taken
-pub Stops-by : {A : Type 0} (names : Names) (desk : DeskSeen) (role : FileRole) (error : FormError) (status : Status) (got : List Got) (read : Option A)
-    → status ≡ refusal_of error role
-    → (read ≡ None → course got ≡ Answers (NotYet role))
-    → Gave desk.told (in_order names) got
-    → IfOtherForm error (read ≡ None) → Prevented names desk status
-Stops-by names desk role OtherForm status got read is answers gave none = subst (Prevented names desk) (sym is) (got, (gave, answers none))
-Stops-by names desk role NoMemory status got read is answers gave none = subst (Prevented names desk) (sym is) ([], (tt, tt))
+  pub stops : (status : Status) → StopsAt read role (name_of names role) desk status → Prevented names desk status
+  stops OutOfMemory r = (before, (gave, tt))
+  stops (DeskFault at) r = (
+    before,
+    (gave, (wants ∙ ap Wants (sym r.0), subst (λ (q : FileRole). FailedAt desk.before desk.now desk.last_fault (name_of names q)) (sym r.0) r.1)),
+  )
+  stops (BadInput file line reason) r = refused (BadInput file line reason) r
+  stops (OverLimit file line what most) (inl r) = (before ++ TooLong ∷ [], (more TooLong r.1, long ∙ ap Answers (sym r.0)))
+  stops (OverLimit file line what most) (inr r) = refused (OverLimit file line what most) r
+  stops Done r = absurd r
+  stops (BadWords fault) r = absurd r
+  stops (SinkFault target) r = absurd r
+  stops (NotYet at) r = absurd r
 
--- a file that was read whole, as the desk told it at the start
-pub whole-earlier : (old mid : List ℕ → Option (List ℕ)) (name bytes : List ℕ) → mid ≡ old → IsWhole (mid name) limit bytes → IsWhole (old name) limit bytes
-whole-earlier old mid name bytes told whole = subst (λ (t : List ℕ → Option (List ℕ)). IsWhole (t name) limit bytes) told whole
+-- a file that was read, as the desk told it at the start
+pub tells_earlier : {A : Type 0} (old mid : List ℕ → Option (List ℕ)) (name : List ℕ) (read : List ℕ → Result A TextError) (x : A) → mid ≡ old → Tells (mid name) read x → Tells (old name) read x
+tells_earlier old mid name read x told t = (t.0, (subst (λ (u : List ℕ → Option (List ℕ)). IsWhole (u name) limit t.0) told t.1.0, t.1.1))
 
--- the course of a call whose topology gives these names
-module _ (t read : List ℕ) (names : List (List ℕ)) (same : read ≡ t) (named : daemons_of read ≡ Some names) where
-  pub with_names : (rest : List Got) → course (Bytes t ∷ rest) ≡ at_samples names rest
-  with_names rest = ap (λ (b : List ℕ). by_topology (daemons_of b) rest) (sym same) ∙ ap (λ o. by_topology o rest) named
+-- where the topology was not read
+pub stops_topology : (names : Names) (desk : DeskSeen) (status : Status) → StopsAt topology_of Topology names.topology desk status → Prevented names desk status
+stops_topology names desk status r = stops names desk Topology topology_of [] refl refl (λ bytes e is. ap (λ o. by_topology o []) is) tt (λ g agrees. (agrees, tt)) status r
 
-  -- and whose samples are read so
-  module _ (asked : List (List ℕ)) (same_names : asked ≡ names) (s read_s : List ℕ) (same_s : read_s ≡ s) where
-    pub with_samples : (rest : List Got) → course (Bytes t ∷ Bytes s ∷ rest) ≡ by_samples (said_by asked read_s) rest
-    with_samples rest = with_names (Bytes s ∷ rest) ∙ (λ i. by_samples (said_by (sym same_names i) (sym same_s i)) rest)
+module _ (names : Names) (desk : DeskSeen) (t : Nodes) (topology : Tells (desk.told names.topology) topology_of t) where
+  -- the course from the samples on
+  with_nodes : (rest : List Got) → course (Bytes topology.0 ∷ rest) ≡ at_samples t rest
+  with_nodes rest = ap (λ o. by_topology o rest) topology.1.1
 
-    module _ (said : Said) (placed : said_by asked read_s ≡ Some said) where
-      pub with_said : (rest : List Got) → course (Bytes t ∷ Bytes s ∷ rest) ≡ at_script said rest
-      with_said rest = with_samples rest ∙ ap (λ o. by_samples o rest) placed
+  -- where the samples were not read
+  pub stops_samples : (status : Status) → StopsAt (samples_of_text t) Samples names.samples desk status → Prevented names desk status
+  stops_samples status r =
+      stops names desk Samples (samples_of_text t) (Bytes topology.0 ∷ []) (with_nodes []) (with_nodes (TooLong ∷ []))
+      (λ bytes e is. with_nodes (Bytes bytes ∷ []) ∙ ap (λ o. by_samples t o []) is) (topology.1.0, tt) (λ g agrees. (topology.1.0, (agrees, tt))) status r
 
-      -- and whose script is read so
-      pub with_script : (c read_c : List ℕ) → read_c ≡ c → course (Bytes t ∷ Bytes s ∷ Bytes c ∷ []) ≡ by_script said (samples_of_script read_c)
-      with_script c read_c same_c = with_said (Bytes c ∷ []) ∙ ap (λ (b : List ℕ). by_script said (samples_of_script b)) (sym same_c)
+  module _ (s : Sampled) (samples : Tells (desk.told names.samples) (samples_of_text t) s) where
+    -- the course from the script on
+    with_samples : (rest : List Got) → course (Bytes topology.0 ∷ Bytes samples.0 ∷ rest) ≡ at_script t s rest
+    with_samples rest = with_nodes (Bytes samples.0 ∷ rest) ∙ ap (λ o. by_samples t o rest) samples.1.1
+
+    -- where the script was not read
+    pub stops_script : (status : Status) → StopsAt (script_of t) Script names.script desk status → Prevented names desk status
+    stops_script status r =
+        stops names desk Script (script_of t) (Bytes topology.0 ∷ Bytes samples.0 ∷ []) (with_samples []) (with_samples (TooLong ∷ []))
+        (λ bytes e is. with_samples (Bytes bytes ∷ []) ∙ ap (by_script t s) is) (topology.1.0, (samples.1.0, tt)) (λ g agrees. (topology.1.0, (samples.1.0, (agrees, tt)))) status r
+
+    module _ (c : Scripted) (script : Tells (desk.told names.script) (script_of t) c) where
+      -- what the three files gave
+      pub all_got : List Got
+      all_got = Bytes topology.0 ∷ Bytes samples.0 ∷ Bytes script.0 ∷ []
+
+      pub all_gave : Gave desk.told (in_order names) all_got
+      unfolding all_got
+      all_gave = (topology.1.0, (samples.1.0, (script.1.0, tt)))
+
+      -- where they lead
+      pub with_script : course all_got ≡ by_limit (plan_of t s c) (first_over (plan_of t s c))
+      unfolding all_got
+      with_script = with_samples (Bytes script.0 ∷ []) ∙ ap (by_script t s) script.1.1
+
+      -- why a good plan is not run is why the call stops
+      pub stops_plan : (status : Status) → IsPlanRefusal (by_limit (plan_of t s c) (first_over (plan_of t s c))) status → Prevented names desk status
+      stops_plan OutOfMemory r = (all_got, (all_gave, tt))
+      stops_plan (OverLimit file line what most) r = (all_got, (all_gave, with_script ∙ r))
+      stops_plan (NotYet role) r = (all_got, (all_gave, with_script ∙ r))
+      stops_plan (DeskFault role) r = absurd r
+      stops_plan (BadInput file line reason) r = absurd r
+      stops_plan Done r = absurd r
+      stops_plan (BadWords fault) r = absurd r
+      stops_plan (SinkFault target) r = absurd r
+
+      -- the plan that is run
+      pub planned : (plan : Plan) → by_limit (plan_of t s c) (first_over (plan_of t s c)) ≡ Does (RunJob plan) → IsPlanned names desk.told (RunJob plan)
+      planned plan is = (all_got, (all_gave, with_script ∙ is))
+
+-- what follows from an error
+pub if_err : {A B : Type 0} (r : Result A B) (P Q : B → Type 0) → ((e : B) → P e → Q e) → IfErr r P → IfErr r Q
+if_err (Ok x) P Q f h = tt
+if_err (Err e) P Q f h = f e h
+
+pub if_ok : {A B : Type 0} (r : Result A B) (P Q : A → Type 0) → ((x : A) → P x → Q x) → IfOk r P → IfOk r Q
+if_ok (Ok x) P Q f h = f x h
+if_ok (Err e) P Q f h = tt

@@ -1,18 +1,18 @@
 -- What a call answers, and why.
-use Rattle.std.specs.Prelude.{◌≡◌, ◌⊎◌, if◌then◌else◌, nat_le, length, ℕ, List, [], ◌∷◌, Option, Some, None}
+use Rattle.std.specs.Prelude.{◌≡◌, ◌⊎◌, if◌then◌else◌, nat_le, length, ℕ, List, [], ◌∷◌, Option, Some, None, Result, Ok, Err}
 use Rattle.std.specs.Io.KnownBytes.{Appends}
-use Rattle.stat_desk.specs.Desk.{FailedAt, IsLonger}
+use Rattle.stat_desk.specs.Desk.{FailedAt, IsLonger, IsWhole}
 use Rattle.stat_desk.specs.Faults.{Rose}
 use Rattle.stat_desk.specs.Sink.{AppendsPrefix}
-use Rattle.small_files.specs.declared.error.FormError.{FormError}
-use Rattle.small_files.specs.declared.error.FormError.TheVariants.{OtherForm, OutOfMemory as NoMemory}
-use Rattle.stat_tool.specs.Course.{Answers, Bytes, Does, Gave, Got, Progress, TooLong, Wants, course, limit}
+use Rattle.stat_plan.specs.declared.text_error.TextError.{TextError}
+use Rattle.stat_tool.specs.Status.{refusal_of}
+use Rattle.stat_tool.specs.Course.{Answers, Bytes, Does, Gave, Got, Progress, TooLong, Wants, course, limit, too_long}
 use Rattle.stat_tool.specs.Words.{Names, in_order, name_of}
 use Rattle.stat_tool.specs.Work.{ComesTo, Job, Work}
 use Rattle.stat_tool.specs.declared.status.FileRole.{FileRole}
 use Rattle.stat_tool.specs.declared.status.WordFault.TheVariants.{Options}
 use Rattle.stat_tool.specs.declared.status.Status.{Status}
-use Rattle.stat_tool.specs.declared.status.Status.TheVariants.{Done, BadWords, DeskFault, SinkFault, OutOfMemory, NotYet}
+use Rattle.stat_tool.specs.declared.status.Status.TheVariants.{Done, BadWords, DeskFault, BadInput, OverLimit, SinkFault, OutOfMemory, NotYet}
 
 -- a desk before and after a call: its count, the last name at which it rose, and what it told
 pub record DeskSeen : Type 0 where
@@ -55,13 +55,17 @@ pub record Finishes (progress : Progress) (out : SinkSeen) (status : Status) : T
   pub came : ComesTo job work
   pub written : Written work out status
 
--- Why a call stops before it writes: memory ran out; the file that it reads next did not come; or a
--- file is of another form.
+-- Why a call stops before it writes: memory ran out; the file that it reads next did not come; or the files lead to this
+-- very answer.
 abbrev pub Prevents : Names → DeskSeen → Progress → Status → Type 0
 Prevents names desk progress OutOfMemory = Unit {0}
 Prevents names desk progress (DeskFault role) = (progress ≡ Wants role) × FailedAt desk.before desk.now desk.last_fault (name_of names role)
+Prevents names desk progress (BadInput file line reason) = progress ≡ Answers (BadInput file line reason)
+Prevents names desk progress (OverLimit file line what most) = progress ≡ Answers (OverLimit file line what most)
 Prevents names desk progress (NotYet role) = progress ≡ Answers (NotYet role)
-Prevents names desk progress status = ⊥
+Prevents names desk progress Done = ⊥
+Prevents names desk progress (BadWords fault) = ⊥
+Prevents names desk progress (SinkFault target) = ⊥
 
 -- Why a call gives a status, and what it leaves in the sink: it did the job, or it stopped before it wrote.
 abbrev pub Explains : Names → DeskSeen → SinkSeen → Progress → Status → Type 0
@@ -98,13 +102,32 @@ IsDetermined names desk out status = (topology samples script : List ℕ)
 abbrev pub Refuses : FileRole → List ℕ → DeskSeen → Status → Type 0
 Refuses role name desk OutOfMemory = Unit {0}
 Refuses role name desk (DeskFault r) = (r ≡ role) × FailedAt desk.before desk.now desk.last_fault name
-Refuses role name desk (NotYet r) = (r ≡ role) × IsLonger (desk.told name) limit
-Refuses role name desk status = ⊥
+Refuses role name desk (OverLimit file line what most) = (OverLimit file line what most ≡ too_long role) × IsLonger (desk.told name) limit
+Refuses role name desk Done = ⊥
+Refuses role name desk (BadWords fault) = ⊥
+Refuses role name desk (BadInput file line reason) = ⊥
+Refuses role name desk (SinkFault target) = ⊥
+Refuses role name desk (NotYet r) = ⊥
 
--- the status of a file that wasn't taken
-abbrev pub refusal_of : FormError → FileRole → Status
-refusal_of OtherForm role = NotYet role
-refusal_of NoMemory role = OutOfMemory
+-- a file that the desk tells gave what reads as this
+abbrev pub Tells : {A : Type 0} → Option (List ℕ) → (List ℕ → Result A TextError) → A → Type 0
+Tells told read x = (bytes : List ℕ) × (IsWhole told limit bytes × (read bytes ≡ Ok x))
+
+-- the file gave a text whose first fault makes this status
+abbrev pub IsRefused : {A : Type 0} → Option (List ℕ) → (List ℕ → Result A TextError) → FileRole → Status → Type 0
+IsRefused told read role status = (bytes : List ℕ) × (IsWhole told limit bytes × ((e : TextError) × ((read bytes ≡ Err e) × (refusal_of role e ≡ status))))
+
+-- why no text of a file was read: it did not come, it is too long, or it has a fault
+abbrev pub StopsAt : {A : Type 0} → (List ℕ → Result A TextError) → FileRole → List ℕ → DeskSeen → Status → Type 0
+StopsAt read role name desk OutOfMemory = Unit {0}
+StopsAt read role name desk (DeskFault r) = (r ≡ role) × FailedAt desk.before desk.now desk.last_fault name
+StopsAt read role name desk (BadInput file line reason) = IsRefused (desk.told name) read role (BadInput file line reason)
+StopsAt read role name desk (OverLimit file line what most) =
+    ((OverLimit file line what most ≡ too_long role) × IsLonger (desk.told name) limit) ⊎ IsRefused (desk.told name) read role (OverLimit file line what most)
+StopsAt read role name desk Done = ⊥
+StopsAt read role name desk (BadWords fault) = ⊥
+StopsAt read role name desk (SinkFault target) = ⊥
+StopsAt read role name desk (NotYet r) = ⊥
 
 -- the files gave what led to this work
 abbrev pub Prepared : Names → (List ℕ → Option (List ℕ)) → List ℕ → Type 0
@@ -118,3 +141,14 @@ IsPlanned names told job = (got : List Got) × (Gave told (in_order names) got �
 -- the files gave why the call stops
 abbrev pub Prevented : Names → DeskSeen → Status → Type 0
 Prevented names desk status = (got : List Got) × (Gave desk.told (in_order names) got × Prevents names desk (course got) status)
+
+-- why the plan of three good files is not run: it passes the limit of prefixes, or it is not supported yet, or memory ran out
+abbrev pub IsPlanRefusal : Progress → Status → Type 0
+IsPlanRefusal progress OutOfMemory = Unit {0}
+IsPlanRefusal progress (OverLimit file line what most) = progress ≡ Answers (OverLimit file line what most)
+IsPlanRefusal progress (NotYet role) = progress ≡ Answers (NotYet role)
+IsPlanRefusal progress (DeskFault role) = ⊥
+IsPlanRefusal progress (BadInput file line reason) = ⊥
+IsPlanRefusal progress Done = ⊥
+IsPlanRefusal progress (BadWords fault) = ⊥
+IsPlanRefusal progress (SinkFault target) = ⊥

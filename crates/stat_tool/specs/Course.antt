@@ -1,14 +1,20 @@
 -- How far a call comes by the files that it gets, one after another.
-use Rattle.std.specs.Prelude.{ℕ, List, [], ◌∷◌, Option, Some, None}
+use Rattle.std.specs.Prelude.{ℕ, List, [], ◌∷◌, Option, Some, None, Result, Ok, Err, if◌then◌else◌}
 use Rattle.stat_desk.specs.Desk.{IsLonger, IsWhole}
-use Rattle.small_files.specs.Samples.{Said, said_by}
-use Rattle.small_files.specs.Script.{samples_of_script}
-use Rattle.small_files.specs.Topology.{daemons_of}
-use Rattle.stat_tool.specs.Work.{Job, RunJob}
+use Rattle.stat_plan.specs.Limits.{first_over}
+use Rattle.stat_plan.specs.Plans.{Plan, Sampled, Scripted, plan_of}
+use Rattle.stat_plan.specs.Topologies.{Nodes}
+use Rattle.stat_plan.specs.declared.text_error.TextError.{TextError}
+use Rattle.stat_plan.specs.declared.text_error.Quantity.TheVariants.{Bytes as TheBytes, Prefixes}
+use Rattle.topology_text.specs.Whole.{topology_of}
+use Rattle.sample_text.specs.Whole.{samples_of_text}
+use Rattle.script_text.specs.Script.{script_of}
+use Rattle.stat_tool.specs.Status.{refusal_of}
+use Rattle.stat_tool.specs.Work.{Job, RunJob, has_inner_nodes, is_one_plain_wave}
 use Rattle.stat_tool.specs.declared.status.FileRole.{FileRole}
 use Rattle.stat_tool.specs.declared.status.FileRole.TheVariants.{Topology, Samples, Script}
 use Rattle.stat_tool.specs.declared.status.Status.{Status}
-use Rattle.stat_tool.specs.declared.status.Status.TheVariants.{NotYet}
+use Rattle.stat_tool.specs.declared.status.Status.TheVariants.{OverLimit, NotYet}
 
 -- what a read gave: all bytes of a file, or more than its limit
 pub data Got : Type 0 where
@@ -21,40 +27,53 @@ pub data Progress : Type 0 where
   Answers : Status → Progress
   Does : Job → Progress
 
--- with a script that is read
-abbrev pub by_script : Said → Option ℕ → Progress
-by_script said None = Answers (NotYet Script)
-by_script said (Some count) = Does (RunJob (record { placed = said.placed; lines = said.lines; samples = count }))
+-- the most bytes of a file
+abbrev pub limit : ℕ
+limit = 33554432
 
-abbrev pub at_script : Said → List Got → Progress
-at_script said [] = Wants Script
-at_script said (TooLong ∷ rest) = Answers (NotYet Script)
-at_script said (Bytes script ∷ rest) = by_script said (samples_of_script script)
+-- a file of more bytes
+abbrev pub too_long : FileRole → Status
+too_long role = OverLimit role 0 TheBytes limit
+
+-- what can be run: for now one front end with its daemons, and one wave that waits for all of them, without losses
+abbrev pub runnable : Plan → Progress
+runnable p = if has_inner_nodes p then Answers (NotYet Topology) else if is_one_plain_wave p then Does (RunJob p) else Answers (NotYet Script)
+
+-- a plan whose first wave over the limit of prefixes is this one
+abbrev pub by_limit : Plan → Option (ℕ × ℕ) → Progress
+by_limit p None = runnable p
+by_limit p (Some v) = Answers (OverLimit Samples 0 Prefixes 2048)
+
+-- with a script that is read
+abbrev pub by_script : Nodes → Sampled → Result Scripted TextError → Progress
+by_script t s (Err e) = Answers (refusal_of Script e)
+by_script t s (Ok c) = by_limit (plan_of t s c) (first_over (plan_of t s c))
+
+abbrev pub at_script : Nodes → Sampled → List Got → Progress
+at_script t s [] = Wants Script
+at_script t s (TooLong ∷ rest) = Answers (too_long Script)
+at_script t s (Bytes script ∷ rest) = by_script t s (script_of t script)
 
 -- with samples that are read
-abbrev pub by_samples : Option Said → List Got → Progress
-by_samples None rest = Answers (NotYet Samples)
-by_samples (Some said) rest = at_script said rest
+abbrev pub by_samples : Nodes → Result Sampled TextError → List Got → Progress
+by_samples t (Err e) rest = Answers (refusal_of Samples e)
+by_samples t (Ok s) rest = at_script t s rest
 
-abbrev pub at_samples : List (List ℕ) → List Got → Progress
-at_samples names [] = Wants Samples
-at_samples names (TooLong ∷ rest) = Answers (NotYet Samples)
-at_samples names (Bytes samples ∷ rest) = by_samples (said_by names samples) rest
+abbrev pub at_samples : Nodes → List Got → Progress
+at_samples t [] = Wants Samples
+at_samples t (TooLong ∷ rest) = Answers (too_long Samples)
+at_samples t (Bytes samples ∷ rest) = by_samples t (samples_of_text t samples) rest
 
 -- with a topology that is read
-abbrev pub by_topology : Option (List (List ℕ)) → List Got → Progress
-by_topology None rest = Answers (NotYet Topology)
-by_topology (Some names) rest = at_samples names rest
+abbrev pub by_topology : Result Nodes TextError → List Got → Progress
+by_topology (Err e) rest = Answers (refusal_of Topology e)
+by_topology (Ok t) rest = at_samples t rest
 
 -- the topology, the samples, the script: each file is tested before the next one is read
 abbrev pub course : List Got → Progress
 course [] = Wants Topology
-course (TooLong ∷ rest) = Answers (NotYet Topology)
-course (Bytes topology ∷ rest) = by_topology (daemons_of topology) rest
-
--- the most bytes of a file
-abbrev pub limit : ℕ
-limit = 65536
+course (TooLong ∷ rest) = Answers (too_long Topology)
+course (Bytes topology ∷ rest) = by_topology (topology_of topology) rest
 
 -- a file that the desk tells gave this
 abbrev pub Agrees : Option (List ℕ) → Got → Type 0

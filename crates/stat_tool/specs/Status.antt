@@ -1,13 +1,24 @@
--- The numbers of the statuses, with which the program ends.
+-- The numbers of the statuses, with which the program ends, and what a refused text answers.
 use Rattle.std.specs.Prelude.{ℕ}
+use Rattle.stat_plan.specs.declared.text_error.TextError.{TextError}
+use Rattle.stat_plan.specs.declared.text_error.TextError.TheVariants.{Bad, Over, OutOfMemory as NoMemory}
+use Rattle.stat_tool.specs.declared.status.FileRole.{FileRole}
 use Rattle.stat_tool.specs.declared.status.Status.{Status}
-use Rattle.stat_tool.specs.declared.status.Status.TheVariants.{Done, BadWords, DeskFault, SinkFault, OutOfMemory, NotYet}
+use Rattle.stat_tool.specs.declared.status.Status.TheVariants.{Done, BadWords, DeskFault, BadInput, OverLimit, SinkFault, OutOfMemory, NotYet}
 
 -- the number of a status; each kind has its own
 abbrev pub number_of : Status → ℕ
 number_of Done = 0
 number_of (BadWords fault) = 2
 number_of (DeskFault role) = 3
+number_of (BadInput file line reason) = 4
+number_of (OverLimit file line what limit) = 5
 number_of (SinkFault target) = 6
 number_of OutOfMemory = 7
 number_of (NotYet role) = 11
+
+-- the status of a text that was refused
+abbrev pub refusal_of : FileRole → TextError → Status
+refusal_of role (Bad line reason) = BadInput role line reason
+refusal_of role (Over line what limit) = OverLimit role line what limit
+refusal_of role NoMemory = OutOfMemory

@@ -1,14 +1,14 @@
 //! From words and files to a report.
-ghost use Rattle.std.specs.Prelude.{◌≡◌, ◌≢◌, ◌↔◌, [], IfSome, IfErr, IfOk, map, string_bytes};
+ghost use Rattle.std.specs.Prelude.{◌≡◌, ◌≢◌, ◌↔◌, true, [], IfSome, IfErr, IfOk, map, string_bytes};
 ghost use Rattle.stat_tool.specs.Call.{Answered, IsDetermined, Prepared, Prevented, Written};
 ghost use Rattle.stat_tool.specs.Words.{asked, names_of};
-ghost use Rattle.stat_tool.specs.Work.{ComesTo, RunJob, planned};
+ghost use Rattle.stat_tool.specs.Work.{ComesTo, RunJob, is_one_plain_wave};
 
 use crate::read::read_plan;
 use crate::status::{Outcome, Status, Target, WordFault};
 use crate::words::{Files, read_words};
 use front_end::report_text;
-use merge_filter::direct;
+use merge_filter::{Contribution, direct};
 use prefix_tree::OwnedTree;
 use stat_desk::{Desk, Journal, Sink, write_all_to};
 use stat_plan::Plan;
@@ -31,16 +31,27 @@ pub fn stat<D: Desk, O: Sink>(alloc: Global, words: &[String], desk: &mut D, out
     ensures as_before { result.status ≢ Status.Done → result.status ≢ Status.SinkFault Target.Report → O.held out.new ≡ O.held out.old }
     ensures journal { result.journal ≡ [] }
 {
-    let status = match read_words(words) {
-        None => Status::BadWords(WordFault::Options),
-        Some(files) => match prepare(alloc, files, desk) {
-            Ok(report) => deliver(report.as_slice(), out),
-            Err(status) => status,
-        },
-    };
     Outcome {
-        status,
+        status: run(alloc, words, desk, out),
         journal: Journal::new(alloc),
+    }
+}
+
+/// The status of the call.
+fn run<D: Desk, O: Sink>(alloc: Global, words: &[String], desk: &mut D, out: &mut O) -> Status
+    ensures answered { Answered (asked (map string_bytes words.now))
+        (record { before = D.faults desk.old; now = D.faults desk.new; last_fault = D.last_fault desk.new; told = D.told desk.old })
+        (record { before = O.faults out.old; now = O.faults out.new; held_before = O.held out.old; held_now = O.held out.new })
+        result }
+    ensures bad_words { (result ≡ Status.BadWords WordFault.Options) ↔ (asked (map string_bytes words.now) ≡ None) }
+    ensures as_before { result ≢ Status.Done → result ≢ Status.SinkFault Target.Report → O.held out.new ≡ O.held out.old }
+{
+    let Some(files) = read_words(words) else {
+        return Status::BadWords(WordFault::Options);
+    };
+    match prepare(alloc, files, desk) {
+        Ok(report) => deliver(report.as_slice(), out),
+        Err(status) => status,
     }
 }
 
@@ -59,12 +70,15 @@ fn prepare<D: Desk>(alloc: Global, files: Files<'_>, desk: &mut D) -> Result<Vec
     }
 }
 
-/// The report of a plan: each daemon's tree, merged one after another.
+/// The report of a plan of one stream and one wave: each daemon's tree, merged one after another.
 fn report_of(alloc: Global, plan: &Plan) -> Result<Vec<u8>, AllocError>
-    ensures { IfOk result (λ report. ComesTo (RunJob (planned plan.now)) (record { report = report.items })) }
+    requires { is_one_plain_wave plan.now ≡ true }
+    ensures { IfOk result (λ report. ComesTo (RunJob plan.now) (record { report = report.items })) }
 {
-    let tree: OwnedTree = direct(alloc, plan)?;
-    report_text(alloc, &tree)
+    plan.is_plan();
+    let stream = plan.streams()[0].number();
+    let all: Contribution<OwnedTree> = direct(alloc, plan, stream, 0)?;
+    report_text(alloc, stream, all.tree())
 }
 
 /// Writes the report.

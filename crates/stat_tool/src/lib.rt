@@ -3,6 +3,7 @@
 
 mod call;
 mod read;
+mod runnable;
 mod status;
 mod words;
 

@@ -1,20 +1,28 @@
 //! Reads the files that the words name, each whole, and tests each before the next.
-ghost use Rattle.std.specs.Prelude.{◌≡◌, ◌≤◌, IfErr, IfOk};
+ghost use Rattle.std.specs.Prelude.{◌≡◌, ◌≤◌, true, IfErr, IfOk};
 ghost use Rattle.stat_desk.specs.Desk.{IsWhole};
-ghost use Rattle.stat_tool.specs.Call.{IsPlanned, Prevented, Refuses, refusal_of};
-ghost use Rattle.stat_tool.specs.Course.{limit as limit_of};
+ghost use Rattle.stat_plan.specs.Kept.{SamplesFit, ScriptFits};
+ghost use Rattle.stat_plan.specs.Limits.{first_over};
+ghost use Rattle.stat_plan.specs.Plans.{plan_of};
+ghost use Rattle.topology_text.specs.Whole.{topology_of};
+ghost use Rattle.sample_text.specs.Whole.{samples_of_text};
+ghost use Rattle.script_text.specs.Script.{script_of};
+ghost use Rattle.stat_tool.specs.Call.{IsPlanRefusal, IsPlanned, Prevented, Refuses, StopsAt, Tells};
+ghost use Rattle.stat_tool.specs.Course.{Does, by_limit, limit as limit_of};
+ghost use Rattle.stat_tool.specs.Status.{refusal_of};
 ghost use Rattle.stat_tool.specs.Words.{names_of};
-ghost use Rattle.stat_tool.specs.Work.{RunJob, planned};
+ghost use Rattle.stat_tool.specs.Work.{RunJob, is_one_plain_wave as is_plain_wave_of};
 
+use crate::runnable::{has_inner_nodes, is_one_plain_wave};
 use crate::status::{FileRole, Status};
 use crate::words::Files;
-use small_files::{FormError, read_samples, read_script, read_topology};
+use prefix_tree::PREFIX_LIMIT;
 use stat_desk::{Desk, DeskError};
-use stat_plan::Plan;
+use stat_plan::{Plan, PlanError, Quantity, Samples, Script, TextError, Topology};
 use std::alloc::Global;
 
 /// The most bytes of a file.
-const FILE_LIMIT: u64 = 65_536;
+const FILE_LIMIT: u64 = 33_554_432;
 
 /// All bytes of one file.
 fn read_file<D: Desk>(desk: &mut D, name: &str, role: FileRole) -> Result<Vec<u8>, Status>
@@ -26,52 +34,150 @@ fn read_file<D: Desk>(desk: &mut D, name: &str, role: FileRole) -> Result<Vec<u8
     match desk.read(name, FILE_LIMIT) {
         Ok(bytes) => Ok(bytes),
         Err(DeskError::Failed) => Err(Status::DeskFault(role)),
-        Err(DeskError::TooLong) => Err(Status::NotYet(role)),
+        Err(DeskError::TooLong) => Err(Status::OverLimit {
+            file: role,
+            line: 0,
+            what: Quantity::Bytes,
+            limit: FILE_LIMIT,
+        }),
         Err(DeskError::OutOfMemory) => Err(Status::OutOfMemory),
     }
 }
 
-/// The status of a file that wasn't taken.
-fn refusal(error: FormError, role: FileRole) -> Status
-    ensures { result ≡ refusal_of error role }
+/// The status of a text that was refused.
+fn refusal(role: FileRole, error: TextError) -> Status
+    ensures { result ≡ refusal_of role error }
 {
     match error {
-        FormError::OtherForm => Status::NotYet(role),
-        FormError::OutOfMemory => Status::OutOfMemory,
+        TextError::Bad { line, reason } => Status::BadInput {
+            file: role,
+            line,
+            reason,
+        },
+        TextError::Over { line, what, limit } => Status::OverLimit {
+            file: role,
+            line,
+            what,
+            limit,
+        },
+        TextError::OutOfMemory => Status::OutOfMemory,
     }
+}
+
+/// The nodes, by the topology's file.
+fn read_topology<D: Desk>(alloc: Global, desk: &mut D, name: &str) -> Result<Topology, Status>
+    ensures ok { IfOk result (λ t. Tells (D.told desk.old name.now) topology_of t) }
+    ensures err { IfErr result (StopsAt topology_of FileRole.Topology name.now (record { before = D.faults desk.old; now = D.faults desk.new; last_fault = D.last_fault desk.new; told = D.told desk.old })) }
+    ensures later { D.faults desk.old ≤ D.faults desk.new }
+    ensures told { D.told desk.new ≡ D.told desk.old }
+{
+    let bytes = match read_file(desk, name, FileRole::Topology) {
+        Ok(bytes) => bytes,
+        Err(status) => return Err(status),
+    };
+    match topology_text::read(alloc, bytes.as_slice()) {
+        Ok(topology) => Ok(topology),
+        Err(error) => Err(refusal(FileRole::Topology, error)),
+    }
+}
+
+/// The samples of these nodes, by the samples' file.
+fn read_samples<D: Desk>(
+    alloc: Global,
+    desk: &mut D,
+    name: &str,
+    topology: &Topology,
+) -> Result<Samples, Status>
+    ensures ok { IfOk result (λ s. Tells (D.told desk.old name.now) (samples_of_text topology.now) s) }
+    ensures fits { IfOk result (λ s. SamplesFit topology.now s) }
+    ensures err { IfErr result (StopsAt (samples_of_text topology.now) FileRole.Samples name.now (record { before = D.faults desk.old; now = D.faults desk.new; last_fault = D.last_fault desk.new; told = D.told desk.old })) }
+    ensures later { D.faults desk.old ≤ D.faults desk.new }
+    ensures told { D.told desk.new ≡ D.told desk.old }
+{
+    let bytes = match read_file(desk, name, FileRole::Samples) {
+        Ok(bytes) => bytes,
+        Err(status) => return Err(status),
+    };
+    match sample_text::read(alloc, bytes.as_slice(), topology) {
+        Ok(samples) => Ok(samples),
+        Err(error) => Err(refusal(FileRole::Samples, error)),
+    }
+}
+
+/// The script for these nodes, by the script's file.
+fn read_script<D: Desk>(
+    alloc: Global,
+    desk: &mut D,
+    name: &str,
+    topology: &Topology,
+) -> Result<Script, Status>
+    ensures ok { IfOk result (λ c. Tells (D.told desk.old name.now) (script_of topology.now) c) }
+    ensures fits { IfOk result (λ c. ScriptFits topology.now c) }
+    ensures err { IfErr result (StopsAt (script_of topology.now) FileRole.Script name.now (record { before = D.faults desk.old; now = D.faults desk.new; last_fault = D.last_fault desk.new; told = D.told desk.old })) }
+    ensures later { D.faults desk.old ≤ D.faults desk.new }
+    ensures told { D.told desk.new ≡ D.told desk.old }
+{
+    let bytes = match read_file(desk, name, FileRole::Script) {
+        Ok(bytes) => bytes,
+        Err(status) => return Err(status),
+    };
+    match script_text::read(alloc, bytes.as_slice(), topology) {
+        Ok(script) => Ok(script),
+        Err(error) => Err(refusal(FileRole::Script, error)),
+    }
+}
+
+/// The plan of what three files say, where it can be run.
+fn runnable_plan(
+    alloc: Global,
+    topology: Topology,
+    samples: Samples,
+    script: Script,
+) -> Result<Plan, Status>
+    requires samples { SamplesFit topology samples }
+    requires script { ScriptFits topology script }
+    ensures ok { IfOk result (λ plan. by_limit (plan_of topology samples script) (first_over (plan_of topology samples script)) ≡ Does (RunJob plan)) }
+    ensures plain { IfOk result (λ plan. is_plain_wave_of plan ≡ true) }
+    ensures err { IfErr result (IsPlanRefusal (by_limit (plan_of topology samples script) (first_over (plan_of topology samples script)))) }
+{
+    let plan = match Plan::build(alloc, topology, samples, script) {
+        Ok(plan) => plan,
+        Err(PlanError::TooManyPrefixes { .. }) => {
+            return Err(Status::OverLimit {
+                file: FileRole::Samples,
+                line: 0,
+                what: Quantity::Prefixes,
+                limit: PREFIX_LIMIT as u64,
+            });
+        }
+        Err(PlanError::OutOfMemory) => return Err(Status::OutOfMemory),
+    };
+    if has_inner_nodes(&plan) {
+        return Err(Status::NotYet(FileRole::Topology));
+    }
+    if !is_one_plain_wave(&plan) {
+        return Err(Status::NotYet(FileRole::Script));
+    }
+    Ok(plan)
 }
 
 /// The plan of the three files.
 pub fn read_plan<D: Desk>(alloc: Global, files: Files<'_>, desk: &mut D) -> Result<Plan, Status>
-    ensures ok { IfOk result (λ plan. IsPlanned (names_of files.entry) (D.told desk.old) (RunJob (planned plan))) }
+    ensures ok { IfOk result (λ plan. IsPlanned (names_of files.entry) (D.told desk.old) (RunJob plan)) }
+    ensures plain { IfOk result (λ plan. is_plain_wave_of plan ≡ true) }
     ensures err { IfErr result (Prevented (names_of files.entry) (record { before = D.faults desk.old; now = D.faults desk.new; last_fault = D.last_fault desk.new; told = D.told desk.old })) }
 {
-    let topology = match read_file(desk, files.topology, FileRole::Topology) {
-        Ok(bytes) => bytes,
+    let topology = match read_topology(alloc, desk, files.topology) {
+        Ok(topology) => topology,
         Err(status) => return Err(status),
     };
-    let names = match read_topology(alloc, topology.as_slice()) {
-        Ok(names) => names,
-        Err(error) => return Err(refusal(error, FileRole::Topology)),
-    };
-    let samples = match read_file(desk, files.samples, FileRole::Samples) {
-        Ok(bytes) => bytes,
+    let samples = match read_samples(alloc, desk, files.samples, &topology) {
+        Ok(samples) => samples,
         Err(status) => return Err(status),
     };
-    let said = match read_samples(alloc, names.as_slice(), samples.as_slice()) {
-        Ok(said) => said,
-        Err(error) => return Err(refusal(error, FileRole::Samples)),
-    };
-    let script = match read_file(desk, files.script, FileRole::Script) {
-        Ok(bytes) => bytes,
+    let script = match read_script(alloc, desk, files.script, &topology) {
+        Ok(script) => script,
         Err(status) => return Err(status),
     };
-    match read_script(script.as_slice()) {
-        Some(count) => Ok(Plan {
-            placed: said.placed,
-            lines: said.lines,
-            samples: count,
-        }),
-        None => Err(Status::NotYet(FileRole::Script)),
-    }
+    runnable_plan(alloc, topology, samples, script)
 }

@@ -3,6 +3,7 @@ ghost use Rattle.std.specs.Prelude.{◌≡◌};
 ghost use Rattle.stat_tool.specs.Status.{number_of};
 
 use stat_desk::Journal;
+use stat_plan::{Quantity, Reason};
 use std::fmt;
 use thiserror::Error;
 
@@ -41,11 +42,24 @@ pub enum Status {
     BadWords(WordFault),
     /// A file could not be read.
     DeskFault(FileRole),
+    /// On this line of a file, from 1 on, this is wrong: its first fault. Line 0 stands for the whole file.
+    BadInput {
+        file: FileRole,
+        line: u64,
+        reason: Reason,
+    },
+    /// On this line of a file there is more of something than the limit; line 0 stands for the whole file.
+    OverLimit {
+        file: FileRole,
+        line: u64,
+        what: Quantity,
+        limit: u64,
+    },
     /// What was to be written was not taken whole.
     SinkFault(Target),
     /// There was no memory.
     OutOfMemory,
-    /// The file has more than 65,536 bytes, or a form that isn't supported yet.
+    /// What the file says isn't supported yet.
     NotYet(FileRole),
 }
 
@@ -58,6 +72,8 @@ impl Status {
             Status::Done => 0,
             Status::BadWords(_) => 2,
             Status::DeskFault(_) => 3,
+            Status::BadInput { .. } => 4,
+            Status::OverLimit { .. } => 5,
             Status::SinkFault(_) => 6,
             Status::OutOfMemory => 7,
             Status::NotYet(_) => 11,
@@ -81,6 +97,13 @@ impl fmt::Display for Status {
             Status::Done => write!(f, "done"),
             Status::BadWords(fault) => write!(f, "bad words: {fault}"),
             Status::DeskFault(role) => write!(f, "cannot read {role}"),
+            Status::BadInput { file, line, reason } => write!(f, "{file} line {line}: {reason:?}"),
+            Status::OverLimit {
+                file,
+                line,
+                what,
+                limit,
+            } => write!(f, "{file} line {line}: {what:?} over {limit}"),
             Status::SinkFault(Target::Report) => write!(f, "cannot write report"),
             Status::OutOfMemory => write!(f, "out of memory"),
             Status::NotYet(role) => write!(f, "{role} not supported yet"),

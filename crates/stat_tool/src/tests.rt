@@ -1,6 +1,7 @@
 //! Whole calls over a desk and a sink in memory, with worked jobs, and one over the real files.
 use crate::{FileRole, Status, Target, WordFault, stat};
 use stat_desk::{FileDesk, MemDesk, MemSink, StdSink};
+use stat_plan::{Quantity, Reason};
 use std::alloc::{AllocError, Global};
 use std::fs;
 
@@ -23,7 +24,7 @@ struct Worked {
     report: &'static str,
 }
 
-const WORKED: [Worked; 6] = [
+const WORKED: [Worked; 7] = [
     Worked {
         topology: TWO_TOP,
         samples: FOUR_SMP,
@@ -40,6 +41,36 @@ class 3:[0,2-3] paths 1
   main;MPI_Barrier
 class 1:[1] paths 1
   main;compute
+end
+",
+    },
+    // 64 ranks of which one waits for a message, in the text of a topology's generator
+    Worked {
+        topology: "# one front end\nfe:0 =>\n  n0:0 n1:0\n  n2:0 n3:0 ;",
+        samples: "daemon n0:0 0-15
+daemon n1:0 16-31
+daemon n2:0 32-47
+daemon n3:0 48-63
+stack 0 0-16,18-63 main;solver::step(Grid&);MPI_Barrier;PMPI_Barrier;poll
+stack 0 17 main;solver::step(Grid&);solver::exchange<double, 3>(Grid const&, int);MPI_Recv
+",
+        script: ALL_SCR,
+        report: "stream 0 wave 0 release 1 final
+covered 64:[0-63]
+tree
+64:[0-63] - /
+  64:[0-63] - main
+    64:[0-63] - solver::step(Grid&)
+      63:[0-16,18-63] - MPI_Barrier
+        63:[0-16,18-63] - PMPI_Barrier
+          63:[0-16,18-63] 63:[0-16,18-63] poll
+      1:[17] - solver::exchange<double, 3>(Grid const&, int)
+        1:[17] 1:[17] MPI_Recv
+classes
+class 63:[0-16,18-63] paths 1
+  main;solver::step(Grid&);MPI_Barrier;PMPI_Barrier;poll
+class 1:[17] paths 1
+  main;solver::step(Grid&);solver::exchange<double, 3>(Grid const&, int);MPI_Recv
 end
 ",
     },
@@ -137,32 +168,97 @@ end
     },
 ];
 
-// Texts that aren't of the small form, each beside good ones.
-const OTHER_TOPOLOGIES: [&str; 5] = [
-    "fe:0 => a:0 b:0 ;",
-    "fe:0 =>  a:0 b:0 ;\n",
-    "fe:0 => ;\n",
-    "fe:0 => a:0 fe:0 ;\n",
-    "fe:0 => a:0 b:00 ;\n",
+// A job's three files, and the first fault that is in them.
+const BAD_INPUTS: [(&str, &str, &str, FileRole, u64, Reason); 7] = [
+    (
+        "fe:0 => a:0 b:0 ;\nx:0 => a:0 ;\n",
+        FOUR_SMP,
+        ALL_SCR,
+        FileRole::Topology,
+        2,
+        Reason::SecondParent,
+    ),
+    ("", "", "", FileRole::Topology, 0, Reason::NoRoot),
+    (
+        "fe:0 => a:0",
+        "",
+        "",
+        FileRole::Topology,
+        1,
+        Reason::NoSemicolon,
+    ),
+    (
+        TWO_TOP,
+        "daemon a:0 0-2\ndaemon b:0 2-3\n",
+        "",
+        FileRole::Samples,
+        2,
+        Reason::PlacedTwice,
+    ),
+    (
+        TWO_TOP,
+        "daemon a:0 0-1\n",
+        "",
+        FileRole::Samples,
+        0,
+        Reason::DaemonWithoutRank,
+    ),
+    (
+        TWO_TOP,
+        FOUR_SMP,
+        "stream 0 wait-for-all waves 1 samples 1 on all\nlose fe:0 after 0 keep 0\n",
+        FileRole::Script,
+        2,
+        Reason::LosesFront,
+    ),
+    (TWO_TOP, FOUR_SMP, "", FileRole::Script, 0, Reason::NoStream),
 ];
 
-const OTHER_SAMPLES: [&str; 11] = [
-    "daemon b:0 0\n",
-    "daemon a:0 16384\n",
-    "daemon a:0 \n",
-    "",
-    "daemon a:0 0",
-    "daemon a:0 0\ndaemon a:0 1\n",
-    "daemon a:0 0\nstack 0 1 f\n",
-    "daemon a:0 0\nstack 00 0 f\n",
-    "daemon a:0 0\nstack 65536 0 f\n",
-    "daemon a:0 0\nstack 0 0  f\n",
-    "daemon a:0 0\nstack 0 0 f;\n",
+// A job's three files, and the first limit that they pass.
+const OVER_LIMITS: [(&str, &str, &str, FileRole, u64, Quantity, u64); 3] = [
+    (
+        ONE_TOP,
+        "daemon a:0 16384\n",
+        ALL_SCR,
+        FileRole::Samples,
+        1,
+        Quantity::Ranks,
+        16_384,
+    ),
+    (
+        TWO_TOP,
+        FOUR_SMP,
+        "stream 8 wait-for-all waves 1 samples 1 on all\n",
+        FileRole::Script,
+        1,
+        Quantity::Streams,
+        8,
+    ),
+    (
+        TWO_TOP,
+        FOUR_SMP,
+        "stream 0 wait-for-all waves 17 samples 1 on all\n",
+        FileRole::Script,
+        1,
+        Quantity::Waves,
+        16,
+    ),
 ];
 
-const OTHER_SCRIPTS: [&str; 3] = [
-    "stream 0 wait-for-all waves 1 samples 65 on all\n",
+// Scripts of the small job that can be run: one stream of one wave waits for all daemons, and no node is lost.
+const PLAIN_SCRIPTS: [&str; 3] = [
+    "stream 0 wait-for-all waves 1 samples 64 on all\n",
+    "stream 0 wait-for-all waves 1 samples 1 on b:0 a:0\n",
+    "# all\r\n\r\nstream 00 wait-for-all waves 01 samples 1 on all",
+];
+
+// Scripts that are good, and can't be run yet.
+const LATER_SCRIPTS: [&str; 6] = [
     "stream 0 dont-wait waves 1 samples 1 on all\n",
+    "stream 0 time-out 1 waves 1 samples 1 on all\n",
+    "stream 0 wait-for-all waves 2 samples 1 on all\n",
+    "stream 0 wait-for-all waves 1 samples 1 on a:0\n",
+    "stream 0 wait-for-all waves 1 samples 1 on all\nstream 1 wait-for-all waves 1 samples 1 on all\n",
     "stream 0 wait-for-all waves 1 samples 1 on all\nlose a:0 after 0 keep 0\n",
 ];
 
@@ -215,7 +311,7 @@ fn writes_the_reports_of_worked_jobs(rt: HostRuntime) -> Result<(), AllocError> 
 }
 
 // The status of a run of these files, and whether nothing is written.
-fn refused(
+fn ends(
     alloc: Global,
     topology: &str,
     samples: &str,
@@ -227,57 +323,126 @@ fn refused(
 }
 
 #[test]
-fn names_the_file_of_another_form(rt: HostRuntime) -> Result<(), AllocError> {
-    let alloc = rt.alloc();
-    for topology in OTHER_TOPOLOGIES.as_slice() {
-        let end = refused(alloc, topology, FOUR_SMP, ALL_SCR)?;
-        assert_eq!(rt; end, (Status::NotYet(FileRole::Topology), true));
-    }
-    for samples in OTHER_SAMPLES.as_slice() {
-        let end = refused(alloc, ONE_TOP, samples, ALL_SCR)?;
-        assert_eq!(rt; end, (Status::NotYet(FileRole::Samples), true));
-    }
-    for script in OTHER_SCRIPTS.as_slice() {
-        let end = refused(alloc, TWO_TOP, FOUR_SMP, script)?;
-        assert_eq!(rt; end, (Status::NotYet(FileRole::Script), true));
+fn names_the_first_fault_by_its_line(rt: HostRuntime) -> Result<(), AllocError> {
+    for (topology, samples, script, file, line, reason) in BAD_INPUTS {
+        let end = ends(rt.alloc(), topology, samples, script)?;
+        assert_eq!(rt; end, (Status::BadInput { file, line, reason }, true));
     }
     Ok(())
 }
 
-// The status of a run whose samples are a text, so many times another, and an end.
-fn status_of_samples(
-    alloc: Global,
-    front: &str,
-    times: u32,
-    middle: &str,
-    end: &str,
-) -> Result<Status, AllocError> {
-    let mut samples = String::from_str(alloc, front)?;
-    for _ in 0..times {
-        samples.push_str(middle)?;
+#[test]
+fn names_the_first_limit_that_is_passed(rt: HostRuntime) -> Result<(), AllocError> {
+    for (topology, samples, script, file, line, what, limit) in OVER_LIMITS {
+        let end = ends(rt.alloc(), topology, samples, script)?;
+        assert_eq!(rt;
+            end,
+            (
+                Status::OverLimit {
+                    file,
+                    line,
+                    what,
+                    limit
+                },
+                true
+            )
+        );
     }
-    samples.push_str(end)?;
-    let mut desk = desk_of(alloc, ONE_TOP, samples.as_str(), ALL_SCR)?;
+    Ok(())
+}
+
+#[test]
+fn runs_plain_scripts_and_no_others_yet(rt: HostRuntime) -> Result<(), AllocError> {
+    let alloc = rt.alloc();
+    for script in PLAIN_SCRIPTS.as_slice() {
+        let end = ends(alloc, TWO_TOP, FOUR_SMP, script)?;
+        assert_eq!(rt; end, (Status::Done, false));
+    }
+    for script in LATER_SCRIPTS.as_slice() {
+        let end = ends(alloc, TWO_TOP, FOUR_SMP, script)?;
+        assert_eq!(rt; end, (Status::NotYet(FileRole::Script), true));
+    }
+    let inner = "fe:0 => c:0 ;\nc:0 => a:0 b:0 ;\n";
+    for script in PLAIN_SCRIPTS.as_slice() {
+        let end = ends(alloc, inner, FOUR_SMP, script)?;
+        assert_eq!(rt; end, (Status::NotYet(FileRole::Topology), true));
+    }
+    Ok(())
+}
+
+#[test]
+fn prints_the_number_of_any_stream(rt: HostRuntime) -> Result<(), AllocError> {
+    let alloc = rt.alloc();
+    let script = "stream 7 wait-for-all waves 1 samples 1 on all\n";
+    let mut desk = desk_of(alloc, TWO_TOP, FOUR_SMP, script)?;
+    let (status, out) = run_on(alloc, &mut desk)?;
+    assert_eq!(rt; status, Status::Done);
+    assert!(rt;
+        out.bytes()
+            .starts_with(b"stream 7 wave 0 release 1 final\ncov".as_slice())
+    );
+    Ok(())
+}
+
+// Samples of a rank that has so many paths of one frame at each of so many times, no path twice.
+fn one_frame_paths(alloc: Global, times: u32, paths: u32) -> Result<String, AllocError> {
+    let mut samples = String::from_str(alloc, "daemon a:0 0\n")?;
+    for time in 0..times {
+        for i in 0..paths {
+            let line = format!(in alloc; "stack {time} 0 f{i}@{time}\n")?;
+            samples.push_str(line.as_str())?;
+        }
+    }
+    Ok(samples)
+}
+
+#[test]
+fn counts_the_prefixes_of_a_wave(rt: HostRuntime) -> Result<(), AllocError> {
+    let alloc = rt.alloc();
+    let over = Status::OverLimit {
+        file: FileRole::Samples,
+        line: 0,
+        what: Quantity::Prefixes,
+        limit: 2_048,
+    };
+    for (times, paths, status) in [
+        (1, 2_048, Status::Done),
+        (1, 2_049, over),
+        (2, 2_048, Status::Done),
+    ] {
+        let samples = one_frame_paths(alloc, times, paths)?;
+        let mut desk = desk_of(alloc, ONE_TOP, samples.as_str(), ALL_SCR)?;
+        let words = words_of(alloc, WORDS.as_slice())?;
+        let mut out = MemSink::new(alloc, 1_000, 1_000_000)?;
+        let outcome = stat(alloc, words.as_slice(), &mut desk, &mut out);
+        assert_eq!(rt; outcome.status, status);
+        assert_eq!(rt; out.bytes().is_empty(), status != Status::Done);
+    }
+    Ok(())
+}
+
+// The status of a run whose topology is this text and so many blanks after it.
+fn status_of_length(alloc: Global, text: &str, length: usize) -> Result<Status, AllocError> {
+    let mut topology = text.as_bytes().to_vec(alloc)?;
+    topology.resize(length, b' ')?;
+    let mut desk = MemDesk::new(alloc);
+    desk.put(String::from_str(alloc, "t")?, topology)?;
+    put(alloc, &mut desk, "s", FOUR_SMP)?;
+    put(alloc, &mut desk, "c", ALL_SCR)?;
     Ok(run_on(alloc, &mut desk)?.0)
 }
 
 #[test]
-fn takes_sixteen_stack_lines_and_no_more(rt: HostRuntime) -> Result<(), AllocError> {
+fn takes_files_of_33554432_bytes_and_no_longer_ones(rt: HostRuntime) -> Result<(), AllocError> {
     let alloc = rt.alloc();
-    let sixteen = status_of_samples(alloc, "daemon a:0 0\n", 16, "stack 0 0 f\n", "")?;
-    assert_eq!(rt; sixteen, Status::Done);
-    let more = status_of_samples(alloc, "daemon a:0 0\n", 17, "stack 0 0 f\n", "")?;
-    assert_eq!(rt; more, Status::NotYet(FileRole::Samples));
-    Ok(())
-}
-
-#[test]
-fn takes_files_of_65536_bytes_and_no_more(rt: HostRuntime) -> Result<(), AllocError> {
-    let alloc = rt.alloc();
-    let most = status_of_samples(alloc, "daemon a:0 ", 65_536 - 13, "0", "7\n")?;
-    assert_eq!(rt; most, Status::Done);
-    let more = status_of_samples(alloc, "daemon a:0 ", 65_537 - 13, "0", "7\n")?;
-    assert_eq!(rt; more, Status::NotYet(FileRole::Samples));
+    assert_eq!(rt; status_of_length(alloc, TWO_TOP, 33_554_432)?, Status::Done);
+    let over = Status::OverLimit {
+        file: FileRole::Topology,
+        line: 0,
+        what: Quantity::Bytes,
+        limit: 33_554_432,
+    };
+    assert_eq!(rt; status_of_length(alloc, TWO_TOP, 33_554_433)?, over);
     Ok(())
 }
 
@@ -341,7 +506,7 @@ fn refuses_other_words(rt: HostRuntime) -> Result<(), AllocError> {
     Ok(())
 }
 
-const TEXTS: [(Status, &str, u8); 6] = [
+const TEXTS: [(Status, &str, u8); 8] = [
     (
         Status::BadWords(WordFault::Options),
         "bad words: options",
@@ -352,11 +517,30 @@ const TEXTS: [(Status, &str, u8); 6] = [
         "cannot read topology",
         3,
     ),
+    (
+        Status::BadInput {
+            file: FileRole::Topology,
+            line: 2,
+            reason: Reason::SecondParent,
+        },
+        "topology line 2: SecondParent",
+        4,
+    ),
+    (
+        Status::OverLimit {
+            file: FileRole::Samples,
+            line: 0,
+            what: Quantity::Prefixes,
+            limit: 2_048,
+        },
+        "samples line 0: Prefixes over 2048",
+        5,
+    ),
     (Status::SinkFault(Target::Report), "cannot write report", 6),
     (Status::OutOfMemory, "out of memory", 7),
     (
-        Status::NotYet(FileRole::Samples),
-        "samples not supported yet",
+        Status::NotYet(FileRole::Topology),
+        "topology not supported yet",
         11,
     ),
     (

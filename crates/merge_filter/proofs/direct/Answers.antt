@@ -1,36 +1,34 @@
-use Rattle.std.proofs.Common.{◌≡◌, ◌∙◌, ◌<◌, ℕ, List, ap, sym, subst, [], take, length, get_or}
-use Rattle.rank_set.specs.Ranks.{Ranks}
-use Rattle.prefix_tree.specs.Tree.{tree_of}
-use Rattle.prefix_tree.proofs.TreeLaws.{tree_of-uncovered}
-use Rattle.stat_plan.specs.Samples.{first_wave, all_ranks}
-use Rattle.merge_filter.proofs.Waves.{has_one, fit_together, all_ranks-more}
+use Rattle.std.proofs.Common.{sym, ap, subst, ◌∙◌, get_or, take}
+use Rattle.std.proofs.lemmas.List.{take_all, take_more}
+use Rattle.rank_set.specs.Ranks.{union}
+use Rattle.stat_plan.specs.NodeSets.{In}
+use Rattle.stat_plan.specs.Plans.{ranks_on}
+use Rattle.stat_plan.proofs.Expecting.{ranks_on-push}
+use Rattle.stat_plan.proofs.InLists.{in_at}
+use Rattle.merge_filter.proofs.Daemons.{all_daemons, stream_some}
 use Rattle.merge_filter.proofs.direct.Goals as goal
 
-pub loop-ranks-init : goal.loop-ranks-init
-loop-ranks-init g c = c.empty-tree.ensures ∙ tree_of-uncovered [] (first_wave c.args.plan.now.samples c.args.plan.now.lines.items)
+pub daemons_of-d-items-requires : goal.daemons_of-d-items-requires
+daemons_of-d-items-requires g c = stream_some c.args.plan.now c.args.s c.args.w c.requires
 
--- the place of a daemon among all, and what stands there
-module _ (all seen : List Ranks) (i : ℕ) (D : Ranks) (is : seen ≡ all) (lt : i < length seen) (there : D ≡ get_or seen i D) where
-  within : i < length all
-  within = subst (λ ds. i < length ds) is lt
+pub of_daemon-requires-clause-daemon : goal.of_daemon-requires-clause-daemon
+of_daemon-requires-clause-daemon g c lifetimes outlives =
+    subst (In (get_or c.daemons_of-d-items.result.now c.loop-d.d-index 0)) c.daemons_of-d-items.ensures (in_at c.daemons_of-d-items.result.now c.loop-d.d-index 0 c.loop-d-test.true)
 
-  same : D ≡ get_or all i D
-  same = there ∙ ap (λ ds. get_or ds i D) is
+pub loop-d-preserved : goal.loop-d-preserved
+loop-d-preserved g c =
+    let d = get_or c.daemons_of-d-items.result.now c.loop-d.d-index 0 in (
+      c.in_ok-absorb.ensures.stands,
+      c.in_ok-absorb.ensures.stream ∙ c.loop-d.invariant.1,
+      c.in_ok-absorb.ensures.wave ∙ c.loop-d.invariant.2,
+      c.in_ok-absorb.ensures.cov
+          ∙ (λ i. union (c.loop-d.invariant.3 i) (c.in_ok-own.ensures.cov i))
+          ∙ sym (ranks_on-push c.args.plan.now (take c.loop-d.d-index c.daemons_of-d-items.result.now) d)
+          ∙ ap (ranks_on c.args.plan.now) (sym (take_more c.daemons_of-d-items.result.now c.loop-d.d-index 0 c.loop-d-test.true)),
+    )
 
-pub tree_of_ranks-requires-after_bounds : goal.tree_of_ranks-requires-after_bounds
-tree_of_ranks-requires-after_bounds g c lifetimes outlives =
-    let is = c.deref-ranks-items.ensures.value in
-    has_one c.args.plan.now.placed.items c.loop-ranks.ranks-index c.ranks-item.result (within _ _ _ c.ranks-item.result is c.loop-ranks-test.true c.ranks-item.is) (same _ _ _ c.ranks-item.result is c.loop-ranks-test.true c.ranks-item.is)
-
-pub absorb-requires-after_bounds : goal.absorb-requires-after_bounds
-absorb-requires-after_bounds g c lifetimes outlives =
-    let is = c.deref-ranks-items.ensures.value in
-    fit_together c.args.plan.now.samples c.args.plan.now.lines.items c.args.plan.now.placed.items c.loop-ranks.ranks-index c.ranks-item.result _ _ c.args.plan.now.within_limit
-    (within _ _ _ c.ranks-item.result is c.loop-ranks-test.true c.ranks-item.is) (same _ _ _ c.ranks-item.result is c.loop-ranks-test.true c.ranks-item.is) c.loop-ranks.invariant c.in_ok-own.ensures
-
-pub loop-ranks-preserved : goal.loop-ranks-preserved
-loop-ranks-preserved g c =
-    let is = c.deref-ranks-items.ensures.value in
-    let S = first_wave c.args.plan.now.samples c.args.plan.now.lines.items in
-    c.in_ok-absorb.ensures S (all_ranks (take c.loop-ranks.ranks-index c.args.plan.now.placed.items)) c.ranks-item.result c.loop-ranks.invariant c.in_ok-own.ensures
-    ∙ ap (tree_of S) (sym (all_ranks-more c.args.plan.now.placed.items c.loop-ranks.ranks-index c.ranks-item.result (within _ _ _ c.ranks-item.result is c.loop-ranks-test.true c.ranks-item.is) (same _ _ _ c.ranks-item.result is c.loop-ranks-test.true c.ranks-item.is)))
+pub returns-clause-cov : goal.returns-clause-cov
+returns-clause-cov g c =
+    c.loop-d.invariant.3
+    ∙ ap (ranks_on c.args.plan.now) (take_all c.loop-d.d-index c.daemons_of-d-items.result.now c.loop-d-test.false ∙ c.daemons_of-d-items.ensures)
+    ∙ all_daemons c.args.plan.now c.args.s

@@ -1,7 +1,7 @@
 use Rattle.std.proofs.Common.{◌≡◌, take}
-use Rattle.prefix_tree.specs.Tree.{tree_of}
-use Rattle.stat_plan.specs.Samples.{first_wave, all_ranks}
+use Rattle.stat_plan.specs.Plans.{ranks_on}
+use Rattle.merge_filter.specs.Contributions.{StandsFor, cov_of}
 use Rattle.merge_filter.proofs.direct.Given as goal
 
-abbrev pub invariant-loop-ranks : goal.invariant-loop-ranks
-invariant-loop-ranks g l = g.T.PrefixTree.tree l.tree ≡ tree_of (first_wave l.plan.samples l.plan.lines.items) (all_ranks (take l.ranks-index l.plan.placed.items))
+abbrev pub invariant-loop-d : goal.invariant-loop-d
+invariant-loop-d g l = StandsFor l.plan l.all × (l.all.stream ≡ l.s) × (l.all.wave ≡ l.w) × (cov_of l.all ≡ ranks_on l.plan (take l.d-index l.d-items))

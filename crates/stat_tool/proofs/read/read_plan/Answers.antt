@@ -1,70 +1,47 @@
-use Rattle.std.proofs.Common.{◌∙◌, [], ◌∷◌, ap, sym, refl, map, arith}
-use Rattle.small_files.specs.Samples.{said, said_by}
-use Rattle.small_files.specs.Topology.{daemons_of}
-use Rattle.stat_tool.proofs.Stopping.{Refuses-earlier, Stops-at, Stops-by, whole-earlier, with_names, with_samples, with_said, with_script}
-use Rattle.stat_tool.specs.Course.{Bytes, Got, TooLong, by_samples, by_script, by_topology}
-use Rattle.stat_tool.specs.declared.status.FileRole.TheVariants.{Topology, Samples, Script}
+use Rattle.std.proofs.Common.{◌∙◌, arith, refl}
+use Rattle.sample_text.specs.Whole.{samples_of_text}
+use Rattle.script_text.specs.Script.{script_of}
+use Rattle.stat_tool.specs.Call.{DeskSeen}
+use Rattle.stat_tool.specs.Words.{names_of}
+use Rattle.stat_tool.proofs.Stopping.{stops_topology, stops_samples, stops_script, stops_plan, planned, stops_earlier, tells_earlier, if_err, if_ok}
+use Rattle.stat_tool.specs.declared.status.FileRole.TheVariants.{Samples, Script}
 use Rattle.stat_tool.proofs.read.read_plan.Goals as goal
 
 pub returns-in-Err-clause-err : goal.returns-in-Err-clause-err
 returns-in-Err-clause-err g c =
-    Stops-at _ _ Topology _ [] (TooLong ∷ []) refl refl tt (λ longer. (longer, tt)) c.in-Err.ensures.err
-
-pub returns-in-Err-read_topology-clause-err : goal.returns-in-Err-read_topology-clause-err
-returns-in-Err-read_topology-clause-err g c =
-    Stops-by _ _ Topology c.in-Err-read_topology.error _ (Bytes c.in-Ok.bytes.items ∷ []) (daemons_of c.as_slice.result.now) c.refusal.ensures
-    (λ none. ap (λ b. by_topology (daemons_of b) []) (sym c.as_slice.ensures.value) ∙ ap (λ o. by_topology o []) none)
-    (c.in-Ok.ensures.ok, tt) c.in-Err-read_topology.ensures.err
-
-pub returns-in-Err-read_file-clause-err : goal.returns-in-Err-read_file-clause-err
-returns-in-Err-read_file-clause-err g c =
-    let t : Got = Bytes c.in-Ok.bytes.items in
-    let course = with_names c.in-Ok.bytes.items c.as_slice.result.now _ c.as_slice.ensures.value c.in-Ok-read_topology.ensures.ok in
-    Stops-at _ _ Samples _ (t ∷ []) (t ∷ TooLong ∷ []) (course []) (course (TooLong ∷ []))
-    (c.in-Ok.ensures.ok, tt) (λ longer. (c.in-Ok.ensures.ok, (longer, tt)))
-    (Refuses-earlier Samples _ _ _ _ c.read_file.ensures.later refl refl c.read_file.ensures.told c.in-Err-read_file.ensures.err)
+    let seen : DeskSeen = record { before = g.D.Desk.faults c.args.desk.now; now = g.D.Desk.faults c.read_topology.new.desk; last_fault = g.D.Desk.last_fault c.read_topology.new.desk; told = g.D.Desk.told c.args.desk.now } in
+    stops_topology (names_of c.args.files) seen c.in-Err.status c.in-Err.ensures.err
 
 pub returns-in-Err-read_samples-clause-err : goal.returns-in-Err-read_samples-clause-err
 returns-in-Err-read_samples-clause-err g c =
-    let t : Got = Bytes c.in-Ok.bytes.items in
-    let s : Got = Bytes c.in-Ok-read_file.bytes.items in
-    Stops-by _ _ Samples c.in-Err-read_samples.error _ (t ∷ s ∷ []) (said_by (map (λ n. n.now) c.as_slice-2.result.now) c.as_slice-3.result.now) c.refusal-in-Err-read_samples.ensures
-    (λ none. with_samples c.in-Ok.bytes.items c.as_slice.result.now _ c.as_slice.ensures.value c.in-Ok-read_topology.ensures.ok
-    _ (ap (map (λ n. n.now)) c.as_slice-2.ensures.value) c.in-Ok-read_file.bytes.items c.as_slice-3.result.now c.as_slice-3.ensures.value [] ∙ ap (λ o. by_samples o []) none)
-    (c.in-Ok.ensures.ok, (whole-earlier _ _ _ _ c.read_file.ensures.told c.in-Ok-read_file.ensures.ok, tt)) c.in-Err-read_samples.ensures.err
+    let seen : DeskSeen = record { before = g.D.Desk.faults c.args.desk.now; now = g.D.Desk.faults c.read_samples.new.desk; last_fault = g.D.Desk.last_fault c.read_samples.new.desk; told = g.D.Desk.told c.args.desk.now } in
+    let mid : DeskSeen = record { before = g.D.Desk.faults c.read_topology.new.desk; now = g.D.Desk.faults c.read_samples.new.desk; last_fault = g.D.Desk.last_fault c.read_samples.new.desk; told = g.D.Desk.told c.read_topology.new.desk } in
+    stops_samples (names_of c.args.files) seen c.in-Ok.topology c.in-Ok.ensures.ok c.in-Err-read_samples.status
+    (stops_earlier (samples_of_text c.in-Ok.topology) Samples c.args.files.samples.now seen mid c.in-Err-read_samples.status c.read_topology.ensures.later refl refl c.read_topology.ensures.told c.in-Err-read_samples.ensures.err)
 
-pub returns-in-Err-read_file-2-clause-err : goal.returns-in-Err-read_file-2-clause-err
-returns-in-Err-read_file-2-clause-err g c =
-    let t : Got = Bytes c.in-Ok.bytes.items in
-    let s : Got = Bytes c.in-Ok-read_file.bytes.items in
-    let course = with_said c.in-Ok.bytes.items c.as_slice.result.now _ c.as_slice.ensures.value c.in-Ok-read_topology.ensures.ok
-    _ (ap (map (λ n. n.now)) c.as_slice-2.ensures.value) c.in-Ok-read_file.bytes.items c.as_slice-3.result.now c.as_slice-3.ensures.value (said c.in-Ok-read_samples.said) c.in-Ok-read_samples.ensures.ok in
-    let second = whole-earlier _ _ _ _ c.read_file.ensures.told c.in-Ok-read_file.ensures.ok in
-    Stops-at _ _ Script _ (t ∷ s ∷ []) (t ∷ s ∷ TooLong ∷ []) (course []) (course (TooLong ∷ []))
-    (c.in-Ok.ensures.ok, (second, tt)) (λ longer. (c.in-Ok.ensures.ok, (second, (longer, tt))))
-    (Refuses-earlier Script _ _ _ _ (omega (arith, c.read_file.ensures.later, c.read_file-2.ensures.later)) refl refl (c.read_file-2.ensures.told ∙ c.read_file.ensures.told) c.in-Err-read_file-2.ensures.err)
+pub returns-in-Err-read_script-clause-err : goal.returns-in-Err-read_script-clause-err
+returns-in-Err-read_script-clause-err g c =
+    let seen : DeskSeen = record { before = g.D.Desk.faults c.args.desk.now; now = g.D.Desk.faults c.read_script.new.desk; last_fault = g.D.Desk.last_fault c.read_script.new.desk; told = g.D.Desk.told c.args.desk.now } in
+    let mid : DeskSeen = record { before = g.D.Desk.faults c.read_samples.new.desk; now = g.D.Desk.faults c.read_script.new.desk; last_fault = g.D.Desk.last_fault c.read_script.new.desk; told = g.D.Desk.told c.read_samples.new.desk } in
+    stops_script (names_of c.args.files) seen c.in-Ok.topology c.in-Ok.ensures.ok c.in-Ok-read_samples.samples
+    (tells_earlier seen.told (g.D.Desk.told c.read_topology.new.desk) c.args.files.samples.now (samples_of_text c.in-Ok.topology) c.in-Ok-read_samples.samples c.read_topology.ensures.told c.in-Ok-read_samples.ensures.ok) c.in-Err-read_script.status
+    (stops_earlier (script_of c.in-Ok.topology) Script c.args.files.script.now seen mid c.in-Err-read_script.status (omega (arith, c.read_topology.ensures.later, c.read_samples.ensures.later)) refl refl
+    (c.read_samples.ensures.told ∙ c.read_topology.ensures.told) c.in-Err-read_script.ensures.err)
 
-pub invariant_of-result : goal.invariant_of-result
-invariant_of-result g c = record { has_paths = c.in-Ok-read_samples.ensures.paths c.in-Some.count; within_limit = c.in-Ok-read_samples.ensures.limit c.in-Some.count _ }
-
-pub returns-in-Some-clause-ok : goal.returns-in-Some-clause-ok
-returns-in-Some-clause-ok g c =
-    let course = with_script c.in-Ok.bytes.items c.as_slice.result.now _ c.as_slice.ensures.value c.in-Ok-read_topology.ensures.ok
-    _ (ap (map (λ n. n.now)) c.as_slice-2.ensures.value) c.in-Ok-read_file.bytes.items c.as_slice-3.result.now c.as_slice-3.ensures.value (said c.in-Ok-read_samples.said) c.in-Ok-read_samples.ensures.ok
-    c.in-Ok-read_file-2.bytes.items c.as_slice-4.result.now c.as_slice-4.ensures.value in
-    let second = whole-earlier _ _ _ _ c.read_file.ensures.told c.in-Ok-read_file.ensures.ok in
-    let third = whole-earlier _ _ _ _ (c.read_file-2.ensures.told ∙ c.read_file.ensures.told) c.in-Ok-read_file-2.ensures.ok in (
-      Bytes c.in-Ok.bytes.items ∷ Bytes c.in-Ok-read_file.bytes.items ∷ Bytes c.in-Ok-read_file-2.bytes.items ∷ [],
-      ((c.in-Ok.ensures.ok, (second, (third, tt))), course ∙ ap (by_script (said c.in-Ok-read_samples.said)) (sym c.read_script.ensures ∙ c.in-Some.is)),
-    )
+pub returns-clause-ok : goal.returns-clause-ok
+returns-clause-ok g c =
+    let seen : DeskSeen = record { before = g.D.Desk.faults c.args.desk.now; now = g.D.Desk.faults c.read_script.new.desk; last_fault = g.D.Desk.last_fault c.read_script.new.desk; told = g.D.Desk.told c.args.desk.now } in
+    if_ok c.runnable_plan.result _ _ (λ plan is. planned (names_of c.args.files) seen c.in-Ok.topology c.in-Ok.ensures.ok c.in-Ok-read_samples.samples
+    (tells_earlier seen.told (g.D.Desk.told c.read_topology.new.desk) c.args.files.samples.now (samples_of_text c.in-Ok.topology) c.in-Ok-read_samples.samples c.read_topology.ensures.told c.in-Ok-read_samples.ensures.ok)
+    c.in-Ok-read_script.script
+    (tells_earlier seen.told (g.D.Desk.told c.read_samples.new.desk) c.args.files.script.now (script_of c.in-Ok.topology) c.in-Ok-read_script.script (c.read_samples.ensures.told ∙ c.read_topology.ensures.told) c.in-Ok-read_script.ensures.ok)
+    plan is) c.runnable_plan.ensures.ok
 
 pub returns-clause-err : goal.returns-clause-err
 returns-clause-err g c =
-    let course = with_script c.in-Ok.bytes.items c.as_slice.result.now _ c.as_slice.ensures.value c.in-Ok-read_topology.ensures.ok
-    _ (ap (map (λ n. n.now)) c.as_slice-2.ensures.value) c.in-Ok-read_file.bytes.items c.as_slice-3.result.now c.as_slice-3.ensures.value (said c.in-Ok-read_samples.said) c.in-Ok-read_samples.ensures.ok
-    c.in-Ok-read_file-2.bytes.items c.as_slice-4.result.now c.as_slice-4.ensures.value in
-    let second = whole-earlier _ _ _ _ c.read_file.ensures.told c.in-Ok-read_file.ensures.ok in
-    let third = whole-earlier _ _ _ _ (c.read_file-2.ensures.told ∙ c.read_file.ensures.told) c.in-Ok-read_file-2.ensures.ok in (
-      Bytes c.in-Ok.bytes.items ∷ Bytes c.in-Ok-read_file.bytes.items ∷ Bytes c.in-Ok-read_file-2.bytes.items ∷ [],
-      ((c.in-Ok.ensures.ok, (second, (third, tt))), course ∙ ap (by_script (said c.in-Ok-read_samples.said)) (sym c.read_script.ensures ∙ c.in-None.is)),
-    )
+    let seen : DeskSeen = record { before = g.D.Desk.faults c.args.desk.now; now = g.D.Desk.faults c.read_script.new.desk; last_fault = g.D.Desk.last_fault c.read_script.new.desk; told = g.D.Desk.told c.args.desk.now } in
+    if_err c.runnable_plan.result _ _ (λ status is. stops_plan (names_of c.args.files) seen c.in-Ok.topology c.in-Ok.ensures.ok c.in-Ok-read_samples.samples
+    (tells_earlier seen.told (g.D.Desk.told c.read_topology.new.desk) c.args.files.samples.now (samples_of_text c.in-Ok.topology) c.in-Ok-read_samples.samples c.read_topology.ensures.told c.in-Ok-read_samples.ensures.ok)
+    c.in-Ok-read_script.script
+    (tells_earlier seen.told (g.D.Desk.told c.read_samples.new.desk) c.args.files.script.now (script_of c.in-Ok.topology) c.in-Ok-read_script.script (c.read_samples.ensures.told ∙ c.read_topology.ensures.told) c.in-Ok-read_script.ensures.ok)
+    status is) c.runnable_plan.ensures.err

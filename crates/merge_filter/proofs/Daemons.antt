@@ -1,0 +1,89 @@
+-- The daemons of a stream, and their ranks.
+use Rattle.std.proofs.Common.{◌≡◌, ℕ, ◌<◌, inl, inr, Bool, true, false, ◌==◌, cond, List, [], ◌∷◌, map, Option, Some, None, refl, sym, ap, subst, ◌∙◌, arith, eq-eqb}
+use Rattle.std.specs.Prelude.{find, IsSome}
+use Rattle.std.specs.List.{AllByRecursion}
+use Rattle.std.proofs.lemmas.Bool.{or_left, or_right}
+use Rattle.rank_set.specs.Ranks.{Ranks, none, has, Has, IsSubset, union, has-union}
+use Rattle.stat_plan.specs.Kept.{IsPlan, IsDaemon}
+use Rattle.stat_plan.specs.NodeSets.{In}
+use Rattle.stat_plan.specs.Samples.{SampleLine, IsWithinLimit, ranks_with, samples_of, wave_lines}
+use Rattle.stat_plan.specs.Plans.{Plan, Stream, daemons, nodes, nodes_of, ranks, sample_count, samples, ranks_on, stream_of, stream_ranks, up_to, waves_of}
+use Rattle.stat_plan.proofs.FirstOver.{all_in, found_in}
+use Rattle.stat_plan.proofs.InLists.{in_append, in_from_map, in_map}
+use Rattle.stat_plan.proofs.Prefixes.{count-more}
+use Rattle.merge_filter.specs.Contributions.{HasWave}
+
+found : (xs : List Stream) (s w : ℕ) → In (s, w) (waves_of xs) → IsSome (find (λ x. x.number == s) xs)
+found [] s w there = absurd there
+found (x ∷ xs) s w there = elim (in_append (s, w) (map (λ (k : ℕ). let v : ℕ × ℕ = (x.number, k) in v) (up_to x.waves)) (waves_of xs) there) [
+  | (inl here) ↦
+      let from = in_from_map (λ (k : ℕ). let v : ℕ × ℕ = (x.number, k) in v) (up_to x.waves) (s, w) here in
+      let same : x.number ≡ s = sym (ap (λ (v : ℕ × ℕ). v.0) from.1.1) in
+      subst (λ b. IsSome (cond b (Some x) (find (λ y. y.number == s) xs))) (sym (eq-eqb x.number s same)) refl
+  | (inr later) ↦ by (found xs s w later) (x.number == s)
+]
+  where
+    by : IsSome (find (λ y. y.number == s) xs) → (b : Bool) → IsSome (cond b (Some x) (find (λ y. y.number == s) xs))
+    by rest true = refl
+    by rest false = rest
+
+-- a wave's stream is there
+pub stream_some : (p : Plan) (s w : ℕ) → HasWave p s w → IsSome (stream_of p s)
+unfolding stream_of
+stream_some p s w wave = found p.streams s w wave
+
+-- what the stream says
+pub samples_at : (p : Plan) (s : ℕ) (x : Stream) → stream_of p s ≡ Some x → x.samples ≡ sample_count p s
+unfolding sample_count
+samples_at p s x is = sym (ap (λ (o : Option Stream). elim o as (λ _. ℕ) [ None ↦ 0 | (Some x) ↦ x.samples ]) is)
+
+pub daemons_at : (p : Plan) (s : ℕ) (x : Stream) → stream_of p s ≡ Some x → x.daemons ≡ daemons p s
+unfolding daemons
+daemons_at p s x is = sym (ap (λ (o : Option Stream). elim o as (λ _. List ℕ) [ None ↦ [] | (Some x) ↦ x.daemons ]) is)
+
+-- a daemon of a stream is a node
+pub daemon_is_node : (p : Plan) (s d : ℕ) → IsPlan p → In d (daemons p s) → d < nodes p
+unfolding daemons stream_of
+daemon_is_node p s d plan there = by (find (λ x. x.number == s) p.streams) refl there
+  where
+    by : (o : Option Stream) → find (λ x. x.number == s) p.streams ≡ o → In d (elim o as (λ _. List ℕ) [ None ↦ [] | (Some x) ↦ x.daemons ]) → d < nodes p
+    by None is there = absurd there
+    by (Some x) is there =
+        let stream = found_in (λ x. x.number == s) p.streams x is in
+        (all_in (IsDaemon (nodes_of p)) x.daemons d (all_in (λ (x : Stream). AllByRecursion (IsDaemon (nodes_of p)) x.daemons) p.streams x plan.script_fits.daemons stream) there).0
+
+grown : (C : Ranks) (Ds : List Ranks) (r : ℕ) → Has r C → Has r (ranks_with C Ds)
+grown C [] r there = there
+grown C (D ∷ Ds) r there = grown (union C D) Ds r (has-union C D r ∙ or_left (has C r) (has D r) there)
+
+comes : (C : Ranks) (Ds : List Ranks) (D : Ranks) (r : ℕ) → In D Ds → Has r D → Has r (ranks_with C Ds)
+comes C [] D r there one = absurd there
+comes C (E ∷ Ds) D r (inl same) one = grown (union C E) Ds r (has-union C E r ∙ or_right (has C r) (has E r) (subst (Has r) same one))
+comes C (E ∷ Ds) D r (inr later) one = comes (union C E) Ds D r later one
+
+-- its ranks are ranks of the stream
+pub daemon_lies : (p : Plan) (s d : ℕ) → In d (daemons p s) → IsSubset (ranks p d) (stream_ranks p s)
+unfolding stream_ranks
+daemon_lies p s d there r one = comes none (map (ranks p) (daemons p s)) (ranks p d) r (in_map (ranks p) d (daemons p s) there) one
+
+-- the samples of a wave
+pub samples_is : (p : Plan) (s w k : ℕ) (lines : List SampleLine) → lines ≡ p.lines → k ≡ sample_count p s → samples_of (wave_lines k w lines) ≡ samples p s w
+unfolding samples
+samples_is p s w k lines all count = λ i. samples_of (wave_lines (count i) w (all i))
+
+-- a daemon's samples of a wave are few
+pub daemon_within : (p : Plan) (s w d : ℕ) → IsPlan p → HasWave p s w → In d (daemons p s) → IsWithinLimit (samples p s w) (ranks p d)
+daemon_within p s w d plan wave there =
+    let fewer = count-more (samples p s w) (samples p s w) (ranks p d) (stream_ranks p s) (λ r q one. one) (daemon_lies p s d there) in
+    let within = plan.within s w wave in
+    omega (arith, fewer, within)
+
+-- the same, of what a program holds
+pub daemon_room : (p : Plan) (s w d k : ℕ) (lines : List SampleLine) (own : Ranks) → IsPlan p → HasWave p s w → In d (daemons p s) → lines ≡ p.lines → k ≡ sample_count p s → own ≡ ranks p d → IsWithinLimit (samples_of (wave_lines k w lines)) own
+daemon_room p s w d k lines own plan wave there all count is =
+    subst (IsWithinLimit (samples_of (wave_lines k w lines))) (sym is) (subst (λ P. IsWithinLimit P (ranks p d)) (sym (samples_is p s w k lines all count)) (daemon_within p s w d plan wave there))
+
+-- the ranks of all daemons of a stream
+pub all_daemons : (p : Plan) (s : ℕ) → ranks_on p (daemons p s) ≡ stream_ranks p s
+unfolding stream_ranks
+all_daemons p s = refl

@@ -1,0 +1,100 @@
+//! The tree of a wave's samples of some ranks, by the numbers of the lines that have one of them.
+
+ghost use Rattle.std.specs.Prelude.{◌≡◌, IfOk, OnOk};
+ghost use Rattle.rank_set.specs.Ranks.{Ranks};
+ghost use Rattle.prefix_tree.specs.Pairs.{Pairs};
+ghost use Rattle.prefix_tree.specs.Tree.{tree_of};
+ghost use Rattle.stat_plan.specs.Samples.{IsWithinLimit, samples_of, wave_lines};
+ghost use Rattle.stat_plan.specs.StackLines.{AreNumbered, line_of, lines_of};
+ghost use Rattle.stat_plan.specs.Tables.{AreOwnLines};
+ghost use Rattle.merge_filter.specs.Gathering.{HasRoomFor, TakesLine, with_pending};
+
+use call_path::CallPath;
+use prefix_tree::{PrefixTree, TreeError};
+use rank_set::RankSet;
+use stat_plan::{StackLine, is_in_wave};
+use std::alloc::{AllocError, Global};
+
+// Ranks that are still to be added to a tree, with a path.
+#[derive(Drop)]
+struct Pending {
+    // The number of the path.
+    path: u32,
+    ranks: RankSet,
+}
+
+// Adds to a tree what is still to be added.
+fn add_pending<T: PrefixTree>(
+    tree: &mut T,
+    paths: &[CallPath],
+    pending: &Pending,
+) -> Result<(), AllocError>
+    requires { HasRoomFor (T.tree tree.old) paths.now pending.now }
+    ensures { OnOk result ((P : Pairs) (C : Ranks) → T.tree tree.old ≡ tree_of P C → T.tree tree.new ≡ tree_of (with_pending P paths.now pending.now) C) }
+{
+    if pending.ranks.count() == 0 {
+        return Ok(());
+    }
+    let path = &paths[pending.path as usize];
+    match tree.add(&pending.ranks, path) {
+        Ok(()) => Ok(()),
+        Err(TreeError::OutOfMemory) => Err(AllocError),
+        Err(TreeError::TooManyPrefixes) => unreachable!(),
+    }
+}
+
+// Takes the own ranks of a line. They join those that are still to be added, if the path is theirs; else they are the next
+// that are to be added.
+fn take_line<T: PrefixTree>(
+    tree: &mut T,
+    own: &RankSet,
+    paths: &[CallPath],
+    pending: &mut Pending,
+    line: &StackLine,
+) -> Result<(), AllocError>
+    requires { HasRoomFor (T.tree tree.old) paths.now pending.old }
+    ensures { OnOk result ((P : Pairs) → T.tree tree.old ≡ tree_of P own.now → TakesLine P own.now paths.now (line_of paths.now line.now) line.now.path pending.old pending.new (T.tree tree.new)) }
+{
+    let mut here = own.copy()?;
+    here.keep(&line.ranks);
+    if line.path == pending.path {
+        pending.ranks.union_into(&here)?;
+        return Ok(());
+    }
+    add_pending(tree, paths, pending)?;
+    pending.path = line.path;
+    pending.ranks = here;
+    Ok(())
+}
+
+/// The tree of a wave's samples of some ranks. `numbers` are those of the lines that have one of the ranks. It takes the least
+/// time where those of one path stand together.
+pub fn own_tree<T: PrefixTree>(
+    alloc: Global,
+    lines: &[StackLine],
+    paths: &[CallPath],
+    numbers: &[u32],
+    samples: u8,
+    wave: u8,
+    own: &RankSet,
+) -> Result<T, AllocError>
+    requires numbered { AreNumbered paths.now lines.now }
+    requires numbers { AreOwnLines (lines_of paths.now lines.now) own.now numbers.now }
+    requires within { IsWithinLimit (samples_of (wave_lines samples wave (lines_of paths.now lines.now))) own.now }
+    ensures { IfOk result (λ tree. T.tree tree ≡ tree_of (samples_of (wave_lines samples wave (lines_of paths.now lines.now))) own.now) }
+{
+    let mut tree = T::empty(alloc);
+    tree.cover(own)?;
+    let mut pending = Pending {
+        path: 0,
+        ranks: RankSet::new(alloc),
+    };
+    for i in numbers {
+        let line = &lines[*i as usize];
+        if is_in_wave(samples, wave, line.time) {
+            take_line(&mut tree, own, paths, &mut pending, line)?;
+        }
+    }
+    add_pending(&mut tree, paths, &pending)?;
+    Ok(tree)
+}

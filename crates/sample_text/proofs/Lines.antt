@@ -1,0 +1,70 @@
+-- Lines one after another, and the check of the whole text.
+use Rattle.std.proofs.Common.{◌≡◌, ◌∙◌, ℕ, suc, ◌+◌, ◌<◌, ◌≤◌, Bool, true, false, ◌&&◌, ◌||◌, not, nat_eq, eq-eqb, List, [], ◌∷◌, length, drop, drop-cons, get_or, Option, Ok, Err, refl, sym, ap, subst, arith}
+use Rattle.std.proofs.lemmas.Bool.Decides.{nat_tests}
+use Rattle.std.proofs.lemmas.List.{drop_all}
+use Rattle.rank_set.specs.Ranks.{Ranks, size, is_empty}
+use Rattle.stat_plan.specs.Plans.{Sampled}
+use Rattle.stat_plan.specs.Topologies.{Nodes}
+use Rattle.stat_plan.specs.Trees.{is_daemon}
+use Rattle.stat_plan.specs.declared.text_error.TextError.{TextError}
+use Rattle.stat_plan.specs.declared.text_error.TextError.TheVariants.{Bad}
+use Rattle.stat_plan.specs.declared.text_error.Reason.TheVariants.{DaemonWithoutRank}
+use Rattle.sample_text.specs.Steps.{and_then, if_holds, with_line}
+use Rattle.sample_text.specs.Whole.{with_lines, lacks_rank, whole}
+
+module _ (t : Nodes) (s : Sampled) (number : ℕ) where
+  pub no_lines_left : with_lines t s number [] ≡ Ok s
+  unfolding with_lines
+  no_lines_left = refl
+
+  pub next_bad : (line : List ℕ) (rest : List (List ℕ)) (e : TextError) → with_line t s number line ≡ Err e → with_lines t s number (line ∷ rest) ≡ Err e
+  unfolding with_lines
+  next_bad line rest e is = ap (λ r. and_then r (λ more. with_lines t more (suc number) rest)) is
+
+  pub next_good : (line : List ℕ) (rest : List (List ℕ)) (more : Sampled) → with_line t s number line ≡ Ok more → with_lines t s number (line ∷ rest) ≡ with_lines t more (number + 1) rest
+  unfolding with_lines
+  next_good line rest more is = ap (λ r. and_then r (λ more. with_lines t more (suc number) rest)) is ∙ (let e : suc number ≡ number + 1 = omega arith in ap (λ n. with_lines t more n rest) e)
+
+module _ (parents : List (Option ℕ)) (sets : List Ranks) (n : ℕ) where
+  pub lacks_none_left : length sets ≤ n → lacks_rank parents n (drop n sets) ≡ false
+  lacks_none_left le = ap (lacks_rank parents n) (drop_all n sets le)
+
+  module _ (d : Ranks) (lt : n < length sets) where
+    next_set : lacks_rank parents n (drop n sets) ≡ ((is_daemon parents n && is_empty (get_or sets n d)) || lacks_rank parents (suc n) (drop (suc n) sets))
+    next_set = ap (lacks_rank parents n) (drop-cons sets n d lt)
+
+    pub lacks_here : is_daemon parents n ≡ true → is_empty (get_or sets n d) ≡ true → lacks_rank parents n (drop n sets) ≡ true
+    lacks_here daemon empty = next_set ∙ (λ i. (daemon i && empty i) || lacks_rank parents (suc n) (drop (suc n) sets))
+
+    later : (is_daemon parents n && is_empty (get_or sets n d)) ≡ false → lacks_rank parents (n + 1) (drop (n + 1) sets) ≡ lacks_rank parents n (drop n sets)
+    later none = (let e : n + 1 ≡ suc n = omega arith in ap (λ k. lacks_rank parents k (drop k sets)) e) ∙ sym (next_set ∙ ap (λ b. b || lacks_rank parents (suc n) (drop (suc n) sets)) none)
+
+    and_false : (b : Bool) → (b && false) ≡ false
+    and_false true = refl
+    and_false false = refl
+
+    -- a node that is no daemon
+    pub no_daemon : is_daemon parents n ≡ false → lacks_rank parents (n + 1) (drop (n + 1) sets) ≡ lacks_rank parents n (drop n sets)
+    no_daemon other = later (ap (λ b. b && is_empty (get_or sets n d)) other)
+
+    -- a node that has a rank
+    pub has_rank : is_empty (get_or sets n d) ≡ false → lacks_rank parents (n + 1) (drop (n + 1) sets) ≡ lacks_rank parents n (drop n sets)
+    has_rank some = later (ap (λ b. is_daemon parents n && b) some ∙ and_false (is_daemon parents n))
+
+-- a set that is not empty
+pub not_empty : (set other : Ranks) (count : ℕ) → count ≡ size set → (count ≡ 0 → ⊥) → set ≡ other → is_empty other ≡ false
+not_empty set other count is some same = subst (λ s. is_empty s ≡ false) same (zero_not (size set) (λ e. some (is ∙ e)))
+  where
+    zero_not : (n : ℕ) → (n ≡ 0 → ⊥) → nat_eq n 0 ≡ false
+    zero_not n ne = grind (arith, nat_tests)
+
+-- an empty set
+pub empty : (set other : Ranks) (count : ℕ) → count ≡ size set → count ≡ 0 → set ≡ other → is_empty other ≡ true
+empty set other count is none same = subst (λ s. is_empty s ≡ true) same (eq-eqb (size set) 0 (sym is ∙ none))
+
+-- the check of the whole text
+pub whole_bad : (t : Nodes) (s : Sampled) → lacks_rank t.parents 0 s.placed ≡ true → whole t s ≡ Err (Bad 0 DaemonWithoutRank)
+whole_bad t s e = ap (λ b. if_holds (not b) (Bad 0 DaemonWithoutRank) (Ok s)) e
+
+pub whole_good : (t : Nodes) (s : Sampled) → lacks_rank t.parents 0 s.placed ≡ false → whole t s ≡ Ok s
+whole_good t s e = ap (λ b. if_holds (not b) (Bad 0 DaemonWithoutRank) (Ok s)) e

@@ -1,0 +1,84 @@
+-- One line more, by the fault or the step that it is.
+use Rattle.std.proofs.Common.{◌≡◌, ℕ, ◌<◌, ◌≤◌, true, false, List, [], ◌∷◌, ◌++◌, length, Some, Result, Ok, Err, refl, sym, ap, subst, le-ltb, lt-ltb}
+use Rattle.std.specs.Str.{bytes_eq}
+use Rattle.std.proofs.lemmas.List.Quantifiers.{position-Some}
+use Rattle.stat_plan.specs.Names.{number_of}
+use Rattle.std.specs.Result.{IfErr, IsErr, IsErrAnd}
+use Rattle.rank_set.specs.Ranks.{Ranks, is_subset}
+use Rattle.call_path.specs.Path.{Path}
+use Rattle.stat_plan.specs.Plans.{Sampled}
+use Rattle.stat_plan.specs.Samples.{all_ranks}
+use Rattle.stat_plan.specs.Topologies.{Nodes}
+use Rattle.stat_plan.specs.declared.text_error.TextError.{TextError}
+use Rattle.stat_plan.specs.declared.text_error.TextError.TheVariants.{Bad, Over}
+use Rattle.stat_plan.specs.declared.text_error.Reason.TheVariants.{PlacedTwice, Unplaced}
+use Rattle.stat_plan.specs.declared.text_error.Quantity.TheVariants.{Lines}
+use Rattle.sample_text.specs.Said.{Said, line_said}
+use Rattle.sample_text.specs.Steps.{daemon_named, ranks_on, time_on, path_on, are_apart, add_at, sample, with_daemon, with_stack, with_said, with_line, and_then}
+
+-- a line `daemon NAME RANKS`
+module _ (t : Nodes) (s : Sampled) (number : ℕ) (name word : List ℕ) where
+  pub daemon_unnamed : (e : TextError) → daemon_named t number name ≡ Err e → with_daemon t s number name word ≡ Err e
+  unfolding with_daemon
+  daemon_unnamed e named = rw (named, with_daemon) refl
+
+  module _ (n : ℕ) (named : daemon_named t number name ≡ Ok n) where
+    pub daemon_bad_ranks : (e : TextError) → ranks_on number word ≡ Err e → with_daemon t s number name word ≡ Err e
+    unfolding with_daemon
+    daemon_bad_ranks e read = rw (named, read, with_daemon) refl
+
+    module _ (ranks : Ranks) (read : ranks_on number word ≡ Ok ranks) where
+      pub daemon_twice : are_apart ranks (all_ranks s.placed) ≡ false → with_daemon t s number name word ≡ Err (Bad number PlacedTwice)
+      unfolding with_daemon
+      daemon_twice apart = rw (named, read, apart, with_daemon) refl
+
+      pub daemon_good : are_apart ranks (all_ranks s.placed) ≡ true → with_daemon t s number name word ≡ Ok (record s { placed = add_at s.placed n ranks })
+      unfolding with_daemon
+      daemon_good apart = rw (named, read, apart, with_daemon) refl
+
+-- a line `stack TIME RANKS PATH`
+module _ (s : Sampled) (number : ℕ) (time_word word text : List ℕ) where
+  pub stack_over : 262144 ≤ length s.lines → with_stack s number time_word word text ≡ Err (Over number Lines 262144)
+  unfolding with_stack
+  stack_over many = rw (le-ltb (length s.lines) 262144 many, with_stack) refl
+
+  module _ (few : length s.lines < 262144) where
+    pub stack_bad_time : (e : TextError) → time_on number time_word ≡ Err e → with_stack s number time_word word text ≡ Err e
+    unfolding with_stack
+    stack_bad_time e timed = rw (lt-ltb (length s.lines) 262144 few, timed, with_stack) refl
+
+    module _ (time : ℕ) (timed : time_on number time_word ≡ Ok time) where
+      pub stack_bad_ranks : (e : TextError) → ranks_on number word ≡ Err e → with_stack s number time_word word text ≡ Err e
+      unfolding with_stack
+      stack_bad_ranks e read = rw (lt-ltb (length s.lines) 262144 few, timed, read, with_stack) refl
+
+      module _ (ranks : Ranks) (read : ranks_on number word ≡ Ok ranks) where
+        pub stack_unplaced : is_subset ranks (all_ranks s.placed) ≡ false → with_stack s number time_word word text ≡ Err (Bad number Unplaced)
+        unfolding with_stack
+        stack_unplaced placed = rw (lt-ltb (length s.lines) 262144 few, timed, read, placed, with_stack) refl
+
+        module _ (placed : is_subset ranks (all_ranks s.placed) ≡ true) where
+          pub stack_bad_path : (e : TextError) → path_on number text ≡ Err e → with_stack s number time_word word text ≡ Err e
+          unfolding with_stack
+          stack_bad_path e walked = rw (lt-ltb (length s.lines) 262144 few, timed, read, placed, walked, with_stack) refl
+
+          pub stack_good : (path : Path) → path_on number text ≡ Ok path → with_stack s number time_word word text ≡ Ok (record s { lines = s.lines ++ sample time ranks path ∷ [] })
+          unfolding with_stack
+          stack_good path walked = rw (lt-ltb (length s.lines) 262144 few, timed, read, placed, walked, with_stack) refl
+
+-- an error that is handed on unchanged
+pub handed_on : {A : Type 0} (r : Result A TextError) (x : TextError) (P : TextError → Type 0) → IsErr r × IsErrAnd r (λ e. e ≡ x) → P x → IfErr r P
+handed_on (Ok a) x P h p = tt
+handed_on (Err e) x P h p = subst P (sym h.1) p
+
+-- a line, by what it says
+pub line_bad : (t : Nodes) (s : Sampled) (number : ℕ) (line : List ℕ) (e : TextError) → line_said number line ≡ Err e → with_line t s number line ≡ Err e
+line_bad t s number line e is = ap (λ r. and_then r (with_said t s number)) is
+
+pub line_good : (t : Nodes) (s : Sampled) (number : ℕ) (line : List ℕ) (said : Said) → line_said number line ≡ Ok said → with_line t s number line ≡ with_said t s number said
+line_good t s number line said is = ap (λ r. and_then r (with_said t s number)) is
+
+-- the number of a name is one of the names' numbers
+pub number_below : (name : List ℕ) (names : List (List ℕ)) (n : ℕ) → number_of name names ≡ Some n → n < length names
+unfolding number_of
+number_below name names n e = (position-Some (bytes_eq name) names n [] e).0

@@ -1,0 +1,38 @@
+-- What a samples text says: where the ranks are and the samples, or its first fault.
+use Rattle.std.specs.Prelude.{ℕ, zero, suc, Bool, false, ◌&&◌, ◌||◌, not, List, [], ◌∷◌, ◌++◌, length, Option, Result, Ok}
+use Rattle.rank_set.specs.Ranks.{Ranks, none, is_empty}
+use Rattle.stat_plan.specs.Lines.{lines}
+use Rattle.stat_plan.specs.Plans.{Sampled, sampled}
+use Rattle.stat_plan.specs.Topologies.{Nodes}
+use Rattle.stat_plan.specs.Trees.{is_daemon}
+use Rattle.stat_plan.specs.declared.text_error.TextError.{TextError}
+use Rattle.stat_plan.specs.declared.text_error.TextError.TheVariants.{Bad}
+use Rattle.stat_plan.specs.declared.text_error.Reason.TheVariants.{DaemonWithoutRank}
+use Rattle.sample_text.specs.Steps.{and_then, if_holds, with_line}
+
+-- so many sets without a rank
+abbrev pub nones : ℕ → List Ranks
+nones zero = []
+nones (suc n) = nones n ++ none ∷ []
+
+-- before the first line
+abbrev pub nothing_said : Nodes → Sampled
+nothing_said t = sampled (nones (length t.parents)) []
+
+-- what lines say one after another, of which the first has a number, or their first fault
+unfoldable pub with_lines : Nodes → Sampled → ℕ → List (List ℕ) → Result Sampled TextError
+with_lines t s number [] = Ok s
+with_lines t s number (line ∷ rest) = and_then (with_line t s number line) (λ more. with_lines t more (suc number) rest)
+
+-- whether a daemon has no rank, where these are the ranks of the nodes from n on
+abbrev pub lacks_rank : List (Option ℕ) → ℕ → List Ranks → Bool
+lacks_rank parents n [] = false
+lacks_rank parents n (ranks ∷ sets) = (is_daemon parents n && is_empty ranks) || lacks_rank parents (suc n) sets
+
+-- what is said, after the check of the whole text
+abbrev pub whole : Nodes → Sampled → Result Sampled TextError
+whole t s = if_holds (not (lacks_rank t.parents 0 s.placed)) (Bad 0 DaemonWithoutRank) (Ok s)
+
+-- what a samples text says for some nodes, or its first fault
+abbrev pub samples_of_text : Nodes → List ℕ → Result Sampled TextError
+samples_of_text t text = and_then (with_lines t (nothing_said t) 1 (lines text)) (whole t)

@@ -1,0 +1,54 @@
+//! Reads samples: lines `daemon NAME RANKS`, which place ranks on a daemon, and `stack TIME RANKS PATH`, which say what
+//! placed ranks were seen in.
+//!
+//! Lines that are empty, hold only spaces and tabs, or begin with `#` say nothing. What a text stands for, or its first
+//! fault, `samples_of_text` says, and [`read`] gives just that.
+#![tactic(auto)]
+
+ghost use Rattle.std.specs.Prelude.{◌≡◌, ◌≢◌, length, IfErr, OnOk, IfOk, Ok, Err};
+ghost use Rattle.stat_plan.specs.Lines.{lines};
+ghost use Rattle.stat_plan.specs.Kept.{SamplesFit};
+ghost use Rattle.stat_plan.specs.declared.text_error.TextError.TheVariants.{OutOfMemory};
+ghost use Rattle.sample_text.specs.Drafts.{seen, IsInStep};
+ghost use Rattle.sample_text.specs.Whole.{with_lines, samples_of_text};
+
+mod draft;
+mod line;
+mod paths;
+#[cfg(test)]
+mod tests;
+
+use draft::Draft;
+use stat_plan::lines::next_line;
+use stat_plan::{Samples, TextError, Topology};
+use std::alloc::Global;
+
+// Takes the lines of a text into a draft.
+fn read_lines(text: &[u8], topology: &Topology, draft: &mut Draft) -> Result<(), TextError>
+    requires in_step { IsInStep draft.old }
+    requires paired { length draft.old.placed.items ≡ length topology.now.parents }
+    ensures ok { OnOk result (with_lines topology.now (seen draft.old) 1 (lines text.now) ≡ Ok (seen draft.new)) }
+    ensures in_step { OnOk result (IsInStep draft.new) }
+    ensures err { IfErr result (λ e. e ≢ OutOfMemory → with_lines topology.now (seen draft.old) 1 (lines text.now) ≡ Err e) }
+{
+    let mut number = 1;
+    let mut rest = text;
+    while let Some((line, after)) = next_line(rest) {
+        draft.take(topology, number, line)?;
+        number += 1;
+        rest = after;
+    }
+    Ok(())
+}
+
+/// Reads samples of the nodes of a topology. A text is refused by its first fault, read from the front line by line, and
+/// then by line 0 where a daemon has no rank.
+pub fn read(alloc: Global, text: &[u8], topology: &Topology) -> Result<Samples, TextError>
+    ensures ok { IfOk result (λ s. samples_of_text topology.now text.now ≡ Ok s) }
+    ensures fits { IfOk result (λ s. SamplesFit topology.now s) }
+    ensures err { IfErr result (λ e. e ≢ OutOfMemory → samples_of_text topology.now text.now ≡ Err e) }
+{
+    let mut draft = Draft::new(alloc, topology)?;
+    read_lines(text, topology, &mut draft)?;
+    draft.finished(topology)
+}

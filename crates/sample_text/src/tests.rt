@@ -1,0 +1,200 @@
+//! What no clause says: texts as they are written, and that each call succeeds with ample memory.
+
+use crate::read;
+use stat_plan::{Quantity, Reason, TextError, Topology};
+use std::alloc::{AllocError, Global};
+use std::process::Abort;
+use std::test::Fail;
+
+// A front end and two daemons.
+fn job(alloc: Global) -> Result<Topology, TextError> {
+    topology_text::read(alloc, "fe:0 => a:0 b:0 ;".as_bytes())
+}
+
+const ACCEPTED: [&str; 9] = [
+    "daemon a:0 0-1\ndaemon b:0 2\nstack 0 0-2 main;a\n",
+    "daemon a:0 0\r\ndaemon b:0 1\r\nstack 0 0 m\r",
+    " \tdaemon\t a:0  0 \t\n\tdaemon b:0 1\t",
+    "\n#daemon a:0 0\n \t \r\n# stack\ndaemon a:0 0\n\r\ndaemon b:0 1\n",
+    "daemon a:0 0,0,0-1,1\ndaemon a:0 2\ndaemon b:0 3\ndaemon a:0 16383\n",
+    "daemon a:0 0\ndaemon b:0 1\nstack 65535 1 m\nstack 65535 1 m\nstack 65535 1 n",
+    "daemon a:0 0\ndaemon b:0 1\nstack 0 0-1 a  ; b  ",
+    "daemon a:0 00\ndaemon b:0 01\nstack 0 1 \t m n;# ;\u{e9}\u{a0}",
+    "daemon a:0 0\ndaemon b:0 1\nstack 00000000000000000000000000000000000000000000000000000000000000000000000000000000000000000000000000000000000000000000000000000000000000000000000000000000000000000000000000000000000000000000000000000000000000000000000000000000000000000000000000000000000000000000000000000000000000000000000000000000000065535 1 m",
+];
+
+#[test]
+fn accepts_samples(rt: HostRuntime) -> Result<(), Fail> {
+    let job = job(rt.alloc())?;
+    for text in ACCEPTED {
+        assert!(rt; read(rt.alloc(), text.as_bytes(), &job).is_ok(), "{text:?}");
+    }
+    Ok(())
+}
+
+// A text, and the line and reason of its first fault.
+const FAULTS: [(&str, u64, Reason); 56] = [
+    ("", 0, Reason::DaemonWithoutRank),
+    ("\r\n \t\n# daemon a:0 0", 0, Reason::DaemonWithoutRank),
+    ("daemon a:0 0\n", 0, Reason::DaemonWithoutRank),
+    ("daemon b:0 0\nstack 0 0 m", 0, Reason::DaemonWithoutRank),
+    ("x", 1, Reason::BadDirective),
+    ("#\n\n \nx", 4, Reason::BadDirective),
+    ("x\ny", 1, Reason::BadDirective),
+    ("\r\r\n", 1, Reason::BadDirective),
+    (" # x", 1, Reason::BadDirective),
+    ("daemons a:0 0", 1, Reason::BadDirective),
+    ("Daemon a:0 0", 1, Reason::BadDirective),
+    ("\u{feff}daemon a:0 0", 1, Reason::BadDirective),
+    ("daemon\u{b}a:0 0", 1, Reason::BadDirective),
+    ("daemon\u{c}a:0 0", 1, Reason::BadDirective),
+    ("daemon\u{a0}a:0 0", 1, Reason::BadDirective),
+    ("daemon", 1, Reason::BadDirective),
+    ("daemon a:0", 1, Reason::BadDirective),
+    ("daemon a:0 ", 1, Reason::BadDirective),
+    ("daemon a:0 0 1", 1, Reason::BadDirective),
+    ("daemon c:0 x 1", 1, Reason::BadDirective),
+    ("stack", 1, Reason::BadDirective),
+    ("stack 0", 1, Reason::BadDirective),
+    ("stack 0 0", 1, Reason::BadDirective),
+    ("stack x x \t \r", 1, Reason::BadDirective),
+    ("daemon fe:0 0", 1, Reason::NotADaemon),
+    ("daemon c:0 x", 1, Reason::NotADaemon),
+    ("daemon a:00 0", 1, Reason::NotADaemon),
+    ("daemon \u{e9} 0", 1, Reason::NotADaemon),
+    ("daemon a:0 x", 1, Reason::BadRanks),
+    ("daemon a:0 ,", 1, Reason::BadRanks),
+    ("daemon a:0 0-", 1, Reason::BadRanks),
+    ("daemon a:0 3-1", 1, Reason::BadRanks),
+    ("daemon a:0 -1", 1, Reason::BadRanks),
+    ("daemon a:0 0\r\r\n", 1, Reason::BadRanks),
+    ("daemon a:0 0-2\ndaemon b:0 2-3", 2, Reason::PlacedTwice),
+    ("daemon a:0 1\ndaemon a:0 1", 2, Reason::PlacedTwice),
+    ("daemon a:0 0\ndaemon b:0 0\nx", 2, Reason::PlacedTwice),
+    ("daemon a:0 64,0\ndaemon b:0 1-64", 2, Reason::PlacedTwice),
+    ("stack 65536 x ;", 1, Reason::BadTime),
+    ("stack -1 0 m", 1, Reason::BadTime),
+    ("stack x 0 m", 1, Reason::BadTime),
+    ("stack 4294967296 0 m", 1, Reason::BadTime),
+    (
+        "stack 999999999999999999999999999999999999999999999999999999999999999999999999999999999999999999999999999999999999999999999999999999999999999999999999999999999999999999999999999999999999999999999999999999999999999999999999999999999999999999999999999999999999999999999999999999999999999999999999999999999999 0 m",
+        1,
+        Reason::BadTime,
+    ),
+    ("stack 0\u{a0} 0 m", 1, Reason::BadTime),
+    ("stack 0 x ;", 1, Reason::BadRanks),
+    ("stack 0 2-1 m", 1, Reason::BadRanks),
+    ("stack 65535 0 ;", 1, Reason::Unplaced),
+    (
+        "daemon a:0 0\nstack 0 0-1 m\ndaemon b:0 1",
+        2,
+        Reason::Unplaced,
+    ),
+    ("daemon a:0 0\nstack 0 64 m", 2, Reason::Unplaced),
+    ("daemon a:0 0\nstack 0 0 ;", 2, Reason::BadPath),
+    ("daemon a:0 0\nstack 0 0 m;;n", 2, Reason::BadPath),
+    ("daemon a:0 0\nstack 0 0 m;", 2, Reason::BadPath),
+    ("daemon a:0 0\nstack 0 0 m\tn", 2, Reason::BadPath),
+    ("daemon a:0 0\nstack 0 0 m \t", 2, Reason::BadPath),
+    ("daemon a:0 0\nstack 0 0 m\r\r\n", 2, Reason::BadPath),
+    (
+        "daemon a:0 0\nstack 0 0 m\nstack 0 0 ;\nx",
+        3,
+        Reason::BadPath,
+    ),
+];
+
+#[test]
+fn refuses_texts_at_the_first_fault(rt: HostRuntime) -> Result<(), Fail> {
+    let job = job(rt.alloc())?;
+    for (text, line, reason) in FAULTS {
+        assert_eq!(rt;
+            read(rt.alloc(), text.as_bytes(), &job).err(),
+            Some(TextError::Bad { line, reason }),
+            "{text:?}"
+        );
+    }
+    Ok(())
+}
+
+// A text with a rank past the last, and the line of it.
+const TOO_MANY_RANKS: [(&str, u64); 4] = [
+    ("daemon a:0 16384", 1),
+    (
+        "daemon a:0 0-999999999999999999999999999999999999999999999999999999999999999999999999999999999999999999999999999999999999999999999999999999999999999999999999999999999999999999999999999999999999999999999999999999999999999999999999999999999999999999999999999999999999999999999999999999999999999999999999999999999999",
+        1,
+    ),
+    ("\ndaemon a:0 16384x", 2),
+    ("daemon a:0 0\nstack 0 16384 ;", 2),
+];
+
+#[test]
+fn refuses_ranks_past_the_last(rt: HostRuntime) -> Result<(), Fail> {
+    let job = job(rt.alloc())?;
+    for (text, line) in TOO_MANY_RANKS {
+        assert_eq!(rt;
+            read(rt.alloc(), text.as_bytes(), &job).err(),
+            Some(TextError::Over {
+                line,
+                what: Quantity::Ranks,
+                limit: 16_384
+            }),
+            "{text:?}"
+        );
+    }
+    Ok(())
+}
+
+#[test]
+fn takes_any_bytes_in_comments(rt: HostRuntime) -> Result<(), Fail> {
+    let job = job(rt.alloc())?;
+    let text = b"#\xff\xfe\n# \xc3\r\ndaemon a:0 0\ndaemon b:0 1\n#\x80";
+    assert!(rt; read(rt.alloc(), text, &job).is_ok());
+    Ok(())
+}
+
+fn assert_not_utf8(rt: &impl Abort, alloc: Global, text: &[u8], job: &Topology) {
+    assert_eq!(rt;
+        read(alloc, text, job).err(),
+        Some(TextError::Bad {
+            line: 2,
+            reason: Reason::NotUtf8
+        })
+    );
+}
+
+#[test]
+fn refuses_other_bytes_elsewhere(rt: HostRuntime) -> Result<(), Fail> {
+    let job = job(rt.alloc())?;
+    assert_not_utf8(&rt, rt.alloc(), b"#\xff\nx\xff\n", &job);
+    assert_not_utf8(&rt, rt.alloc(), b"\n #\xff", &job);
+    assert_not_utf8(&rt, rt.alloc(), b"daemon a:0 0\nstack 0 0 \xc3;", &job);
+    Ok(())
+}
+
+// Two lines that place ranks, and so many lines of samples of nine paths.
+fn many_lines(alloc: Global, count: u32) -> Result<Vec<u8>, AllocError> {
+    let mut text = Vec::new(alloc);
+    text.extend_from_slice(b"daemon a:0 0\ndaemon b:0 1\n")?;
+    for n in 0..count {
+        text.extend_from_slice(b"stack 0 0-1 main;read;")?;
+        text.push(b'a' + (n % 9) as u8)?;
+        text.push(b'\n')?;
+    }
+    Ok(text)
+}
+
+#[test]
+fn reads_as_many_samples_as_may_be(rt: HostRuntime) -> Result<(), Fail> {
+    let job = job(rt.alloc())?;
+    assert!(rt; read(rt.alloc(), &many_lines(rt.alloc(), 262_144)?, &job).is_ok());
+    assert_eq!(rt;
+        read(rt.alloc(), &many_lines(rt.alloc(), 262_145)?, &job).err(),
+        Some(TextError::Over {
+            line: 262_147,
+            what: Quantity::Lines,
+            limit: 262_144
+        })
+    );
+    Ok(())
+}

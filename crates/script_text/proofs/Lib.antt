@@ -1,0 +1,12 @@
+pub mod Steps
+pub mod Forms
+pub mod Ranges
+pub mod NodeNumbers
+pub mod Streams
+pub mod Losses
+pub mod Placing
+pub mod Marking
+pub mod Script
+pub mod SomeDaemon
+pub mod NodeLists
+pub mod Kept

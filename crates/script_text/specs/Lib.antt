@@ -1,0 +1,9 @@
+pub mod Words
+pub mod Numbers
+pub mod Order
+pub mod Streams
+pub mod Losses
+pub mod Script
+pub mod Marks
+pub mod Meant
+pub mod Rows

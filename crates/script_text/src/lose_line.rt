@@ -1,0 +1,75 @@
+//! What a lose line says.
+
+ghost use Rattle.std.specs.Prelude.{◌≡◌, IfErr, IfOk, Ok, Err, nat_eq};
+ghost use Rattle.std.specs.List.{list_any};
+ghost use Rattle.script_text.specs.Meant.{meant_lose};
+ghost use Rattle.script_text.specs.Losses.{lost_node, fault_of};
+
+use crate::faults::{bad, over};
+use crate::numbers::number_from;
+use crate::words::LoseLine;
+use stat_plan::{FAULT_LIMIT, Fault, Quantity, Reason, TextError, Topology};
+
+/// The most events of a node, and frames of a link, that a lose line may speak of.
+pub const COUNT_LIMIT: u32 = 65_535;
+
+// Whether a node is among those that are lost.
+fn is_lost(faults: &[Fault], node: u32) -> bool
+    ensures { result ≡ list_any (λ f. nat_eq f.node node) faults.now }
+{
+    faults.iter().any(|fault| fault.node == node)
+}
+
+// The node that a line loses, where earlier lines lose others.
+#[tactic(auto, unfolding(crate::specs::Losses::lost_node))]
+fn lost_node(
+    topology: &Topology,
+    faults: &[Fault],
+    line: u64,
+    name: &[u8],
+) -> Result<u32, TextError>
+    ensures ok { IfOk result (λ n. lost_node topology.now faults.now line name.now ≡ Ok n) }
+    ensures err { IfErr result (λ e. lost_node topology.now faults.now line name.now ≡ Err e) }
+{
+    if faults.len() >= FAULT_LIMIT as usize {
+        return Err(over(line, Quantity::Faults, FAULT_LIMIT));
+    }
+    let Some(n) = topology.number_of(name) else {
+        return Err(bad(line, Reason::UnknownNode));
+    };
+    if n == topology.front() {
+        return Err(bad(line, Reason::LosesFront));
+    }
+    if is_lost(faults, n) {
+        return Err(bad(line, Reason::SecondLoss));
+    }
+    Ok(n)
+}
+
+/// The loss that a line says, where earlier lines lose others.
+pub fn fault_of(
+    topology: &Topology,
+    faults: &[Fault],
+    line: u64,
+    words: &LoseLine<'_>,
+) -> Result<Fault, TextError>
+    ensures ok { IfOk result (λ f. fault_of topology.now faults.now line (meant_lose words.now) ≡ Ok f) }
+    ensures err { IfErr result (λ e. fault_of topology.now faults.now line (meant_lose words.now) ≡ Err e) }
+{
+    let node = lost_node(topology, faults, line, words.name)?;
+    let after = number_from(
+        line,
+        0,
+        COUNT_LIMIT,
+        bad(line, Reason::BadNumber),
+        words.after,
+    )?;
+    let keep = number_from(
+        line,
+        0,
+        COUNT_LIMIT,
+        bad(line, Reason::BadNumber),
+        words.keep,
+    )?;
+    Ok(Fault { node, after, keep })
+}

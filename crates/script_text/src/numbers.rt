@@ -1,0 +1,36 @@
+//! Numbers that words write, with their ranges.
+
+ghost use Rattle.std.specs.Prelude.{◌≡◌, ◌<◌, ◌≤◌, ◌^◌, IfErr, IfOk, Ok, Err};
+ghost use Rattle.script_text.specs.Numbers.{number_from};
+
+use crate::faults::bad;
+use stat_plan::lines::number_in;
+use stat_plan::{Reason, TextError};
+
+/// The number from `least` to `most` that a word of a line writes. A word that writes no number, or less, is a bad number;
+/// one that writes more has the fault that is given.
+pub fn number_from(
+    line: u64,
+    least: u32,
+    most: u32,
+    more: TextError,
+    word: &[u8],
+) -> Result<u32, TextError>
+    requires order { least ≤ most }
+    requires small { most < 2 ^ 24 }
+    ensures ok { IfOk result (λ n. number_from line least most more word.now ≡ Ok n) }
+    ensures least { IfOk result (λ n. least ≤ n) }
+    ensures most { IfOk result (λ n. n ≤ most) }
+    ensures err { IfErr result (λ e. number_from line least most more word.now ≡ Err e) }
+{
+    let Some(n) = number_in(word, most + 1) else {
+        return Err(bad(line, Reason::BadNumber));
+    };
+    if n < least {
+        return Err(bad(line, Reason::BadNumber));
+    }
+    if n > most {
+        return Err(more);
+    }
+    Ok(n)
+}

@@ -1,0 +1,163 @@
+//! What a stream line says.
+
+ghost use Rattle.std.specs.Prelude.{◌≡◌, ◌≢◌, ◌<◌, ◌++◌, [], ◌∷◌, IfErr, OnOk, IfOk, Ok, Err, length, ℕ, nat_eq, ◌^◌};
+ghost use Rattle.std.specs.List.{list_any};
+ghost use Rattle.stat_plan.specs.Kept.{IsMode, IsStream};
+ghost use Rattle.stat_plan.specs.Lines.{words};
+ghost use Rattle.stat_plan.specs.Topologies.{IsTopology};
+ghost use Rattle.stat_plan.specs.declared.text_error.TextError.TheVariants.{OutOfMemory};
+ghost use Rattle.script_text.specs.Meant.{mode_words, meant_stream};
+ghost use Rattle.script_text.specs.Marks.{marked_from};
+ghost use Rattle.script_text.specs.Streams.{new_number, stream_number, mode_of, daemon_of, with_named, all_daemons, daemons_of, stream_of};
+
+use crate::faults::{bad, over};
+use crate::numbers::number_from;
+use crate::words::{ModeText, StreamLine, is_word};
+use stat_plan::lines::next_word;
+use stat_plan::{
+    Mode, Quantity, Reason, SAMPLE_LIMIT, STREAM_LIMIT, StreamDef, TICK_LIMIT, TextError, Topology,
+    WAVE_LIMIT,
+};
+use std::alloc::{AllocError, Global};
+
+// Whether a stream of this number is among these.
+fn is_defined(streams: &[StreamDef], number: u32) -> bool
+    ensures { result ≡ list_any (λ x. nat_eq x.number number) streams.now }
+{
+    streams
+        .iter()
+        .any(|stream| u32::from(stream.number()) == number)
+}
+
+// The number of a new stream, where earlier lines have defined these.
+fn stream_number(streams: &[StreamDef], line: u64, word: &[u8]) -> Result<u32, TextError>
+    ensures ok { IfOk result (λ n. stream_number streams.now line word.now ≡ Ok n) }
+    ensures small { IfOk result (λ n. n < 8) }
+    ensures err { IfErr result (λ e. stream_number streams.now line word.now ≡ Err e) }
+{
+    let more = over(line, Quantity::Streams, STREAM_LIMIT);
+    let number = number_from(line, 0, STREAM_LIMIT - 1, more, word)?;
+    if is_defined(streams, number) {
+        return Err(bad(line, Reason::SecondStream));
+    }
+    Ok(number)
+}
+
+// A mode as it is written.
+fn mode_of(line: u64, mode: ModeText<'_>) -> Result<Mode, TextError>
+    ensures ok { IfOk result (λ m. mode_of line (mode_words mode.entry) ≡ Ok m) }
+    ensures err { IfErr result (λ e. mode_of line (mode_words mode.entry) ≡ Err e) }
+{
+    match mode {
+        ModeText::WaitForAll => Ok(Mode::WaitForAll),
+        ModeText::TimeOut(ticks) => {
+            let ticks = number_from(line, 1, TICK_LIMIT, bad(line, Reason::BadNumber), ticks)?;
+            Ok(Mode::TimeOut(ticks as u16))
+        }
+        ModeText::DontWait => Ok(Mode::DontWait),
+    }
+}
+
+// The daemon with a name.
+#[tactic(auto, unfolding(crate::specs::Streams::daemon_of))]
+fn daemon_of(topology: &Topology, line: u64, name: &[u8]) -> Result<u32, TextError>
+    requires { IsTopology topology.now }
+    ensures ok { IfOk result (λ n. daemon_of topology.now line name.now ≡ Ok n) }
+    ensures node { IfOk result (λ n. n < length topology.now.parents) }
+    ensures err { IfErr result (λ e. daemon_of topology.now line name.now ≡ Err e) }
+{
+    let Some(n) = topology.number_of(name) else {
+        return Err(bad(line, Reason::NotADaemon));
+    };
+    if !topology.is_daemon(n) {
+        return Err(bad(line, Reason::NotADaemon));
+    }
+    Ok(n)
+}
+
+// All daemons of a job.
+fn all_daemons(alloc: Global, topology: &Topology) -> Result<Vec<u32>, AllocError>
+    ensures { IfOk result (λ daemons. daemons.items ≡ all_daemons topology.now) }
+{
+    let mut daemons = Vec::new(alloc);
+    for n in 0..topology.nodes() {
+        if topology.is_daemon(n) {
+            daemons.push(n)?;
+        }
+    }
+    Ok(daemons)
+}
+
+// The numbers of the nodes that are marked.
+fn marked(alloc: Global, marks: &[bool]) -> Result<Vec<u32>, AllocError>
+    requires { length marks.now < 2 ^ 31 }
+    ensures { IfOk result (λ nodes. nodes.items ≡ marked_from 0 marks.now) }
+{
+    let mut nodes = Vec::new(alloc);
+    for (n, is_marked) in marks.iter().enumerate() {
+        if *is_marked {
+            nodes.push(n as u32)?;
+        }
+    }
+    Ok(nodes)
+}
+
+// The daemons with these names. Each name is looked up once, and marks its node.
+fn named(alloc: Global, topology: &Topology, line: u64, names: &[u8]) -> Result<Vec<u32>, TextError>
+    requires { IsTopology topology.now }
+    ensures ok { IfOk result (λ daemons. with_named topology.now line [] (words names.now) ≡ Ok daemons.items) }
+    ensures err { IfErr result (λ e. e ≢ OutOfMemory → with_named topology.now line [] (words names.now) ≡ Err e) }
+{
+    let mut marks = vec![in alloc; false; topology.nodes() as usize]?;
+    let mut rest = names;
+    while let Some((name, after)) = next_word(rest) {
+        let daemon = daemon_of(topology, line, name)?;
+        marks[daemon as usize] = true;
+        rest = after;
+    }
+    Ok(marked(alloc, &marks)?)
+}
+
+// The daemons that stand after `on`.
+fn daemons_of(
+    alloc: Global,
+    topology: &Topology,
+    line: u64,
+    names: &[u8],
+) -> Result<Vec<u32>, TextError>
+    requires { IsTopology topology.now }
+    ensures ok { IfOk result (λ daemons. daemons_of topology.now line (words names.now) ≡ Ok daemons.items) }
+    ensures err { IfErr result (λ e. e ≢ OutOfMemory → daemons_of topology.now line (words names.now) ≡ Err e) }
+{
+    match next_word(names) {
+        Some((name, _)) => {
+            if is_word(name, b"all") {
+                return Ok(all_daemons(alloc, topology)?);
+            }
+            named(alloc, topology, line, names)
+        }
+        None => Err(bad(line, Reason::BadDirective)),
+    }
+}
+
+/// The stream that a line defines, where earlier lines have defined these.
+pub fn stream_of(
+    alloc: Global,
+    topology: &Topology,
+    streams: &[StreamDef],
+    line: u64,
+    words: &StreamLine<'_>,
+) -> Result<StreamDef, TextError>
+    requires { IsTopology topology.now }
+    ensures ok { IfOk result (λ x. stream_of topology.now streams.now line (meant_stream words.now) ≡ Ok x) }
+    ensures err { IfErr result (λ e. e ≢ OutOfMemory → stream_of topology.now streams.now line (meant_stream words.now) ≡ Err e) }
+{
+    let number = stream_number(streams, line, words.number)?;
+    let mode = mode_of(line, words.mode)?;
+    let more = over(line, Quantity::Waves, WAVE_LIMIT);
+    let waves = number_from(line, 1, WAVE_LIMIT, more, words.waves)?;
+    let bad_number = bad(line, Reason::BadNumber);
+    let samples = number_from(line, 1, SAMPLE_LIMIT, bad_number, words.samples)?;
+    let daemons = daemons_of(alloc, topology, line, words.names)?;
+    Ok(StreamDef::new(number as u8, mode, waves as u8, samples as u8, daemons))
+}

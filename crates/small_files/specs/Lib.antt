@@ -1,7 +1,0 @@
-pub mod Forms
-pub mod Cuts
-pub mod Numbers
-pub mod Topology
-pub mod Script
-pub mod Samples
-pub mod Rows

@@ -1,0 +1,174 @@
+-- Looking things up.
+use Rattle.std.proofs.Common.{◌≡◌, ◌≢◌, ℕ, zero, suc, ◌+◌, ◌<◌, ◌≤◌, Bool, true, false, cond, ◌||◌, ◌==◌, List, [], ◌∷◌, ◌++◌, length, get_or, take, drop, map, Option, Some, None, refl, sym, ap, subst, ◌∙◌, arith, inl, inr}
+use Rattle.std.specs.Prelude.{find, slice_get, nat_le, not, IfNone, IfSome, is_some}
+use Rattle.std.proofs.Common.{◌⊎◌}
+use Rattle.std.specs.List.{list_any, AllByRecursion}
+use Rattle.std.proofs.lemmas.Bool.{true≢false, cases_lt, leb-true, false_from_ne_true, or_cases, or_left, or_right}
+use Rattle.std.proofs.lemmas.List.{drop_all, take_more, length-append, get_or_append_left, get_or-append-add}
+use Rattle.std.proofs.lemmas.Option.{slice_get-get_or, slice_get_within, get_or_from_slice_get}
+use Rattle.rank_set.specs.Ranks.{Ranks, none, has, Has, in_order, union, has-union, has-none}
+use Rattle.prefix_tree.proofs.TreeLemmas.{some_member}
+use Rattle.stat_plan.specs.NodeSets.{In, member}
+use Rattle.stat_plan.specs.Samples.{ranks_with, IsWithinLimit}
+use Rattle.stat_plan.specs.Kept.{IsJob, IsPlan, IsDaemon}
+use Rattle.stat_plan.specs.Plans.{Plan, Stream, nodes, nodes_of, ranks, daemons, stream_of, serves, is_within, those_within, ranks_on, expected, stream_ranks, waves_of, samples as wave_samples}
+use Rattle.stat_plan.specs.Limits.{first_over, is_over, wave_is_within}
+use Rattle.prefix_tree.specs.Tree.{tree_of, count_below}
+use Rattle.stat_plan.specs.Tables.{AreExpected, AreAllExpected}
+use Rattle.stat_plan.proofs.InLists.{in_filter, in_from_filter, any_from_in, in_from_any, in_map, in_from_map}
+use Rattle.stat_plan.proofs.FirstOver.{all_in, found_in}
+use Rattle.stat_plan.proofs.Noting.{has_first}
+
+-- what is found from a place on
+pub find-from : {X : Type 0} (test : X → Bool) (xs : List X) (i : ℕ) (d : X) → i < length xs → find test (drop i xs) ≡ cond (test (get_or xs i d)) (Some (get_or xs i d)) (find test (drop (i + 1) xs))
+find-from test [] i d lt = absurd (omega arith)
+find-from test (x ∷ xs) zero d lt = refl
+find-from test (x ∷ xs) (suc i) d lt = let e : suc i + 1 ≡ suc (i + 1) = omega arith in find-from test xs i d (omega arith) ∙ ap (λ k. cond (test (get_or xs i d)) (Some (get_or xs i d)) (find test (drop k (x ∷ xs)))) (sym e)
+
+-- whether a number is in a list
+pub member-any : (x : ℕ) (xs : List ℕ) → member x xs ≡ list_any (λ y. x == y) xs
+member-any x [] = refl
+member-any x (y ∷ ys) = ap (λ b. (x == y) || b) (member-any x ys)
+
+-- what is found at a place where the test passes
+pub find-here : {X : Type 0} (test : X → Bool) (xs : List X) (i : ℕ) (d : X) → i < length xs → find test (drop i xs) ≡ find test xs → test (get_or xs i d) ≡ true → find test xs ≡ Some (get_or xs i d)
+find-here test xs i d lt so_far passes = sym so_far ∙ find-from test xs i d lt ∙ ap (λ b. cond b (Some (get_or xs i d)) (find test (drop (i + 1) xs))) passes
+
+-- the search goes on past a place where the test does not pass
+pub find-past : {X : Type 0} (test : X → Bool) (xs : List X) (i : ℕ) (d : X) → i < length xs → find test (drop i xs) ≡ find test xs → test (get_or xs i d) ≡ false → find test (drop (i + 1) xs) ≡ find test xs
+find-past test xs i d lt so_far fails = sym (find-from test xs i d lt ∙ ap (λ b. cond b (Some (get_or xs i d)) (find test (drop (i + 1) xs))) fails) ∙ so_far
+
+-- nothing is found past the end
+pub find-none : {X : Type 0} (test : X → Bool) (xs : List X) (i : ℕ) → length xs ≤ i → find test (drop i xs) ≡ find test xs → find test xs ≡ None
+find-none test xs i past so_far = sym so_far ∙ ap (find test) (drop_all i xs past)
+
+in_ranks : (C : Ranks) (Ds : List Ranks) (r : ℕ) → Has r (ranks_with C Ds) → (Has r C) ⊎ ((D : Ranks) × (In D Ds × Has r D))
+in_ranks C [] r there = inl there
+in_ranks C (D ∷ Ds) r there = elim (in_ranks (union C D) Ds r there) [
+  | (inl both) ↦ elim (or_cases (has C r) (has D r) (sym (has-union C D r) ∙ both)) [ (inl first) ↦ inl first | (inr here) ↦ inr (D, (inl refl, here)) ]
+  | (inr later) ↦ inr (later.0, (inr later.1.0, later.1.1))
+]
+
+stays : (C : Ranks) (Ds : List Ranks) (r : ℕ) → Has r C → Has r (ranks_with C Ds)
+stays C [] r there = there
+stays C (D ∷ Ds) r there = stays (union C D) Ds r (has-union C D r ∙ or_left (has C r) (has D r) there)
+
+comes : (C : Ranks) (Ds : List Ranks) (D : Ranks) (r : ℕ) → In D Ds → Has r D → Has r (ranks_with C Ds)
+comes C [] D r i there = absurd i
+comes C (E ∷ Ds) D r (inl e) there = stays (union C E) Ds r (has-union C E r ∙ or_right (has C r) (has E r) (ap (λ s. has s r) (sym e) ∙ there))
+comes C (E ∷ Ds) D r (inr i) there = comes (union C E) Ds D r i there
+
+-- a node that expects some rank serves the stream
+pub serves_some : (p : Plan) (n s r : ℕ) → Has r (expected p n s) → serves p n s ≡ true
+unfolding expected serves
+serves_some p n s r there = elim (in_ranks none (map (ranks p) (those_within p n (daemons p s))) r there) [
+  | (inl nowhere) ↦ absurd (true≢false (sym nowhere ∙ has-none r))
+  | (inr found) ↦
+      let from = in_from_map (ranks p) (those_within p n (daemons p s)) found.0 found.1.0 in
+      let kept = in_from_filter (λ d. is_within p d n) from.0 (daemons p s) from.1.0 in
+      any_from_in (λ d. is_within p d n) from.0 (daemons p s) kept.0 kept.1
+]
+
+-- the daemons of a stream have ranks
+daemon_has_ranks : (p : Plan) (s d : ℕ) → IsPlan p → In d (daemons p s) → ranks p d ≢ none
+unfolding daemons stream_of ranks
+daemon_has_ranks p s d plan i = by (find (λ x. x.number == s) p.streams) refl i
+  where
+    by : (o : Option Stream) → find (λ x. x.number == s) p.streams ≡ o → In d (elim o as (λ _. List ℕ) [ None ↦ [] | (Some x) ↦ x.daemons ]) → get_or p.placed d none ≢ none
+    by None is i = absurd i
+    by (Some x) is i =
+        let stream = found_in (λ x. x.number == s) p.streams x is in
+        let daemon = all_in (IsDaemon (nodes_of p)) x.daemons d (all_in (λ (x : Stream). AllByRecursion (IsDaemon (nodes_of p)) x.daemons) p.streams x plan.script_fits.daemons stream) i in
+        plan.samples_fit.on_daemons d daemon.0 daemon.1
+
+-- a node that serves a stream expects some rank
+pub serves_none : (p : Plan) (n s : ℕ) → IsPlan p → expected p n s ≡ none → serves p n s ≡ false
+unfolding expected serves
+serves_none p n s plan nothing = false_from_ne_true (list_any (λ d. is_within p d n) (daemons p s)) (λ some.
+    let found = in_from_any (λ d. is_within p d n) (daemons p s) some in
+    let rank = some_member (ranks p found.0) (daemon_has_ranks p s found.0 plan found.1.0) in
+    let there = comes none (map (ranks p) (those_within p n (daemons p s))) (ranks p found.0) rank.0 (in_map (ranks p) found.0 (those_within p n (daemons p s)) (in_filter (λ d. is_within p d n) found.0 (daemons p s) found.1.0 found.1.1)) rank.1 in
+    true≢false (sym there ∙ ap (λ s. has s rank.0) nothing ∙ has-none rank.0))
+
+-- a stream that the plan has not is served by no node
+pub serves_unknown : (p : Plan) (n s : ℕ) → stream_of p s ≡ None → serves p n s ≡ false
+unfolding serves daemons
+serves_unknown p n s is = ap (λ (o : Option Stream). list_any (λ d. is_within p d n) (elim o as (λ _. List ℕ) [ None ↦ [] | (Some x) ↦ x.daemons ])) is
+
+-- the table of what is expected of a stream
+pub expected_at : (p : Plan) (tables : List (List Ranks)) (i : ℕ) (x : Stream) (n s : ℕ) → AreAllExpected p p.streams tables → slice_get p.streams i ≡ Some x → stream_of p s ≡ Some x → n < nodes p → get_or (get_or tables i []) n none ≡ expected p n s
+unfolding expected daemons
+expected_at p tables i x n s all at is below =
+    (all.each i x at).each n below
+    ∙ ap (λ (o : Option Stream). ranks_on p (those_within p n (elim o as (λ _. List ℕ) [ None ↦ [] | (Some x) ↦ x.daemons ]))) (sym is)
+
+-- the stream at a place
+pub element_at : {X : Type 0} (xs : List X) (i : ℕ) → i < length xs → (x : X) × (slice_get xs i ≡ Some x)
+element_at [] i lt = absurd (omega arith)
+element_at (x ∷ xs) i lt = (get_or (x ∷ xs) i x, slice_get-get_or (x ∷ xs) i x lt)
+
+-- whether a node serves a stream, by the first rank that it expects
+pub serves_by_first : (p : Plan) (n s : ℕ) (own : Ranks) (first : Option ℕ) → IsPlan p → own ≡ expected p n s → IfNone first (own ≡ none) → IfSome first (λ r. slice_get (in_order own) 0 ≡ Some r) → is_some first ≡ serves p n s
+serves_by_first p n s own None plan is nothing least = sym (serves_none p n s plan (sym is ∙ nothing))
+serves_by_first p n s own (Some r) plan is nothing least = sym (serves_some p n s r (ap (λ t. has t r) (sym is) ∙ has_first own r least))
+
+-- the tables of one stream more
+pub expected_more : (p : Plan) (streams : List Stream) (i : ℕ) (d : Stream) (tables : List (List Ranks)) (sets : List Ranks) → AreAllExpected p (take i streams) tables → i < length streams → AreExpected p (get_or streams i d).daemons sets → AreAllExpected p (take (i + 1) streams) (tables ++ sets ∷ [])
+expected_more p streams i d tables sets so_far lt is = record {
+  paired =
+      length-append tables (sets ∷ [])
+      ∙ ap (λ k. k + 1) (so_far.paired)
+      ∙ sym (ap length (take_more streams i d lt) ∙ length-append (take i streams) (get_or streams i d ∷ []));
+  each = λ j x at. elim (cases_lt j (length (take i streams))) [
+    | (inl before) ↦
+        let here : slice_get (take i streams) j ≡ Some x = sym (slice_get-append_left (take i streams) (get_or streams i d ∷ []) j before) ∙ ap (λ xs. slice_get xs j) (sym (take_more streams i d lt)) ∙ at in
+        subst (AreExpected p x.daemons) (sym (get_or_append_left tables (sets ∷ []) [] j (subst (λ k. j < k) (sym so_far.paired) before))) (so_far.each j x here)
+    | (inr last) ↦
+        let long : j < length (take i streams ++ get_or streams i d ∷ []) = slice_get_within (take i streams ++ get_or streams i d ∷ []) j x (ap (λ xs. slice_get xs j) (sym (take_more streams i d lt)) ∙ at) in
+        let count = length-append (take i streams) (get_or streams i d ∷ []) in
+        let place : j ≡ length (take i streams) + 0 = omega (arith, last, long, count) in
+        let same : get_or streams i d ≡ x =
+        sym (get_or-append-add (take i streams) (get_or streams i d ∷ []) 0 d) ∙ ap (λ k. get_or (take i streams ++ get_or streams i d ∷ []) k d) (sym place)
+        ∙ get_or_from_slice_get (take i streams ++ get_or streams i d ∷ []) j x d (ap (λ xs. slice_get xs j) (sym (take_more streams i d lt)) ∙ at) in
+        let set_place : j ≡ length tables + 0 = place ∙ ap (λ k. k + 0) (sym so_far.paired) in
+        subst (AreExpected p x.daemons) (sym (ap (λ k. get_or (tables ++ sets ∷ []) k []) set_place ∙ get_or-append-add tables (sets ∷ []) 0 [])) (subst (λ (y : Stream). AreExpected p y.daemons sets) same is)
+  ];
+}
+  where
+    slice_get-append_left : (xs ys : List Stream) (k : ℕ) → k < length xs → slice_get (xs ++ ys) k ≡ slice_get xs k
+    slice_get-append_left xs ys k below =
+        slice_get-get_or (xs ++ ys) k d (let c = length-append xs ys in omega (arith, below, c))
+        ∙ ap Some (get_or_append_left xs ys d k below)
+        ∙ sym (slice_get-get_or xs k d below)
+
+not_false : (b : Bool) → not b ≡ false → b ≡ true
+not_false true e = refl
+not_false false e = sym e
+
+within_limit : (p : Plan) (s w : ℕ) → is_over p (s, w) ≡ false → IsWithinLimit (wave_samples p s w) (stream_ranks p s)
+unfolding wave_is_within
+within_limit p s w e = leb-true (count_below (tree_of (wave_samples p s w) (stream_ranks p s))) 2048 (not_false (nat_le (count_below (tree_of (wave_samples p s w) (stream_ranks p s))) 2048) e)
+
+-- what every plan keeps, from what every job keeps and no wave over the limit
+pub plan_from : (p : Plan) → IsJob p → first_over p ≡ None → IsPlan p
+plan_from p job none = record {
+  topology = job.topology;
+  samples = job.samples;
+  script = job.script;
+  samples_fit = job.samples_fit;
+  script_fits = job.script_fits;
+  within = λ s w there. within_limit p s w (none_over (is_over p) (waves_of p.streams) (s, w) none there);
+}
+  where
+    none_over : (test : ℕ × ℕ → Bool) (vs : List (ℕ × ℕ)) (v : ℕ × ℕ) → find test vs ≡ None → In v vs → test v ≡ false
+    none_over test [] v e i = absurd i
+    none_over test (u ∷ us) v e (inl is) = ap test is ∙ fails (test u) e
+      where
+        fails : (b : Bool) → cond b (Some u) (find test us) ≡ None → b ≡ false
+        fails true e = absurd (Rattle.std.proofs.lemmas.Option.none-some u (sym e))
+        fails false e = refl
+    none_over test (u ∷ us) v e (inr i) = none_over test us v (later (test u) e) i
+      where
+        later : (b : Bool) → cond b (Some u) (find test us) ≡ None → find test us ≡ None
+        later true e = absurd (Rattle.std.proofs.lemmas.Option.none-some u (sym e))
+        later false e = e

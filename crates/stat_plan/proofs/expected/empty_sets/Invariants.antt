@@ -1,0 +1,7 @@
+use Rattle.std.proofs.Common.{◌≡◌, map}
+use Rattle.rank_set.specs.Ranks.{none}
+use Rattle.stat_plan.specs.Plans.{up_to}
+use Rattle.stat_plan.proofs.expected.empty_sets.Given as goal
+
+abbrev pub invariant-loop-i : goal.invariant-loop-i
+invariant-loop-i l = l.sets.items ≡ map (λ _. none) (up_to l.i)

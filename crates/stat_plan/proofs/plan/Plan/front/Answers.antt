@@ -1,0 +1,8 @@
+use Rattle.std.proofs.Common.{ap, ◌∙◌}
+use Rattle.stat_plan.specs.Plans.{Plan, front}
+use Rattle.stat_plan.specs.Trees.{root_of}
+use Rattle.stat_plan.proofs.plan.Plan.front.Goals as goal
+
+pub returns-clause-value : goal.returns-clause-value
+unfolding front
+returns-clause-value c = c.front.ensures.value ∙ ap root_of (c.topology.ensures.parents ∙ ap (λ (p : Plan). p.parents) c.self.view_is)

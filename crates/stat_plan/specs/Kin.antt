@@ -1,0 +1,34 @@
+-- A node's kin: its parent and its children, and which nodes it knows to be lost.
+use Rattle.rank_set.specs.Ranks.{Ranks, is_subset}
+use Rattle.std.specs.Prelude.{ℕ, Bool, false, ◌||◌, not, ◌==◌, cond, List, [], ◌∷◌, Option, None, Some}
+use Rattle.std.specs.List.{list_all}
+use Rattle.stat_plan.specs.NodeSets.{member, with_number, without_number}
+use Rattle.stat_plan.specs.Plans.{Plan, ancestors, is_within, ranks, daemons}
+
+-- the parent, none at the front end; the children and the nodes that are known to be lost, ascending
+pub record Kin : Type 0 where
+  pub parent : Option ℕ
+  pub children : List ℕ
+  pub lost : List ℕ
+
+-- each daemon of the stream that is n or under n has its ranks in cov, or is known to be lost
+unfoldable pub complete : Plan → ℕ → List ℕ → ℕ → Ranks → Bool
+complete p n lost s cov = list_all (λ d. not (is_within p d n) || is_subset (ranks p d) cov || member d lost) (daemons p s)
+
+-- the nearest of the ancestors that isn't known to be lost
+abbrev pub nearest : List ℕ → List ℕ → Option ℕ
+nearest [] lost = None
+nearest (a ∷ above) lost = cond (member a lost) (nearest above lost) (Some a)
+
+-- whether m is the parent
+abbrev pub is_parent : Option ℕ → ℕ → Bool
+is_parent None m = false
+is_parent (Some a) m = a == m
+
+-- m is lost, and is no child any more
+abbrev pub without_child : Kin → ℕ → Kin
+without_child kin m = record { parent = kin.parent; children = without_number m kin.children; lost = with_number m kin.lost }
+
+-- the parent m is lost: the nearest ancestor that isn't known to be lost takes its place
+abbrev pub with_parent : Plan → ℕ → Kin → ℕ → Kin
+with_parent p n kin m = record { parent = nearest (ancestors p n) (with_number m kin.lost); children = kin.children; lost = with_number m kin.lost }

@@ -1,0 +1,36 @@
+-- Texts, their lines, words and numbers.
+use Rattle.std.specs.Prelude.{◌≡◌, refl, [], ◌∷◌, ◌++◌, codes, None, Some}
+use Rattle.stat_plan.specs.Lines.{lines, pieces, words, number_in}
+
+-- no bytes are no line
+no_line : lines [] ≡ []
+unfolding pieces
+no_line = refl
+
+-- a line feed ends an empty line
+empty_line : lines (10 ∷ []) ≡ [] ∷ []
+unfolding pieces
+empty_line = refl
+
+-- a carriage return alone is an empty line's end
+return_alone : lines (13 ∷ []) ≡ [] ∷ []
+unfolding pieces
+return_alone = refl
+
+-- of two carriage returns the first is a byte of the line
+two_returns : lines (codes "ab" ++ 13 ∷ 10 ∷ 13 ∷ 13 ∷ 10 ∷ codes "c") ≡ codes "ab" ∷ (13 ∷ []) ∷ codes "c" ∷ []
+unfolding pieces
+two_returns = refl
+
+-- blanks at both ends of a line mean nothing
+three_words : words (codes " daemon  a:0" ++ 9 ∷ codes "0-1 ") ≡ codes "daemon" ∷ codes "a:0" ∷ codes "0-1" ∷ []
+unfolding words
+three_words = refl
+
+-- zeros in front mean nothing
+zeros : number_in (codes "0012") ≡ Some 12
+zeros = refl
+
+-- a sign is no digit
+sign : number_in (codes "-1") ≡ None
+sign = refl

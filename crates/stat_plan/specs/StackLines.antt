@@ -1,0 +1,18 @@
+-- Lines of samples whose paths have numbers.
+use Rattle.std.specs.Prelude.{◌<◌, List, [], map, length, slice_index_or}
+use Rattle.std.specs.List.{AllByRecursion}
+use Rattle.call_path.specs.Path.{Path}
+use Rattle.stat_plan.specs.Samples.{SampleLine}
+use Rattle.stat_plan.specs.declared.samples.StackLine.{StackLine}
+
+-- the line, with its path in place of the number
+abbrev pub line_of : List Path → StackLine → SampleLine
+line_of paths line = record { time = line.time; ranks = line.ranks; path = slice_index_or paths line.path [] }
+
+-- the lines, with their paths
+abbrev pub lines_of : List Path → List StackLine → List SampleLine
+lines_of paths lines = map (line_of paths) lines
+
+-- each line's path has a number that stands for a path
+abbrev pub AreNumbered : List Path → List StackLine → Type 0
+AreNumbered paths lines = AllByRecursion (λ line. line.path < length paths) lines

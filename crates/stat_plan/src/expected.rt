@@ -1,0 +1,78 @@
+//! The ranks that each node expects of a stream.
+
+ghost use Rattle.std.specs.Prelude.{◌≡◌, ◌<◌, ℕ, IfOk, OnOk, [], ◌∷◌, length, map};
+ghost use Rattle.rank_set.specs.Ranks.{none};
+ghost use Rattle.stat_plan.specs.NodeSets.{In};
+ghost use Rattle.stat_plan.specs.Plans.{nodes, up_to};
+ghost use Rattle.stat_plan.specs.Tables.{AreExpected, GainRanks, ancestors_table, rows_in};
+
+use crate::job::Job;
+use rank_set::RankSet;
+use std::alloc::{AllocError, Global};
+
+// Adds ranks to the set of a node and to those of its ancestors.
+fn add_upwards(
+    sets: &mut [RankSet],
+    node: u32,
+    above: &[u32],
+    more: &RankSet,
+) -> Result<(), AllocError>
+    requires { (n : ℕ) → In n (node ∷ above.now) → n < length sets.old }
+    ensures { OnOk result (GainRanks sets.old sets.new (node ∷ above.now) more.now) }
+{
+    sets[node as usize].union_into(more)?;
+    for n in above {
+        sets[*n as usize].union_into(more)?;
+    }
+    Ok(())
+}
+
+// Adds the ranks of each daemon to its set and to those of its ancestors, where the sets are empty.
+fn add_daemons(
+    sets: &mut [RankSet],
+    job: &Job,
+    above: &[Vec<u32>],
+    daemons: &[u32],
+) -> Result<(), AllocError>
+    requires above { rows_in above.now ≡ ancestors_table job.now.parents }
+    requires daemons { (d : ℕ) → In d daemons.now → d < nodes job.now }
+    requires empty { AreExpected job.now [] sets.old }
+    ensures { OnOk result (AreExpected job.now daemons.now sets.new) }
+{
+    job.is_job();
+    let placed = job.placed();
+    for d in daemons {
+        let row = &above[*d as usize];
+        add_upwards(sets, *d, row.as_slice(), &placed[*d as usize])?;
+    }
+    Ok(())
+}
+
+// So many empty sets.
+fn empty_sets(alloc: Global, n: u32) -> Result<Vec<RankSet>, AllocError>
+    ensures { IfOk result (λ sets. sets.items ≡ map (λ _. none) (up_to n)) }
+{
+    let mut sets = Vec::new(alloc);
+    for i in 0..n {
+        let _ = i;
+        sets.push(RankSet::new(alloc))?;
+    }
+    Ok(sets)
+}
+
+/// By node number, the ranks of those of some daemons that are the node or stand under it, where `above` has each node's
+/// ancestors.
+pub fn expected_sets(
+    alloc: Global,
+    job: &Job,
+    above: &[Vec<u32>],
+    daemons: &[u32],
+) -> Result<Vec<RankSet>, AllocError>
+    requires above { rows_in above.now ≡ ancestors_table job.now.parents }
+    requires daemons { (d : ℕ) → In d daemons.now → d < nodes job.now }
+    ensures { IfOk result (λ sets. AreExpected job.now daemons.now sets.items) }
+{
+    let mut sets = empty_sets(alloc, job.topology().nodes())?;
+    add_daemons(&mut sets, job, above, daemons)?;
+    Ok(sets)
+}

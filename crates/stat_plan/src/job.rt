@@ -1,0 +1,107 @@
+//! A job: what its three files say together.
+
+ghost use Rattle.std.specs.Prelude.{◌≡◌, ◌<◌, Some, length, slice_get};
+ghost use Rattle.stat_plan.specs.Kept.{IsJob, SamplesFit, ScriptFits};
+ghost use Rattle.stat_plan.specs.Plans.{plan_of, nodes, front, ranks};
+ghost use Rattle.stat_plan.specs.Names.{name_of};
+ghost use Rattle.stat_plan.specs.Shown.{lines_in, shown};
+ghost use Rattle.stat_plan.specs.StackLines.{AreNumbered};
+ghost use Rattle.stat_plan.specs.Trees.{parent_of, is_daemon};
+
+use crate::samples::{Line, Lines, Samples};
+use crate::script::{Fault, Script, StreamDef};
+use crate::topology::Topology;
+use rank_set::RankSet;
+use std::marker::Model;
+
+/// The nodes, the samples and the script of a job, which fit each other.
+#[derive(Drop)]
+pub struct Job {
+    topology: Topology,
+    samples: Samples,
+    script: Script,
+}
+
+impl Model for Job {
+    ghost use Rattle.stat_plan.specs.Plans.{Plan, plan_of};
+    ghost use Rattle.stat_plan.specs.Codes.{coded_plan};
+
+    ghost Value = { Plan };
+
+    ghost coded = { coded_plan };
+
+    ghost use Rattle.stat_plan.specs.Kept.{SamplesFit, ScriptFits};
+
+    ghost view = { λ a. plan_of a.topology a.samples a.script };
+
+    ghost invariant = { λ a. SamplesFit a.topology a.samples × ScriptFits a.topology a.script };
+}
+
+impl Job {
+    /// The job of what three files say. It takes no memory.
+    pub fn new(topology: Topology, samples: Samples, script: Script) -> Job
+        requires samples { SamplesFit topology samples }
+        requires script { ScriptFits topology script }
+        ensures { result ≡ plan_of topology samples script }
+    {
+        Job {
+            topology,
+            samples,
+            script,
+        }
+    }
+
+    /// What every job is.
+    pub fn is_job(&self)
+        ensures { IsJob self.now }
+    {
+        self.topology.is_topology();
+        self.samples.are_samples();
+        self.script.is_script();
+    }
+
+    /// The nodes.
+    pub fn topology(&self) -> &Topology
+        ensures names { result.now.names ≡ self.now.names }
+        ensures parents { result.now.parents ≡ self.now.parents }
+    {
+        &self.topology
+    }
+
+    /// A line of samples, by its number.
+    pub fn line(&self, i: usize) -> Line<'_>
+        requires { i < length self.now.lines }
+        ensures { Some (shown result) ≡ slice_get self.now.lines i }
+    {
+        self.samples.line(i)
+    }
+
+    /// The lines of samples, with the numbers of their paths, and the paths.
+    pub fn lines(&self) -> Lines<'_>
+        ensures lines { lines_in result ≡ self.now.lines }
+        ensures numbered { AreNumbered result.paths.now result.lines.now }
+    {
+        self.samples.lines()
+    }
+
+    /// The ranks of each node, by node number.
+    pub fn placed(&self) -> &[RankSet]
+        ensures { result.now ≡ self.now.placed }
+    {
+        self.samples.placed()
+    }
+
+    /// The streams, ascending by number.
+    pub fn streams(&self) -> &[StreamDef]
+        ensures { result.now ≡ self.now.streams }
+    {
+        self.script.streams()
+    }
+
+    /// The nodes that are to be lost, ascending.
+    pub fn faults(&self) -> &[Fault]
+        ensures { result.now ≡ self.now.faults }
+    {
+        self.script.faults()
+    }
+}

@@ -1,0 +1,128 @@
+//! The lines of a text, the words of a line, and the numbers that words write.
+//!
+//! A line ends at a line feed or at the end of the text, and a carriage return just before it belongs to the line's end. A
+//! text that ends with a line feed has no line after it. Words are the longest runs of bytes that are no spaces and no tabs.
+
+ghost use Rattle.std.specs.Prelude.{◌≡◌, ◌<◌, ◌≤◌, ◌^◌, length, min, MatchOption, IfSome, [], ◌∷◌, option_map};
+ghost use Rattle.std.specs.Char.{is_ascii_digit};
+ghost use Rattle.std.specs.List.{list_all};
+ghost use Rattle.rank_set.specs.RanksText.{value_after};
+ghost use Rattle.stat_plan.specs.Lines.{is_blank, line_len, word_len, blanks_len, lines, words, without_return, after_blanks, after_word, number_in, says_nothing};
+
+fn is_blank(b: u8) -> bool
+    ensures { result ≡ is_blank b }
+{
+    b == b' ' || b == b'\t'
+}
+
+// How many bytes are before the next line feed.
+fn line_len(text: &[u8]) -> usize
+    ensures value { result ≡ line_len text.now }
+    ensures within { result ≤ length text.now }
+{
+    memchr::memchr(b'\n', text).unwrap_or(text.len())
+}
+
+// How many bytes are before the next blank.
+fn word_len(text: &[u8]) -> usize
+    ensures value { result ≡ word_len text.now }
+    ensures within { result ≤ length text.now }
+{
+    text.iter().take_while(|b| !is_blank(**b)).count()
+}
+
+// How many blanks a text begins with.
+fn blanks_len(text: &[u8]) -> usize
+    ensures value { result ≡ blanks_len text.now }
+    ensures within { result ≤ length text.now }
+{
+    text.iter().take_while(|b| is_blank(**b)).count()
+}
+
+// A line without the carriage return at its end.
+fn trimmed(line: &[u8]) -> &[u8]
+    ensures { result.now ≡ without_return line.now }
+{
+    match line.split_last() {
+        Some((last, front)) => { if *last == b'\r' { front } else { line } }
+        None => line,
+    }
+}
+
+/// The first line of a text, and what is left after its end; none where nothing is left.
+pub fn next_line(text: &[u8]) -> Option<(&[u8], &[u8])>
+    ensures lines { MatchOption result (lines text.now ≡ []) (λ next. lines text.now ≡ next.0.now ∷ lines next.1.now) }
+    ensures shorter { IfSome result (λ next. length next.1.now < length text.now) }
+{
+    if text.is_empty() {
+        return None;
+    }
+    let (line, after) = text.split_at(line_len(text));
+    match after.split_first() {
+        Some((_, rest)) => Some((trimmed(line), rest)),
+        None => Some((trimmed(line), after)),
+    }
+}
+
+/// What is left of a line after the blanks that it begins with.
+pub fn after_blanks(line: &[u8]) -> &[u8]
+    ensures value { result.now ≡ after_blanks line.now }
+    ensures within { length result.now ≤ length line.now }
+{
+    let (_, after) = line.split_at(blanks_len(line));
+    after
+}
+
+/// The first word of a line, and what is left just after it; none where there is no word.
+pub fn next_word(line: &[u8]) -> Option<(&[u8], &[u8])>
+    ensures words { MatchOption result (words line.now ≡ []) (λ next. words line.now ≡ next.0.now ∷ words next.1.now) }
+    ensures rest { IfSome result (λ next. next.1.now ≡ after_word line.now) }
+    ensures shorter { IfSome result (λ next. length next.1.now < length line.now) }
+{
+    let rest = after_blanks(line);
+    if rest.is_empty() {
+        return None;
+    }
+    Some(rest.split_at(word_len(rest)))
+}
+
+/// Whether a line says nothing: it begins with `#`, or has no word.
+pub fn says_nothing(line: &[u8]) -> bool
+    ensures { result ≡ says_nothing line.now }
+{
+    match line.split_first() {
+        Some((b, _)) => *b == b'#' || next_word(line).is_none(),
+        None => true,
+    }
+}
+
+// Whether each byte is a digit.
+fn are_digits(word: &[u8]) -> bool
+    ensures { result ≡ list_all is_ascii_digit word.now }
+{
+    word.iter().all(|b| b.is_ascii_digit())
+}
+
+// The number that digits write, or the limit where it is more.
+fn capped_value(digits: &[u8], limit: u32) -> u32
+    requires { limit < 2 ^ 28 }
+    ensures { result ≡ min limit (value_after 0 digits.now) }
+{
+    let mut number = 0;
+    for digit in digits {
+        number = limit.min(10 * number + u32::from(digit.saturating_sub(b'0')));
+    }
+    number
+}
+
+/// The number that a word writes, or the limit where it is more; none where the word is not one or more digits. A word
+/// of any length is read, and zeros in front mean nothing.
+pub fn number_in(word: &[u8], limit: u32) -> Option<u32>
+    requires { limit < 2 ^ 28 }
+    ensures { result ≡ option_map (min limit) (number_in word.now) }
+{
+    if word.is_empty() || !are_digits(word) {
+        return None;
+    }
+    Some(capped_value(word, limit))
+}

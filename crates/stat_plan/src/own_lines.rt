@@ -1,0 +1,137 @@
+//! Which lines of samples have a rank of which node.
+
+ghost use Rattle.std.specs.Prelude.{◌≡◌, ◌<◌, ◌≤◌, ◌^◌, ℕ, false, IfOk, OnOk, [], length, map, slice_index_or};
+ghost use Rattle.rank_set.specs.Ranks.{Ranks, none, has, Has};
+ghost use Rattle.stat_plan.specs.NodeSets.{In};
+ghost use Rattle.stat_plan.specs.declared.samples.TheConstants.{LINE_LIMIT};
+ghost use Rattle.stat_plan.specs.Kept.{ArePlacedOnce};
+ghost use Rattle.stat_plan.specs.Plans.{up_to};
+ghost use Rattle.stat_plan.specs.Samples.{all_ranks};
+ghost use Rattle.stat_plan.specs.Tables.{AreAllOwnLines, AreHomes, AreLineNumbers, AreNoted, TakesNote, rows_in};
+
+use crate::job::Job;
+use crate::samples::StackLine;
+use rank_set::{RANK_LIMIT, RankSet};
+use std::alloc::{AllocError, Global};
+
+// Notes the node of each of its ranks.
+fn settle(homes: &mut [u32], ranks: &RankSet, node: u32)
+    requires { length homes.old ≡ 16384 }
+    ensures all { length homes.new ≡ 16384 }
+    ensures ranks { (r : ℕ) → Has r ranks.now → (r < 16384) × (slice_index_or homes.new r 0 ≡ node) }
+    ensures others { (r : ℕ) → has ranks.now r ≡ false → slice_index_or homes.new r 0 ≡ slice_index_or homes.old r 0 }
+{
+    let mut from = 0;
+    while let Some(run) = ranks.next_run(from) {
+        from = run.last + 1;
+        for r in run.first..from {
+            homes[r as usize] = node;
+        }
+    }
+}
+
+// Notes the node of each placed rank.
+fn settle_all(homes: &mut [u32], placed: &[RankSet])
+    requires all { length homes.old ≡ 16384 }
+    requires few { length placed.now < 2 ^ 32 }
+    requires once { ArePlacedOnce placed.now }
+    ensures { AreHomes placed.now homes.new }
+{
+    for (n, ranks) in placed.iter().enumerate() {
+        settle(homes, ranks, n as u32);
+    }
+}
+
+// Notes a line's number at each node that has one of its ranks.
+fn note(
+    table: &mut [Vec<u32>],
+    homes: &[u32],
+    placed: &[RankSet],
+    ranks: &RankSet,
+    number: u32,
+) -> Result<(), AllocError>
+    requires homes { AreHomes placed.now homes.now }
+    requires paired { length table.old ≡ length placed.now }
+    requires placed { (r : ℕ) → Has r ranks.now → Has r (all_ranks placed.now) }
+    ensures { OnOk result (TakesNote placed.now ranks.now number (rows_in table.old) (rows_in table.new)) }
+{
+    let mut rest = ranks.copy()?;
+    while let Some(r) = rest.first() {
+        let node = homes[r as usize] as usize;
+        table[node].push(number)?;
+        rest.remove(&placed[node]);
+    }
+    Ok(())
+}
+
+// The node of each placed rank, by rank. What stands at other ranks means nothing.
+fn homes_of(alloc: Global, placed: &[RankSet]) -> Result<Vec<u32>, AllocError>
+    requires few { length placed.now < 2 ^ 32 }
+    requires once { ArePlacedOnce placed.now }
+    ensures { IfOk result (λ homes. AreHomes placed.now homes.items) }
+{
+    let mut homes = vec![in alloc; 0; RANK_LIMIT as usize]?;
+    settle_all(&mut homes, placed);
+    Ok(homes)
+}
+
+/// The numbers of the lines. Lines of the same path stand together.
+pub fn by_path(alloc: Global, lines: &[StackLine]) -> Result<Vec<u32>, AllocError>
+    requires { length lines.now ≤ LINE_LIMIT }
+    ensures { IfOk result (λ numbers. AreLineNumbers (length lines.now) numbers.items) }
+{
+    let mut keyed = Vec::new(alloc);
+    for (i, line) in lines.iter().enumerate() {
+        keyed.push((line.path, i as u32))?;
+    }
+    keyed.sort_by_key(|entry| entry.0)?;
+    let mut numbers = Vec::with_capacity(alloc, keyed.len())?;
+    for entry in &keyed {
+        numbers.push(entry.1)?;
+    }
+    Ok(numbers)
+}
+
+// Notes the numbers of lines at the nodes of their ranks.
+fn note_all(
+    table: &mut [Vec<u32>],
+    homes: &[u32],
+    job: &Job,
+    numbers: &[u32],
+) -> Result<(), AllocError>
+    requires homes { AreHomes job.now.placed homes.now }
+    requires numbers { (i : ℕ) → In i numbers.now → i < length job.now.lines }
+    requires empty { AreNoted job.now [] (rows_in table.old) }
+    ensures { OnOk result (AreNoted job.now numbers.now (rows_in table.new)) }
+{
+    job.is_job();
+    for i in numbers {
+        let line = job.line(*i as usize);
+        note(table, homes, job.placed(), line.ranks, *i)?;
+    }
+    Ok(())
+}
+
+// So many empty rows.
+fn empty_rows(alloc: Global, n: u32) -> Result<Vec<Vec<u32>>, AllocError>
+    ensures { IfOk result (λ table. rows_in table.items ≡ map (λ _. []) (up_to n)) }
+{
+    let mut table = Vec::new(alloc);
+    for i in 0..n {
+        let _ = i;
+        table.push(Vec::new(alloc))?;
+    }
+    Ok(table)
+}
+
+/// By node number, the numbers of the lines that have a rank of the node, in the order of the given numbers of all lines.
+pub fn own_lines(alloc: Global, job: &Job, numbers: &[u32]) -> Result<Vec<Vec<u32>>, AllocError>
+    requires { AreLineNumbers (length job.now.lines) numbers.now }
+    ensures { IfOk result (λ table. AreAllOwnLines job.now (rows_in table.items)) }
+{
+    job.is_job();
+    let homes = homes_of(alloc, job.placed())?;
+    let mut table = empty_rows(alloc, job.topology().nodes())?;
+    note_all(&mut table, homes.as_slice(), job, numbers)?;
+    Ok(table)
+}

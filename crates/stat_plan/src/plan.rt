@@ -1,0 +1,257 @@
+//! A plan: what the three files of a job stand for, with tables to look things up in.
+
+ghost use Rattle.std.specs.Prelude.{◌≡◌, ◌<◌, ℕ, IfErr, IfOk, IsSome, None, [], length, slice_index_or};
+ghost use Rattle.rank_set.specs.Ranks.{none};
+ghost use Rattle.stat_plan.specs.Kept.{IsPlan, SamplesFit, ScriptFits};
+ghost use Rattle.stat_plan.specs.Limits.{RefusesAt, first_over};
+ghost use Rattle.stat_plan.specs.Names.{name_of};
+ghost use Rattle.stat_plan.specs.Plans.{ancestors, expected, fault, front, is_under, nodes, plan_of, ranks, serves, stream_of};
+ghost use Rattle.stat_plan.specs.Shown.{IsStreamOf, lines_in};
+ghost use Rattle.stat_plan.specs.StackLines.{AreNumbered};
+ghost use Rattle.stat_plan.specs.Tables.{AreAllExpected, AreOwnLines, ancestors_table, rows_in};
+ghost use Rattle.stat_plan.specs.Trees.{is_daemon};
+
+use crate::ancestors::ancestors_table;
+use crate::expected::expected_sets;
+use crate::job::Job;
+use crate::limit::check_limit;
+use crate::lookup::{fault_of, is_among, stream_place};
+use crate::own_lines::{by_path, own_lines};
+use crate::plan_error::PlanError;
+use crate::samples::{Lines, Samples};
+use crate::script::{Fault, Script, StreamDef};
+use crate::topology::Topology;
+use rank_set::RankSet;
+use std::alloc::{AllocError, Global};
+use std::marker::Model;
+
+/// What the three files of a job stand for.
+#[derive(Drop)]
+pub struct Plan {
+    job: Job,
+    // By node number, nearest first.
+    ancestors: Vec<Vec<u32>>,
+    // By node number: the numbers of the lines that have a rank of the node, those of one path together.
+    own_lines: Vec<Vec<u32>>,
+    // By place of the stream, then by node number.
+    expected: Vec<Vec<RankSet>>,
+}
+
+impl Model for Plan {
+    ghost use Rattle.stat_plan.specs.Plans.{Plan};
+    ghost use Rattle.stat_plan.specs.Codes.{coded_plan};
+
+    ghost Value = { Plan };
+
+    ghost coded = { coded_plan };
+
+    ghost use Rattle.stat_plan.specs.Kept.{IsPlan};
+    ghost use Rattle.stat_plan.specs.Tables.{AreTables, rows_in};
+
+    ghost view = { λ a. a.job };
+
+    ghost invariant = { λ a. IsPlan a.job × AreTables a.job (rows_in a.ancestors.items) (rows_in a.own_lines.items) (rows_in a.expected.items) };
+}
+
+// By place of the stream, the ranks that each node expects of it.
+fn expected_tables(
+    alloc: Global,
+    job: &Job,
+    above: &[Vec<u32>],
+) -> Result<Vec<Vec<RankSet>>, AllocError>
+    requires { rows_in above.now ≡ ancestors_table job.now.parents }
+    ensures { IfOk result (λ tables. AreAllExpected job.now job.now.streams (rows_in tables.items)) }
+{
+    job.is_job();
+    let mut tables = Vec::new(alloc);
+    for stream in job.streams() {
+        tables.push(expected_sets(alloc, job, above, stream.daemons())?)?;
+    }
+    Ok(tables)
+}
+
+// A row of a table of numbers.
+fn row_at(table: &[Vec<u32>], n: u32) -> &[u32]
+    requires { n < length table.now }
+    ensures { result.now ≡ slice_index_or (rows_in table.now) n [] }
+{
+    table[n as usize].as_slice()
+}
+
+// A set of a table of sets.
+fn set_at(tables: &[Vec<RankSet>], i: usize, n: u32) -> &RankSet
+    requires table { i < length tables.now }
+    requires set { n < length (slice_index_or (rows_in tables.now) i []) }
+    ensures { result.now ≡ slice_index_or (slice_index_or (rows_in tables.now) i []) n none }
+{
+    let table = &tables[i];
+    &table[n as usize]
+}
+
+impl Plan {
+    /// The plan of three files that fit each other. The first wave, by stream and wave, of which the samples have more than
+    /// 2,048 distinct prefixes is refused; then the files are let go.
+    pub fn build(
+        alloc: Global,
+        topology: Topology,
+        samples: Samples,
+        script: Script,
+    ) -> Result<Plan, PlanError>
+        requires samples { SamplesFit topology samples }
+        requires script { ScriptFits topology script }
+        ensures ok { IfOk result (λ p. p ≡ plan_of topology samples script) }
+        ensures within { IfOk result (λ p. first_over p ≡ None) }
+        ensures err { IfErr result (RefusesAt (first_over (plan_of topology samples script))) }
+    {
+        let job = Job::new(topology, samples, script);
+        job.is_job();
+        let numbers = by_path(alloc, job.lines().lines)?;
+        match check_limit(alloc, &job, &numbers) {
+            Ok(()) => {}
+            Err(e) => return Err(e),
+        }
+        let ancestors = ancestors_table(alloc, job.topology())?;
+        let own_lines = own_lines(alloc, &job, &numbers)?;
+        let expected = expected_tables(alloc, &job, &ancestors)?;
+        Ok(Plan {
+            job,
+            ancestors,
+            own_lines,
+            expected,
+        })
+    }
+
+    /// What every plan is.
+    pub fn is_plan(&self)
+        ensures { IsPlan self.now }
+    {
+        let _ = &self.job;
+    }
+
+    /// How many nodes there are: 2 to `NODE_LIMIT`.
+    pub fn nodes(&self) -> u32
+        ensures { result ≡ nodes self.now }
+    {
+        self.job.topology().nodes()
+    }
+
+    /// The front end: the one node without a parent.
+    pub fn front(&self) -> u32
+        ensures value { result ≡ front self.now }
+        ensures node { result < nodes self.now }
+    {
+        self.job.topology().front()
+    }
+
+    /// The name of a node.
+    pub fn name(&self, n: u32) -> &str
+        requires { n < nodes self.now }
+        ensures { result.now ≡ name_of self.now.names n }
+    {
+        self.job.topology().name(n)
+    }
+
+    /// Whether a node is a daemon: it is no node's parent.
+    pub fn is_daemon(&self, n: u32) -> bool
+        requires { n < nodes self.now }
+        ensures { result ≡ is_daemon self.now.parents n }
+    {
+        self.job.topology().is_daemon(n)
+    }
+
+    /// A node's ancestors, nearest first: at most `DEPTH_LIMIT`, the last of them the front end.
+    pub fn ancestors(&self, n: u32) -> &[u32]
+        requires { n < nodes self.now }
+        ensures { result.now ≡ ancestors self.now n }
+    {
+        row_at(&self.ancestors, n)
+    }
+
+    /// Whether node `m` is an ancestor of node `n`.
+    pub fn is_under(&self, n: u32, m: u32) -> bool
+        requires { n < nodes self.now }
+        ensures { result ≡ is_under self.now n m }
+    {
+        is_among(self.ancestors(n), m)
+    }
+
+    /// The ranks that are placed on a node; none where it is no daemon.
+    pub fn ranks(&self, n: u32) -> &RankSet
+        requires { n < nodes self.now }
+        ensures { result.now ≡ ranks self.now n }
+    {
+        self.job.is_job();
+        &self.job.placed()[n as usize]
+    }
+
+    /// The streams, ascending by number.
+    pub fn streams(&self) -> &[StreamDef]
+        ensures { result.now ≡ self.now.streams }
+    {
+        self.job.streams()
+    }
+
+    /// The stream of this number, where the plan has one.
+    pub fn stream(&self, s: u8) -> Option<&StreamDef>
+        ensures { IsStreamOf self.now s result }
+    {
+        match stream_place(self.streams(), s) {
+            Some(i) => Some(&self.streams()[i]),
+            None => None,
+        }
+    }
+
+    /// The ranks of those daemons of a stream that are the node or stand under it.
+    pub fn expected(&self, n: u32, s: u8) -> &RankSet
+        requires node { n < nodes self.now }
+        requires stream { IsSome (stream_of self.now s) }
+        ensures { result.now ≡ expected self.now n s }
+    {
+        match stream_place(self.job.streams(), s) {
+            Some(i) => set_at(&self.expected, i, n),
+            None => unreachable!(),
+        }
+    }
+
+    /// Whether a node serves a stream: one of its daemons is the node or stands under it.
+    pub fn serves(&self, n: u32, s: u8) -> bool
+        requires { n < nodes self.now }
+        ensures { result ≡ serves self.now n s }
+    {
+        self.is_plan();
+        match self.stream(s) {
+            Some(_) => self.expected(n, s).first().is_some(),
+            None => false,
+        }
+    }
+
+    /// The nodes that are to be lost, ascending.
+    pub fn faults(&self) -> &[Fault]
+        ensures { result.now ≡ self.now.faults }
+    {
+        self.job.faults()
+    }
+
+    /// When a node is to be lost, if it is.
+    pub fn fault(&self, n: u32) -> Option<Fault>
+        ensures { result ≡ fault self.now n }
+    {
+        fault_of(self.job.faults(), n)
+    }
+
+    /// The lines of samples in the order of their text, with the numbers of their paths, and the paths.
+    pub fn lines(&self) -> Lines<'_>
+        ensures lines { lines_in result ≡ self.now.lines }
+        ensures numbered { AreNumbered result.paths.now result.lines.now }
+    {
+        self.job.lines()
+    }
+
+    /// The numbers of the lines that have a rank of a node. Lines of the same path stand together.
+    pub fn own_lines(&self, n: u32) -> &[u32]
+        requires { n < nodes self.now }
+        ensures { AreOwnLines self.now.lines (ranks self.now n) result.now }
+    {
+        row_at(&self.own_lines, n)
+    }
+}

@@ -1,0 +1,140 @@
+//! What a samples text says: where the ranks are, and what they were seen in.
+
+ghost use Rattle.std.specs.Prelude.{◌≡◌, ◌<◌, Some, length, slice_get};
+ghost use Rattle.stat_plan.specs.Samples.{is_in_wave};
+ghost use Rattle.stat_plan.specs.Shown.{lines_in, shown};
+ghost use Rattle.stat_plan.specs.Kept.{AreSamples};
+ghost use Rattle.stat_plan.specs.Plans.{sampled};
+
+use call_path::CallPath;
+use rank_set::RankSet;
+use std::marker::Model;
+
+/// The last time that a sample may have.
+pub const TIME_LIMIT: u32 = 65_535;
+
+/// The most lines that give a sample.
+pub const LINE_LIMIT: u32 = 262_144;
+
+/// One line of samples: at a time, each of some ranks was seen in a path.
+#[derive(Drop)]
+pub struct StackLine {
+    /// The number of the sample time: 0 to `TIME_LIMIT`.
+    pub time: u32,
+    /// The ranks, at least one.
+    pub ranks: RankSet,
+    /// The number of the path among the paths of the samples.
+    pub path: u32,
+}
+
+/// A line of samples, as it is read.
+#[derive(Clone, Copy)]
+pub struct Line<'a> {
+    /// The number of the sample time.
+    pub time: u32,
+    /// The ranks, at least one.
+    pub ranks: &'a RankSet,
+    /// The path that each of them was seen in.
+    pub path: &'a CallPath,
+}
+
+/// The lines of samples in the order of their text, with the number of each one's path, and the paths by number.
+#[derive(Clone, Copy)]
+pub struct Lines<'a> {
+    pub lines: &'a [StackLine],
+    pub paths: &'a [CallPath],
+}
+
+/// Whether a time is one of a wave's: wave `wave`, from 0 on, of so many sample times each.
+pub fn is_in_wave(samples: u8, wave: u8, time: u32) -> bool
+    ensures { result ≡ is_in_wave samples wave time }
+{
+    let first = u32::from(wave) * u32::from(samples);
+    first <= time && time < first + u32::from(samples)
+}
+
+/// Where the ranks of a job are, and the samples in the order of their text. Each path is kept once, and has a number.
+#[derive(Drop)]
+pub struct Samples {
+    placed: Vec<RankSet>,
+    paths: Vec<CallPath>,
+    lines: Vec<StackLine>,
+}
+
+impl Model for Samples {
+    ghost use Rattle.stat_plan.specs.Plans.{Sampled, sampled};
+    ghost use Rattle.stat_plan.specs.Codes.{coded_sampled};
+
+    ghost Value = { Sampled };
+
+    ghost coded = { coded_sampled };
+
+    ghost use Rattle.stat_plan.specs.StackLines.{lines_of, AreNumbered};
+    ghost use Rattle.stat_plan.specs.Kept.{AreSamples};
+
+    ghost view = { λ a. sampled a.placed.items (lines_of a.paths.items a.lines.items) };
+
+    ghost invariant = { λ a. AreNumbered a.paths.items a.lines.items × AreSamples (sampled a.placed.items (lines_of a.paths.items a.lines.items)) };
+}
+
+impl Samples {
+    ghost use Rattle.stat_plan.specs.StackLines.{lines_of, AreNumbered, line_of};
+
+    /// The samples of these ranks by node number, and these lines, whose paths stand by their numbers. It takes no memory.
+    pub fn new(placed: Vec<RankSet>, paths: Vec<CallPath>, lines: Vec<StackLine>) -> Samples
+        requires numbered { AreNumbered paths.items lines.items }
+        requires samples { AreSamples (sampled placed.items (lines_of paths.items lines.items)) }
+        ensures { result ≡ sampled placed.items (lines_of paths.items lines.items) }
+    {
+        Samples {
+            placed,
+            paths,
+            lines,
+        }
+    }
+
+    /// What all samples are.
+    pub fn are_samples(&self)
+        ensures { AreSamples self.now }
+    {
+        let _ = &self.placed;
+    }
+
+    /// The ranks of each node, by node number; none where it is no daemon.
+    pub fn placed(&self) -> &[RankSet]
+        ensures { result.now ≡ self.now.placed }
+    {
+        self.placed.as_slice()
+    }
+
+    /// How many lines there are.
+    pub fn len(&self) -> usize
+        ensures { result ≡ length self.now.lines }
+    {
+        self.lines.len()
+    }
+
+    /// A line, by its number from 0 in the order of the text.
+    pub fn line(&self, i: usize) -> Line<'_>
+        requires { i < length self.now.lines }
+        ensures { Some (shown result) ≡ slice_get self.now.lines i }
+    {
+        let line = &self.lines[i];
+        Line {
+            time: line.time,
+            ranks: &line.ranks,
+            path: &self.paths[line.path as usize],
+        }
+    }
+
+    /// The lines, with the numbers of their paths, and the paths.
+    pub fn lines(&self) -> Lines<'_>
+        ensures lines { lines_in result ≡ self.now.lines }
+        ensures numbered { AreNumbered result.paths.now result.lines.now }
+    {
+        Lines {
+            lines: self.lines.as_slice(),
+            paths: self.paths.as_slice(),
+        }
+    }
+}

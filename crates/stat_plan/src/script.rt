@@ -1,0 +1,177 @@
+//! What a script says: the streams of a job, and the nodes that are to be lost.
+
+ghost use Rattle.std.specs.Prelude.{◌≡◌, []};
+ghost use Rattle.stat_plan.specs.Plans.{Scripted, Stream};
+ghost use Rattle.stat_plan.specs.Kept.{IsScript, IsStream};
+
+use std::marker::Model;
+
+/// The most streams of a job; their numbers are below it.
+pub const STREAM_LIMIT: u32 = 8;
+
+/// The most waves of a stream.
+pub const WAVE_LIMIT: u32 = 16;
+
+/// The most sample times of a wave.
+pub const SAMPLE_LIMIT: u32 = 64;
+
+/// The most ticks of a timeout.
+pub const TICK_LIMIT: u32 = 1_000;
+
+/// The most nodes that a script may lose.
+pub const FAULT_LIMIT: u32 = 256;
+
+/// When the nodes of a stream pass on what they have of a wave.
+#[derive(Clone, Copy, Debug, PartialEq, Eq)]
+pub enum Mode {
+    /// Once all daemons below have come in.
+    WaitForAll,
+    /// Once all daemons below have come in, or so many ticks after something came in: 1 to `TICK_LIMIT`.
+    TimeOut(u16),
+    /// At once.
+    DontWait,
+}
+
+/// A node that is to be lost.
+#[derive(Clone, Copy, Debug, PartialEq, Eq, Drop)]
+pub struct Fault {
+    /// The node, which is not the front end.
+    pub node: u32,
+    /// After how many events of its own it is lost.
+    pub after: u32,
+    /// How many of the first frames on each link out of it stay.
+    pub keep: u32,
+}
+
+/// A stream: some daemons, whose samples are merged wave by wave.
+#[derive(Drop)]
+pub struct StreamDef {
+    number: u8,
+    mode: Mode,
+    waves: u8,
+    samples: u8,
+    daemons: Vec<u32>,
+}
+
+impl Model for StreamDef {
+    ghost use Rattle.stat_plan.specs.Plans.{Stream, stream};
+    ghost use Rattle.stat_plan.specs.Kept.{IsStream};
+
+    ghost Value = { Stream };
+
+    ghost view = { λ a. stream a.number a.mode a.waves a.samples a.daemons.items };
+
+    ghost invariant = { λ a. IsStream (stream a.number a.mode a.waves a.samples a.daemons.items) };
+}
+
+impl StreamDef {
+    ghost use Rattle.stat_plan.specs.Plans.{stream};
+
+    /// The stream of this number and mode with so many waves of so many sample times each, and these daemons in ascending
+    /// order. It takes no memory.
+    pub fn new(number: u8, mode: Mode, waves: u8, samples: u8, daemons: Vec<u32>) -> StreamDef
+        requires { IsStream (stream number mode waves samples daemons.items) }
+        ensures { result ≡ stream number mode waves samples daemons.items }
+    {
+        StreamDef {
+            number,
+            mode,
+            waves,
+            samples,
+            daemons,
+        }
+    }
+
+    /// What every stream is.
+    pub fn is_stream(&self)
+        ensures { IsStream self.now }
+    {
+        let _ = &self.daemons;
+    }
+
+    /// Its number, below `STREAM_LIMIT`.
+    pub fn number(&self) -> u8
+        ensures { result ≡ self.now.number }
+    {
+        self.number
+    }
+
+    /// When its nodes pass on what they have.
+    pub fn mode(&self) -> Mode
+        ensures { result ≡ self.now.mode }
+    {
+        self.mode
+    }
+
+    /// How many waves it has: 1 to `WAVE_LIMIT`.
+    pub fn waves(&self) -> u8
+        ensures { result ≡ self.now.waves }
+    {
+        self.waves
+    }
+
+    /// How many sample times each wave has: 1 to `SAMPLE_LIMIT`.
+    pub fn samples(&self) -> u8
+        ensures { result ≡ self.now.samples }
+    {
+        self.samples
+    }
+
+    /// Its daemons, ascending, at least one.
+    pub fn daemons(&self) -> &[u32]
+        ensures { result.now ≡ self.now.daemons }
+    {
+        self.daemons.as_slice()
+    }
+}
+
+/// What a script says.
+#[derive(Drop)]
+pub struct Script {
+    streams: Vec<StreamDef>,
+    faults: Vec<Fault>,
+}
+
+impl Model for Script {
+    ghost use Rattle.stat_plan.specs.Plans.{Scripted, scripted};
+    ghost use Rattle.stat_plan.specs.Kept.{IsScript};
+
+    ghost Value = { Scripted };
+
+    ghost view = { λ a. scripted a.streams.items a.faults.items };
+
+    ghost invariant = { λ a. IsScript (scripted a.streams.items a.faults.items) };
+}
+
+impl Script {
+    ghost use Rattle.stat_plan.specs.Plans.{scripted};
+
+    /// The script of these streams, ascending and at least one, and these faults, ascending by node. It takes no memory.
+    pub fn new(streams: Vec<StreamDef>, faults: Vec<Fault>) -> Script
+        requires { IsScript (scripted streams.items faults.items) }
+        ensures { result ≡ scripted streams.items faults.items }
+    {
+        Script { streams, faults }
+    }
+
+    /// What every script is.
+    pub fn is_script(&self)
+        ensures { IsScript self.now }
+    {
+        let _ = &self.streams;
+    }
+
+    /// The streams, ascending by number.
+    pub fn streams(&self) -> &[StreamDef]
+        ensures { result.now ≡ self.now.streams }
+    {
+        self.streams.as_slice()
+    }
+
+    /// The nodes that are to be lost, ascending.
+    pub fn faults(&self) -> &[Fault]
+        ensures { result.now ≡ self.now.faults }
+    {
+        self.faults.as_slice()
+    }
+}

@@ -1,0 +1,271 @@
+-- What holds of whatever tokens have said so far, and of what the checks of the whole text leave.
+use Rattle.std.proofs.Common.{◌≡◌, ℕ, zero, suc, ◌+◌, ◌-◌, ◌<◌, ◌≤◌, ◌⊎◌, inl, inr, Bool, true, false, ◌||◌, List, [], ◌∷◌, ◌++◌, length, Option, None, Some, Ok, Err, Result, refl, sym, ap, ◌∙◌, subst, arith, rules, slice_get, length-append, is_some}
+use Rattle.std.specs.List.{AllByRecursion, IsDistinct}
+use Rattle.std.specs.Str.{bytes_eq}
+use Rattle.stat_plan.specs.declared.text_error.TextError.{TextError}
+use Rattle.stat_plan.specs.Names.{IsName, number_of}
+use Rattle.stat_plan.specs.Topologies.{IsTopology, topology}
+use Rattle.stat_plan.proofs.NameNumbers.{length-map}
+use Rattle.topology_text.specs.declared.draft.Node.{Node}
+use Rattle.topology_text.specs.declared.draft.Place.{Place}
+use Rattle.topology_text.specs.declared.draft.Place.TheVariants.{Outside, AfterParent, AfterArrow, AfterChild}
+use Rattle.topology_text.specs.Tokens.{Piece, Arrow, Semicolon, Name, End, NoToken}
+use Rattle.topology_text.specs.Statements.{Seen, appear, number_or_0, begin, adopt, at_node, is_begun, is_child, begun_now, child_of, name_stands, arrow_stands, semicolon_stands, end_stands, with_piece, with_pieces, nothing_seen}
+use Rattle.topology_text.specs.Kept.{IsBelow, has_child, PlaceFits, IsKept}
+use Rattle.topology_text.specs.Whole.{is_within, roots_from, parents_of, first_beyond, depth_fault, reach_fault, roots_fault, whole_fault}
+use Rattle.topology_text.proofs.NameParts.{IsGoodPiece}
+use Rattle.topology_text.proofs.Numbers.{appear_known, appear_over, appear_new, number_below, number_of_last}
+use Rattle.topology_text.proofs.Nodes.{begin_bad, begin_good, adopt_bad, adopt_good, piece_bad, piece_good, none_left}
+use Rattle.topology_text.proofs.OneTree.{is_tree, two_nodes}
+
+-- what is seen has good names and parents, as far as there is no fault
+abbrev pub Keeps : Result Seen TextError → Type 0
+Keeps (Err e) = Unit {0}
+Keeps (Ok s) = IsKept s
+
+-- good names and parents, wherever the next token stands
+record HasNodes (s : Seen) : Type 0 where
+  paired : length s.names ≡ length s.nodes
+  named : AllByRecursion IsName s.names
+  parents : AllByRecursion (λ x. IsBelow (length s.nodes) x.parent) s.nodes
+
+-- in a statement its parent is a node
+abbrev ParentFits : List Node → Place → Type 0
+ParentFits nodes Outside = Unit {0}
+ParentFits nodes (AfterParent p) = p < length nodes
+ParentFits nodes (AfterArrow p) = p < length nodes
+ParentFits nodes (AfterChild p) = p < length nodes
+
+parent_fits : (nodes : List Node) (place : Place) → PlaceFits nodes place → ParentFits nodes place
+parent_fits nodes Outside h = tt
+parent_fits nodes (AfterParent p) h = h
+parent_fits nodes (AfterArrow p) h = h
+parent_fits nodes (AfterChild p) h = h.0
+
+nodes_of : (s : Seen) → IsKept s → HasNodes s
+nodes_of s h = record { paired = h.paired; named = h.named; parents = h.parents }
+
+-- a list of which one element is changed
+length-at_node : (n : ℕ) (xs : List Node) (f : Node → Node) → length (at_node xs n f) ≡ length xs
+length-at_node n [] f = refl
+length-at_node zero (x ∷ xs) f = refl
+length-at_node (suc n) (x ∷ xs) f = ap suc (length-at_node n xs f)
+
+all-at_node : (P : Node → Type 0) (xs : List Node) (n : ℕ) (f : Node → Node) → ((x : Node) → P x → P (f x)) → AllByRecursion P xs → AllByRecursion P (at_node xs n f)
+all-at_node P [] n f keeps all = all
+all-at_node P (x ∷ xs) zero f keeps all = (keeps x all.0, all.1)
+all-at_node P (x ∷ xs) (suc n) f keeps all = (all.0, all-at_node P xs n f keeps all.1)
+
+all-append : {X : Type 0} (P : X → Type 0) (xs : List X) (y : X) → AllByRecursion P xs → P y → AllByRecursion P (xs ++ y ∷ [])
+all-append P [] y all here = (here, all)
+all-append P (x ∷ xs) y all here = (all.0, all-append P xs y all.1 here)
+
+all-weaker : (P Q : Node → Type 0) (xs : List Node) → ((x : Node) → P x → Q x) → AllByRecursion P xs → AllByRecursion Q xs
+all-weaker P Q [] weaker all = all
+all-weaker P Q (x ∷ xs) weaker all = (weaker x all.0, all-weaker P Q xs weaker all.1)
+
+below_more : (count more : ℕ) (o : Option ℕ) → count ≤ more → IsBelow count o → IsBelow more o
+below_more count more None le h = tt
+below_more count more (Some p) le h = omega arith
+
+or_true : (b : Bool) → (b || true) ≡ true
+or_true true = refl
+or_true false = refl
+
+-- a node that gets a parent is one that has a parent
+child_now : (xs : List Node) (n p : ℕ) → n < length xs → has_child (at_node xs n (child_of p)) ≡ true
+child_now [] n p lt = absurd (omega arith)
+child_now (x ∷ xs) zero p lt = refl
+child_now (x ∷ xs) (suc n) p lt = ap (λ b. is_some x.parent || b) (child_now xs n p (omega arith)) ∙ or_true (is_some x.parent)
+
+-- what holds once a name has appeared
+record HasAppeared (name : List ℕ) (s : Seen) : Type 0 where
+  nodes : HasNodes s
+  place : ParentFits s.nodes s.place
+  number : number_or_0 (number_of name s.names) < length s.nodes
+
+abbrev Appeared : List ℕ → Result Seen TextError → Type 0
+Appeared name (Err e) = Unit {0}
+Appeared name (Ok s) = HasAppeared name s
+
+fits_more : (nodes more : List Node) (place : Place) → length nodes ≤ length more → ParentFits nodes place → ParentFits more place
+fits_more nodes more Outside le h = tt
+fits_more nodes more (AfterParent p) le h = omega arith
+fits_more nodes more (AfterArrow p) le h = omega arith
+fits_more nodes more (AfterChild p) le h = omega arith
+
+either : (n m : ℕ) → (n < m) ⊎ (m ≤ n)
+either n m = search rules
+
+module _ (s : Seen) (line : ℕ) (name : List ℕ) (good : IsName name) (h : HasNodes s) (fits : ParentFits s.nodes s.place) where
+  abbrev new : Node
+  new = record { line = line; parent = None; begun = false }
+
+  one_more : length (s.nodes ++ new ∷ []) ≡ length s.nodes + 1
+  one_more = length-append s.nodes (new ∷ [])
+
+  appeared_known : (n : ℕ) → number_of name s.names ≡ Some n → HasAppeared name s
+  appeared_known n e = record {
+    nodes = h;
+    place = fits;
+    number = (let lt = number_below name s.names n e in subst (λ o. number_or_0 o < length s.nodes) (sym e) (omega (arith, h.paired)));
+  }
+
+  appeared_new : number_of name s.names ≡ None → HasAppeared name (record s { names = s.names ++ name ∷ []; nodes = s.nodes ++ new ∷ [] })
+  appeared_new e = record {
+    nodes = record {
+      paired = omega (arith, h.paired, one_more, length-append s.names (name ∷ []));
+      named = all-append IsName s.names name h.named good;
+      parents = all-append (λ x. IsBelow (length (s.nodes ++ new ∷ [])) x.parent) s.nodes new (all-weaker (λ x. IsBelow (length s.nodes) x.parent) (λ x. IsBelow (length (s.nodes ++ new ∷ [])) x.parent) s.nodes (λ x below. below_more (length s.nodes) (length (s.nodes ++ new ∷ [])) x.parent (omega (arith, one_more)) below) h.parents) tt;
+    };
+    place = fits_more s.nodes (s.nodes ++ new ∷ []) s.place (omega (arith, one_more)) fits;
+    number = subst (λ o. number_or_0 o < length (s.nodes ++ new ∷ [])) (sym (number_of_last name s.names e)) (omega (arith, h.paired, one_more));
+  }
+
+  appeared_by_room : number_of name s.names ≡ None → (length s.names < 512) ⊎ (512 ≤ length s.names) → Appeared name (appear s line name)
+  appeared_by_room e (inl few) = subst (Appeared name) (sym (appear_new s line name e few)) (appeared_new e)
+  appeared_by_room e (inr many) = subst (Appeared name) (sym (appear_over s line name e many)) tt
+
+  appeared_by : (o : Option ℕ) → number_of name s.names ≡ o → Appeared name (appear s line name)
+  appeared_by (Some n) e = subst (Appeared name) (sym (appear_known s line n name e)) (appeared_known n e)
+  appeared_by None e = appeared_by_room e (either (length s.names) 512)
+
+-- a name of a node, by where it stands
+module _ (s : Seen) (line n : ℕ) (h : HasNodes s) (lt : n < length s.nodes) where
+  begin_by : (b : Bool) → is_begun (slice_get s.nodes n) ≡ b → Keeps (begin s line n)
+  begin_by true e = subst Keeps (sym (begin_bad s line n e)) tt
+  begin_by false e =
+      let len = length-at_node n s.nodes begun_now in
+      subst Keeps (sym (begin_good s line n e)) (record {
+        paired = h.paired ∙ sym len;
+        named = h.named;
+        parents = subst (λ count. AllByRecursion (λ x. IsBelow count x.parent) (at_node s.nodes n begun_now)) (sym len) (all-at_node (λ x. IsBelow (length s.nodes) x.parent) s.nodes n begun_now (λ x below. below) h.parents);
+        place = omega (arith, len);
+      })
+
+  adopt_by : (p : ℕ) (b : Bool) → p < length s.nodes → is_child (slice_get s.nodes n) ≡ b → Keeps (adopt s line p n)
+  adopt_by p true low e = subst Keeps (sym (adopt_bad s line n p e)) tt
+  adopt_by p false low e =
+      let len = length-at_node n s.nodes (child_of p) in
+      subst Keeps (sym (adopt_good s line n p e)) (record {
+        paired = h.paired ∙ sym len;
+        named = h.named;
+        parents = subst (λ count. AllByRecursion (λ x. IsBelow count x.parent) (at_node s.nodes n (child_of p))) (sym len) (all-at_node (λ x. IsBelow (length s.nodes) x.parent) s.nodes n (child_of p) (λ x below. low) h.parents);
+        place = (omega (arith, len), child_now s.nodes n p lt);
+      })
+
+  stands_kept : (place : Place) → ParentFits s.nodes place → Keeps (name_stands s line place n)
+  stands_kept Outside fits = begin_by (is_begun (slice_get s.nodes n)) refl
+  stands_kept (AfterParent p) fits = tt
+  stands_kept (AfterArrow p) fits = adopt_by p (is_child (slice_get s.nodes n)) fits refl
+  stands_kept (AfterChild p) fits = adopt_by p (is_child (slice_get s.nodes n)) fits refl
+
+name_kept : (line : ℕ) (name : List ℕ) (r : Result Seen TextError) → Appeared name r → Keeps (elim r as (λ _. Result Seen TextError) [ (Err e) ↦ Err e | (Ok t) ↦ name_stands t line t.place (number_or_0 (number_of name t.names)) ])
+name_kept line name (Err e) h = tt
+name_kept line name (Ok t) h = stands_kept t line (number_or_0 (number_of name t.names)) h.nodes h.number t.place h.place
+
+arrow_kept : (s : Seen) (line : ℕ) (place : Place) → HasNodes s → PlaceFits s.nodes place → Keeps (arrow_stands s line place)
+arrow_kept s line Outside h fits = tt
+arrow_kept s line (AfterParent p) h fits = record { paired = h.paired; named = h.named; parents = h.parents; place = fits }
+arrow_kept s line (AfterArrow p) h fits = tt
+arrow_kept s line (AfterChild p) h fits = tt
+
+semicolon_kept : (s : Seen) (line : ℕ) (place : Place) → HasNodes s → PlaceFits s.nodes place → Keeps (semicolon_stands s line place)
+semicolon_kept s line Outside h fits = tt
+semicolon_kept s line (AfterParent p) h fits = tt
+semicolon_kept s line (AfterArrow p) h fits = tt
+semicolon_kept s line (AfterChild p) h fits = record { paired = h.paired; named = h.named; parents = h.parents; place = inr fits.1 }
+
+end_kept : (s : Seen) (line : ℕ) (place : Place) → IsKept s → Keeps (end_stands s line place)
+end_kept s line Outside h = h
+end_kept s line (AfterParent p) h = tt
+end_kept s line (AfterArrow p) h = tt
+end_kept s line (AfterChild p) h = tt
+
+piece_kept : (s : Seen) (line : ℕ) (p : Piece) → IsGoodPiece p → IsKept s → Keeps (with_piece s line p)
+piece_kept s line Arrow good h = arrow_kept s line s.place (nodes_of s h) h.place
+piece_kept s line Semicolon good h = semicolon_kept s line s.place (nodes_of s h) h.place
+piece_kept s line (Name name) good h = name_kept line name (appear s line name) (appeared_by s line name good (nodes_of s h) (parent_fits s.nodes s.place h.place) (number_of name s.names) refl)
+piece_kept s line End good h = end_kept s line s.place h
+piece_kept s line NoToken good h = tt
+
+module _ (s : Seen) (line : ℕ) (p : Piece) (rest : List (ℕ × Piece)) (further : (t : Seen) → IsKept t → Keeps (with_pieces t rest)) where
+  pieces_by : (r : Result Seen TextError) → with_piece s line p ≡ r → Keeps r → Keeps (with_pieces s ((line, p) ∷ rest))
+  pieces_by (Err e) is h = subst Keeps (sym (piece_bad s line p rest e is)) tt
+  pieces_by (Ok t) is h = subst Keeps (sym (piece_good s line p rest t is)) (further t h)
+
+-- good tokens keep what holds
+pub pieces_kept : (s : Seen) (ps : List (ℕ × Piece)) → AllByRecursion (λ p. IsGoodPiece p.1) ps → IsKept s → Keeps (with_pieces s ps)
+pieces_kept s [] good h = subst Keeps (sym (none_left s)) h
+pieces_kept s (p ∷ rest) good h = pieces_by s p.0 p.1 rest (λ t k. pieces_kept t rest good.1 k) (with_piece s p.0 p.1) refl (piece_kept s p.0 p.1 good.0 h)
+
+-- it holds before the first token
+pub nothing_kept : IsKept nothing_seen
+nothing_kept = record { paired = refl; named = tt; parents = tt; place = inl refl }
+
+-- where no node is beyond, all are within
+module _ (ps : List (Option ℕ)) (links : ℕ) where
+  beyond_by : (n more k : ℕ) (b : Bool) → is_within ps links n ≡ b → first_beyond ps links n (suc more) ≡ None → (first_beyond ps links (suc n) more ≡ None → suc n ≤ k → is_within ps links k ≡ true) → (n ≡ k) ⊎ (suc n ≤ k) → is_within ps links k ≡ true
+  unfolding first_beyond
+  beyond_by n more k false e none later where_is = let h : Some n ≡ None = sym (rw (e, first_beyond) refl) ∙ none in cc
+  beyond_by n more k true e none later (inl here) = ap (is_within ps links) (sym here) ∙ e
+  beyond_by n more k true e none later (inr after) = later (sym (rw (e, first_beyond) refl) ∙ none) after
+
+  -- each of so many nodes is within the links
+  pub all_within : (more n : ℕ) → first_beyond ps links n more ≡ None → (k : ℕ) → n ≤ k → k < n + more → is_within ps links k ≡ true
+  all_within zero n none k low high = absurd (omega arith)
+  all_within (suc more) n none k low high = beyond_by n more k (is_within ps links n) refl none (λ later above. all_within more (suc n) later k above (omega arith)) (here n k low)
+    where
+      here : (n k : ℕ) → n ≤ k → (n ≡ k) ⊎ (suc n ≤ k)
+      here n k low = search rules
+
+-- what is left where no fault of the whole text is found
+module _ (nodes : List Node) where
+  depth_none : (o : Option ℕ) → depth_fault o ≡ None → o ≡ None
+  depth_none None e = refl
+  depth_none (Some n) e = cc
+
+  reach_none : (o : Option ℕ) → reach_fault nodes o ≡ None → (o ≡ None) × (first_beyond (parents_of nodes) 8 0 (length nodes) ≡ None)
+  reach_none None e = (refl, depth_none _ e)
+  reach_none (Some n) e = cc
+
+  roots_none : (rs : List ℕ) → roots_fault nodes rs ≡ None → (length rs ≡ 1) × (first_beyond (parents_of nodes) (length nodes - 1) 0 (length nodes) ≡ None) × (first_beyond (parents_of nodes) 8 0 (length nodes) ≡ None)
+  roots_none [] e = cc
+  roots_none (root ∷ []) e = let h = reach_none _ e in (refl, h.0, h.1)
+  roots_none (root ∷ second ∷ rs) e = cc
+
+  whole_none : whole_fault nodes ≡ None → (length (roots_from 0 (parents_of nodes)) ≡ 1) × (first_beyond (parents_of nodes) (length nodes - 1) 0 (length nodes) ≡ None) × (first_beyond (parents_of nodes) 8 0 (length nodes) ≡ None)
+  unfolding whole_fault
+  whole_none e = roots_none _ e
+
+  some_root : length (roots_from 0 (parents_of nodes)) ≡ 1 → length nodes ≡ 0 → ⊥
+  some_root one none = by nodes none one
+    where
+      by : (xs : List Node) → length xs ≡ 0 → length (roots_from 0 (parents_of xs)) ≡ 1 → ⊥
+      by [] e one = absurd (omega arith)
+      by (x ∷ xs) e one = absurd (omega arith)
+
+-- after a whole text without a fault some node has a parent
+child_left : (nodes : List Node) (place : Place) → place ≡ Outside → PlaceFits nodes place → length (roots_from 0 (parents_of nodes)) ≡ 1 → has_child nodes ≡ true
+child_left nodes place outside fits one = by (subst (PlaceFits nodes) outside fits)
+  where
+    by : (length nodes ≡ 0) ⊎ (has_child nodes ≡ true) → has_child nodes ≡ true
+    by (inl none) = absurd (some_root nodes one none)
+    by (inr child) = child
+
+-- what a whole text without a fault has said is a topology
+pub is_topology : (s : Seen) → IsKept s → s.place ≡ Outside → IsDistinct bytes_eq s.names → length s.names ≤ 512 → whole_fault s.nodes ≡ None → IsTopology (topology s.names (parents_of s.nodes))
+is_topology s kept outside distinct few none =
+    let checks = whole_none s.nodes none in
+    let one = checks.0 in
+    let len : length (parents_of s.nodes) ≡ length s.nodes = length-map (λ (x : Node). x.parent) s.nodes in
+    record {
+      paired = kept.paired ∙ sym len;
+      some = two_nodes s.nodes (child_left s.nodes s.place outside kept.place one) one;
+      few = omega (arith, kept.paired);
+      tree = is_tree s.nodes one kept.parents
+          (λ n lt. all_within (parents_of s.nodes) (length s.nodes - 1) (length s.nodes) 0 checks.1 n (omega arith) (omega arith))
+          (λ n lt. all_within (parents_of s.nodes) 8 (length s.nodes) 0 checks.2 n (omega arith) (omega arith));
+      named = kept.named;
+      distinct = distinct;
+    }

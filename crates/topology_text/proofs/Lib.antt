@@ -1,0 +1,10 @@
+pub mod Bytes
+pub mod Numbers
+pub mod Nodes
+pub mod NameBytes
+pub mod NameParts
+pub mod Roots
+pub mod OneTree
+pub mod WholeFile
+pub mod Kept
+pub mod Grammar

@@ -1,0 +1,28 @@
+use Rattle.std.proofs.Common.{◌∙◌, sym, ap, Some, None}
+use Rattle.stat_plan.specs.declared.text_error.TextError.TheVariants.{Bad, Over}
+use Rattle.stat_plan.specs.declared.text_error.Quantity.TheVariants.{Depth}
+use Rattle.stat_plan.specs.declared.text_error.Reason.TheVariants.{TwoRoots, Unreached}
+use Rattle.topology_text.proofs.WholeFile.{fault_no_root, fault_two_roots, fault_unreached, fault_by_depth}
+use Rattle.topology_text.proofs.whole.whole_fault.Goals as goal
+
+pub returns-in_default : goal.returns-in_default
+returns-in_default c = c.bad.ensures ∙ sym (fault_no_root c.args.nodes.now c.args.parents.now c.requires.parents c.in_default.ensures.next)
+
+pub returns-in-Some-next_root : goal.returns-in-Some-next_root
+returns-in-Some-next_root c =
+    c.bad-in-Some-next_root.ensures ∙ ap (λ n. Some (Bad n TwoRoots)) c.line_of.ensures
+    ∙ sym (fault_two_roots c.args.nodes.now c.args.parents.now c.requires.parents c.in-Some.root c.in-Some.ensures.next c.in-Some-next_root.second _ c.in-Some-next_root.ensures.next)
+
+pub returns-in-Some-first_beyond : goal.returns-in-Some-first_beyond
+returns-in-Some-first_beyond c =
+    c.bad-in-Some-first_beyond.ensures ∙ ap (λ n. Some (Bad n Unreached)) c.line_of-in-Some-first_beyond.ensures
+    ∙ sym (fault_unreached c.args.nodes.now c.args.parents.now c.requires.parents c.in-Some.root c.in-Some.ensures.next c.in_default-next_root.ensures.next c.in-Some-first_beyond.node c.in-Some-first_beyond.ensures)
+
+pub returns-in-Some-first_beyond-2 : goal.returns-in-Some-first_beyond-2
+returns-in-Some-first_beyond-2 c =
+    ap (λ n. Some (Over 0 Depth n)) c.from.ensures
+    ∙ sym (fault_by_depth c.args.nodes.now c.args.parents.now c.requires.parents c.in-Some.root c.in-Some.ensures.next c.in_default-next_root.ensures.next _ c.in_default-first_beyond.ensures c.in-Some-first_beyond-2.ensures)
+
+pub returns : goal.returns
+returns c =
+    sym (fault_by_depth c.args.nodes.now c.args.parents.now c.requires.parents c.in-Some.root c.in-Some.ensures.next c.in_default-next_root.ensures.next None c.in_default-first_beyond.ensures c.in_default-first_beyond-2.ensures)

@@ -1,0 +1,89 @@
+-- What a topology text says: its nodes, or its first fault.
+use Rattle.std.specs.Prelude.{ℕ, zero, suc, ◌-◌, Bool, true, false, not, is_some, List, [], ◌∷◌, map, length, Option, None, Some, Result, Ok, Err, slice_get}
+use Rattle.stat_plan.specs.declared.text_error.TextError.{TextError}
+use Rattle.stat_plan.specs.declared.text_error.TextError.TheVariants.{Bad, Over}
+use Rattle.stat_plan.specs.declared.text_error.Reason.TheVariants.{NoRoot, TwoRoots, Unreached}
+use Rattle.stat_plan.specs.declared.text_error.Quantity.TheVariants.{Depth}
+use Rattle.stat_plan.specs.Trees.{parent_of}
+use Rattle.stat_plan.specs.Topologies.{Nodes, topology}
+use Rattle.stat_plan.specs.declared.topology.TheConstants.{DEPTH_LIMIT}
+use Rattle.topology_text.specs.declared.draft.Node.{Node}
+use Rattle.topology_text.specs.Tokens.{pieces}
+use Rattle.topology_text.specs.Statements.{Seen, nothing_seen, with_pieces}
+
+-- whether a node without a parent is at most so many links above this one
+unfoldable pub is_within : List (Option ℕ) → ℕ → ℕ → Bool
+is_within parents zero n = not (is_some (parent_of parents n))
+is_within parents (suc links) n = elim (parent_of parents n) [ None ↦ true | (Some p) ↦ is_within parents links p ]
+
+-- the nodes without a parent, ascending, where the list begins with node n
+abbrev pub roots_from : ℕ → List (Option ℕ) → List ℕ
+roots_from n [] = []
+roots_from n (None ∷ parents) = n ∷ roots_from (suc n) parents
+roots_from n (Some p ∷ parents) = roots_from (suc n) parents
+
+-- each node's parent
+abbrev pub parents_of : List Node → List (Option ℕ)
+parents_of nodes = map (λ x. x.parent) nodes
+
+-- the line of a node
+abbrev pub line_or_0 : Option Node → ℕ
+line_or_0 None = 0
+line_or_0 (Some x) = x.line
+
+-- the line of a node's first appearance
+abbrev pub line_of : List Node → ℕ → ℕ
+line_of nodes n = line_or_0 (slice_get nodes n)
+
+-- the least node, of so many from n on, that isn't within so many links of a root
+unfoldable pub first_beyond : List (Option ℕ) → ℕ → ℕ → ℕ → Option ℕ
+first_beyond parents links n zero = None
+first_beyond parents links n (suc more) = elim (is_within parents links n) [ true ↦ first_beyond parents links (suc n) more | false ↦ Some n ]
+
+-- the fault of the whole text, where a node is more than 8 links from the root
+abbrev pub depth_fault : Option ℕ → Option TextError
+depth_fault None = None
+depth_fault (Some n) = Some (Over 0 Depth DEPTH_LIMIT)
+
+-- the fault of the whole text, where a node is not reached from the root
+abbrev pub reach_fault : List Node → Option ℕ → Option TextError
+reach_fault nodes None = depth_fault (first_beyond (parents_of nodes) DEPTH_LIMIT 0 (length nodes))
+reach_fault nodes (Some n) = Some (Bad (line_of nodes n) Unreached)
+
+-- The fault of the whole text, by the nodes without a parent. A node is reached from the root where the root is fewer links
+-- above it than there are nodes.
+abbrev pub roots_fault : List Node → List ℕ → Option TextError
+roots_fault nodes [] = Some (Bad 0 NoRoot)
+roots_fault nodes (root ∷ []) = reach_fault nodes (first_beyond (parents_of nodes) (length nodes - 1) 0 (length nodes))
+roots_fault nodes (root ∷ second ∷ roots) = Some (Bad (line_of nodes second) TwoRoots)
+
+-- the first fault of the whole text
+unfoldable pub whole_fault : List Node → Option TextError
+whole_fault nodes = roots_fault nodes (roots_from 0 (parents_of nodes))
+
+-- what is seen, unless there is a fault
+abbrev pub unless : Seen → Option TextError → Result Seen TextError
+unless s None = Ok s
+unless s (Some e) = Err e
+
+-- what is seen, unless the whole text has a fault
+abbrev pub whole : Seen → Result Seen TextError
+whole s = unless s (whole_fault s.nodes)
+
+-- a second step where the first finds no fault
+abbrev pub and_then : Result Seen TextError → (Seen → Result Seen TextError) → Result Seen TextError
+and_then (Err e) f = Err e
+and_then (Ok s) f = f s
+
+-- what the tokens of a text say, unless it has a fault
+abbrev pub said : List ℕ → Result Seen TextError
+said text = and_then (with_pieces nothing_seen (pieces 1 0 text)) whole
+
+-- the names in order of number, and each node's parent
+abbrev pub told : Result Seen TextError → Result Nodes TextError
+told (Err e) = Err e
+told (Ok s) = Ok (topology s.names (parents_of s.nodes))
+
+-- the nodes that a text stands for, or its first fault
+abbrev pub topology_of : List ℕ → Result Nodes TextError
+topology_of text = told (said text)

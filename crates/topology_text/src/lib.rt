@@ -1,0 +1,74 @@
+//! Reads topologies: statements as `fe:0 => a:0 b:0 ;`, each a parent and its children.
+//!
+//! A text stands for the names of its nodes in order of first appearance and each node's parent, or for its first fault:
+//! `topology_of` says which, and [`read`] gives just that. A text that is accepted is written as statements: `IsWritten`.
+#![tactic(auto)]
+
+ghost use Rattle.std.specs.Prelude.{◌≡◌, ◌≢◌, IfErr, OnOk, IfOk, Ok, Err};
+ghost use Rattle.topology_text.specs.Tokens.{pieces};
+ghost use Rattle.topology_text.specs.Seen.{seen};
+ghost use Rattle.topology_text.specs.Statements.{with_pieces};
+ghost use Rattle.topology_text.specs.Grammar.{IsWritten};
+ghost use Rattle.topology_text.specs.Kept.{IsKept};
+ghost use Rattle.topology_text.specs.Whole.{whole, told, topology_of};
+ghost use Rattle.topology_text.specs.declared.draft.Place.TheVariants.{Outside};
+ghost use Rattle.stat_plan.specs.declared.text_error.TextError.TheVariants.{OutOfMemory};
+
+mod draft;
+#[cfg(test)]
+mod tests;
+mod tokens;
+mod whole;
+
+use draft::Draft;
+use stat_plan::{Reason, TextError, Topology};
+use std::alloc::Global;
+use tokens::{skipped, token_at, token_len};
+use whole::{parents_of, whole_fault};
+
+// Takes the tokens of a text into a draft, and its end.
+fn read_tokens(text: &[u8], draft: &mut Draft) -> Result<(), TextError>
+    ensures ok { OnOk result (with_pieces (seen draft.old) (pieces 1 0 text.now) ≡ Ok (seen draft.new)) }
+    ensures outside { OnOk result ((seen draft.new).place ≡ Outside) }
+    ensures err { IfErr result (λ e. e ≢ OutOfMemory → with_pieces (seen draft.old) (pieces 1 0 text.now) ≡ Err e) }
+{
+    let (mut rest, mut line) = skipped(text, 1);
+    while !rest.is_empty() {
+        let Some(token) = token_at(rest) else {
+            return Err(TextError::Bad {
+                line,
+                reason: Reason::BadToken,
+            });
+        };
+        draft.take(line, &token)?;
+        let (_, after) = rest.split_at(token_len(&token));
+        (rest, line) = skipped(after, line);
+    }
+    draft.end(line)
+}
+
+// The topology that a draft says, after the checks of the whole text.
+fn finished(alloc: Global, draft: Draft) -> Result<Topology, TextError>
+    requires kept { IsKept (seen draft) }
+    requires outside { (seen draft).place ≡ Outside }
+    ensures ok { IfOk result (λ t. told (whole (seen draft)) ≡ Ok t) }
+    ensures err { IfErr result (λ e. e ≢ OutOfMemory → told (whole (seen draft)) ≡ Err e) }
+{
+    let parents = parents_of(alloc, &draft.nodes)?;
+    if let Some(fault) = whole_fault(&draft.nodes, &parents) {
+        return Err(fault);
+    }
+    Ok(Topology::new(draft.names, parents)?)
+}
+
+/// Reads a topology. The bytes of comments may be any; elsewhere the text is refused by its first fault, read from the
+/// front token by token, and then by those of the whole text.
+pub fn read(alloc: Global, text: &[u8]) -> Result<Topology, TextError>
+    ensures ok { IfOk result (λ t. topology_of text.now ≡ Ok t) }
+    ensures grammar { IfOk result (λ t. IsWritten text.now) }
+    ensures err { IfErr result (λ e. e ≢ OutOfMemory → topology_of text.now ≡ Err e) }
+{
+    let mut draft = Draft::new(alloc);
+    read_tokens(text, &mut draft)?;
+    finished(alloc, draft)
+}
