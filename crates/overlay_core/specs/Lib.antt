@@ -1,0 +1,15 @@
+pub mod Nodes
+pub mod Machine
+pub mod Runs
+pub mod Losses
+pub mod Sound
+pub mod Joined
+pub mod Calm
+pub mod History
+pub mod Releases
+pub mod Whole
+pub mod Bound
+pub mod Pick
+pub mod Apart
+pub mod Counts
+pub mod Rows

@@ -1,0 +1,9 @@
+-- The nodes that a journal loses.
+use Rattle.std.specs.Prelude.{ℕ, List}
+use Rattle.stat_plan.specs.NodeSets.{In}
+use Rattle.stat_desk.specs.declared.event.Event.{Event}
+use Rattle.stat_desk.specs.declared.event.Event.TheVariants.{Lose}
+
+-- the journal loses n
+abbrev pub IsLost : List Event → ℕ → Type 0
+IsLost journal n = In (Lose n) journal

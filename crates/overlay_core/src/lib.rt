@@ -1,0 +1,111 @@
+//! The machine of the overlay: nodes that stand in a tree, pass the ranks of each wave up to the front end, and may be lost on
+//! the way.
+//!
+//! What the machine is stands in `specs/`: a state, the events that may come next, and what each leaves. The functions here
+//! are laws of it. Their bodies are empty; what each says is its contract, and who needs a law calls its function.
+#![tactic(auto)]
+
+ghost use Rattle.overlay_core.specs.Apart.{outcome, IsApart};
+ghost use Rattle.overlay_core.specs.Bound.{bound};
+ghost use Rattle.overlay_core.specs.Counts.{OnlyGrows, one_if, is_unsent, sends, growths, moves};
+ghost use Rattle.overlay_core.specs.History.{of_wave};
+ghost use Rattle.overlay_core.specs.Losses.{IsLost};
+ghost use Rattle.overlay_core.specs.Machine.{State, start, step, is_enabled, enabled_events};
+ghost use Rattle.overlay_core.specs.Pick.{next_number, picked_event, picked, Picks, IsPickedFrom};
+ghost use Rattle.overlay_core.specs.Releases.{ReleasesAreSound};
+ghost use Rattle.overlay_core.specs.Runs.{run, after, IsLegal, IsQuiet, IsWhole};
+ghost use Rattle.overlay_core.specs.Whole.{HasEnded, HasOneRelease, IsSound, LosesNoDaemon};
+ghost use Rattle.stat_desk.specs.declared.event.Event.{Event};
+ghost use Rattle.stat_plan.specs.Kept.{IsPlan};
+ghost use Rattle.stat_plan.specs.NodeSets.{In};
+ghost use Rattle.stat_plan.specs.Plans.{Plan, nodes, mode, waves_of};
+ghost use Rattle.stat_plan.specs.declared.script.Mode.TheVariants.{WaitForAll};
+ghost use Rattle.std.specs.List.{AllByRecursion};
+ghost use Rattle.std.specs.Prelude.{◌≡◌, ◌≤◌, ◌<◌, ◌+◌, ◌↔◌, true, false, length, List, [], ◌∷◌, ◌++◌, Some, ℕ};
+
+mod release;
+
+pub use release::{Kind, Release};
+
+/// A law: every legal journal leaves a sound state.
+pub fn legal_journals_are_sound()
+    ensures sound { (p : Plan) (journal : List Event) → IsPlan p → IsLegal p journal → IsSound p (after p journal) }
+{}
+
+/// A law: no legal journal is longer than the bound, so after one where an event may still come there is room for it.
+pub fn legal_journals_are_short()
+    ensures short { (p : Plan) (journal : List Event) → IsPlan p → IsLegal p journal → length journal ≤ bound p }
+    ensures room { (p : Plan) (journal : List Event) (e : Event) → IsPlan p → IsLegal p journal → is_enabled p (after p journal) e ≡ true → length journal < bound p }
+{}
+
+/// A law: a whole journal has ended each wave. The wave has one final release, its last, which covers each daemon of the
+/// stream that the journal doesn't lose; the daemon of a missing rank is lost, and the release says so. And each living node
+/// that serves the wave has closed it.
+pub fn whole_journals_have_ended()
+    ensures ended { (p : Plan) (journal : List Event) → IsPlan p → IsWhole p journal → HasEnded p journal }
+{}
+
+/// A law: a stream that waits for all, and none of whose daemons is lost, has one release of each wave, of all its ranks.
+pub fn waiting_streams_release_once()
+    ensures once { (p : Plan) (journal : List Event) (s w : ℕ) → IsPlan p → IsWhole p journal → mode p s ≡ WaitForAll → LosesNoDaemon p journal s → In (s, w) (waves_of p.streams) → HasOneRelease p s (of_wave s w (after p journal).releases) }
+{}
+
+/// A law: the journal that a seed picks is whole.
+pub fn picked_journals_are_whole()
+    ensures whole { (p : Plan) (seed : ℕ) → IsPlan p → IsWhole p (picked p seed) }
+{}
+
+/// A law: a seed picks a journal, and no other.
+pub fn seeds_pick_one_journal()
+    ensures some { (p : Plan) (seed : ℕ) → IsPlan p → IsPickedFrom p seed (picked p seed) }
+    ensures one { (p : Plan) (seed : ℕ) (journal : List Event) → IsPlan p → IsPickedFrom p seed journal → journal ≡ picked p seed }
+{}
+
+/// A law: the events that were picked so far and the one that is picked next are picked, and what is picked is legal.
+pub fn picks_go_on()
+    ensures more { (p : Plan) (seed : ℕ) (journal : List Event) (y : ℕ) (e : Event) → Picks p seed journal y → picked_event p (after p journal) (next_number y) ≡ Some e → Picks p seed (journal ++ e ∷ []) (next_number y) }
+    ensures legal { (p : Plan) (seed : ℕ) (journal : List Event) (y : ℕ) → Picks p seed journal y → IsLegal p journal }
+{}
+
+/// A law: each release is of a wave of the plan, covers all ranks of some daemons of its stream, and is final where the stream
+/// waits for all.
+pub fn releases_are_sound()
+    ensures sound { (p : Plan) (journal : List Event) → IsPlan p → IsLegal p journal → ReleasesAreSound p (after p journal) }
+{}
+
+/// A law: the list of enabled events has just the events that may come next, and is empty just where the state is quiet.
+pub fn enabled_events_are_listed()
+    ensures listed { (p : Plan) (journal : List Event) (e : Event) → IsPlan p → IsLegal p journal → (is_enabled p (after p journal) e ≡ true) ↔ In e (enabled_events p (after p journal)) }
+    ensures quiet { (p : Plan) (journal : List Event) → IsPlan p → IsLegal p journal → IsQuiet p (after p journal) ↔ (enabled_events p (after p journal) ≡ []) }
+{}
+
+/// A law: a journal with an event more leaves the state one step on, and is legal just where the journal is and the event may
+/// come after it.
+pub fn journals_go_on()
+    ensures state { (p : Plan) (journal : List Event) (e : Event) → after p (journal ++ e ∷ []) ≡ step p (after p journal) e }
+    ensures legal { (p : Plan) (journal : List Event) (e : Event) → IsLegal p journal → is_enabled p (after p journal) e ≡ true → IsLegal p (journal ++ e ∷ []) }
+    ensures parts { (p : Plan) (journal : List Event) (e : Event) → IsLegal p (journal ++ e ∷ []) → IsLegal p journal × (is_enabled p (after p journal) e ≡ true) }
+{}
+
+/// A law: the nodes that a journal loses are those that are dead after it.
+pub fn lost_nodes_are_dead()
+    ensures lost { (p : Plan) (journal : List Event) (n : ℕ) → n < nodes p → IsLost journal n ↔ ((after p journal).alive n ≡ false) }
+{}
+
+/// A law: a node sends a wave at most as often as what it covers of the wave grew or its parent changed, and once less where
+/// something isn't sent yet.
+pub fn sends_are_paid()
+    ensures paid { (p : Plan) (journal : List Event) (n s w : ℕ) → sends p (start p) journal n s w + one_if (is_unsent (((after p journal).node n).book s w)) ≤ growths p (start p) journal n s w + moves p (start p) journal n }
+{}
+
+/// A law: what a node covers of a wave only grows, and a wave that has ended doesn't begin again.
+pub fn coverages_only_grow()
+    ensures each { (p : Plan) (journal : List Event) (e : Event) (n s w : ℕ) → IsPlan p → IsLegal p (journal ++ e ∷ []) → OnlyGrows (((after p journal).node n).book s w) (((after p (journal ++ e ∷ [])).node n).book s w) }
+{}
+
+/// A law: an event that may come may still come after events of other nodes, where none of them is the loss of the sender of
+/// its packet, and leaves of its node what it would have left before.
+pub fn events_apart_leave_each_other()
+    ensures one { (p : Plan) (st : State) (e f : Event) → IsApart e f → is_enabled p st e ≡ true → (is_enabled p (step p st f) e ≡ true) × (outcome p (step p st f) e ≡ outcome p st e) }
+    ensures each { (p : Plan) (st : State) (e : Event) (fs : List Event) → AllByRecursion (IsApart e) fs → is_enabled p st e ≡ true → (is_enabled p (run p st fs) e ≡ true) × (outcome p (run p st fs) e ≡ outcome p st e) }
+{}
