@@ -168,77 +168,90 @@ end
     },
 ];
 
-// A job's three files, and the first fault that is in them.
-const BAD_INPUTS: [(&str, &str, &str, FileRole, u64, Reason); 7] = [
+// A text of each file, and its first fault: its line and its reason. The other files are good.
+const BAD_TOPOLOGY: [(&[u8], u64, Reason); 9] = [
+    (b"fe:0 => a:01 ;", 1, Reason::BadToken),
+    (b"fe:0 => a:0 ;\nfe:0 => b:0 ;", 2, Reason::SecondLine),
+    (b"fe:0 a:0 ;", 1, Reason::NoArrow),
+    (b"fe:0 => ;", 1, Reason::NoChild),
+    (b"fe:0 => a:0 b:0 ;\nx:0 => a:0 ;", 2, Reason::SecondParent),
+    (b"fe:0 => a:0", 1, Reason::NoSemicolon),
+    (b"", 0, Reason::NoRoot),
+    (b"fe:0 => a:0 ;\ngz:0 => b:0 ;", 2, Reason::TwoRoots),
     (
-        "fe:0 => a:0 b:0 ;\nx:0 => a:0 ;\n",
-        FOUR_SMP,
-        ALL_SCR,
-        FileRole::Topology,
+        b"fe:0 => a:0 ;\nx:0 => y:0 ;\ny:0 => x:0 ;",
         2,
-        Reason::SecondParent,
+        Reason::Unreached,
     ),
-    ("", "", "", FileRole::Topology, 0, Reason::NoRoot),
+];
+
+const BAD_SAMPLES: [(&[u8], u64, Reason); 9] = [
+    (b"daemon a:0 0\nstack 0 0 \xff", 2, Reason::NotUtf8),
+    (b"# ranks\n\ndaemon a:0", 3, Reason::BadDirective),
+    (b"daemon fe:0 0", 1, Reason::NotADaemon),
+    (b"daemon a:0 1-", 1, Reason::BadRanks),
+    (b"daemon a:0 0-2\ndaemon b:0 2-3", 2, Reason::PlacedTwice),
+    (b"stack 65536 0 main", 1, Reason::BadTime),
+    (b"stack 0 0 main\ndaemon a:0 0", 1, Reason::Unplaced),
+    (b"daemon a:0 0\nstack 0 0 main;;io", 2, Reason::BadPath),
+    (b"daemon a:0 0-1", 0, Reason::DaemonWithoutRank),
+];
+
+const BAD_SCRIPT: [(&[u8], u64, Reason); 8] = [
     (
-        "fe:0 => a:0",
-        "",
-        "",
-        FileRole::Topology,
+        b"stream 0 wait-for-all waves 1 samples 1 on all a:0",
         1,
-        Reason::NoSemicolon,
+        Reason::BadDirective,
     ),
     (
-        TWO_TOP,
-        "daemon a:0 0-2\ndaemon b:0 2-3\n",
-        "",
-        FileRole::Samples,
+        b"stream 0 wait-for-all waves 0 samples 1 on all",
+        1,
+        Reason::BadNumber,
+    ),
+    (
+        b"stream 1 dont-wait waves 1 samples 1 on all\nstream 1 dont-wait waves 1 samples 1 on all",
         2,
-        Reason::PlacedTwice,
+        Reason::SecondStream,
     ),
     (
-        TWO_TOP,
-        "daemon a:0 0-1\n",
-        "",
-        FileRole::Samples,
-        0,
-        Reason::DaemonWithoutRank,
+        b"stream 0 wait-for-all waves 1 samples 1 on a:0 fe:0",
+        1,
+        Reason::NotADaemon,
     ),
+    (b"lose c:0 after 0 keep 0", 1, Reason::UnknownNode),
     (
-        TWO_TOP,
-        FOUR_SMP,
-        "stream 0 wait-for-all waves 1 samples 1 on all\nlose fe:0 after 0 keep 0\n",
-        FileRole::Script,
+        b"stream 0 wait-for-all waves 1 samples 1 on all\nlose fe:0 after 0 keep 0",
         2,
         Reason::LosesFront,
     ),
-    (TWO_TOP, FOUR_SMP, "", FileRole::Script, 0, Reason::NoStream),
+    (
+        b"lose a:0 after 0 keep 0\nlose a:0 after 1 keep 0",
+        2,
+        Reason::SecondLoss,
+    ),
+    (b"# no stream", 0, Reason::NoStream),
 ];
 
-// A job's three files, and the first limit that they pass.
-const OVER_LIMITS: [(&str, &str, &str, FileRole, u64, Quantity, u64); 3] = [
+// Lines that pass a limit: of samples, and of a script.
+const LONG_SAMPLES: [(&[u8], u64, Quantity, u64); 2] = [
+    (b"daemon a:0 16384", 1, Quantity::Ranks, 16_384),
     (
-        ONE_TOP,
-        "daemon a:0 16384\n",
-        ALL_SCR,
-        FileRole::Samples,
-        1,
+        b"daemon a:0 0\nstack 0 16384 main",
+        2,
         Quantity::Ranks,
         16_384,
     ),
+];
+
+const LONG_SCRIPTS: [(&[u8], u64, Quantity, u64); 2] = [
     (
-        TWO_TOP,
-        FOUR_SMP,
-        "stream 8 wait-for-all waves 1 samples 1 on all\n",
-        FileRole::Script,
+        b"stream 8 wait-for-all waves 1 samples 1 on all",
         1,
         Quantity::Streams,
         8,
     ),
     (
-        TWO_TOP,
-        FOUR_SMP,
-        "stream 0 wait-for-all waves 17 samples 1 on all\n",
-        FileRole::Script,
+        b"stream 0 wait-for-all waves 17 samples 1 on all",
         1,
         Quantity::Waves,
         16,
@@ -262,6 +275,10 @@ const LATER_SCRIPTS: [&str; 6] = [
     "stream 0 wait-for-all waves 1 samples 1 on all\nlose a:0 after 0 keep 0\n",
 ];
 
+fn bad(file: FileRole, line: u64, reason: Reason) -> Status {
+    Status::BadInput { file, line, reason }
+}
+
 fn words_of(alloc: Global, texts: &[&str]) -> Result<Vec<String>, AllocError> {
     let mut words = Vec::new(alloc);
     for text in texts {
@@ -270,11 +287,21 @@ fn words_of(alloc: Global, texts: &[&str]) -> Result<Vec<String>, AllocError> {
     Ok(words)
 }
 
-fn put(alloc: Global, desk: &mut MemDesk, name: &str, text: &str) -> Result<(), AllocError> {
-    desk.put(
-        String::from_str(alloc, name)?,
-        text.as_bytes().to_vec(alloc)?,
-    )
+fn put(alloc: Global, desk: &mut MemDesk, name: &str, text: &[u8]) -> Result<(), AllocError> {
+    desk.put(String::from_str(alloc, name)?, text.to_vec(alloc)?)
+}
+
+fn desk_of_bytes(
+    alloc: Global,
+    topology: &[u8],
+    samples: &[u8],
+    script: &[u8],
+) -> Result<MemDesk, AllocError> {
+    let mut desk = MemDesk::new(alloc);
+    put(alloc, &mut desk, "t", topology)?;
+    put(alloc, &mut desk, "s", samples)?;
+    put(alloc, &mut desk, "c", script)?;
+    Ok(desk)
 }
 
 fn desk_of(
@@ -283,11 +310,12 @@ fn desk_of(
     samples: &str,
     script: &str,
 ) -> Result<MemDesk, AllocError> {
-    let mut desk = MemDesk::new(alloc);
-    put(alloc, &mut desk, "t", topology)?;
-    put(alloc, &mut desk, "s", samples)?;
-    put(alloc, &mut desk, "c", script)?;
-    Ok(desk)
+    desk_of_bytes(
+        alloc,
+        topology.as_bytes(),
+        samples.as_bytes(),
+        script.as_bytes(),
+    )
 }
 
 // The status of a run on a desk, and what it writes, sixteen bytes at a time.
@@ -313,41 +341,73 @@ fn writes_the_reports_of_worked_jobs(rt: HostRuntime) -> Result<(), AllocError> 
 // The status of a run of these files, and whether nothing is written.
 fn ends(
     alloc: Global,
-    topology: &str,
-    samples: &str,
-    script: &str,
+    topology: &[u8],
+    samples: &[u8],
+    script: &[u8],
 ) -> Result<(Status, bool), AllocError> {
-    let mut desk = desk_of(alloc, topology, samples, script)?;
+    let mut desk = desk_of_bytes(alloc, topology, samples, script)?;
     let (status, out) = run_on(alloc, &mut desk)?;
     Ok((status, out.bytes().is_empty()))
 }
 
+// The status of a run of the small job with another text of one of its files, and whether nothing is written.
+fn ends_with(alloc: Global, file: FileRole, text: &[u8]) -> Result<(Status, bool), AllocError> {
+    let (topology, samples, script) = (TWO_TOP.as_bytes(), FOUR_SMP.as_bytes(), ALL_SCR.as_bytes());
+    match file {
+        FileRole::Topology => ends(alloc, text, samples, script),
+        FileRole::Samples => ends(alloc, topology, text, script),
+        FileRole::Script => ends(alloc, topology, samples, text),
+    }
+}
+
 #[test]
-fn names_the_first_fault_by_its_line(rt: HostRuntime) -> Result<(), AllocError> {
-    for (topology, samples, script, file, line, reason) in BAD_INPUTS {
-        let end = ends(rt.alloc(), topology, samples, script)?;
-        assert_eq!(rt; end, (Status::BadInput { file, line, reason }, true));
+fn names_the_first_fault_of_each_file(rt: HostRuntime) -> Result<(), AllocError> {
+    for (file, table) in [
+        (FileRole::Topology, BAD_TOPOLOGY.as_slice()),
+        (FileRole::Samples, BAD_SAMPLES.as_slice()),
+        (FileRole::Script, BAD_SCRIPT.as_slice()),
+    ] {
+        for (text, line, reason) in table {
+            let status = Status::BadInput {
+                file,
+                line: *line,
+                reason: *reason,
+            };
+            let end = ends_with(rt.alloc(), file, text)?;
+            assert_eq!(rt; end, (status, true));
+        }
     }
     Ok(())
 }
 
 #[test]
 fn names_the_first_limit_that_is_passed(rt: HostRuntime) -> Result<(), AllocError> {
-    for (topology, samples, script, file, line, what, limit) in OVER_LIMITS {
-        let end = ends(rt.alloc(), topology, samples, script)?;
-        assert_eq!(rt;
-            end,
-            (
-                Status::OverLimit {
-                    file,
-                    line,
-                    what,
-                    limit
-                },
-                true
-            )
-        );
+    for (file, table) in [
+        (FileRole::Samples, LONG_SAMPLES.as_slice()),
+        (FileRole::Script, LONG_SCRIPTS.as_slice()),
+    ] {
+        for (text, line, what, limit) in table {
+            let status = Status::OverLimit {
+                file,
+                line: *line,
+                what: *what,
+                limit: *limit,
+            };
+            let end = ends_with(rt.alloc(), file, text)?;
+            assert_eq!(rt; end, (status, true));
+        }
     }
+    Ok(())
+}
+
+#[test]
+fn reads_the_files_in_order(rt: HostRuntime) -> Result<(), AllocError> {
+    let alloc = rt.alloc();
+    let good = TWO_TOP.as_bytes();
+    let first = ends(alloc, b"", b"stack", b"lose")?.0;
+    assert_eq!(rt; first, bad(FileRole::Topology, 0, Reason::NoRoot));
+    let second = ends(alloc, good, b"stack", b"lose")?.0;
+    assert_eq!(rt; second, bad(FileRole::Samples, 1, Reason::BadDirective));
     Ok(())
 }
 
@@ -355,17 +415,19 @@ fn names_the_first_limit_that_is_passed(rt: HostRuntime) -> Result<(), AllocErro
 fn runs_plain_scripts_and_no_others_yet(rt: HostRuntime) -> Result<(), AllocError> {
     let alloc = rt.alloc();
     for script in PLAIN_SCRIPTS.as_slice() {
-        let end = ends(alloc, TWO_TOP, FOUR_SMP, script)?;
+        let end = ends_with(alloc, FileRole::Script, script.as_bytes())?;
         assert_eq!(rt; end, (Status::Done, false));
     }
     for script in LATER_SCRIPTS.as_slice() {
-        let end = ends(alloc, TWO_TOP, FOUR_SMP, script)?;
+        let end = ends_with(alloc, FileRole::Script, script.as_bytes())?;
         assert_eq!(rt; end, (Status::NotYet(FileRole::Script), true));
-    }
-    let inner = "fe:0 => c:0 ;\nc:0 => a:0 b:0 ;\n";
-    for script in PLAIN_SCRIPTS.as_slice() {
-        let end = ends(alloc, inner, FOUR_SMP, script)?;
-        assert_eq!(rt; end, (Status::NotYet(FileRole::Topology), true));
+        let inner = ends(
+            alloc,
+            b"fe:0 => c:0 ;\nc:0 => a:0 b:0 ;",
+            FOUR_SMP.as_bytes(),
+            script.as_bytes(),
+        )?;
+        assert_eq!(rt; inner, (Status::NotYet(FileRole::Topology), true));
     }
     Ok(())
 }
@@ -427,8 +489,8 @@ fn status_of_length(alloc: Global, text: &str, length: usize) -> Result<Status, 
     topology.resize(length, b' ')?;
     let mut desk = MemDesk::new(alloc);
     desk.put(String::from_str(alloc, "t")?, topology)?;
-    put(alloc, &mut desk, "s", FOUR_SMP)?;
-    put(alloc, &mut desk, "c", ALL_SCR)?;
+    put(alloc, &mut desk, "s", FOUR_SMP.as_bytes())?;
+    put(alloc, &mut desk, "c", ALL_SCR.as_bytes())?;
     Ok(run_on(alloc, &mut desk)?.0)
 }
 
