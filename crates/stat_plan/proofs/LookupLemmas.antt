@@ -1,12 +1,14 @@
 -- Looking things up.
-use Rattle.std.proofs.Common.{◌≡◌, ◌≢◌, ℕ, zero, suc, ◌+◌, ◌<◌, ◌≤◌, Bool, true, false, cond, ◌||◌, ◌==◌, List, [], ◌∷◌, ◌++◌, length, get_or, take, drop, map, Option, Some, None, refl, sym, ap, subst, ◌∙◌, arith, inl, inr}
+use Rattle.std.proofs.Common.{◌≡◌, ◌≢◌, ℕ, zero, suc, ◌+◌, ◌<◌, ◌≤◌, Bool, true, false, cond, unwrap_or, ◌||◌, ◌==◌, List, [], ◌∷◌, ◌++◌, length, get_or, take, drop, map, Option, Some, None, refl, sym, ap, subst, ◌∙◌, arith, inl, inr}
 use Rattle.std.specs.Prelude.{find, slice_get, nat_le, not, IfNone, IfSome, is_some}
 use Rattle.std.proofs.Common.{◌⊎◌}
 use Rattle.std.specs.List.{list_any, AllByRecursion}
+use Rattle.std.specs.Ordering.{nat_cmp, eq_by_cmp, is_eq}
+use Rattle.std.specs.Cmp.{nat_cmp_total, tied_itself}
 use Rattle.std.proofs.lemmas.Bool.{true≢false, cases_lt, leb-true, false_from_ne_true, or_cases, or_left, or_right}
 use Rattle.std.proofs.lemmas.List.{drop_all, take_more, length-append, get_or_append_left, get_or-append-add}
-use Rattle.std.proofs.lemmas.Option.{slice_get-get_or, slice_get_within, get_or_from_slice_get}
-use Rattle.rank_set.specs.Ranks.{Ranks, none, has, Has, in_order, union, has-union, has-none}
+use Rattle.std.proofs.lemmas.Option.{none-some, slice_get-get_or, slice_get_within, get_or_from_slice_get}
+use Rattle.rank_set.specs.Ranks.{Ranks, none, has, Has, in_order, union, has-union, has-none, has-in_order}
 use Rattle.prefix_tree.proofs.TreeLemmas.{some_member}
 use Rattle.stat_plan.specs.NodeSets.{In, member}
 use Rattle.stat_plan.specs.Samples.{ranks_with, IsWithinLimit}
@@ -17,7 +19,16 @@ use Rattle.prefix_tree.specs.Tree.{tree_of, count_below}
 use Rattle.stat_plan.specs.Tables.{AreExpected, AreAllExpected}
 use Rattle.stat_plan.proofs.InLists.{in_filter, in_from_filter, any_from_in, in_from_any, in_map, in_from_map}
 use Rattle.stat_plan.proofs.FirstOver.{all_in, found_in}
-use Rattle.stat_plan.proofs.Noting.{has_first}
+
+first_of : (xs : List ℕ) (r : ℕ) → slice_get xs 0 ≡ Some r → (rest : List ℕ) × (xs ≡ r ∷ rest)
+first_of [] r e = absurd (none-some r e)
+first_of (x ∷ xs) r e = (xs, ap (λ (o : Option ℕ). unwrap_or o x ∷ xs) e)
+
+-- the first rank is a member
+has_first : (C : Ranks) (r : ℕ) → slice_get (in_order C) 0 ≡ Some r → has C r ≡ true
+has_first C r e =
+    let parts = first_of (in_order C) r e in
+    has-in_order C r ∙ ap (list_any (eq_by_cmp nat_cmp r)) parts.1 ∙ ap (λ o. is_eq o || list_any (eq_by_cmp nat_cmp r) parts.0) (tied_itself nat_cmp_total r)
 
 -- what is found from a place on
 pub find-from : {X : Type 0} (test : X → Bool) (xs : List X) (i : ℕ) (d : X) → i < length xs → find test (drop i xs) ≡ cond (test (get_or xs i d)) (Some (get_or xs i d)) (find test (drop (i + 1) xs))

@@ -1,37 +1,13 @@
 -- Lines noted at the nodes of their ranks.
-use Rattle.std.proofs.Common.{◌≡◌, ◌≢◌, ◌⊎◌, ℕ, suc, zero, ◌+◌, ◌<◌, ◌≤◌, Bool, true, false, ◌&&◌, ◌||◌, not, ◌==◌, cond, List, [], ◌∷◌, ◌++◌, filter, get_or, set, length, Option, Some, refl, sym, ap, subst, ◌∙◌, arith, eqb-true, inl, inr, unwrap_or, Vec, Global}
-use Rattle.std.proofs.lemmas.Bool.{true≢false, cases_Bool, or_cases, and_parts, eqb-false, cases_lt, false_from_ne_true}
+use Rattle.std.proofs.Common.{◌≡◌, ◌≢◌, ◌⊎◌, ℕ, suc, zero, ◌+◌, ◌<◌, ◌≤◌, true, false, ◌==◌, List, [], ◌∷◌, get_or, set, length, refl, sym, ap, subst, ◌∙◌, arith, eqb-true, inl, inr, Vec, Global}
+use Rattle.std.proofs.lemmas.Bool.{true≢false, cases_Bool, or_cases, eqb-false, cases_lt, false_from_ne_true}
 use Rattle.std.proofs.lemmas.List.{length-set, get_or-set_same, get_or-set_other, get_or_default, get_or-map, map-set, length-map}
-use Rattle.std.proofs.lemmas.List.Sums.{length-filter, count_by-le-length}
-use Rattle.std.specs.Prelude.{slice_get}
-use Rattle.std.specs.List.{list_any}
-use Rattle.std.specs.Ordering.{nat_cmp, eq_by_cmp, is_eq}
-use Rattle.std.specs.Cmp.{nat_cmp_total, tied_itself}
-use Rattle.rank_set.specs.Ranks.{Ranks, none, has, Has, size, in_order, those, union, has-union, has-those, has-in_order, has-none}
+use Rattle.rank_set.specs.Ranks.{Ranks, none, has, Has, union, has-union, has-none}
 use Rattle.stat_plan.specs.NodeSets.{In}
 use Rattle.stat_plan.specs.Kept.{ArePlacedOnce}
 use Rattle.stat_plan.specs.Samples.{ranks_with, all_ranks}
-use Rattle.stat_plan.specs.Tables.{AreHomes, TakesNote, rows_in}
-use Rattle.stat_plan.proofs.InLists.{in_append, append_left, append_right}
-
-first_of : (xs : List ℕ) (r : ℕ) → slice_get xs 0 ≡ Some r → (rest : List ℕ) × (xs ≡ r ∷ rest)
-first_of [] r e = absurd (Rattle.std.proofs.lemmas.Option.none-some r e)
-first_of (x ∷ xs) r e = (xs, ap (λ (o : Option ℕ). unwrap_or o x ∷ xs) e)
-
--- the first rank is a member
-pub has_first : (C : Ranks) (r : ℕ) → slice_get (in_order C) 0 ≡ Some r → has C r ≡ true
-has_first C r e =
-    let parts = first_of (in_order C) r e in
-    has-in_order C r ∙ ap (list_any (eq_by_cmp nat_cmp r)) parts.1 ∙ ap (λ o. is_eq o || list_any (eq_by_cmp nat_cmp r) parts.0) (tied_itself nat_cmp_total r)
-
--- fewer ranks are left where the first is taken away
-pub fewer_without : (t : ℕ → Bool) (C : Ranks) (r : ℕ) → slice_get (in_order C) 0 ≡ Some r → t r ≡ true → size (those (λ s. not (t s)) C) < size C
-unfolding those
-fewer_without t C r e passes =
-    let parts = first_of (in_order C) r e in
-    let left : in_order (those (λ s. not (t s)) C) ≡ filter (λ s. not (t s)) parts.0 =
-    ap (filter (λ s. not (t s))) parts.1 ∙ ap (λ b. cond (not b) (r ∷ filter (λ s. not (t s)) parts.0) (filter (λ s. not (t s)) parts.0)) passes in
-    omega (arith, ap length left, ap length parts.1, length-filter (λ s. not (t s)) parts.0, count_by-le-length (λ s. not (t s)) parts.0)
+use Rattle.rank_set.specs.Runs.{IsRun}
+use Rattle.stat_plan.specs.Tables.{AreHomes, TakesNote, TakesRun, rows_in}
 
 -- a node of the ranks of some sets
 pub record IsHome (placed : List Ranks) (r node : ℕ) : Type 0 where
@@ -95,99 +71,123 @@ homes_all placed homes all each = record {
   ];
 }
 
--- what is noted of a line's ranks, but for those that are left
-pub record Notes (placed : List Ranks) (ranks : Ranks) (number : ℕ) (old new : List (List ℕ)) (left : Ranks) : Type 0 where
-  pub paired : length new ≡ length old
-  pub some : (r : ℕ) → Has r left → Has r ranks
-  pub kept : (n i : ℕ) → In i (get_or old n []) → In i (get_or new n [])
-  pub noted : (n r : ℕ) → n < length old → Has r ranks → Has r (get_or placed n none) → has left r ≡ false → In number (get_or new n [])
-  pub only : (n i : ℕ) → In i (get_or new n []) → In i (get_or old n []) ⊎ ((i ≡ number) × ((r : ℕ) × (Has r ranks × Has r (get_or placed n none))))
-
--- nothing is noted yet
-pub notes_none : (placed : List Ranks) (ranks : Ranks) (number : ℕ) (old : List (List ℕ)) → Notes placed ranks number old old ranks
-notes_none placed ranks number old = record {
+-- nothing of a run is noted yet
+pub run_none : (placed : List Ranks) (first last number : ℕ) (old : List (List ℕ)) → TakesRun placed first last first number old old
+run_none placed first last number old = record {
   paired = refl;
-  some = λ r there. there;
   kept = λ n i there. there;
-  noted = λ n r below there home left. absurd (true≢false (sym there ∙ left));
+  noted = λ n r below start before home. absurd (omega (arith, start, before));
   only = λ n i there. inl there;
 }
 
--- a row with a number more
-abbrev with_number : List (List ℕ) → ℕ → ℕ → List (List ℕ)
-with_number rows node number = set rows node (get_or rows node [] ++ number ∷ [])
+-- a row of a table is changed
+module _ (rows : List (List ℕ)) (node : ℕ) (row : List ℕ) (inside : node < length rows) where
+  same_row : get_or (set rows node row) node [] ≡ row
+  same_row = get_or-set_same rows node row [] inside
 
-same_row : (rows : List (List ℕ)) (node number : ℕ) → node < length rows → get_or (with_number rows node number) node [] ≡ get_or rows node [] ++ number ∷ []
-same_row rows node number inside = get_or-set_same rows node (get_or rows node [] ++ number ∷ []) [] inside
+  other_row : (n : ℕ) → n ≢ node → get_or (set rows node row) n [] ≡ get_or rows n []
+  other_row n other = get_or-set_other rows node n row [] other
 
-other_row : (rows : List (List ℕ)) (node number n : ℕ) → n ≢ node → get_or (with_number rows node number) n [] ≡ get_or rows n []
-other_row rows node number n other = get_or-set_other rows node n (get_or rows node [] ++ number ∷ []) [] other
+  stays : ((i : ℕ) → In i (get_or rows node []) → In i row) → (n i : ℕ) → In i (get_or rows n []) → In i (get_or (set rows node row) n [])
+  stays kept n i there = elim (cases_Bool (n == node)) [
+    | (inl same) ↦
+        let e : n ≡ node = eqb-true n node same in
+        subst (In i) (sym (ap (λ m. get_or (set rows node row) m []) e ∙ same_row)) (kept i (subst (λ m. In i (get_or rows m [])) e there))
+    | (inr other) ↦ subst (In i) (sym (other_row n (eqb-false n node other))) there
+  ]
 
--- the line is noted at the node of a rank that was left
-pub notes_more : (placed : List Ranks) (homes : List ℕ) (ranks : Ranks) (number : ℕ) (old new : List (List ℕ)) (left : Ranks) (node r : ℕ)
-    → AreHomes placed homes → length old ≡ length placed → IsHome placed r node → Has r left → Notes placed ranks number old new left
-    → Notes placed ranks number old (with_number new node number) (those (λ q. not (has (get_or placed node none) q)) left)
-notes_more placed homes ranks number old new left node r are paired home here so_far = record {
-  paired = length-set new node (get_or new node [] ++ number ∷ []) ∙ so_far.paired;
-  some = λ q there. so_far.some q (and_parts (has left q) (not (has (get_or placed node none) q)) (sym (has-those (λ q. not (has (get_or placed node none) q)) left q) ∙ there)).0;
-  kept = λ n i there. stays n i (so_far.kept n i there);
-  noted = λ n q below there at gone. elim (cases_Bool (has left q)) [
-    | (inl still) ↦
-        let taken : has (get_or placed node none) q ≡ true = by_left q still gone in
-        let same : n ≡ node = sym (are.each n q at).1 ∙ (are.each node q taken).1 in
-        subst (λ m. In number (get_or (with_number new node number) m [])) (sym same)
-        (subst (In number) (sym (same_row new node number inside)) (append_right number (get_or new node []) (number ∷ []) (inl refl)))
-    | (inr not_left) ↦ stays n number (so_far.noted n q below there at not_left)
+-- the number is noted at the node of a rank, and of those that follow it there
+pub run_more : (placed : List Ranks) (homes : List ℕ) (first last number : ℕ) (old new : List (List ℕ)) (node r next : ℕ) (row : List ℕ)
+    → AreHomes placed homes → length old ≡ length placed → IsHome placed r node → first ≤ r → r ≤ last
+    → ((q : ℕ) → r ≤ q → q < next → Has q (get_or placed node none))
+    → ((i : ℕ) → In i (get_or new node []) → In i row) → In number row → ((i : ℕ) → In i row → In i (get_or new node []) ⊎ (i ≡ number))
+    → TakesRun placed first last r number old new → TakesRun placed first last next number old (set new node row)
+run_more placed homes first last number old new node r next row are paired home begun within own kept here only so_far = record {
+  paired = length-set new node row ∙ so_far.paired;
+  kept = λ n i there. stays new node row inside kept n i (so_far.kept n i there);
+  noted = λ n q below start before at. elim (cases_lt q r) [
+    | (inl earlier) ↦ stays new node row inside kept n number (so_far.noted n q below start earlier at)
+    | (inr later) ↦
+        let same : n ≡ node = sym (are.each n q at).1 ∙ (are.each node q (own q later before)).1 in
+        subst (λ m. In number (get_or (set new node row) m [])) (sym same) (subst (In number) (sym (same_row new node row inside)) here)
   ];
   only = λ n i there. elim (cases_Bool (n == node)) [
     | (inl same) ↦
         let e : n ≡ node = eqb-true n node same in
-        elim (in_append i (get_or new node []) (number ∷ []) (subst (In i) (ap (λ m. get_or (with_number new node number) m []) e ∙ same_row new node number inside) there)) [
+        elim (only i (subst (In i) (ap (λ m. get_or (set new node row) m []) e ∙ same_row new node row inside) there)) [
           | (inl before) ↦ so_far.only n i (subst (λ m. In i (get_or new m [])) (sym e) before)
-          | (inr new_one) ↦ elim new_one [
-            | (inl is) ↦ inr (is, (r, (so_far.some r here, ap (λ m. has (get_or placed m none) r) e ∙ home.holds)))
-            | (inr no_more) ↦ absurd no_more
-          ]
+          | (inr is) ↦ inr (is, (r, (begun, (within, ap (λ m. has (get_or placed m none) r) e ∙ home.holds))))
         ]
-    | (inr other) ↦ so_far.only n i (subst (In i) (other_row new node number n (eqb-false n node other)) there)
+    | (inr other) ↦ so_far.only n i (subst (In i) (other_row new node row inside n (eqb-false n node other)) there)
   ];
 }
   where
     inside : node < length new
     inside = let a = home.inside in let b = so_far.paired in omega (arith, a, b, paired)
 
-    stays : (n i : ℕ) → In i (get_or new n []) → In i (get_or (with_number new node number) n [])
-    stays n i there = elim (cases_Bool (n == node)) [
-      | (inl same) ↦
-          let e : n ≡ node = eqb-true n node same in
-          subst (In i) (sym (ap (λ m. get_or (with_number new node number) m []) e ∙ same_row new node number inside)) (append_left i (get_or new node []) (number ∷ []) (subst (λ m. In i (get_or new m [])) e there))
-      | (inr other) ↦ subst (In i) (sym (other_row new node number n (eqb-false n node other))) there
-    ]
-
-    by_left : (q : ℕ) → has left q ≡ true → has (those (λ q. not (has (get_or placed node none) q)) left) q ≡ false → has (get_or placed node none) q ≡ true
-    by_left q still gone = elim (cases_Bool (has (get_or placed node none) q)) [
-      | (inl there) ↦ there
-      | (inr absent) ↦ absurd (true≢false (sym (has-those (λ q. not (has (get_or placed node none) q)) left q ∙ ap (λ b. b && not (has (get_or placed node none) q)) still ∙ ap not absent) ∙ gone))
-    ]
-
--- all is noted where no rank is left
-pub notes_all : (placed : List Ranks) (ranks : Ranks) (number : ℕ) (old new : List (List ℕ)) (left : Ranks) → left ≡ none → Notes placed ranks number old new left → TakesNote placed ranks number old new
-notes_all placed ranks number old new left is so_far = record {
+-- what is past the last is past the run
+pub run_all : (placed : List Ranks) (first last past number : ℕ) (old new : List (List ℕ)) → last < past → TakesRun placed first last past number old new → TakesRun placed first last (last + 1) number old new
+run_all placed first last past number old new beyond so_far = record {
   paired = so_far.paired;
   kept = so_far.kept;
-  noted = λ n r below there home. so_far.noted n r below there home (ap (λ s. has s r) is ∙ has-none r);
+  noted = λ n r below start before home. so_far.noted n r below start (omega (arith, beyond, before)) home;
   only = so_far.only;
 }
 
--- the rows where a number was pushed to one of them
-pub rows_pushed : (table : List (Vec ℕ Global)) (node number : ℕ) (d new : Vec ℕ Global) → node < length table → new.items ≡ (get_or table node d).items ++ number ∷ [] → rows_in (set table node new) ≡ set (rows_in table) node (get_or (rows_in table) node [] ++ number ∷ [])
-rows_pushed table node number d new inside pushed =
-    map-set (λ (r : Vec ℕ Global). r.items) table node new
-    ∙ ap (set (rows_in table) node) (pushed ∙ ap (λ xs. xs ++ number ∷ []) (sym (get_or-map (λ (r : Vec ℕ Global). r.items) table node d [] inside)))
+-- what is noted of a line's ranks, of those before one
+pub record Notes (placed : List Ranks) (ranks : Ranks) (number : ℕ) (old new : List (List ℕ)) (from : ℕ) : Type 0 where
+  pub paired : length new ≡ length old
+  pub kept : (n i : ℕ) → In i (get_or old n []) → In i (get_or new n [])
+  pub noted : (n r : ℕ) → n < length old → Has r ranks → Has r (get_or placed n none) → r < from → In number (get_or new n [])
+  pub only : (n i : ℕ) → In i (get_or new n []) → In i (get_or old n []) ⊎ ((i ≡ number) × ((r : ℕ) × (Has r ranks × Has r (get_or placed n none))))
 
--- the node of the first rank that is left
-pub first_home : (placed : List Ranks) (homes : List ℕ) (ranks left : Ranks) (r : ℕ) → AreHomes placed homes → ((r : ℕ) → Has r ranks → Has r (all_ranks placed)) → ((r : ℕ) → Has r left → Has r ranks) → slice_get (in_order left) 0 ≡ Some r → IsHome placed r (get_or homes r 0)
-first_home placed homes ranks left r are within some least = home_is placed homes r are (within r (some r (has_first left r least)))
+-- nothing is noted yet
+pub notes_none : (placed : List Ranks) (ranks : Ranks) (number : ℕ) (old : List (List ℕ)) → Notes placed ranks number old old 0
+notes_none placed ranks number old = record {
+  paired = refl;
+  kept = λ n i there. there;
+  noted = λ n r below there home before. absurd (omega (arith, before));
+  only = λ n i there. inl there;
+}
+
+-- a run more of them is noted
+pub notes_more : (placed : List Ranks) (ranks : Ranks) (number : ℕ) (old mid new : List (List ℕ)) (from first last : ℕ)
+    → IsRun ranks from first last → Notes placed ranks number old mid from → TakesRun placed first last (last + 1) number mid new → Notes placed ranks number old new (last + 1)
+notes_more placed ranks number old mid new from first last run so_far takes = record {
+  paired = takes.paired ∙ so_far.paired;
+  kept = λ n i there. takes.kept n i (so_far.kept n i there);
+  noted = λ n r below there home before. elim (cases_lt r from) [
+    | (inl earlier) ↦ takes.kept n number (so_far.noted n r below there home earlier)
+    | (inr later) ↦ elim (cases_lt r first) [
+      | (inl between) ↦ absurd (true≢false (sym there ∙ run.passed r later between))
+      | (inr start) ↦ takes.noted n r (subst (λ k. n < k) (sym so_far.paired) below) start before home
+    ]
+  ];
+  only = λ n i there. elim (takes.only n i there) [
+    | (inl before) ↦ so_far.only n i before
+    | (inr new_one) ↦ inr (new_one.0, (new_one.1.0, (run.within new_one.1.0 new_one.1.1.0 new_one.1.1.1.0, new_one.1.1.1.1)))
+  ];
+}
+
+-- all is noted where no rank is left
+pub notes_all : (placed : List Ranks) (ranks : Ranks) (number : ℕ) (old new : List (List ℕ)) (from : ℕ) → ((q : ℕ) → from ≤ q → has ranks q ≡ false) → Notes placed ranks number old new from → TakesNote placed ranks number old new
+notes_all placed ranks number old new from none_left so_far = record {
+  paired = so_far.paired;
+  kept = so_far.kept;
+  noted = λ n r below there home. elim (cases_lt r from) [
+    | (inl earlier) ↦ so_far.noted n r below there home earlier
+    | (inr later) ↦ absurd (true≢false (sym there ∙ none_left r later))
+  ];
+  only = so_far.only;
+}
+
+-- the rows where one of them was changed
+pub rows_changed : (table : List (Vec ℕ Global)) (node : ℕ) (new : Vec ℕ Global) → rows_in (set table node new) ≡ set (rows_in table) node new.items
+rows_changed table node new = map-set (λ (r : Vec ℕ Global). r.items) table node new
+
+-- a row of a table, as it stands among the rows
+pub row_at : (table : List (Vec ℕ Global)) (node : ℕ) (d : Vec ℕ Global) → node < length table → (get_or table node d).items ≡ get_or (rows_in table) node []
+row_at table node d inside = sym (get_or-map (λ (r : Vec ℕ Global). r.items) table node d [] inside)
 
 -- a table with as many rows as another
 pub as_long : (table old : List (Vec ℕ Global)) (k : ℕ) → length (rows_in table) ≡ length (rows_in old) → length old ≡ k → length table ≡ k

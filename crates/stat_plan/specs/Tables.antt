@@ -1,5 +1,5 @@
 -- Tables by node number.
-use Rattle.std.specs.Prelude.{ℕ, ◌≡◌, ◌⊎◌, ◌↔◌, ◌<◌, cond, List, [], map, slice_get, slice_index_or, Vec, length, Option, Some}
+use Rattle.std.specs.Prelude.{ℕ, ◌≡◌, ◌⊎◌, ◌↔◌, ◌<◌, ◌≤◌, cond, List, [], map, slice_get, slice_index_or, Vec, length, Option, Some}
 use Rattle.rank_set.specs.Ranks.{Ranks, none, union, Has}
 use Rattle.stat_plan.specs.NodeSets.{In, member}
 use Rattle.stat_plan.specs.Samples.{SampleLine}
@@ -56,6 +56,14 @@ pub record TakesNote (placed : List Ranks) (ranks : Ranks) (number : ℕ) (old n
   pub kept : (n i : ℕ) → In i (slice_index_or old n []) → In i (slice_index_or new n [])
   pub noted : (n r : ℕ) → n < length old → Has r ranks → Has r (slice_index_or placed n none) → In number (slice_index_or new n [])
   pub only : (n i : ℕ) → In i (slice_index_or new n []) → In i (slice_index_or old n []) ⊎ ((i ≡ number) × ((r : ℕ) × (Has r ranks × Has r (slice_index_or placed n none))))
+
+-- rows of a table took note of a number at the nodes of the ranks from the first on and before one that is past, and at no
+-- other nodes than those of the ranks up to the last
+pub record TakesRun (placed : List Ranks) (first last past number : ℕ) (old new : List (List ℕ)) : Type 0 where
+  pub paired : length new ≡ length old
+  pub kept : (n i : ℕ) → In i (slice_index_or old n []) → In i (slice_index_or new n [])
+  pub noted : (n r : ℕ) → n < length old → first ≤ r → r < past → Has r (slice_index_or placed n none) → In number (slice_index_or new n [])
+  pub only : (n i : ℕ) → In i (slice_index_or new n []) → In i (slice_index_or old n []) ⊎ ((i ≡ number) × ((r : ℕ) × ((first ≤ r) × ((r ≤ last) × Has r (slice_index_or placed n none)))))
 
 -- these are the numbers of so many lines, in any order
 abbrev pub AreLineNumbers : ℕ → List ℕ → Type 0

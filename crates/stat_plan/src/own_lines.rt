@@ -1,13 +1,13 @@
 //! Which lines of samples have a rank of which node.
 
-ghost use Rattle.std.specs.Prelude.{◌≡◌, ◌<◌, ◌≤◌, ◌^◌, ℕ, false, IfOk, OnOk, [], length, map, slice_index_or};
+ghost use Rattle.std.specs.Prelude.{◌≡◌, ◌⊎◌, ◌<◌, ◌≤◌, ◌+◌, ◌^◌, ℕ, false, IfOk, OnOk, [], length, map, slice_index_or};
 ghost use Rattle.rank_set.specs.Ranks.{Ranks, none, has, Has};
 ghost use Rattle.stat_plan.specs.NodeSets.{In};
 ghost use Rattle.stat_plan.specs.declared.samples.TheConstants.{LINE_LIMIT};
 ghost use Rattle.stat_plan.specs.Kept.{ArePlacedOnce};
 ghost use Rattle.stat_plan.specs.Plans.{up_to};
 ghost use Rattle.stat_plan.specs.Samples.{all_ranks};
-ghost use Rattle.stat_plan.specs.Tables.{AreAllOwnLines, AreHomes, AreLineNumbers, AreNoted, TakesNote, rows_in};
+ghost use Rattle.stat_plan.specs.Tables.{AreAllOwnLines, AreHomes, AreLineNumbers, AreNoted, TakesNote, TakesRun, rows_in};
 
 use crate::job::Job;
 use crate::samples::StackLine;
@@ -42,7 +42,59 @@ fn settle_all(homes: &mut [u32], placed: &[RankSet])
     }
 }
 
-// Notes a line's number at each node that has one of its ranks.
+// Puts a number at the end of a row, if it doesn't stand there.
+fn push_once(row: &mut Vec<u32>, number: u32) -> Result<(), AllocError>
+    ensures kept { OnOk result ((i : ℕ) → In i row.old.items → In i row.new.items) }
+    ensures here { OnOk result (In number row.new.items) }
+    ensures only { OnOk result ((i : ℕ) → In i row.new.items → In i row.old.items ⊎ (i ≡ number)) }
+{
+    let count = row.len();
+    if count > 0 && row[count - 1] == number {
+        return Ok(());
+    }
+    row.push(number)?;
+    Ok(())
+}
+
+// The number after the run of neighbours in which a rank stands, from the rank on.
+fn after_run(ranks: &RankSet, r: u32) -> u32
+    requires { Has r ranks.now }
+    ensures more { r < result }
+    ensures within { (q : ℕ) → r ≤ q → q < result → Has q ranks.now }
+    ensures small { result ≤ 16384 }
+{
+    match ranks.next_run(r) {
+        Some(run) => run.last + 1,
+        None => unreachable!(),
+    }
+}
+
+// Notes a line's number at each node that has one of the ranks from the first to the last.
+fn note_run(
+    table: &mut [Vec<u32>],
+    homes: &[u32],
+    placed: &[RankSet],
+    first: u32,
+    last: u32,
+    number: u32,
+) -> Result<(), AllocError>
+    requires homes { AreHomes placed.now homes.now }
+    requires paired { length table.old ≡ length placed.now }
+    requires placed { (r : ℕ) → first ≤ r → r ≤ last → Has r (all_ranks placed.now) }
+    requires some { first ≤ last }
+    requires small { last < 16384 }
+    ensures { OnOk result (TakesRun placed.now first last (last + 1) number (rows_in table.old) (rows_in table.new)) }
+{
+    let mut r = first;
+    while r <= last {
+        let node = homes[r as usize] as usize;
+        push_once(&mut table[node], number)?;
+        r = after_run(&placed[node], r);
+    }
+    Ok(())
+}
+
+// Notes a line's number at each node that has one of its ranks. It goes by runs, of the line and of the nodes.
 fn note(
     table: &mut [Vec<u32>],
     homes: &[u32],
@@ -55,11 +107,10 @@ fn note(
     requires placed { (r : ℕ) → Has r ranks.now → Has r (all_ranks placed.now) }
     ensures { OnOk result (TakesNote placed.now ranks.now number (rows_in table.old) (rows_in table.new)) }
 {
-    let mut rest = ranks.copy()?;
-    while let Some(r) = rest.first() {
-        let node = homes[r as usize] as usize;
-        table[node].push(number)?;
-        rest.remove(&placed[node]);
+    let mut from = 0;
+    while let Some(run) = ranks.next_run(from) {
+        note_run(table, homes, placed, run.first, run.last, number)?;
+        from = run.last + 1;
     }
     Ok(())
 }
