@@ -212,7 +212,7 @@ act_as_below p n kin s w k (Open cov sent timer) low ev =
     (λ e. true≢false (sym (final_says (mode p s) _ _ _ timer e).1 ∙ low))
 act_as_below p n kin s w k Closed low ev = (refl, λ x y. refl)
 
-act_each_below : (p : Plan) (n : ℕ) (kin : Kin) (vs : List (ℕ × ℕ)) (k : Work) → is_front p n ≡ false → KeepsOpen k (act_each p n kin vs k)
+pub act_each_below : (p : Plan) (n : ℕ) (kin : Kin) (vs : List (ℕ × ℕ)) (k : Work) → is_front p n ≡ false → KeepsOpen k (act_each p n kin vs k)
 act_each_below p n kin [] k low = (refl, λ x y. refl)
 act_each_below p n kin (v ∷ vs) k low =
     let a = act_as_below p n kin v.0 v.1 k (k.book v.0 v.1) low refl in

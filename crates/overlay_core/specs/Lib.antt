@@ -7,6 +7,7 @@ pub mod Joined
 pub mod Calm
 pub mod History
 pub mod Releases
+pub mod TreeReleases
 pub mod Whole
 pub mod Bound
 pub mod Pick

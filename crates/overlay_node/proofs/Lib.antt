@@ -1,0 +1,15 @@
+pub mod Sizes
+pub mod Completion
+pub mod Telling
+pub mod Books
+pub mod Fitting
+pub mod Turning
+pub mod Results
+pub mod Numbering
+pub mod Going
+pub mod Ticking
+pub mod Waves
+pub mod Handling
+pub mod Distinct
+pub mod Reading
+pub mod Starting

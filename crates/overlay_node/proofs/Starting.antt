@@ -1,0 +1,147 @@
+-- How a node starts.
+use Rattle.std.proofs.Common.{◌≡◌, inl, inr, ℕ, ◌+◌, ◌<◌, ◌≤◌, Bool, true, false, cond, List, [], ◌∷◌, ◌++◌, map, filter, length, get_or, drop, refl, sym, ap, subst, ◌∙◌, add-one}
+use Rattle.std.proofs.lemmas.List.{drop_all, map-append, append_assoc}
+use Rattle.std.proofs.lemmas.List.Elements.{filter-append}
+use Rattle.std.specs.List.{AllByRecursion}
+use Rattle.rank_set.specs.Ranks.{none}
+use Rattle.stat_plan.specs.NodeSets.{In}
+use Rattle.stat_plan.specs.Plans.{Plan, Stream, up_to, waves_of}
+use Rattle.stat_plan.specs.Waves.{Book, Open}
+use Rattle.stat_plan.specs.declared.act.Timer.TheVariants.{Off}
+use Rattle.stat_plan.proofs.InLists.{append_left, append_right, in_at, in_map}
+use Rattle.overlay_core.proofs.Whole.{in_up_to}
+use Rattle.overlay_node.specs.NodeViews.{EntryView, EntryFits, book_of, given_of, is_of, keys_of}
+use Rattle.overlay_node.specs.Entries.{entries_in, entry_in}
+use Rattle.overlay_node.specs.Starts.{HasWaves, IsFresh}
+use Rattle.overlay_node.specs.declared.entry.Entry.{Entry}
+use Rattle.overlay_node.proofs.Reading.{drop_read}
+
+-- the first waves of a stream
+abbrev pub first_waves : ℕ → ℕ → List (ℕ × ℕ)
+first_waves s k = map (λ w. (s, w)) (up_to k)
+
+-- the waves of those streams whose number passes a test
+abbrev pub passing_waves : (ℕ → Bool) → List Stream → List (ℕ × ℕ)
+passing_waves test xs = filter (λ v. test v.0) (waves_of xs)
+
+-- ---- the waves of one stream
+
+-- an entry added at the end adds its key at the end
+pub keys-push : {X : Type 0} (es new : List (Entry X)) (e : Entry X) → new ≡ es ++ e ∷ [] → keys_of (entries_in new) ≡ keys_of (entries_in es) ++ (e.stream, e.wave) ∷ []
+keys-push {X} es new e is = ap (λ (l : List (Entry X)). keys_of (entries_in l)) is ∙ go es
+  where
+    go : (es : List (Entry X)) → keys_of (entries_in (es ++ e ∷ [])) ≡ keys_of (entries_in es) ++ (e.stream, e.wave) ∷ []
+    go [] = refl
+    go (d ∷ ds) = ap (λ (l : List (ℕ × ℕ)). (d.stream, d.wave) ∷ l) (go ds)
+
+-- fresh entries stay so with a fresh one at the end
+pub fresh_push : {X : Type 0} (p : Plan) (es new : List (Entry X)) (e : Entry X) → new ≡ es ++ e ∷ [] → AllByRecursion (IsFresh p) (entries_in es) → IsFresh p (entry_in e) → AllByRecursion (IsFresh p) (entries_in new)
+fresh_push {X} p es new e is h k = subst (λ (l : List (Entry X)). AllByRecursion (IsFresh p) (entries_in l)) (sym is) (go es h)
+  where
+    go : (es : List (Entry X)) → AllByRecursion (IsFresh p) (entries_in es) → AllByRecursion (IsFresh p) (entries_in (es ++ e ∷ []))
+    go [] h = (k, tt)
+    go (d ∷ ds) h = (h.0, go ds h.1)
+
+-- the first waves of a stream with the next one are one more
+pub waves_more : (s k : ℕ) (keys old : List (ℕ × ℕ)) → keys ≡ old ++ first_waves s k → keys ++ (s, k) ∷ [] ≡ old ++ first_waves s (k + 1)
+waves_more s k keys old is =
+    ap (λ (l : List (ℕ × ℕ)). l ++ (s, k) ∷ []) is
+    ∙ append_assoc old (first_waves s k) ((s, k) ∷ [])
+    ∙ ap (λ (l : List (ℕ × ℕ)). old ++ l) (sym (map-append (λ (w : ℕ). (s, w)) (up_to k) (k ∷ [])))
+    ∙ ap (λ (m : ℕ). old ++ first_waves s m) (sym (add-one k))
+
+-- each wave of a stream is among those of all streams
+wave_in : (xs : List Stream) (x : Stream) (w : ℕ) → In {X = Stream} x xs → w < x.waves → In {X = ℕ × ℕ} (x.number, w) (waves_of xs)
+wave_in [] x w i lt = absurd i
+wave_in (y ∷ ys) x w (inl e) lt =
+    subst (λ (z : Stream). In {X = ℕ × ℕ} (x.number, w) (first_waves z.number z.waves ++ waves_of ys)) e
+    (append_left (x.number, w) (first_waves x.number x.waves) (waves_of ys) (in_map (λ (v : ℕ). (x.number, v)) w (up_to x.waves) (in_up_to x.waves w lt)))
+wave_in (y ∷ ys) x w (inr i) lt = append_right (x.number, w) (first_waves y.number y.waves) (waves_of ys) (wave_in ys x w i lt)
+
+-- the plan has all waves of each of its streams
+pub has_waves : (p : Plan) (xs : List Stream) (i : ℕ) (x : Stream) (s waves : ℕ) → xs ≡ p.streams → i < length xs → x ≡ get_or xs i x → s ≡ x.number → waves ≡ x.waves → HasWaves p s waves
+has_waves p xs i x s waves same lt is es ew w small =
+    let there : In {X = Stream} x xs = subst (λ (z : Stream). In {X = Stream} z xs) (sym is) (in_at xs i x lt) in
+    subst (λ (t : ℕ). In {X = ℕ × ℕ} (t, w) (waves_of p.streams)) (sym es)
+    (subst (λ (ys : List Stream). In {X = ℕ × ℕ} (x.number, w) (waves_of ys)) same (wave_in xs x w there (subst (λ (m : ℕ). w < m) ew small)))
+
+-- ---- the waves of the streams that are served
+
+-- where a stream passes the test, so do all its waves
+filter-served : (test : ℕ → Bool) (s : ℕ) (ws : List ℕ) → test s ≡ true → filter (λ (v : ℕ × ℕ). test v.0) (map (λ w. (s, w)) ws) ≡ map (λ w. (s, w)) ws
+filter-served test s [] t = refl
+filter-served test s (w ∷ ws) t =
+    let rest : List (ℕ × ℕ) = filter (λ (v : ℕ × ℕ). test v.0) (map (λ w. (s, w)) ws) in
+    ap (λ b. cond b ((s, w) ∷ rest) rest) t ∙ ap (λ (l : List (ℕ × ℕ)). (s, w) ∷ l) (filter-served test s ws t)
+
+-- where it fails, none of them passes
+filter-unserved : (test : ℕ → Bool) (s : ℕ) (ws : List ℕ) → test s ≡ false → filter (λ (v : ℕ × ℕ). test v.0) (map (λ w. (s, w)) ws) ≡ []
+filter-unserved test s [] f = refl
+filter-unserved test s (w ∷ ws) f =
+    let rest : List (ℕ × ℕ) = filter (λ (v : ℕ × ℕ). test v.0) (map (λ w. (s, w)) ws) in
+    ap (λ b. cond b ((s, w) ∷ rest) rest) f ∙ filter-unserved test s ws f
+
+-- what passes from a stream on is what passes of it and what passes after it
+waves_from : (test : ℕ → Bool) (xs : List Stream) (i : ℕ) (x : Stream) → i < length xs → x ≡ get_or xs i x → passing_waves test (drop i xs) ≡ filter (λ (v : ℕ × ℕ). test v.0) (first_waves x.number x.waves) ++ passing_waves test (drop (i + 1) xs)
+waves_from test xs i x lt is = ap (passing_waves test) (drop_read xs i x lt is) ∙ filter-append (λ (v : ℕ × ℕ). test v.0) (first_waves x.number x.waves) (waves_of (drop (i + 1) xs))
+
+-- a stream that passes is taken
+stream_taken : (test : ℕ → Bool) (xs : List Stream) (i : ℕ) (x : Stream) (keys : List (ℕ × ℕ)) → i < length xs → x ≡ get_or xs i x → test x.number ≡ true → keys ++ passing_waves test (drop i xs) ≡ passing_waves test xs → (keys ++ first_waves x.number x.waves) ++ passing_waves test (drop (i + 1) xs) ≡ passing_waves test xs
+stream_taken test xs i x keys lt is t left =
+    append_assoc keys (first_waves x.number x.waves) (passing_waves test (drop (i + 1) xs))
+    ∙ ap (λ (l : List (ℕ × ℕ)). keys ++ (l ++ passing_waves test (drop (i + 1) xs))) (sym (filter-served test x.number (up_to x.waves) t))
+    ∙ ap (λ (l : List (ℕ × ℕ)). keys ++ l) (sym (waves_from test xs i x lt is))
+    ∙ left
+
+-- a stream that fails is passed over
+pub stream_passed : (test : ℕ → Bool) (xs : List Stream) (i : ℕ) (x : Stream) (keys : List (ℕ × ℕ)) → i < length xs → x ≡ get_or xs i x → test x.number ≡ false → keys ++ passing_waves test (drop i xs) ≡ passing_waves test xs → keys ++ passing_waves test (drop (i + 1) xs) ≡ passing_waves test xs
+stream_passed test xs i x keys lt is f left =
+    ap (λ (l : List (ℕ × ℕ)). keys ++ (l ++ passing_waves test (drop (i + 1) xs))) (sym (filter-unserved test x.number (up_to x.waves) f))
+    ∙ ap (λ (l : List (ℕ × ℕ)). keys ++ l) (sym (waves_from test xs i x lt is))
+    ∙ left
+
+-- entries to which the waves of a stream that passes were added have the keys of the streams so far
+pub entries_taken : {X : Type 0} (test : ℕ → Bool) (xs : List Stream) (i : ℕ) (x : Stream) (s waves : ℕ) (old new : List (Entry X)) → i < length xs → x ≡ get_or xs i x → s ≡ x.number → waves ≡ x.waves → test s ≡ true → keys_of (entries_in new) ≡ keys_of (entries_in old) ++ first_waves s waves → keys_of (entries_in old) ++ passing_waves test (drop i xs) ≡ passing_waves test xs → keys_of (entries_in new) ++ passing_waves test (drop (i + 1) xs) ≡ passing_waves test xs
+entries_taken test xs i x s waves old new lt is es ew t more left =
+    (λ j. (more ∙ (λ k. keys_of (entries_in old) ++ first_waves (es k) (ew k))) j ++ passing_waves test (drop (i + 1) xs))
+    ∙ stream_taken test xs i x (keys_of (entries_in old)) lt is (ap test (sym es) ∙ t) left
+
+-- past the last stream all are taken
+pub all_taken : (test : ℕ → Bool) (xs ys : List Stream) (i : ℕ) (keys : List (ℕ × ℕ)) → length xs ≤ i → xs ≡ ys → keys ++ passing_waves test (drop i xs) ≡ passing_waves test xs → keys ≡ passing_waves test ys
+all_taken test xs ys i keys le same left =
+    sym (append_none keys)
+    ∙ ap (λ (l : List Stream). keys ++ passing_waves test l) (sym (drop_all i xs le))
+    ∙ left
+    ∙ ap (passing_waves test) same
+  where
+    append_none : (vs : List (ℕ × ℕ)) → vs ++ [] ≡ vs
+    append_none [] = refl
+    append_none (v ∷ vs) = ap (λ (l : List (ℕ × ℕ)). v ∷ l) (append_none vs)
+
+-- ---- fresh entries
+
+-- each wave of fresh entries stands as at the start
+pub fresh_book : (p : Plan) (es : List EntryView) → AllByRecursion (IsFresh p) es → ◌≡◌ {A = Book} (book_of es) (λ s w. Open none none Off)
+fresh_book p es h = λ i s w. at es h s w i
+  where
+    both : (b : Bool) → cond b (Open none none Off) (Open none none Off) ≡ Open none none Off
+    both true = refl
+    both false = refl
+
+    at : (es : List EntryView) → AllByRecursion (IsFresh p) es → (s w : ℕ) → book_of es s w ≡ Open none none Off
+    at [] h s w = refl
+    at (e ∷ es) h s w = (λ i. cond (is_of s w e) (h.0.wave i) (at es h.1 s w i)) ∙ both (is_of s w e)
+
+-- no release of a wave was given
+pub fresh_given : (p : Plan) (es : List EntryView) → AllByRecursion (IsFresh p) es → (s w : ℕ) → given_of es s w ≡ 0
+fresh_given p [] h s w = refl
+fresh_given p (e ∷ es) h s w = (λ i. cond (is_of s w e) (h.0.given i) (fresh_given p es h.1 s w i)) ∙ both (is_of s w e)
+  where
+    both : (b : Bool) → ◌≡◌ {A = ℕ} (cond b 0 0) 0
+    both true = refl
+    both false = refl
+
+-- each entry fits the plan
+pub fresh_fits : (p : Plan) (es : List EntryView) → AllByRecursion (IsFresh p) es → AllByRecursion (EntryFits p) es
+fresh_fits p [] h = tt
+fresh_fits p (e ∷ es) h = (h.0.fits, fresh_fits p es h.1)

@@ -1,0 +1,10 @@
+use Rattle.std.proofs.Common.{◌∙◌, ap}
+use Rattle.rank_set.specs.Ranks.{is_subset}
+use Rattle.overlay_node.proofs.Completion.{complete_is}
+use Rattle.overlay_node.proofs.due.is_complete.Goals as goal
+
+pub returns : goal.returns
+returns c =
+    c.is_subset.ensures
+    ∙ ap (λ set. is_subset set c.args.cov.now) c.expected.ensures
+    ∙ complete_is c.args.place.now.plan.now c.args.place.now.node c.args.s c.args.cov.now

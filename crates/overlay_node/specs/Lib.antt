@@ -1,0 +1,6 @@
+pub mod Packets
+pub mod NodeViews
+pub mod Entries
+pub mod Acting
+pub mod Places
+pub mod Starts

@@ -1,0 +1,59 @@
+-- What the nodes send each other, with its trees, and what of it stands for a plan.
+use Rattle.std.specs.Prelude.{◌≡◌, refl, ℕ, ⊤, List, map, Option, Some, None}
+use Rattle.std.specs.Coded.{Coded, code_by, coded×, coded_option, coded_ℕ}
+use Rattle.prefix_tree.specs.Code.{coded_tree}
+use Rattle.prefix_tree.specs.Tree.{Tree}
+use Rattle.stat_plan.specs.Plans.{Plan}
+use Rattle.merge_filter.specs.Contributions.{StandsFor, contrib}
+use Rattle.overlay_core.specs.Nodes.{Packet, Up, Done}
+use Rattle.overlay_core.specs.TreeReleases.{TreeRelease}
+use Rattle.overlay_node.specs.declared.packet.Packet.{Packet as Held}
+use Rattle.overlay_node.specs.declared.packet.Packet.TheVariants.{Up as HeldUp, Done as HeldDone}
+
+-- What goes over a link. Up: what has come in of a wave at the sender. Done: the wave has ended.
+pub data TreePacket : Type 0 where
+  TreeUp : (stream wave : ℕ) (tree : Tree) → TreePacket
+  TreeDone : (stream wave : ℕ) → TreePacket
+
+-- a program's packet, where `tree` says what its tree is
+abbrev pub packet_in : {X : Type 0} → (X → Tree) → Held X → TreePacket
+packet_in tree (HeldUp s w t) = TreeUp s w (tree t)
+packet_in tree (HeldDone s w) = TreeDone s w
+
+-- a program's packets, each with its receiver
+abbrev pub sends_in : {X : Type 0} → (X → Tree) → List (ℕ × Held X) → List (ℕ × TreePacket)
+sends_in tree sends = map (λ v. (v.0, packet_in tree v.1)) sends
+
+-- the machine's packet: of the tree, the ranks that it covers
+abbrev pub bare_packet : TreePacket → Packet
+bare_packet (TreeUp s w t) = Up s w t.coverage
+bare_packet (TreeDone s w) = Done s w
+
+-- the machine's packets, each with its receiver
+abbrev pub bare_sends : List (ℕ × TreePacket) → List (ℕ × Packet)
+bare_sends sends = map (λ v. (v.0, bare_packet v.1)) sends
+
+-- what is sent up stands for the plan
+abbrev pub PacketFits : Plan → TreePacket → Type 0
+PacketFits p (TreeUp s w t) = StandsFor p (contrib s w t)
+PacketFits p (TreeDone s w) = ⊤
+
+-- what is released stands for the plan
+abbrev pub ReleaseFits : Plan → TreeRelease → Type 0
+ReleaseFits p r = StandsFor p (contrib r.stream r.wave r.tree)
+
+-- a packet is stored as its stream and its wave, with its tree if it goes up
+abbrev pub packet_to : TreePacket → ℕ × (ℕ × Option Tree)
+packet_to (TreeUp s w t) = (s, (w, Some t))
+packet_to (TreeDone s w) = (s, (w, None))
+
+abbrev pub packet_with : ℕ → ℕ → Option Tree → TreePacket
+packet_with s w None = TreeDone s w
+packet_with s w (Some t) = TreeUp s w t
+
+pub packet_back : (q : TreePacket) → packet_with (packet_to q).0 (packet_to q).1.0 (packet_to q).1.1 ≡ q
+packet_back (TreeUp s w t) = refl
+packet_back (TreeDone s w) = refl
+
+abbrev pub coded_packet : Coded TreePacket
+coded_packet = code_by (ℕ × (ℕ × Option Tree)) (coded× coded_ℕ (coded× coded_ℕ (coded_option coded_tree))) packet_to (λ c. packet_with c.0 c.1.0 c.1.1) packet_back

@@ -1,0 +1,41 @@
+//! What is due for a wave at a node.
+
+ghost use Rattle.std.specs.Prelude.{◌≡◌, ◌<◌, IsSome, []};
+ghost use Rattle.stat_plan.specs.Kin.{complete};
+ghost use Rattle.stat_plan.specs.Plans.{mode, nodes, stream_of};
+ghost use Rattle.overlay_core.specs.Nodes.{due_at};
+
+use crate::place::Place;
+use rank_set::RankSet;
+use stat_plan::{Act, Mode, Plan, Timer};
+use sync_filter::due;
+
+/// When the nodes of a stream pass on what they have of a wave.
+pub fn mode_of(plan: &Plan, s: u8) -> Mode
+    ensures { result ≡ mode plan.now s }
+{
+    match plan.stream(s) {
+        Some(stream) => stream.mode(),
+        None => Mode::WaitForAll,
+    }
+}
+
+/// Whether all has come in of a wave that can, where these ranks have and no node is lost.
+fn is_complete(place: &Place<'_>, s: u8, cov: &RankSet) -> bool
+    requires node { place.now.node < nodes place.now.plan.now }
+    requires stream { IsSome (stream_of place.now.plan.now s) }
+    ensures { result ≡ complete place.now.plan.now place.now.node [] s cov.now }
+{
+    place.plan.expected(place.node, s).is_subset(cov)
+}
+
+/// What is due for an open wave of the node.
+pub fn due_for(place: &Place<'_>, s: u8, cov: &RankSet, sent: &RankSet, timer: Timer) -> Act
+    requires node { place.now.node < nodes place.now.plan.now }
+    requires stream { IsSome (stream_of place.now.plan.now s) }
+    ensures { result ≡ due_at place.now.plan.now place.now.node [] s cov.now sent.now timer }
+{
+    let complete = is_complete(place, s, cov);
+    let front = place.node == place.plan.front();
+    due(mode_of(place.plan, s), complete, cov, sent, timer, front)
+}

@@ -1,0 +1,17 @@
+//! A node of the overlay: it holds what has come in of each of its waves, merges what its children send, and passes it on or
+//! releases it when that is due.
+#![tactic(auto)]
+
+mod act;
+mod due;
+mod entry;
+mod events;
+mod node;
+mod packet;
+mod place;
+mod reads;
+mod start;
+mod step;
+
+pub use node::Node;
+pub use packet::{Outgoing, Packet};
