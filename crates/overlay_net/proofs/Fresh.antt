@@ -1,0 +1,156 @@
+-- The start of a net, node by node.
+use Rattle.std.proofs.Common.{◌≡◌, ◌≢◌, ◌∙◌, ◌<◌, ◌≤◌, ◌+◌, ℕ, zero, suc, Bool, true, false, ◌==◌, cond, nat_lt, List, [], ◌∷◌, ◌++◌, map, length, slice_get, Option, Some, None, refl, sym, ap, subst, inl, inr, eqb-true, eq-eqb, arith}
+use Rattle.std.proofs.lemmas.Bool.{cases_Bool, true≢false, eqb-false}
+use Rattle.std.proofs.lemmas.Option.{slice_get_within}
+use Rattle.std.specs.List.{AllByRecursion}
+use Rattle.std.specs.List.Sorted.{IsStrictlySortedBy}
+use Rattle.std.specs.Ordering.{nat_cmp}
+use Rattle.overlay_node.specs.Packets.{PacketFits, bare_packet}
+use Rattle.stat_plan.specs.Plans.{Plan, nodes, front}
+use Rattle.overlay_core.specs.Nodes.{Node}
+use Rattle.overlay_core.specs.Machine.{State, start, start_node}
+use Rattle.overlay_core.specs.TreeReleases.{TreeRelease, bare_releases}
+use Rattle.overlay_node.specs.NodeViews.{Counts, IsNodeOf, NodeView, node_of}
+use Rattle.overlay_net.specs.Inboxes.{HaveSent, Waiting, is_waiting, queue_of, senders_of}
+use Rattle.overlay_net.specs.Nets.{IsLeftBy, inbox_at, net_view, node_events, state_with}
+use Rattle.overlay_net.specs.Events.{IsNet, has_some, is_listed}
+use Rattle.overlay_net.specs.Parts.{AreFresh}
+
+-- what stands behind other elements
+last_here : {X : Type 0} (xs : List X) (y : X) → slice_get (xs ++ y ∷ []) (length xs) ≡ Some y
+last_here [] y = refl
+last_here (x ∷ xs) y = last_here xs y
+
+last_else : {X : Type 0} (xs : List X) (y : X) (n : ℕ) → n ≢ length xs → slice_get (xs ++ y ∷ []) n ≡ slice_get xs n
+last_else [] y zero other = absurd (other refl)
+last_else [] y (suc n) other = refl
+last_else (x ∷ xs) y zero other = refl
+last_else (x ∷ xs) y (suc n) other = last_else xs y n (λ e. other (ap suc e))
+
+length-last : {X : Type 0} (xs : List X) (y : X) → length (xs ++ y ∷ []) ≡ length xs + 1
+length-last [] y = refl
+length-last (x ∷ xs) y = ap suc (length-last xs y) ∙ (let e : suc (length xs + 1) ≡ suc (length xs) + 1 = omega arith in e)
+
+empty_last : (ib : List Waiting) → ((n : ℕ) → inbox_at ib n ≡ []) → (n : ℕ) → inbox_at (ib ++ [] ∷ []) n ≡ []
+empty_last [] h zero = refl
+empty_last [] h (suc n) = refl
+empty_last (w ∷ ib) h zero = h zero
+empty_last (w ∷ ib) h (suc n) = empty_last ib (λ k. h (suc k)) n
+
+some_same : {X : Type 0} (x y : X) → Some x ≡ Some y → x ≡ y
+some_same x y e = ap (λ o. elim o [ None ↦ x | Some z ↦ z ]) e
+
+no_sender : IsStrictlySortedBy nat_cmp []
+unfolding IsStrictlySortedBy
+no_sender = tt
+
+-- a loop that has come to its end
+pub at_end : (n e k : ℕ) → e ≤ n → n ≤ e → e ≡ k → n ≡ k
+at_end n e k from to is = omega arith
+
+module _ (p : Plan) where
+  -- a node that has done nothing yet, behind others
+  pub fresh_more : (k : ℕ) (xs ys : List NodeView) (ib ic : List Waiting) (la lb : List ℕ) (x : NodeView) (box : Waiting) → AreFresh p k xs ib la → ys ≡ xs ++ x ∷ [] → ic ≡ ib ++ box ∷ [] → box ≡ []
+      → x.number ≡ k → IsNodeOf p x → ◌≡◌ {A = Node} (node_of x) (start_node p k) → Counts x.entries []
+      → ((b : ℕ) → is_listed lb b ≡ cond (b == x.number) (has_some (node_events p x box)) (is_listed la b))
+      → AreFresh p (k + 1) ys ic lb
+  fresh_more k xs ys ib ic la lb x box h eys eic ebox number fits begins counts marked =
+      subst (λ zs. AreFresh p (k + 1) zs ic lb) (sym eys) (subst (λ id. AreFresh p (k + 1) (xs ++ x ∷ []) id lb) (sym (eic ∙ ap (λ w. ib ++ w ∷ []) ebox)) (record {
+        all_nodes = length-last xs x ∙ ap (λ n. n + 1) h.all_nodes;
+        all_inboxes = length-last ib [] ∙ ap (λ n. n + 1) h.all_inboxes;
+        numbers = λ n. each n (λ y. (y.number ≡ n) × IsNodeOf p y) (h.numbers n) (λ e. (number ∙ e, fits));
+        start = λ n. each n (λ y. ◌≡◌ {A = Node} (node_of y) (start_node p n)) (h.start n) (λ e. begins ∙ ap (start_node p) e);
+        counts = λ n. each n (λ y. Counts y.entries []) (h.counts n) (λ e. counts);
+        empty = empty_last ib h.empty;
+        below = below;
+        each = λ n. each n (λ y. is_listed lb n ≡ has_some (node_events p y [])) (λ y at. listed_else n (λ e. away n y at e) ∙ h.each n y at) (λ e. subst (λ m. is_listed lb m ≡ has_some (node_events p x [])) e listed_here);
+      }))
+    where
+      here : slice_get (xs ++ x ∷ []) k ≡ Some x
+      here = subst (λ n. slice_get (xs ++ x ∷ []) n ≡ Some x) h.all_nodes (last_here xs x)
+
+      each : (n : ℕ) (P : NodeView → Type 0) → ((y : NodeView) → slice_get xs n ≡ Some y → P y) → (k ≡ n → P x) → (y : NodeView) → slice_get (xs ++ x ∷ []) n ≡ Some y → P y
+      each n P old new y at = elim (cases_Bool (n == k)) [
+        | (inl t) ↦ let e : n ≡ k = eqb-true n k t in subst P (some_same x y (sym here ∙ ap (slice_get (xs ++ x ∷ [])) (sym e) ∙ at)) (new (sym e))
+        | (inr f) ↦ old y (sym (last_else xs x n (λ e. eqb-false n k f (e ∙ h.all_nodes))) ∙ at)
+      ]
+
+      away : (n : ℕ) (y : NodeView) → slice_get xs n ≡ Some y → n ≡ k → ⊥
+      away n y at e = let lt : n < length xs = slice_get_within xs n y at in let l : length xs ≡ k = h.all_nodes in absurd (omega arith)
+
+      listed_else : (n : ℕ) → (n ≡ k → ⊥) → is_listed lb n ≡ is_listed la n
+      listed_else n other = marked n ∙ go (n == x.number) refl
+        where
+          go : (b : Bool) → (n == x.number) ≡ b → cond b (has_some (node_events p x box)) (is_listed la n) ≡ is_listed la n
+          go true t = absurd (other (eqb-true n x.number t ∙ number))
+          go false t = refl
+
+      listed_here : is_listed lb k ≡ has_some (node_events p x [])
+      listed_here = marked k ∙ ap (λ b. cond b (has_some (node_events p x box)) (is_listed la k)) (eq-eqb k x.number (sym number)) ∙ ap (λ w. has_some (node_events p x w)) ebox
+
+      below : (n : ℕ) → is_listed lb n ≡ true → n < k + 1
+      below n t = elim (cases_Bool (n == k)) [
+        | (inl s) ↦ let e : n ≡ k = eqb-true n k s in omega arith
+        | (inr f) ↦ let lt : n < k = h.below n (sym (listed_else n (eqb-false n k f)) ∙ t) in omega arith
+      ]
+
+  -- nothing is there yet
+  pub none_fresh : (listed : List ℕ) → listed ≡ [] → AreFresh p 0 [] [] listed
+  none_fresh listed e = subst (AreFresh p 0 [] []) (sym e) (record {
+    all_nodes = refl;
+    all_inboxes = refl;
+    numbers = λ n x at. absurd (no_node n x at);
+    start = λ n x at. absurd (no_node n x at);
+    counts = λ n x at. absurd (no_node n x at);
+    empty = λ n. nothing n;
+    below = λ n t. absurd (true≢false (sym t));
+    each = λ n x at. absurd (no_node n x at);
+  })
+    where
+      no_node : (n : ℕ) (x : NodeView) → slice_get {X = NodeView} [] n ≡ Some x → ⊥
+      no_node n x at = cc
+
+      nothing : (n : ℕ) → inbox_at [] n ≡ []
+      nothing zero = refl
+      nothing (suc n) = refl
+
+  module _ (safe : p.faults ≡ []) (xs : List NodeView) (ib : List Waiting) (rs : List TreeRelease) (listed : List ℕ) (h : AreFresh p (nodes p) xs ib listed) (none : rs ≡ []) where
+    -- the state is the start
+    state_starts : ◌≡◌ {A = State} (state_with p xs ib []) (start p)
+    unfolding start
+    state_starts = λ i. record {
+      alive = λ n. nat_lt n (nodes p);
+      node = λ n. node_starts n (slice_get xs n) refl i;
+      link = λ m n. link_starts m n i;
+      releases = [];
+    }
+      where
+        node_starts : (n : ℕ) (o : Option NodeView) → slice_get xs n ≡ o → (elim o [ None ↦ start_node p n | Some x ↦ node_of x ]) ≡ start_node p n
+        node_starts n None at = refl
+        node_starts n (Some x) at = h.start n x at
+
+        link_starts : (m n : ℕ) → map bare_packet (queue_of (inbox_at ib n) m) ≡ []
+        link_starts m n = ap (λ w. map bare_packet (queue_of w m)) (h.empty n)
+
+    -- the empty journal leaves it
+    pub fresh_left : IsLeftBy (net_view p xs ib rs false) []
+    fresh_left = subst (λ l. IsLeftBy (net_view p xs ib l false) []) (sym none) (record { legal = tt; state = state_starts; numbered = refl; trees = tt })
+
+    -- all nodes that have done nothing yet are a net
+    pub fresh_net : IsNet (net_view p xs ib rs false) listed
+    fresh_net = record {
+      safe = safe;
+      journal = [];
+      left = fresh_left;
+      parts = record {
+        all_nodes = h.all_nodes;
+        all_inboxes = h.all_inboxes;
+        each = h.numbers;
+        packets = λ m n. subst (λ w. AllByRecursion (PacketFits p) (queue_of w m)) (sym (h.empty n)) tt;
+        senders = λ m n t. absurd (true≢false (sym t ∙ ap (λ w. is_waiting w m) (h.empty n)));
+        sent = λ n. subst HaveSent (sym (h.empty n)) tt;
+        rises = λ n. subst (λ w. IsStrictlySortedBy nat_cmp (senders_of w)) (sym (h.empty n)) no_sender;
+      };
+      counts = λ x at. subst (λ l. Counts x.entries (bare_releases l)) (sym none) (h.counts (front p) x at);
+      listed = record { below = h.below; each = λ n x at. h.each n x at ∙ ap (λ w. has_some (node_events p x w)) (sym (h.empty n)) };
+    }

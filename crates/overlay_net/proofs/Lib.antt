@@ -1,0 +1,12 @@
+pub mod Queues
+pub mod Listed
+pub mod Offers
+pub mod States
+pub mod KeepingParts
+pub mod Keeping
+pub mod Coming
+pub mod Handing
+pub mod SmallCounts
+pub mod Sending
+pub mod Happening
+pub mod Fresh

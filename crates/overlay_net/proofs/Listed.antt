@@ -1,0 +1,145 @@
+-- Events by number, ascending lists, and what a filter keeps.
+use Rattle.std.proofs.Common.{◌≡◌, inl, inr, ◌∙◌, ℕ, suc, zero, ◌+◌, ◌<◌, Bool, true, false, ◌==◌, cond, List, [], ◌∷◌, ◌++◌, map, filter, length, Some, refl, sym, ap, arith, eqb-true, eq-eqb, Less}
+use Rattle.std.specs.Prelude.{slice_get}
+use Rattle.std.specs.List.{flat_map}
+use Rattle.std.specs.List.Sorted.{IsStrictlySortedBy}
+use Rattle.std.specs.Ordering.{nat_cmp}
+use Rattle.std.specs.BTreeMap.{is_at}
+use Rattle.std.proofs.lemmas.Bool.{true≢false, or_cases, or_left, or_right}
+use Rattle.std.proofs.lemmas.Bool.Decides.{nat_tests}
+use Rattle.std.proofs.lemmas.List.{length-append}
+use Rattle.std.proofs.lemmas.Option.{none-some}
+use Rattle.stat_plan.specs.NodeSets.{In, IsAscending}
+use Rattle.stat_plan.specs.Plans.{up_to}
+use Rattle.stat_plan.proofs.FirstOver.{all_in}
+use Rattle.stat_plan.proofs.InLists.{in_filter, in_from_filter}
+use Rattle.overlay_core.proofs.Lists.{filter_rises, up_to_rises, up_to_below}
+use Rattle.overlay_core.proofs.Whole.{in_up_to}
+use Rattle.stat_desk.specs.declared.event.Event.{Event}
+use Rattle.overlay_net.specs.Inboxes.{Waiting, is_waiting, senders_of}
+use Rattle.overlay_net.specs.Events.{IsNth, has_some, is_listed}
+use Rattle.overlay_net.specs.declared.events.Nth.{Nth}
+use Rattle.overlay_net.specs.declared.events.Nth.TheVariants.{Found, Beyond}
+use Rattle.overlay_net.proofs.Queues.{finds_key}
+
+-- ---- events by number
+
+-- a place beyond the first list is one of the second
+pub get_past : {X : Type 0} (xs ys : List X) (k : ℕ) → slice_get (xs ++ ys) (length xs + k) ≡ slice_get ys k
+get_past [] ys k = let e : 0 + k ≡ k = omega arith in ap (slice_get ys) e
+get_past (x ∷ xs) ys k = let e : suc (length xs) + k ≡ suc (length xs + k) = omega arith in ap (slice_get (x ∷ (xs ++ ys))) e ∙ get_past xs ys k
+
+-- what is found in the first list is found in both together
+pub get_before : {X : Type 0} (xs ys : List X) (i : ℕ) (x : X) → slice_get xs i ≡ Some x → slice_get (xs ++ ys) i ≡ Some x
+get_before [] ys i x h = absurd (none-some x h)
+get_before (z ∷ zs) ys zero x h = h
+get_before (z ∷ zs) ys (suc i) x h = get_before zs ys i x h
+
+-- where a number goes beyond the first list, the second one decides
+pub nth_past : (xs ys : List Event) (i k : ℕ) (r : Nth) → IsNth xs i (Beyond k) → IsNth ys k r → IsNth (xs ++ ys) i r
+nth_past xs ys i k (Found e) past h = ap (slice_get (xs ++ ys)) past ∙ get_past xs ys k ∙ h
+nth_past xs ys i k (Beyond j) past h = let c = length-append xs ys in let b : i ≡ length xs + k = past in let d : k ≡ length ys + j = h in omega (arith, b, c, d)
+
+-- a list without some is empty
+pub none_from_test : (xs : List Event) → has_some xs ≡ false → xs ≡ []
+none_from_test [] h = refl
+none_from_test (x ∷ xs) h = absurd (true≢false h)
+
+-- ---- ascending lists
+
+-- ascending lists of the same numbers are the same
+pub same_rising : (xs ys : List ℕ) → IsAscending xs → IsAscending ys → ((n : ℕ) → In n xs → In n ys) → ((n : ℕ) → In n ys → In n xs) → xs ≡ ys
+same_rising [] [] h k f g = refl
+same_rising [] (y ∷ ys) h k f g = absurd (g y (inl refl))
+same_rising (x ∷ xs) [] h k f g = absurd (f x (inl refl))
+same_rising (x ∷ xs) (y ∷ ys) h k f g =
+    let e : x ≡ y = elim (f x (inl refl)) [
+      | inl e ↦ e
+      | inr i ↦ elim (g y (inl refl)) [ inl e ↦ sym e | inr j ↦ absurd (let a : y < x = k.0 x i in let b : x < y = h.0 y j in omega arith) ]
+    ] in
+    ap (λ z. z ∷ xs) e
+    ∙ ap (λ zs. y ∷ zs)
+    (same_rising xs ys h.1 k.1
+    (λ n i. elim (f n (inr i)) [ inl a ↦ absurd (let b : x < n = h.0 n i in omega arith) | inr j ↦ j ])
+    (λ n i. elim (g n (inr i)) [ inl a ↦ absurd (let b : y < n = k.0 n i in omega arith) | inr j ↦ j ]))
+
+-- what an order calls less is less
+less_from_order : (x y : ℕ) → nat_cmp x y ≡ Less → x < y
+less_from_order x y h = grind (arith, nat_tests)
+
+-- std's word for an ascending list
+pub rising_from_sorted : (xs : List ℕ) → IsStrictlySortedBy nat_cmp xs → IsAscending xs
+unfolding IsStrictlySortedBy
+rising_from_sorted [] h = tt
+rising_from_sorted (x ∷ xs) h = (λ y i. less_from_order x y (all_in (λ y. nat_cmp x y ≡ Less) xs y h.0 i), rising_from_sorted xs h.1)
+
+-- what is listed is in the list
+pub in_from_listed : (ready : List ℕ) (n : ℕ) → is_listed ready n ≡ true → In n ready
+in_from_listed [] n h = absurd (true≢false (sym h))
+in_from_listed (m ∷ ready) n h = elim (or_cases (is_at (nat_cmp n) m) (is_listed ready n) h) [
+  | inl a ↦ inl (sym (eqb-true m n (sym (finds_key n m) ∙ a)))
+  | inr b ↦ inr (in_from_listed ready n b)
+]
+
+-- what is in the list is listed
+pub listed_from_in : (ready : List ℕ) (n : ℕ) → In n ready → is_listed ready n ≡ true
+listed_from_in [] n i = absurd i
+listed_from_in (m ∷ ready) n (inl e) = or_left (is_at (nat_cmp n) m) (is_listed ready n) (finds_key n m ∙ eq-eqb m n (sym e))
+listed_from_in (m ∷ ready) n (inr i) = or_right (is_at (nat_cmp n) m) (is_listed ready n) (listed_from_in ready n i)
+
+-- a sender of whom something waits is one of the senders
+pub sender_listed : (es : Waiting) (m : ℕ) → is_waiting es m ≡ true → In m (senders_of es)
+sender_listed [] m h = absurd (true≢false (sym h))
+sender_listed (e ∷ es) m h = elim (or_cases (e.0 == m) (is_waiting es m) h) [ inl a ↦ inl (sym (eqb-true e.0 m a)) | inr b ↦ inr (sender_listed es m b) ]
+
+-- of each of the senders something waits
+pub listed_waits : (es : Waiting) (m : ℕ) → In m (senders_of es) → is_waiting es m ≡ true
+listed_waits [] m i = absurd i
+listed_waits (e ∷ es) m (inl k) = or_left (e.0 == m) (is_waiting es m) (eq-eqb e.0 m (sym k))
+listed_waits (e ∷ es) m (inr i) = or_right (e.0 == m) (is_waiting es m) (listed_waits es m i)
+
+-- ---- what a filter keeps
+
+-- tests that agree keep the same
+pub filter_same : {X : Type 0} (f g : X → Bool) (xs : List X) → ((x : X) → In x xs → f x ≡ g x) → filter f xs ≡ filter g xs
+filter_same f g [] h = refl
+filter_same {X} f g (x ∷ xs) h = ap (λ (b : Bool). cond b (x ∷ filter f xs) (filter f xs)) (h x (inl refl)) ∙ ap (λ (ys : List X). cond (g x) (x ∷ ys) ys) (filter_same f g xs (λ y i. h y (inr i)))
+
+-- a test that nothing passes keeps nothing
+pub filter_none : {X : Type 0} (f : X → Bool) (xs : List X) → ((x : X) → In x xs → f x ≡ false) → filter f xs ≡ []
+filter_none f [] h = refl
+filter_none {X} f (x ∷ xs) h = ap (λ (b : Bool). cond b (x ∷ filter f xs) (filter f xs)) (h x (inl refl)) ∙ filter_none f xs (λ y i. h y (inr i))
+
+-- a test of what a function gives
+pub filter_mapped : {X Y : Type 0} (test : Y → Bool) (f : X → Y) (xs : List X) → filter test (map f xs) ≡ map f (filter (λ x. test (f x)) xs)
+filter_mapped test f [] = refl
+filter_mapped {X} {Y} test f (x ∷ xs) = ap (λ (ys : List Y). cond (test (f x)) (f x ∷ ys) ys) (filter_mapped test f xs) ∙ go (test (f x))
+  where
+    go : (b : Bool) → cond b (f x ∷ map f (filter (λ z. test (f z)) xs)) (map f (filter (λ z. test (f z)) xs)) ≡ map f (cond b (x ∷ filter (λ z. test (f z)) xs) (filter (λ z. test (f z)) xs))
+    go true = refl
+    go false = refl
+
+-- of the numbers below n, a test keeps an ascending list of such numbers that pass it
+pub filter_up_to : (test : ℕ → Bool) (n : ℕ) (xs : List ℕ) → IsAscending xs → ((m : ℕ) → In m xs → (m < n) × (test m ≡ true)) → ((m : ℕ) → m < n → test m ≡ true → In m xs) → filter test (up_to n) ≡ xs
+filter_up_to test n xs rise each all =
+    same_rising (filter test (up_to n)) xs (filter_rises test (up_to n) (up_to_rises n)) rise
+    (λ m i. let r = in_from_filter test m (up_to n) i in all m (up_to_below n m r.0) r.1)
+    (λ m i. let r = each m i in in_filter test m (up_to n) (in_up_to n m r.0) r.1)
+
+-- only those with some count where lists are put together
+pub flat_kept : (g : ℕ → List Event) (xs : List ℕ) → flat_map g xs ≡ flat_map g (filter (λ n. has_some (g n)) xs)
+flat_kept g [] = refl
+flat_kept g (x ∷ xs) = ap (λ (es : List Event). g x ++ es) (flat_kept g xs) ∙ go (has_some (g x)) refl
+  where
+    go : (b : Bool) → has_some (g x) ≡ b → g x ++ flat_map g (filter (λ n. has_some (g n)) xs) ≡ flat_map g (cond b (x ∷ filter (λ n. has_some (g n)) xs) (filter (λ n. has_some (g n)) xs))
+    go true e = refl
+    go false e = ap (λ (es : List Event). es ++ flat_map g (filter (λ n. has_some (g n)) xs)) (none_from_test (g x) e)
+
+-- what is put together of an ascending list of just those with some
+pub flat_ready : (g : ℕ → List Event) (n : ℕ) (ready : List ℕ) → IsAscending ready → ((m : ℕ) → In m ready → m < n) → ((m : ℕ) → m < n → is_listed ready m ≡ has_some (g m)) → flat_map g (up_to n) ≡ flat_map g ready
+flat_ready g n ready rise below just =
+    flat_kept g (up_to n)
+    ∙ ap (flat_map g)
+    (filter_up_to (λ m. has_some (g m)) n ready rise
+    (λ m i. (below m i, sym (just m (below m i)) ∙ listed_from_in ready m i))
+    (λ m lt h. in_from_listed ready m (just m lt ∙ h)))

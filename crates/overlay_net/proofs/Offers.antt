@@ -1,0 +1,503 @@
+-- The events that may come next, by node.
+use Rattle.std.proofs.Common.{◌≡◌, ◌⊎◌, inl, inr, ◌∙◌, ℕ, suc, zero, ◌+◌, ◌-◌, ◌<◌, ◌≤◌, Bool, true, false, ◌&&◌, not, nat_eq, nat_lt, ◌==◌, ◌||◌, cond, List, [], ◌∷◌, ◌++◌, map, filter, find, length, get_or, drop, Option, Some, None, option_map, refl, sym, ap, subst, arith, eqb-true, eq-eqb}
+use Rattle.std.specs.Prelude.{slice_get}
+use Rattle.std.specs.List.{AllByRecursion, flat_map, list_any}
+use Rattle.std.proofs.lemmas.Bool.{cases_Bool, true≢false, ltb-true, ltb-false}
+use Rattle.std.specs.Option.{option_eq}
+use Rattle.std.proofs.lemmas.List.{append-nil, drop_more, get_or_read}
+use Rattle.std.proofs.lemmas.List.Elements.{filter-append}
+use Rattle.std.proofs.lemmas.Grind.{flat_map-append}
+use Rattle.std.proofs.lemmas.Option.{slice_get_read}
+use Rattle.stat_plan.specs.NodeSets.{In, IsAscending, member}
+use Rattle.stat_plan.specs.Plans.{Plan, Stream, nodes, nodes_of, ancestors, is_within, daemons, stream_of, serves, up_to, waves_of, waves_at, fault}
+use Rattle.stat_plan.specs.Trees.{climb, is_daemon, parent_of}
+use Rattle.stat_plan.specs.Kept.{IsPlan, IsDaemon}
+use Rattle.stat_plan.specs.Waves.{is_running}
+use Rattle.stat_plan.proofs.FirstOver.{all_in, found_in}
+use Rattle.stat_plan.proofs.InLists.{in_append, in_at, in_map, any_from_in, in_from_any}
+use Rattle.stat_plan.proofs.Leaves.{daemon_is_leaf}
+use Rattle.overlay_core.specs.Machine.{State, events_below, events_of, enabled_events, is_active, is_doomed, is_enabled, is_pending, is_spent, is_wave, next_sample, samples_of, start_node}
+use Rattle.overlay_core.specs.TreeReleases.{TreeRelease}
+use Rattle.overlay_core.proofs.Lists.{in_member, in_from_member, up_to_below, eqb_self}
+use Rattle.overlay_core.proofs.Outcomes.{next_is_named, find_passes}
+use Rattle.overlay_core.proofs.Goes.{within_from_test, test_from_within}
+use Rattle.overlay_core.proofs.Whole.{in_up_to}
+use Rattle.overlay_node.specs.Packets.{TreePacket, bare_packet}
+use Rattle.overlay_node.specs.NodeViews.{NodeView, book_of, node_of}
+use Rattle.stat_desk.specs.declared.event.Event.{Event}
+use Rattle.stat_desk.specs.declared.event.Event.TheVariants.{Sample, Recv, Tick, Lose}
+use Rattle.overlay_net.specs.Inboxes.{Waiting, HaveSent, is_waiting, queue_of, senders_of}
+use Rattle.overlay_net.specs.Nets.{inbox_at, node_at, node_events, sample_of, state_with, tick_of}
+use Rattle.overlay_net.specs.Events.{AreParts, AreReady, IsNth, has_some, is_listed, sample_at}
+use Rattle.overlay_net.specs.declared.events.Nth.{Nth}
+use Rattle.overlay_net.proofs.Listed.{get_before, get_past, nth_past, filter_mapped, filter_none, filter_same, filter_up_to, flat_ready, listed_from_in, listed_waits, none_from_test, rising_from_sorted, sender_listed}
+
+-- ---- the daemons of a stream of the plan
+
+-- a stream's number is among the numbers of the streams
+number_in : (xs : List Stream) (x : Stream) → In x xs → In x.number (map (λ (y : Stream). y.number) xs)
+number_in xs x i = in_map (λ (y : Stream). y.number) x xs i
+
+-- each of ascending streams is the one that is found by its number
+found_by_number : (xs : List Stream) (x : Stream) → IsAscending (map (λ (y : Stream). y.number) xs) → In x xs → find (λ (y : Stream). y.number == x.number) xs ≡ Some x
+found_by_number [] x h i = absurd i
+found_by_number (y ∷ ys) x h (inl e) =
+    ap (λ (b : Bool). cond b (Some y) (find (λ (z : Stream). z.number == x.number) ys)) (eq-eqb y.number x.number (ap (λ (z : Stream). z.number) (sym e))) ∙ ap Some (sym e)
+found_by_number (y ∷ ys) x h (inr i) = go (found_by_number ys x h.1 i) (y.number == x.number) refl
+  where
+    go : find (λ (z : Stream). z.number == x.number) ys ≡ Some x → (b : Bool) → (y.number == x.number) ≡ b → cond b (Some y) (find (λ (z : Stream). z.number == x.number) ys) ≡ Some x
+    go rest true e = absurd (let a : y.number < x.number = h.0 x.number (number_in ys x i) in let k : y.number ≡ x.number = eqb-true y.number x.number e in omega arith)
+    go rest false e = rest
+
+-- a stream of the plan is the one of its number
+stream_is : (p : Plan) (x : Stream) → IsPlan p → In x p.streams → stream_of p x.number ≡ Some x
+unfolding stream_of
+stream_is p x plan i = found_by_number p.streams x plan.script.streams_rise i
+
+-- the daemons of a found stream
+daemons_found : (p : Plan) (s : ℕ) (x : Stream) → stream_of p s ≡ Some x → daemons p s ≡ x.daemons
+unfolding daemons
+daemons_found p s x is = ap (λ (o : Option Stream). elim o as (λ _. List ℕ) [ None ↦ [] | (Some x) ↦ x.daemons ]) is
+
+-- the daemons of a stream of the plan
+daemons_are : (p : Plan) (x : Stream) → IsPlan p → In x p.streams → daemons p x.number ≡ x.daemons
+daemons_are p x plan i = daemons_found p x.number x (stream_is p x plan i)
+
+-- a stream that the plan doesn't have has no daemons
+pub no_daemons : (p : Plan) (s : ℕ) → stream_of p s ≡ None → daemons p s ≡ []
+unfolding daemons
+no_daemons p s is = ap (λ (o : Option Stream). elim o as (λ _. List ℕ) [ None ↦ [] | (Some x) ↦ x.daemons ]) is
+
+-- a stream that is found has the number, and is one of the plan's
+pub found_stream : (p : Plan) (s : ℕ) (x : Stream) → stream_of p s ≡ Some x → In x p.streams × (x.number ≡ s)
+unfolding stream_of
+found_stream p s x is = (found_in (λ (y : Stream). y.number == s) p.streams x is, eqb-true x.number s (find_passes (λ (y : Stream). y.number == s) p.streams x is))
+
+-- ---- which nodes sample a stream
+
+-- an ancestor is some node's parent
+some_child : (parents : List (Option ℕ)) (links d n : ℕ) → In n (climb parents links d) → (m : ℕ) × (parent_of parents m ≡ Some n)
+some_child parents zero d n i = absurd i
+some_child parents (suc links) d n i = go (λ q. some_child parents links q n) (parent_of parents d) refl i
+  where
+    go : ((q : ℕ) → In n (climb parents links q) → (m : ℕ) × (parent_of parents m ≡ Some n)) → (o : Option ℕ) → parent_of parents d ≡ o → In n (elim o as (λ _. List ℕ) [ None ↦ [] | (Some q) ↦ q ∷ climb parents links q ]) → (m : ℕ) × (parent_of parents m ≡ Some n)
+    go above None e j = absurd j
+    go above (Some q) e (inl k) = (d, e ∙ ap Some (sym k))
+    go above (Some q) e (inr j) = above q j
+
+-- nothing is under a daemon
+under_daemon : (p : Plan) (d n : ℕ) → is_daemon p.parents n ≡ true → In n (ancestors p d) → ⊥
+unfolding ancestors
+under_daemon p d n leaf i = let m = some_child p.parents (nodes p) d n i in daemon_is_leaf p.parents n leaf m.0 m.1
+
+-- a daemon that serves a stream is one of its daemons
+serving_daemon : (p : Plan) (n s : ℕ) → is_daemon p.parents n ≡ true → serves p n s ≡ true → member n (daemons p s) ≡ true
+unfolding serves
+serving_daemon p n s leaf there =
+    let d = in_from_any (λ d. is_within p d n) (daemons p s) there in
+    elim (within_from_test p d.0 n d.1.1) [
+      | inl e ↦ in_member n (daemons p s) (subst (λ k. In k (daemons p s)) e d.1.0)
+      | inr u ↦ absurd (under_daemon p d.0 n leaf u)
+    ]
+
+-- one of a stream's daemons serves it
+daemon_serves : (p : Plan) (n s : ℕ) → member n (daemons p s) ≡ true → serves p n s ≡ true
+unfolding serves
+daemon_serves p n s there = any_from_in (λ d. is_within p d n) n (daemons p s) (in_from_member n (daemons p s) there) (test_from_within p n n (inl refl))
+
+-- one of a stream's daemons is a daemon
+daemon_is : (p : Plan) (x : Stream) (n : ℕ) → IsPlan p → In x p.streams → member n x.daemons ≡ true → is_daemon p.parents n ≡ true
+daemon_is p x n plan i there =
+    (all_in (IsDaemon (nodes_of p)) x.daemons n (all_in (λ (x : Stream). AllByRecursion (IsDaemon (nodes_of p)) x.daemons) p.streams x plan.script_fits.daemons i) (in_from_member n x.daemons there)).1
+
+-- a daemon that serves a stream of the plan is one of its daemons
+pub samples_it : (p : Plan) (x : Stream) (n : ℕ) → IsPlan p → In x p.streams → is_daemon p.parents n ≡ true → serves p n x.number ≡ true → member n x.daemons ≡ true
+samples_it p x n plan i leaf there = subst (λ (ds : List ℕ). member n ds ≡ true) (daemons_are p x plan i) (serving_daemon p n x.number leaf there)
+
+-- a node that is no daemon is none of the stream's
+pub no_daemon : (p : Plan) (x : Stream) (n : ℕ) → IsPlan p → In x p.streams → is_daemon p.parents n ≡ false → member n x.daemons ≡ false
+no_daemon p x n plan i not_leaf = elim (cases_Bool (member n x.daemons)) [
+  | inl t ↦ absurd (true≢false (sym (daemon_is p x n plan i t) ∙ not_leaf))
+  | inr f ↦ f
+]
+
+-- a node that doesn't serve a stream of the plan is none of its daemons
+pub serves_not : (p : Plan) (x : Stream) (n : ℕ) → IsPlan p → In x p.streams → serves p n x.number ≡ false → member n x.daemons ≡ false
+serves_not p x n plan i not_there = elim (cases_Bool (member n x.daemons)) [
+  | inl t ↦ absurd (true≢false (sym (daemon_serves p n x.number (subst (λ (ds : List ℕ). member n ds ≡ true) (sym (daemons_are p x plan i)) t)) ∙ not_there))
+  | inr f ↦ f
+]
+
+-- a node that isn't among a stream's daemons has no sample of it
+pub no_sample : (p : Plan) (x : NodeView) (s : Stream) → member x.number s.daemons ≡ false → sample_of p x s ≡ []
+no_sample p x s is = ap (λ (b : Bool). cond b (elim (next_sample p (node_of x) s.number) as (λ _. List Event) [ None ↦ [] | (Some v) ↦ Sample x.number s.number v.1 ∷ [] ]) []) is
+
+-- what a daemon of a stream samples next of it
+pub next_is_sample : (p : Plan) (x : NodeView) (s : Stream) (o : Option ℕ) → member x.number s.daemons ≡ true → o ≡ option_map (λ (v : ℕ × ℕ). v.1) (next_sample p (node_of x) s.number) → sample_of p x s ≡ sample_at x.number s.number o
+next_is_sample p x s o is e =
+    ap (λ (b : Bool). cond b (elim (next_sample p (node_of x) s.number) as (λ _. List Event) [ None ↦ [] | (Some v) ↦ Sample x.number s.number v.1 ∷ [] ]) []) is
+    ∙ go (next_sample p (node_of x) s.number)
+    ∙ ap (sample_at x.number s.number) (sym e)
+  where
+    go : (q : Option (ℕ × ℕ)) → (elim q as (λ _. List Event) [ None ↦ [] | (Some v) ↦ Sample x.number s.number v.1 ∷ [] ]) ≡ sample_at x.number s.number (option_map (λ (v : ℕ × ℕ). v.1) q)
+    go None = refl
+    go (Some v) = refl
+
+-- whether a wave is the one that a node samples next, by its sample
+pub wave_test : (p : Plan) (x : NodeView) (s : Stream) (o : Option ℕ) (w : ℕ) → sample_of p x s ≡ sample_at x.number s.number o → option_eq nat_eq o (Some w) ≡ (member x.number s.daemons && is_wave (next_sample p (node_of x) s.number) w)
+wave_test p x s o w e = go (member x.number s.daemons) (next_sample p (node_of x) s.number) o e
+  where
+    go : (b : Bool) (q : Option (ℕ × ℕ)) (o : Option ℕ) → cond b (elim q as (λ _. List Event) [ None ↦ [] | (Some v) ↦ Sample x.number s.number v.1 ∷ [] ]) [] ≡ sample_at x.number s.number o → option_eq nat_eq o (Some w) ≡ (b && is_wave q w)
+    go true (Some v) (Some k) e = let same : v.1 ≡ k = cc in ap (λ j. nat_eq j w) (sym same)
+    go true (Some v) None e = absurd (cc)
+    go true None (Some k) e = absurd (cc)
+    go true None None e = refl
+    go false q (Some k) e = absurd (cc)
+    go false q None e = refl
+
+-- whether a wave is the one that a node samples next of the stream of a number, by its sample
+pub found_test : (p : Plan) (x : NodeView) (s : ℕ) (t : Stream) (o : Option ℕ) (w : ℕ) → stream_of p s ≡ Some t → sample_of p x t ≡ sample_at x.number t.number o → option_eq nat_eq o (Some w) ≡ (member x.number (daemons p s) && is_wave (next_sample p (node_of x) s) w)
+found_test p x s t o w is e =
+    wave_test p x t o w e
+    ∙ ap (λ (ds : List ℕ). member x.number ds && is_wave (next_sample p (node_of x) t.number) w) (sym (daemons_found p s t is))
+    ∙ ap (λ k. member x.number (daemons p s) && is_wave (next_sample p (node_of x) k) w) (found_stream p s t is).1
+
+-- ---- the samples of a node
+
+-- a wave of one stream has that stream's number
+wave_is_of : (s : ℕ) (ws : List ℕ) (v : ℕ × ℕ) → In {X = ℕ × ℕ} v (map (λ w. (s, w)) ws) → (v.0 ≡ s) × In v.1 ws
+wave_is_of s [] v i = absurd i
+wave_is_of s (w ∷ ws) v (inl e) = (ap (λ (y : ℕ × ℕ). y.0) e, inl (ap (λ (y : ℕ × ℕ). y.1) e))
+wave_is_of s (w ∷ ws) v (inr i) = let r = wave_is_of s ws v i in (r.0, inr r.1)
+
+-- a wave's stream is one of the streams
+wave_stream : (xs : List Stream) (v : ℕ × ℕ) → In {X = ℕ × ℕ} v (waves_of xs) → In v.0 (map (λ (x : Stream). x.number) xs)
+wave_stream [] v i = absurd i
+wave_stream (x ∷ xs) v i =
+    elim (in_append v (map (λ w. (x.number, w)) (up_to x.waves)) (waves_of xs) i) [ inl a ↦ inl (wave_is_of x.number (up_to x.waves) v a).0 | inr b ↦ inr (wave_stream xs v b) ]
+
+-- a wave with the number of one of ascending streams is one of that stream's
+own_wave : (xs : List Stream) (x : Stream) (w : ℕ) → IsAscending (map (λ (y : Stream). y.number) xs) → In x xs → In {X = ℕ × ℕ} (x.number, w) (waves_of xs) → In w (up_to x.waves)
+own_wave [] x w h i j = absurd i
+own_wave (y ∷ ys) x w h i j = elim (in_append {X = ℕ × ℕ} (x.number, w) (map (λ w. (y.number, w)) (up_to y.waves)) (waves_of ys) j) [
+  | inl a ↦ here (wave_is_of y.number (up_to y.waves) (x.number, w) a) i
+  | inr b ↦ there (own_wave ys x w h.1) b i
+]
+  where
+    here : (x.number ≡ y.number) × In w (up_to y.waves) → (x ≡ y) ⊎ In x ys → In w (up_to x.waves)
+    here r (inl e) = subst (λ (z : Stream). In w (up_to z.waves)) (sym e) r.1
+    here r (inr k) = absurd (let lt : y.number < x.number = h.0 x.number (number_in ys x k) in let e : x.number ≡ y.number = r.0 in omega arith)
+
+    there : (In x ys → In {X = ℕ × ℕ} (x.number, w) (waves_of ys) → In w (up_to x.waves)) → In {X = ℕ × ℕ} (x.number, w) (waves_of ys) → (x ≡ y) ⊎ In x ys → In w (up_to x.waves)
+    there ih b (inl e) = absurd (let lt : y.number < x.number = h.0 x.number (wave_stream ys (x.number, w) b) in let k : x.number ≡ y.number = ap (λ (z : Stream). z.number) e in omega arith)
+    there ih b (inr k) = ih k b
+
+-- of the numbers below n, just one of them is this one
+only_one : (k n : ℕ) → k < n → filter (λ w. k == w) (up_to n) ≡ k ∷ []
+only_one k n lt = filter_up_to (λ w. k == w) n (k ∷ []) (λ y i. absurd i, tt)
+    (λ m i. elim i [ inl e ↦ (subst (λ j. j < n) (sym e) lt, eq-eqb k m (sym e)) | inr j ↦ absurd j ])
+    (λ m l h. inl (sym (eqb-true k m h)))
+
+-- the events of a node's samples of one stream, and the rest
+samples_block : (n s : ℕ) (ws : List ℕ) (vs : List (ℕ × ℕ)) → samples_of n (map (λ w. (s, w)) ws ++ vs) ≡ map (λ w. Sample n s w) ws ++ samples_of n vs
+samples_block n s [] vs = refl
+samples_block n s (w ∷ ws) vs = ap (λ (es : List Event). Sample n s w ∷ es) (samples_block n s ws vs)
+
+-- what a test keeps of a node's samples, stream by stream
+samples_kept : (test : Event → Bool) (n : ℕ) (f : Stream → List Event) (xs : List Stream) → ((x : Stream) → In x xs → filter test (map (λ w. Sample n x.number w) (up_to x.waves)) ≡ f x) → filter test (samples_of n (waves_of xs)) ≡ flat_map f xs
+samples_kept test n f [] h = refl
+samples_kept test n f (x ∷ xs) h =
+    ap (filter test) (samples_block n x.number (up_to x.waves) (waves_of xs))
+    ∙ filter-append test (map (λ w. Sample n x.number w) (up_to x.waves)) (samples_of n (waves_of xs))
+    ∙ ap (λ (es : List Event). es ++ filter test (samples_of n (waves_of xs))) (h x (inl refl))
+    ∙ ap (λ (es : List Event). f x ++ es) (samples_kept test n f xs (λ y i. h y (inr i)))
+
+-- a node in a state: it can do something, stands as this node, and this is what waits for it, from senders of the plan
+pub record Stands (p : Plan) (st : State) (x : NodeView) (box : Waiting) : Type 0 where
+  pub active : is_active p st x.number ≡ true
+  pub node : st.node x.number ≡ node_of x
+  pub links : (m : ℕ) → is_pending (st.link m x.number) ≡ is_waiting box m
+  pub stays : is_enabled p st (Lose x.number) ≡ false
+  pub rises : IsAscending (senders_of box)
+  pub senders : (m : ℕ) → is_waiting box m ≡ true → m < nodes p
+
+-- whether a sample may come next
+sample_test : (p : Plan) (st : State) (x : NodeView) (box : Waiting) (s : Stream) (w : ℕ) → IsPlan p → In s p.streams → Stands p st x box → is_enabled p st (Sample x.number s.number w) ≡ (member x.number s.daemons && is_wave (next_sample p (node_of x) s.number) w)
+sample_test p st x box s w plan i h =
+    ap (λ (b : Bool). (b && member x.number (daemons p s.number)) && is_wave (next_sample p (st.node x.number) s.number) w) h.active
+    ∙ ap (λ (ds : List ℕ). member x.number ds && is_wave (next_sample p (st.node x.number) s.number) w) (daemons_are p s plan i)
+    ∙ ap (λ n. member x.number s.daemons && is_wave (next_sample p n s.number) w) h.node
+
+-- the samples of one stream that may come next
+stream_samples : (p : Plan) (st : State) (x : NodeView) (box : Waiting) (s : Stream) → IsPlan p → In s p.streams → Stands p st x box → filter (is_enabled p st) (map (λ w. Sample x.number s.number w) (up_to s.waves)) ≡ sample_of p x s
+stream_samples p st x box s plan i h =
+    filter_mapped (is_enabled p st) (λ w. Sample x.number s.number w) (up_to s.waves)
+    ∙ ap (map (λ w. Sample x.number s.number w)) (filter_same (λ w. is_enabled p st (Sample x.number s.number w)) (λ w. member x.number s.daemons && is_wave (next_sample p (node_of x) s.number) w) (up_to s.waves) (λ w j. sample_test p st x box s w plan i h))
+    ∙ go (member x.number s.daemons)
+  where
+    named : (v : ℕ × ℕ) → next_sample p (node_of x) s.number ≡ Some v → v.1 < s.waves
+    named v e = up_to_below s.waves v.1 (own_wave p.streams s v.1 plan.script.streams_rise i (next_is_named p (node_of x) s.number v.1 (ap (λ (o : Option (ℕ × ℕ)). is_wave o v.1) e ∙ eqb_self v.1)))
+
+    by : (o : Option (ℕ × ℕ)) → next_sample p (node_of x) s.number ≡ o → map (λ w. Sample x.number s.number w) (filter (λ w. is_wave o w) (up_to s.waves)) ≡ (elim o as (λ _. List Event) [ None ↦ [] | (Some v) ↦ Sample x.number s.number v.1 ∷ [] ])
+    by None e = ap (map (λ w. Sample x.number s.number w)) (filter_none (λ w. false) (up_to s.waves) (λ w j. refl))
+    by (Some v) e = ap (map (λ w. Sample x.number s.number w)) (only_one v.1 s.waves (named v e))
+
+    go : (b : Bool) → map (λ w. Sample x.number s.number w) (filter (λ w. b && is_wave (next_sample p (node_of x) s.number) w) (up_to s.waves)) ≡ cond b (elim (next_sample p (node_of x) s.number) as (λ _. List Event) [ None ↦ [] | (Some v) ↦ Sample x.number s.number v.1 ∷ [] ]) []
+    go true = by (next_sample p (node_of x) s.number) refl
+    go false = ap (map (λ w. Sample x.number s.number w)) (filter_none (λ w. false) (up_to s.waves) (λ w j. refl))
+
+-- what a node may receive next
+receives : (p : Plan) (st : State) (x : NodeView) (box : Waiting) → Stands p st x box → filter (is_enabled p st) (map (λ m. Recv x.number m) (up_to (nodes p))) ≡ map (λ m. Recv x.number m) (senders_of box)
+receives p st x box h =
+    filter_mapped (is_enabled p st) (λ m. Recv x.number m) (up_to (nodes p))
+    ∙ ap (map (λ m. Recv x.number m))
+    (filter_same (λ m. is_enabled p st (Recv x.number m)) (is_waiting box) (up_to (nodes p)) (λ m j. ap (λ (b : Bool). b && is_pending (st.link m x.number)) h.active ∙ h.links m)
+    ∙ filter_up_to (is_waiting box) (nodes p) (senders_of box) h.rises (λ m i. (h.senders m (listed_waits box m i), listed_waits box m i)) (λ m lt w. sender_listed box m w))
+
+-- a node's tick, where it may come next
+ticks_next : (p : Plan) (st : State) (x : NodeView) (box : Waiting) → Stands p st x box → filter (is_enabled p st) (Tick x.number ∷ []) ≡ tick_of p x
+ticks_next p st x box h =
+    ap (λ (b : Bool). cond (b && list_any (λ v. is_running ((st.node x.number).book v.0 v.1)) (waves_at p x.number)) (Tick x.number ∷ []) []) h.active
+    ∙ ap (λ n. cond (list_any (λ v. is_running (n.book v.0 v.1)) (waves_at p x.number)) (Tick x.number ∷ []) []) h.node
+
+-- the events of a node that may come next, of all that can be named
+pub node_offers : (p : Plan) (st : State) (x : NodeView) (box : Waiting) → IsPlan p → Stands p st x box → filter (is_enabled p st) (events_of p x.number) ≡ node_events p x box
+node_offers p st x box plan h =
+    ap (λ (b : Bool). cond b (Lose x.number ∷ filter (is_enabled p st) later) (filter (is_enabled p st) later)) h.stays
+    ∙ filter-append (is_enabled p st) (samples_of x.number (waves_of p.streams) ++ map (λ m. Recv x.number m) (up_to (nodes p))) (Tick x.number ∷ [])
+    ∙ ap (λ (es : List Event). es ++ filter (is_enabled p st) (Tick x.number ∷ [])) (filter-append (is_enabled p st) (samples_of x.number (waves_of p.streams)) (map (λ m. Recv x.number m) (up_to (nodes p))))
+    ∙ ap (λ (es : List Event). (es ++ filter (is_enabled p st) (map (λ m. Recv x.number m) (up_to (nodes p)))) ++ filter (is_enabled p st) (Tick x.number ∷ []))
+    (samples_kept (is_enabled p st) x.number (sample_of p x) p.streams (λ s i. stream_samples p st x box s plan i h))
+    ∙ ap (λ (es : List Event). (flat_map (sample_of p x) p.streams ++ es) ++ filter (is_enabled p st) (Tick x.number ∷ [])) (receives p st x box h)
+    ∙ ap (λ (es : List Event). (flat_map (sample_of p x) p.streams ++ map (λ m. Recv x.number m) (senders_of box)) ++ es) (ticks_next p st x box h)
+  where
+    later : List Event
+    later = samples_of x.number (waves_of p.streams) ++ map (λ m. Recv x.number m) (up_to (nodes p)) ++ Tick x.number ∷ []
+
+-- ---- what is left of a list
+
+-- what a list puts together from a place on
+pub flat_from : {X : Type 0} (f : X → List Event) (xs : List X) (k : ℕ) (x : X) → k < length xs → x ≡ get_or xs k x → flat_map f (drop k xs) ≡ f x ++ flat_map f (drop (k + 1) xs)
+flat_from f xs k x lt is = ap (flat_map f) (drop_more xs k x lt) ∙ ap (λ y. f y ++ flat_map f (drop (k + 1) xs)) (sym is)
+
+-- what is read at a place is in the list
+pub in_read : {X : Type 0} (xs : List X) (k : ℕ) (x : X) → k < length xs → x ≡ get_or xs k x → In x xs
+in_read xs k x lt is = subst (λ y. In y xs) (sym is) (in_at xs k x lt)
+
+-- ---- the events of all nodes
+
+-- the events of the node of this number that may come next, if there is one
+abbrev pub events_at : Plan → List NodeView → List Waiting → ℕ → List Event
+events_at p xs inboxes n = elim (slice_get xs n) [ None ↦ [] | Some x ↦ node_events p x (inbox_at inboxes n) ]
+
+-- where no node is to be lost, none is doomed
+not_doomed : (p : Plan) (st : State) (n : ℕ) → p.faults ≡ [] → is_doomed p st n ≡ false
+unfolding is_doomed fault
+not_doomed p st n safe = ap (λ fs. is_spent (find (λ f. f.node == n) fs) (st.node n).count) safe
+
+-- nothing more is asked
+and_true : (b : Bool) → (b && true) ≡ b
+and_true true = refl
+and_true false = refl
+
+-- what can't hold is asked
+and_false : (b : Bool) → (b && false) ≡ false
+and_false true = refl
+and_false false = refl
+
+-- where no node is to be lost, a node that lives can do something
+pub active_is : (p : Plan) (st : State) (n : ℕ) → p.faults ≡ [] → is_active p st n ≡ st.alive n
+unfolding is_active
+active_is p st n safe = ap (λ (b : Bool). st.alive n && not b) (not_doomed p st n safe) ∙ and_true (st.alive n)
+
+-- where no node is to be lost, none is lost next
+pub stays_is : (p : Plan) (st : State) (n : ℕ) → p.faults ≡ [] → is_enabled p st (Lose n) ≡ false
+stays_is p st n safe = ap (λ (b : Bool). st.alive n && b) (not_doomed p st n safe) ∙ and_false (st.alive n)
+
+-- whether something is on the way, by what waits
+pub pending_is : (box : Waiting) (m : ℕ) → HaveSent box → is_pending (map bare_packet (queue_of box m)) ≡ is_waiting box m
+pending_is [] m h = refl
+pending_is (e ∷ es) m h = go (pending_is es m h.1) (e.0 == m)
+  where
+    some : (qs : List TreePacket) → (qs ≡ [] → ⊥) → is_pending (map bare_packet qs) ≡ true
+    some [] k = absurd (k refl)
+    some (q ∷ qs) k = refl
+
+    go : is_pending (map bare_packet (queue_of es m)) ≡ is_waiting es m → (b : Bool) → is_pending (map bare_packet (cond b e.1 (queue_of es m))) ≡ (b || is_waiting es m)
+    go rest true = some e.1 h.0
+    go rest false = rest
+
+-- a lesser number passes the test
+less_test : (m n : ℕ) → m < n → nat_lt m n ≡ true
+less_test m n lt = elim (cases_Bool (nat_lt m n)) [ inl t ↦ t | inr f ↦ absurd (let le : n ≤ m = ltb-false m n f in omega arith) ]
+
+-- a node that is there stands as it is
+pub node_there : (p : Plan) (xs : List NodeView) (n : ℕ) (x : NodeView) → slice_get xs n ≡ Some x → node_at p xs n ≡ node_of x
+node_there p xs n x at = ap (λ (o : Option NodeView). elim o [ None ↦ start_node p n | Some x ↦ node_of x ]) at
+
+-- each node of the parts stands in their state
+pub stands_at : (p : Plan) (xs : List NodeView) (inboxes : List Waiting) (releases : List TreeRelease) (x : NodeView) → p.faults ≡ [] → AreParts p xs inboxes → slice_get xs x.number ≡ Some x → x.number < nodes p → Stands p (state_with p xs inboxes releases) x (inbox_at inboxes x.number)
+stands_at p xs inboxes releases x safe parts at lt = record {
+  active = active_is p (state_with p xs inboxes releases) x.number safe ∙ less_test x.number (nodes p) lt;
+  node = node_there p xs x.number x at;
+  links = λ m. pending_is (inbox_at inboxes x.number) m (parts.sent x.number);
+  stays = stays_is p (state_with p xs inboxes releases) x.number safe;
+  rises = rising_from_sorted (senders_of (inbox_at inboxes x.number)) (parts.rises x.number);
+  senders = λ m w. parts.senders m x.number w;
+}
+
+-- a number that is no less fails the test
+pub not_less : (m n : ℕ) → n ≤ m → nat_lt m n ≡ false
+not_less m n le = elim (cases_Bool (nat_lt m n)) [ inl t ↦ absurd (let lt : m < n = ltb-true m n t in omega arith) | inr f ↦ f ]
+
+-- what is read at a place of the list of nodes is a node
+pub node_read : (p : Plan) (xs : List NodeView) (inboxes : List Waiting) (n : ℕ) (x : NodeView) → AreParts p xs inboxes → n < nodes p → x ≡ get_or xs n x → slice_get xs n ≡ Some x
+node_read p xs inboxes n x parts lt is = slice_get_read xs (nodes p) n x (sym parts.all_nodes) lt is
+
+-- what is read at a place of the list of inboxes is the inbox of the node
+pub inbox_read : (p : Plan) (xs : List NodeView) (inboxes : List Waiting) (n : ℕ) (box : Waiting) → AreParts p xs inboxes → n < nodes p → box ≡ get_or inboxes n box → box ≡ inbox_at inboxes n
+inbox_read p xs inboxes n box parts lt is = get_or_read inboxes n box (subst (λ k. n < k) (sym parts.all_inboxes) lt) is []
+
+-- a node of the plan can do something
+pub active_at : (p : Plan) (xs : List NodeView) (inboxes : List Waiting) (releases : List TreeRelease) (n : ℕ) → p.faults ≡ [] → n < nodes p → is_active p (state_with p xs inboxes releases) n ≡ true
+active_at p xs inboxes releases n safe lt = active_is p (state_with p xs inboxes releases) n safe ∙ less_test n (nodes p) lt
+
+-- what isn't a node can do nothing
+pub idle_at : (p : Plan) (xs : List NodeView) (inboxes : List Waiting) (releases : List TreeRelease) (n : ℕ) → p.faults ≡ [] → nodes p ≤ n → is_active p (state_with p xs inboxes releases) n ≡ false
+idle_at p xs inboxes releases n safe le = active_is p (state_with p xs inboxes releases) n safe ∙ not_less n (nodes p) le
+
+-- whether a node takes a sample next
+pub sample_enabled : (p : Plan) (xs : List NodeView) (inboxes : List Waiting) (releases : List TreeRelease) (n s w : ℕ) (x : NodeView) → p.faults ≡ [] → AreParts p xs inboxes → n < nodes p → slice_get xs n ≡ Some x
+    → is_enabled p (state_with p xs inboxes releases) (Sample n s w) ≡ (member x.number (daemons p s) && is_wave (next_sample p (node_of x) s) w)
+sample_enabled p xs inboxes releases n s w x safe parts lt at =
+    ap (λ (b : Bool). (b && member n (daemons p s)) && is_wave (next_sample p (node_at p xs n) s) w) (active_at p xs inboxes releases n safe lt)
+    ∙ ap (λ k. member n (daemons p s) && is_wave (next_sample p k s) w) (node_there p xs n x at)
+    ∙ ap (λ k. member k (daemons p s) && is_wave (next_sample p (node_of x) s) w) (sym (parts.each n x at).0)
+
+-- what isn't a node takes no sample
+pub sample_idle : (p : Plan) (xs : List NodeView) (inboxes : List Waiting) (releases : List TreeRelease) (n s w : ℕ) → p.faults ≡ [] → nodes p ≤ n → is_enabled p (state_with p xs inboxes releases) (Sample n s w) ≡ false
+sample_idle p xs inboxes releases n s w safe le = ap (λ (b : Bool). (b && member n (daemons p s)) && is_wave (next_sample p (node_at p xs n) s) w) (idle_at p xs inboxes releases n safe le)
+
+-- what isn't a node has no timers that go on
+pub tick_idle : (p : Plan) (xs : List NodeView) (inboxes : List Waiting) (releases : List TreeRelease) (n : ℕ) → p.faults ≡ [] → nodes p ≤ n → is_enabled p (state_with p xs inboxes releases) (Tick n) ≡ false
+tick_idle p xs inboxes releases n safe le = ap (λ (b : Bool). b && list_any (λ v. is_running ((node_at p xs n).book v.0 v.1)) (waves_at p n)) (idle_at p xs inboxes releases n safe le)
+
+-- whether a node receives next from another one
+pub recv_enabled : (p : Plan) (xs : List NodeView) (inboxes : List Waiting) (releases : List TreeRelease) (n m : ℕ) → p.faults ≡ [] → AreParts p xs inboxes → n < nodes p → is_enabled p (state_with p xs inboxes releases) (Recv n m) ≡ is_waiting (inbox_at inboxes n) m
+recv_enabled p xs inboxes releases n m safe parts lt =
+    ap (λ (b : Bool). b && is_pending (map bare_packet (queue_of (inbox_at inboxes n) m))) (active_at p xs inboxes releases n safe lt)
+    ∙ pending_is (inbox_at inboxes n) m (parts.sent n)
+
+-- whether a node's timers go on next
+pub tick_enabled : (p : Plan) (xs : List NodeView) (inboxes : List Waiting) (releases : List TreeRelease) (n : ℕ) (x : NodeView) → p.faults ≡ [] → AreParts p xs inboxes → n < nodes p → slice_get xs n ≡ Some x
+    → is_enabled p (state_with p xs inboxes releases) (Tick n) ≡ list_any (λ v. is_running (book_of x.entries v.0 v.1)) (waves_at p x.number)
+tick_enabled p xs inboxes releases n x safe parts lt at =
+    ap (λ (b : Bool). b && list_any (λ v. is_running ((node_at p xs n).book v.0 v.1)) (waves_at p n)) (active_at p xs inboxes releases n safe lt)
+    ∙ ap (λ k. list_any (λ v. is_running (k.book v.0 v.1)) (waves_at p n)) (node_there p xs n x at)
+    ∙ ap (λ k. list_any (λ v. is_running (book_of x.entries v.0 v.1)) (waves_at p k)) (sym (parts.each n x at).0)
+
+-- each place of a list has an element
+some_at : (xs : List NodeView) (n : ℕ) → n < length xs → (x : NodeView) × (slice_get xs n ≡ Some x)
+some_at [] n lt = absurd (omega arith)
+some_at (x ∷ xs) zero lt = (x, refl)
+some_at (x ∷ xs) (suc n) lt = some_at xs n (omega arith)
+
+-- the node of each number
+pub part_at : (p : Plan) (xs : List NodeView) (inboxes : List Waiting) (n : ℕ) → AreParts p xs inboxes → n < nodes p → (x : NodeView) × (slice_get xs n ≡ Some x) × (x.number ≡ n)
+part_at p xs inboxes n parts lt = let s = some_at xs n (subst (λ k. n < k) (sym parts.all_nodes) lt) in (s.0, s.1, (parts.each n s.0 s.1).0)
+
+-- the events of a node that may come next, of all that can be named, by its number
+pub offers_at : (p : Plan) (xs : List NodeView) (inboxes : List Waiting) (releases : List TreeRelease) (n : ℕ) → IsPlan p → p.faults ≡ [] → AreParts p xs inboxes → n < nodes p → filter (is_enabled p (state_with p xs inboxes releases)) (events_of p n) ≡ events_at p xs inboxes n
+offers_at p xs inboxes releases n plan safe parts lt =
+    let s = part_at p xs inboxes n parts lt in
+    let x = s.0 in
+    let at : slice_get xs x.number ≡ Some x = subst (λ k. slice_get xs k ≡ Some x) (sym s.2) s.1 in
+    let own : x.number < nodes p = subst (λ k. k < nodes p) (sym s.2) lt in
+    subst (λ k. filter (is_enabled p (state_with p xs inboxes releases)) (events_of p k) ≡ node_events p x (inbox_at inboxes k)) s.2 (node_offers p (state_with p xs inboxes releases) x (inbox_at inboxes x.number) plan (stands_at p xs inboxes releases x safe parts at own))
+    ∙ ap (λ (o : Option NodeView). elim o [ None ↦ [] | Some x ↦ node_events p x (inbox_at inboxes n) ]) (sym s.1)
+
+-- the events of the first nodes that may come next, of all that can be named
+offers_below : (p : Plan) (xs : List NodeView) (inboxes : List Waiting) (releases : List TreeRelease) (k : ℕ) → IsPlan p → p.faults ≡ [] → AreParts p xs inboxes → k ≤ nodes p → filter (is_enabled p (state_with p xs inboxes releases)) (events_below p k) ≡ flat_map (events_at p xs inboxes) (up_to k)
+offers_below p xs inboxes releases zero plan safe parts le = refl
+offers_below p xs inboxes releases (suc k) plan safe parts le =
+    filter-append (is_enabled p (state_with p xs inboxes releases)) (events_below p k) (events_of p k)
+    ∙ ap (λ (es : List Event). es ++ filter (is_enabled p (state_with p xs inboxes releases)) (events_of p k)) (offers_below p xs inboxes releases k plan safe parts (omega arith))
+    ∙ ap (λ (es : List Event). flat_map (events_at p xs inboxes) (up_to k) ++ es) (offers_at p xs inboxes releases k plan safe parts (omega arith) ∙ sym (append-nil (events_at p xs inboxes k)))
+    ∙ sym (flat_map-append (events_at p xs inboxes) (up_to k) (k ∷ []))
+
+-- the events that may come next are those of the nodes, node by node
+pub all_offers : (p : Plan) (xs : List NodeView) (inboxes : List Waiting) (releases : List TreeRelease) → IsPlan p → p.faults ≡ [] → AreParts p xs inboxes → enabled_events p (state_with p xs inboxes releases) ≡ flat_map (events_at p xs inboxes) (up_to (nodes p))
+unfolding enabled_events
+all_offers p xs inboxes releases plan safe parts = offers_below p xs inboxes releases (nodes p) plan safe parts (omega arith)
+
+-- whether the node of a number has an event that may come next
+pub ready_at : (p : Plan) (xs : List NodeView) (inboxes : List Waiting) (ready : List ℕ) (n : ℕ) → AreParts p xs inboxes → AreReady p xs inboxes ready → n < nodes p → is_listed ready n ≡ has_some (events_at p xs inboxes n)
+ready_at p xs inboxes ready n parts listed lt =
+    let s = part_at p xs inboxes n parts lt in
+    listed.each n s.0 s.1 ∙ ap (λ (o : Option NodeView). has_some (elim o [ None ↦ [] | Some x ↦ node_events p x (inbox_at inboxes n) ])) (sym s.1)
+
+-- parts with no events put none together
+nothing_below : (g : ℕ → List Event) (n : ℕ) → ((m : ℕ) → m < n → has_some (g m) ≡ false) → flat_map g (up_to n) ≡ []
+nothing_below g zero h = refl
+nothing_below g (suc n) h =
+    flat_map-append g (up_to n) (n ∷ [])
+    ∙ ap (λ (es : List Event). es ++ (g n ++ [])) (nothing_below g n (λ m lt. h m (omega arith)))
+    ∙ append-nil (g n)
+    ∙ none_from_test (g n) (h n (omega arith))
+
+-- what is put together is empty only where each part is
+part_empty : (g : ℕ → List Event) (xs : List ℕ) (m : ℕ) → In m xs → flat_map g xs ≡ [] → has_some (g m) ≡ false
+part_empty g [] m i e = absurd i
+part_empty g (x ∷ xs) m (inl k) e = ap (λ j. has_some (g j)) k ∙ first (g x) e
+  where
+    first : (es : List Event) → es ++ flat_map g xs ≡ [] → has_some es ≡ false
+    first [] e = refl
+    first (a ∷ es) e = absurd (cc)
+part_empty g (x ∷ xs) m (inr i) e = part_empty g xs m i (rest (g x) e)
+  where
+    rest : (es : List Event) → es ++ flat_map g xs ≡ [] → flat_map g xs ≡ []
+    rest [] e = e
+    rest (a ∷ es) e = absurd (cc)
+
+-- no event may come next just where no node has one
+pub none_is_ready : (p : Plan) (xs : List NodeView) (inboxes : List Waiting) (releases : List TreeRelease) (ready : List ℕ) → IsPlan p → p.faults ≡ [] → AreParts p xs inboxes → AreReady p xs inboxes ready → (ready ≡ [] → enabled_events p (state_with p xs inboxes releases) ≡ []) × (enabled_events p (state_with p xs inboxes releases) ≡ [] → ready ≡ [])
+none_is_ready p xs inboxes releases ready plan safe parts listed = (
+  λ none. all_offers p xs inboxes releases plan safe parts ∙ nothing_below (events_at p xs inboxes) (nodes p) (λ m lt. sym (ready_at p xs inboxes ready m parts listed lt) ∙ ap (λ r. is_listed r m) none),
+  λ none. empty ready listed.below (λ m lt. ready_at p xs inboxes ready m parts listed lt ∙ part_empty (events_at p xs inboxes) (up_to (nodes p)) m (in_up_to (nodes p) m lt) (sym (all_offers p xs inboxes releases plan safe parts) ∙ none)),
+)
+  where
+    empty : (r : List ℕ) → ((n : ℕ) → is_listed r n ≡ true → n < nodes p) → ((n : ℕ) → n < nodes p → is_listed r n ≡ false) → r ≡ []
+    empty [] below h = refl
+    empty (n ∷ r) below h = let t : is_listed (n ∷ r) n ≡ true = listed_from_in (n ∷ r) n (inl refl) in absurd (true≢false (sym t ∙ h n (below n t)))
+
+-- where the nodes with an event are listed in order, the events that may come next are theirs, node by node
+pub all_ready : (p : Plan) (xs : List NodeView) (inboxes : List Waiting) (releases : List TreeRelease) (ready : List ℕ) → IsPlan p → p.faults ≡ [] → AreParts p xs inboxes → AreReady p xs inboxes ready → IsAscending ready → enabled_events p (state_with p xs inboxes releases) ≡ flat_map (events_at p xs inboxes) ready
+all_ready p xs inboxes releases ready plan safe parts listed rise =
+    all_offers p xs inboxes releases plan safe parts
+    ∙ flat_ready (events_at p xs inboxes) (nodes p) ready rise (λ m i. listed.below m (listed_from_in ready m i)) (λ m lt. ready_at p xs inboxes ready m parts listed lt)
+
+-- the events of a node that was read
+pub events_read : (p : Plan) (xs : List NodeView) (inboxes : List Waiting) (n : ℕ) (x : NodeView) (box : Waiting) → slice_get xs n ≡ Some x → box ≡ inbox_at inboxes n → events_at p xs inboxes n ≡ node_events p x box
+events_read p xs inboxes n x box at is =
+    ap (λ (o : Option NodeView). elim o [ None ↦ [] | Some x ↦ node_events p x (inbox_at inboxes n) ]) at ∙ ap (node_events p x) (sym is)
+
+-- a listed node that comes next is a node of the plan
+pub turn_below : (p : Plan) (xs : List NodeView) (inboxes : List Waiting) (ready ns rest : List ℕ) (n : ℕ) → AreReady p xs inboxes ready → ((m : ℕ) → In m ns → In m ready) → ns ≡ n ∷ rest → n < nodes p
+turn_below p xs inboxes ready ns rest n listed within split = listed.below n (listed_from_in ready n (within n (subst (λ ms. In n ms) (sym split) (inl refl))))
+
+-- an event of the next node
+pub turn_found : (g : ℕ → List Event) (ns rest : List ℕ) (n : ℕ) (es : List Event) (i : ℕ) (e : Event) → ns ≡ n ∷ rest → g n ≡ es → slice_get es i ≡ Some e → slice_get (flat_map g ns) i ≡ Some e
+turn_found g ns rest n es i e split own at =
+    ap (λ ms. slice_get (flat_map g ms) i) split ∙ ap (λ (fs : List Event). slice_get (fs ++ flat_map g rest) i) own ∙ get_before es (flat_map g rest) i e at
+
+-- a number that goes beyond the events of the next node
+pub turn_past : (g : ℕ → List Event) (ns rest : List ℕ) (n : ℕ) (es : List Event) (i k : ℕ) → ns ≡ n ∷ rest → g n ≡ es → i ≡ length es + k → slice_get (flat_map g ns) i ≡ slice_get (flat_map g rest) k
+turn_past g ns rest n es i k split own past =
+    ap (λ ms. slice_get (flat_map g ms) i) split
+    ∙ ap (λ (fs : List Event). slice_get (fs ++ flat_map g rest) i) own
+    ∙ ap (slice_get (es ++ flat_map g rest)) past
+    ∙ get_past es (flat_map g rest) k
+
+-- where a list begins with one event, a number of 1 or more finds in it what one less finds in the rest
+pub one_past : (e : Event) (es rest : List Event) (left : ℕ) (r : Nth) → es ≡ e ∷ rest → 0 < left → IsNth rest (left - 1) r → IsNth es left r
+one_past e es rest left r split some h = subst (λ fs. IsNth fs left r) (sym split) (nth_past (e ∷ []) rest left (left - 1) r (omega arith) h)

@@ -1,0 +1,146 @@
+-- The state after an event, by its parts.
+use Rattle.std.proofs.Common.{◌≡◌, ◌≢◌, ◌∙◌, ◌<◌, ◌≤◌, ℕ, suc, Bool, true, false, ◌==◌, ◌&&◌, nat_lt, cond, List, [], ◌∷◌, ◌++◌, map, length, slice_get, slice_set, Option, Some, None, refl, sym, ap, subst, inl, inr, eqb-true, arith, append-nil}
+use Rattle.std.proofs.lemmas.Bool.{cases_Bool, eqb-false}
+use Rattle.std.proofs.lemmas.Bool.Decides.{nat_tests}
+use Rattle.std.proofs.lemmas.List.{map-append, length-set, get_or-set_same, get_or-set_other}
+use Rattle.std.proofs.lemmas.Option.{slice_get-get_or, slice_get_past, slice_get_within}
+use Rattle.stat_plan.specs.Plans.{Plan, nodes}
+use Rattle.stat_plan.specs.Waves.{put_at}
+use Rattle.overlay_core.specs.Nodes.{Node, Outcome}
+use Rattle.overlay_core.specs.Machine.{State, start_node, to, commit, with_link}
+use Rattle.overlay_core.specs.TreeReleases.{TreeRelease, bare_release, bare_releases}
+use Rattle.overlay_node.specs.Packets.{TreePacket, bare_packet, bare_sends}
+use Rattle.overlay_node.specs.NodeViews.{NodeView, node_of}
+use Rattle.overlay_net.specs.Inboxes.{Waiting, queue_of}
+use Rattle.overlay_net.specs.Nets.{inbox_at, node_at, state_with}
+use Rattle.overlay_net.specs.Sends.{packets_to, GoBelow}
+
+-- bare, what goes to b
+pub bare_to : (b : ℕ) (sends : List (ℕ × TreePacket)) → map bare_packet (packets_to b sends) ≡ to b (bare_sends sends)
+bare_to b [] = refl
+bare_to b (v ∷ vs) = go (v.0 == b) (bare_to b vs)
+  where
+    go : (t : Bool) → map bare_packet (packets_to b vs) ≡ to b (bare_sends vs) → map bare_packet (cond t (v.1 ∷ packets_to b vs) (packets_to b vs)) ≡ cond t (bare_packet v.1 ∷ to b (bare_sends vs)) (to b (bare_sends vs))
+    go true rest = ap (λ l. bare_packet v.1 ∷ l) rest
+    go false rest = rest
+
+-- nothing goes beyond the receivers
+pub nothing_beyond : (count b : ℕ) (sends : List (ℕ × TreePacket)) → GoBelow count sends → nat_lt b count ≡ false → packets_to b sends ≡ []
+nothing_beyond count b [] below over = refl
+nothing_beyond count b (v ∷ vs) below over = go (v.0 == b) refl (nothing_beyond count b vs below.1 over)
+  where
+    go : (t : Bool) → (v.0 == b) ≡ t → packets_to b vs ≡ [] → cond t (v.1 ∷ packets_to b vs) (packets_to b vs) ≡ []
+    go true t rest = let e : v.0 ≡ b = eqb-true v.0 b t in let k : v.0 < count = below.0 in absurd (grind (arith, nat_tests))
+    go false t rest = rest
+
+-- an element in the place of another one
+pub set_here : {X : Type 0} (xs : List X) (n : ℕ) (y : X) → n < length xs → slice_get (slice_set xs n y) n ≡ Some y
+set_here xs n y below =
+    slice_get-get_or (slice_set xs n y) n y (subst (λ k. n < k) (sym (length-set xs n y)) below)
+    ∙ ap Some (get_or-set_same xs n y y below)
+
+pub set_else : {X : Type 0} (xs : List X) (n b : ℕ) (y : X) → b ≢ n → slice_get (slice_set xs n y) b ≡ slice_get xs b
+set_else xs n b y other = elim (cases_Bool (nat_lt b (length xs))) [
+  | (inl t) ↦ let lt : b < length xs = grind (arith, nat_tests) in
+      slice_get-get_or (slice_set xs n y) b y (subst (λ k. b < k) (sym (length-set xs n y)) lt)
+      ∙ ap Some (get_or-set_other xs n b y y other)
+      ∙ sym (slice_get-get_or xs b y lt)
+  | (inr f) ↦ let ge : length xs ≤ b = grind (arith, nat_tests) in
+      slice_get_past (slice_set xs n y) b (subst (λ k. k ≤ b) (sym (length-set xs n y)) ge)
+      ∙ sym (slice_get_past xs b ge)
+]
+
+-- a node in the place of another one
+pub node_set : (p : Plan) (xs : List NodeView) (n : ℕ) (y : NodeView) (v : Node) → n < length xs → node_of y ≡ v → (b : ℕ) → node_at p (slice_set xs n y) b ≡ put_at (node_at p xs) n v b
+node_set p xs n y v below is b = go (b == n) refl
+  where
+    shown : ℕ → Option NodeView → Node
+    shown a o = elim o [ None ↦ start_node p a | Some x ↦ node_of x ]
+
+    go : (t : Bool) → (b == n) ≡ t → node_at p (slice_set xs n y) b ≡ cond t v (node_at p xs b)
+    go true t = let e : b ≡ n = eqb-true b n t in
+        ap (λ a. node_at p (slice_set xs n y) a) e ∙ ap (shown n) (set_here xs n y below) ∙ is
+    go false t = ap (shown b) (set_else xs n b y (eqb-false b n t))
+
+-- an inbox in the place of another one
+pub inbox_here : (ib : List Waiting) (n : ℕ) (w : Waiting) → n < length ib → inbox_at (slice_set ib n w) n ≡ w
+inbox_here ib n w below = get_or-set_same ib n w [] below
+
+pub inbox_else : (ib : List Waiting) (n b : ℕ) (w : Waiting) → b ≢ n → inbox_at (slice_set ib n w) b ≡ inbox_at ib b
+inbox_else ib n b w other = get_or-set_other ib n b w [] other
+
+and_false : (u : Bool) → (u && false) ≡ false
+and_false true = refl
+and_false false = refl
+
+module _ (p : Plan) (xs : List NodeView) (rs : List TreeRelease) (n : ℕ) where
+  -- The first packet of a link was taken.
+  pub popped_state : (ib ic : List Waiting) (m : ℕ) (rest : List TreePacket)
+      → queue_of (inbox_at ic n) m ≡ rest
+      → ((a b : ℕ) → ((b == n) && (a == m)) ≡ false → queue_of (inbox_at ic b) a ≡ queue_of (inbox_at ib b) a)
+      → ◌≡◌ {A = State} (with_link (state_with p xs ib rs) m n (map bare_packet rest)) (state_with p xs ic rs)
+  unfolding with_link
+  popped_state ib ic m rest here else = λ i. record {
+    alive = λ a. nat_lt a (nodes p);
+    node = node_at p xs;
+    link = λ a b. links a b i;
+    releases = bare_releases rs;
+  }
+    where
+      links : (a b : ℕ) → cond ((a == m) && (b == n)) (map bare_packet rest) (map bare_packet (queue_of (inbox_at ib b) a)) ≡ map bare_packet (queue_of (inbox_at ic b) a)
+      links a b = go (a == m) (b == n) refl refl
+        where
+          go : (t u : Bool) → (a == m) ≡ t → (b == n) ≡ u → cond (t && u) (map bare_packet rest) (map bare_packet (queue_of (inbox_at ib b) a)) ≡ map bare_packet (queue_of (inbox_at ic b) a)
+          go true true et eu =
+              let ea : a ≡ m = eqb-true a m et in
+              let eb : b ≡ n = eqb-true b n eu in
+              ap (map bare_packet) (sym here ∙ (λ i. queue_of (inbox_at ic (sym eb i)) (sym ea i)))
+          go true false et eu = ap (map bare_packet) (sym (else a b (λ i. eu i && et i)))
+          go false u et eu = ap (map bare_packet) (sym (else a b ((λ i. eu i && et i) ∙ and_false u)))
+
+  -- What an event leaves of its node took its place, and what it sent was put behind.
+  pub commit_state : (ib ic : List Waiting) (x y : NodeView) (o : Outcome) (sends : List (ℕ × TreePacket)) (more : List TreeRelease)
+      → slice_get xs n ≡ Some x
+      → ◌≡◌ {A = Node} (node_of y) (record { kin = o.kin; book = o.work.book; count = suc x.count })
+      → bare_sends sends ≡ o.work.sends
+      → bare_releases more ≡ o.work.releases
+      → GoBelow (nodes p) sends
+      → ((a b : ℕ) → queue_of (inbox_at ic b) a ≡ cond (a == n) (queue_of (inbox_at ib b) a ++ packets_to b sends) (queue_of (inbox_at ib b) a))
+      → ◌≡◌ {A = State} (commit (state_with p xs ib rs) n o) (state_with p (slice_set xs n y) ic (rs ++ more))
+  unfolding commit
+  commit_state ib ic x y o sends more at after sent released below queues = λ i. record {
+    alive = λ a. nat_lt a (nodes p);
+    node = λ a. node_now a i;
+    link = λ a b. links a b i;
+    releases = ((λ j. bare_releases rs ++ sym released j) ∙ sym (map-append bare_release rs more)) i;
+  }
+    where
+      before : node_at p xs n ≡ node_of x
+      before = ap (λ (w : Option NodeView). elim w [ None ↦ start_node p n | Some v ↦ node_of v ]) at
+
+      leaves : ◌≡◌ {A = Node} (node_of y) (record { kin = o.kin; book = o.work.book; count = suc (node_at p xs n).count })
+      leaves = after ∙ (λ i. record { kin = o.kin; book = o.work.book; count = suc (sym before i).count })
+
+      node_now : (a : ℕ) → put_at (node_at p xs) n (record { kin = o.kin; book = o.work.book; count = suc (node_at p xs n).count }) a ≡ node_at p (slice_set xs n y) a
+      node_now a = sym (node_set p xs n y _ (slice_get_within xs n x at) leaves a)
+
+      links : (a b : ℕ) → cond ((a == n) && nat_lt b (nodes p)) (map bare_packet (queue_of (inbox_at ib b) a) ++ to b o.work.sends) (map bare_packet (queue_of (inbox_at ib b) a)) ≡ map bare_packet (queue_of (inbox_at ic b) a)
+      links a b = go (a == n) (nat_lt b (nodes p)) refl refl
+        where
+          moved : cond (a == n) (map bare_packet (queue_of (inbox_at ib b) a) ++ to b o.work.sends) (map bare_packet (queue_of (inbox_at ib b) a)) ≡ map bare_packet (queue_of (inbox_at ic b) a)
+          moved = both (a == n) ∙ sym (ap (map bare_packet) (queues a b))
+            where
+              both : (t : Bool) → cond t (map bare_packet (queue_of (inbox_at ib b) a) ++ to b o.work.sends) (map bare_packet (queue_of (inbox_at ib b) a)) ≡ map bare_packet (cond t (queue_of (inbox_at ib b) a ++ packets_to b sends) (queue_of (inbox_at ib b) a))
+              both true = ap (λ l. map bare_packet (queue_of (inbox_at ib b) a) ++ l) (sym (bare_to b sends ∙ ap (to b) sent)) ∙ sym (map-append bare_packet (queue_of (inbox_at ib b) a) (packets_to b sends))
+              both false = refl
+
+          as_moved : (t : Bool) → (a == n) ≡ t → cond t (map bare_packet (queue_of (inbox_at ib b) a) ++ to b o.work.sends) (map bare_packet (queue_of (inbox_at ib b) a)) ≡ map bare_packet (queue_of (inbox_at ic b) a)
+          as_moved t et = ap (λ c. cond c (map bare_packet (queue_of (inbox_at ib b) a) ++ to b o.work.sends) (map bare_packet (queue_of (inbox_at ib b) a))) (sym et) ∙ moved
+
+          nothing : nat_lt b (nodes p) ≡ false → to b o.work.sends ≡ []
+          nothing over = sym (bare_to b sends ∙ ap (to b) sent) ∙ ap (map bare_packet) (nothing_beyond (nodes p) b sends below over)
+
+          go : (t u : Bool) → (a == n) ≡ t → nat_lt b (nodes p) ≡ u → cond (t && u) (map bare_packet (queue_of (inbox_at ib b) a) ++ to b o.work.sends) (map bare_packet (queue_of (inbox_at ib b) a)) ≡ map bare_packet (queue_of (inbox_at ic b) a)
+          go true true et eu = as_moved true et
+          go true false et eu = sym (append-nil (map bare_packet (queue_of (inbox_at ib b) a))) ∙ ap (λ l. map bare_packet (queue_of (inbox_at ib b) a) ++ l) (sym (nothing eu)) ∙ as_moved true et
+          go false u et eu = as_moved false et

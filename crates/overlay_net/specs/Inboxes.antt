@@ -1,0 +1,45 @@
+-- What waits for a node, by sender.
+use Rattle.std.specs.Prelude.{◌≢◌, ℕ, Bool, false, ◌||◌, List, [], ◌∷◌, ◌==◌, cond, map}
+use Rattle.std.specs.Coded.{Coded, coded×, coded_list, coded_ℕ}
+use Rattle.std.specs.List.{AllByRecursion}
+use Rattle.std.specs.List.Sorted.{IsStrictlySortedBy}
+use Rattle.std.specs.Ordering.{nat_cmp}
+use Rattle.std.specs.declared.collections.VecDeque.{VecDeque}
+use Rattle.prefix_tree.specs.Tree.{Tree}
+use Rattle.overlay_node.specs.declared.packet.Packet.{Packet}
+use Rattle.overlay_node.specs.Packets.{TreePacket, coded_packet, packet_in}
+
+-- the senders of whom something waits, ascending, each with what waits, the first packet first
+abbrev pub Waiting : Type 0
+Waiting = List (ℕ × List TreePacket)
+
+-- the queues of a program, where `tree` says what a packet's tree is
+abbrev pub waiting_in : {X A : Type 0} → (X → Tree) → List (ℕ × VecDeque (Packet X) A) → Waiting
+waiting_in tree queues = map (λ e. (e.0, map (packet_in tree) e.1.items)) queues
+
+-- what waits from a sender
+abbrev pub queue_of : Waiting → ℕ → List TreePacket
+queue_of [] m = []
+queue_of (e ∷ es) m = cond (e.0 == m) e.1 (queue_of es m)
+
+-- the senders
+abbrev pub senders_of : Waiting → List ℕ
+senders_of es = map (λ e. e.0) es
+
+-- each sender in the list has sent something
+abbrev pub HaveSent : Waiting → Type 0
+HaveSent es = AllByRecursion (λ e. e.1 ≢ []) es
+
+-- what every inbox is: the senders rise, and each has sent something that waits
+pub record IsInbox (waiting : Waiting) : Type 0 where
+  pub sent : HaveSent waiting
+  pub rises : IsStrictlySortedBy nat_cmp (senders_of waiting)
+
+-- whether something waits from a sender
+abbrev pub is_waiting : Waiting → ℕ → Bool
+is_waiting [] m = false
+is_waiting (e ∷ es) m = (e.0 == m) || is_waiting es m
+
+-- what waits is stored as the list that it is
+abbrev pub coded_waiting : Coded Waiting
+coded_waiting = coded_list (coded× coded_ℕ (coded_list coded_packet))

@@ -1,0 +1,6 @@
+pub mod Inboxes
+pub mod Nets
+pub mod Events
+pub mod Sends
+pub mod Handled
+pub mod Parts

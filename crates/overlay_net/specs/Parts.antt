@@ -1,0 +1,51 @@
+-- The parts of a net, as a value.
+use Rattle.std.specs.Prelude.{◌≡◌, ◌<◌, ◌^◌, ℕ, Bool, true, List, [], length, slice_get, slice_set, Option, Some}
+use Rattle.prefix_tree.specs.Tree.{Tree}
+use Rattle.stat_plan.specs.Plans.{Plan}
+use Rattle.stat_desk.specs.declared.event.Event.{Event}
+use Rattle.overlay_core.specs.Apart.{node_of}
+use Rattle.overlay_core.specs.TreeReleases.{TreeRelease, releases_in}
+use Rattle.overlay_node.specs.Packets.{TreePacket}
+use Rattle.overlay_core.specs.Nodes.{Node}
+use Rattle.overlay_core.specs.Machine.{start_node}
+use Rattle.overlay_node.specs.NodeViews as Views
+use Rattle.overlay_node.specs.NodeViews.{Counts, IsNodeOf, MayHandle, NodeView}
+use Rattle.overlay_net.specs.Inboxes.{Waiting}
+use Rattle.overlay_net.specs.Nets.{NetView, inbox_at, net_view, node_events}
+use Rattle.overlay_net.specs.Events.{has_some, is_listed}
+use Rattle.overlay_net.specs.Sends.{CanTake, IsTaken}
+use Rattle.overlay_net.specs.Handled.{HasHandled}
+use Rattle.overlay_net.specs.declared.parts.Parts.{Parts}
+
+-- the net of a plan and these parts, where `tree` says what a release's tree is
+abbrev pub net_in : {X : Type 0} → (X → Tree) → Plan → Parts X → Bool → NetView
+net_in tree p parts failed = net_view p parts.nodes.items parts.inboxes.items (releases_in tree parts.releases.items) failed
+
+-- An event's packet was taken from the inboxes, and its node has handled it.
+pub record IsHandedOver (p : Plan) (e : Event) (xs ys : List NodeView) (old new : List Waiting) (sends : List (ℕ × TreePacket)) (more : List TreeRelease) : Type 0 where
+  pub packet : Option TreePacket
+  pub before : NodeView
+  pub after : NodeView
+  pub taken : IsTaken old e packet new
+  pub at : slice_get xs (node_of e) ≡ Some before
+  pub done : HasHandled p before after e packet sends more
+  pub now : ys ≡ slice_set xs (node_of e) after
+
+-- The event's packet may be taken, and its node may handle it with whatever is taken; the node has done few events.
+pub record MayHandOver (p : Plan) (xs : List NodeView) (old : List Waiting) (e : Event) : Type 0 where
+  pub below : node_of e < length xs
+  pub take : CanTake old e
+  pub fits : (x : NodeView) → slice_get xs (node_of e) ≡ Some x → IsNodeOf p x
+  pub handle : (new : List Waiting) (packet : Option TreePacket) (x : NodeView) → IsTaken old e packet new → slice_get xs (node_of e) ≡ Some x → MayHandle p x e packet
+  pub few : (x : NodeView) → slice_get xs (node_of e) ≡ Some x → x.count < 2 ^ 62
+
+-- the first so many nodes have done nothing yet, nothing waits for them, and those with an event that may come next are listed
+pub record AreFresh (p : Plan) (count : ℕ) (xs : List NodeView) (inboxes : List Waiting) (listed : List ℕ) : Type 0 where
+  pub all_nodes : length xs ≡ count
+  pub all_inboxes : length inboxes ≡ count
+  pub numbers : (n : ℕ) (x : NodeView) → slice_get xs n ≡ Some x → (x.number ≡ n) × IsNodeOf p x
+  pub start : (n : ℕ) (x : NodeView) → slice_get xs n ≡ Some x → ◌≡◌ {A = Node} (Views.node_of x) (start_node p n)
+  pub counts : (n : ℕ) (x : NodeView) → slice_get xs n ≡ Some x → Counts x.entries []
+  pub empty : (n : ℕ) → inbox_at inboxes n ≡ []
+  pub below : (n : ℕ) → is_listed listed n ≡ true → n < count
+  pub each : (n : ℕ) (x : NodeView) → slice_get xs n ≡ Some x → is_listed listed n ≡ has_some (node_events p x [])

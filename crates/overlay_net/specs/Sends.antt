@@ -1,0 +1,54 @@
+-- What a node sends, and where it goes.
+use Rattle.std.specs.Prelude.{◌≡◌, ◌≢◌, ⊤, ℕ, ◌<◌, Bool, false, ◌==◌, ◌||◌, cond, List, [], ◌∷◌, ◌++◌, length, Option, Some, None}
+use Rattle.std.specs.List.{AllByRecursion, list_any}
+use Rattle.stat_desk.specs.declared.event.Event.{Event}
+use Rattle.stat_desk.specs.declared.event.Event.TheVariants.{Sample, Recv, Tick, Lose}
+use Rattle.overlay_node.specs.Packets.{TreePacket}
+use Rattle.overlay_net.specs.Inboxes.{IsInbox, Waiting, queue_of}
+use Rattle.overlay_net.specs.Nets.{inbox_at}
+use Rattle.overlay_net.specs.Events.{is_listed}
+
+-- the packets that go to b
+abbrev pub packets_to : ℕ → List (ℕ × TreePacket) → List TreePacket
+packets_to b [] = []
+packets_to b (v ∷ vs) = cond (v.0 == b) (v.1 ∷ packets_to b vs) (packets_to b vs)
+
+-- whether something goes to b
+abbrev pub is_receiver : List (ℕ × TreePacket) → ℕ → Bool
+is_receiver sends b = list_any (λ v. v.0 == b) sends
+
+-- each receiver is one of the first so many nodes
+abbrev pub GoBelow : ℕ → List (ℕ × TreePacket) → Type 0
+GoBelow count sends = AllByRecursion (λ v. v.0 < count) sends
+
+-- What a node sent was put behind what waited from it, in the inboxes of the receivers and in no other, and the receivers
+-- are listed besides.
+pub record AreSent (from : ℕ) (sends : List (ℕ × TreePacket)) (old new : List Waiting) (listed listed_now : List ℕ) : Type 0 where
+  pub queues : (a b : ℕ) → queue_of (inbox_at new b) a ≡ cond (a == from) (queue_of (inbox_at old b) a ++ packets_to b sends) (queue_of (inbox_at old b) a)
+  pub others : (b : ℕ) → is_receiver sends b ≡ false → inbox_at new b ≡ inbox_at old b
+  pub all : length new ≡ length old
+  pub ready : (b : ℕ) → is_listed listed_now b ≡ (is_receiver sends b || is_listed listed b)
+  pub kept : ((b : ℕ) → IsInbox (inbox_at old b)) → (b : ℕ) → IsInbox (inbox_at new b)
+
+-- where an event receives something, something waits
+abbrev pub CanTake : List Waiting → Event → Type 0
+CanTake old (Sample n s w) = ⊤
+CanTake old (Recv n m) = (n < length old) × (queue_of (inbox_at old n) m ≢ [])
+CanTake old (Tick n) = ⊤
+CanTake old (Lose n) = ⊤
+
+-- the first packet that waited from m for n was q
+pub record IsFirst (m n : ℕ) (q : TreePacket) (old new : List Waiting) : Type 0 where
+  pub first : queue_of (inbox_at old n) m ≡ q ∷ queue_of (inbox_at new n) m
+  pub rest : (a : ℕ) → (a == m) ≡ false → queue_of (inbox_at new n) a ≡ queue_of (inbox_at old n) a
+  pub others : (b : ℕ) → (b == n) ≡ false → inbox_at new b ≡ inbox_at old b
+  pub all : length new ≡ length old
+  pub kept : ((b : ℕ) → IsInbox (inbox_at old b)) → (b : ℕ) → IsInbox (inbox_at new b)
+
+-- an event has taken what it receives
+abbrev pub IsTaken : List Waiting → Event → Option TreePacket → List Waiting → Type 0
+IsTaken old (Sample n s w) packet new = (packet ≡ None) × (new ≡ old)
+IsTaken old (Recv n m) None new = ⊥
+IsTaken old (Recv n m) (Some q) new = IsFirst m n q old new
+IsTaken old (Tick n) packet new = (packet ≡ None) × (new ≡ old)
+IsTaken old (Lose n) packet new = (packet ≡ None) × (new ≡ old)

@@ -1,0 +1,178 @@
+//! The events that may come next: of one node by number, and whether one may.
+
+ghost use Rattle.std.specs.Prelude.{◌≡◌, ◌&&◌, ◌↔◌, [], map, slice_get, ℕ, List};
+ghost use Rattle.std.specs.List.{flat_map};
+ghost use Rattle.stat_desk.specs.declared.event.Event.{Event};
+ghost use Rattle.stat_desk.specs.declared.event.Event.TheVariants.{Recv};
+ghost use Rattle.stat_plan.specs.Kept.{IsPlan};
+ghost use Rattle.stat_plan.specs.NodeSets.{In, member};
+ghost use Rattle.stat_plan.specs.Plans.{Plan, daemons};
+ghost use Rattle.overlay_core.specs.Machine.{enabled_events, is_enabled, is_wave, next_sample};
+ghost use Rattle.overlay_core.specs.TreeReleases.{TreeRelease};
+ghost use Rattle.overlay_node.specs.NodeViews.{IsNodeOf, NodeView, node_of};
+ghost use Rattle.overlay_net.specs.Inboxes.{Waiting, senders_of};
+ghost use Rattle.overlay_net.specs.Nets.{node_events, sample_of, state_with};
+ghost use Rattle.overlay_net.specs.Events.{AreParts, AreReady, IsNth, has_some, sample_at};
+
+use crate::inbox::Inbox;
+use overlay_node::Node;
+use prefix_tree::PrefixTree;
+use stat_desk::Event;
+use stat_plan::{Plan, StreamDef};
+use std::collections::BTreeSet;
+
+/// What a number stands for in a list of events.
+pub enum Nth {
+    /// This event.
+    Found(Event),
+    /// None: it goes beyond the list by so much.
+    Beyond(u64),
+}
+
+/// The wave of a stream whose samples the node takes next, if there is one.
+fn next_wave<T: PrefixTree>(plan: &Plan, node: &Node<T>, stream: &StreamDef) -> Option<u8>
+    requires node { IsNodeOf plan.now node.now }
+    requires stream { In stream.now plan.now.streams }
+    ensures { sample_of plan.now node.now stream.now ≡ sample_at node.now.number stream.now.number result }
+{
+    plan.is_plan();
+    let n = node.number();
+    if plan.is_daemon(n) && plan.serves(n, stream.number()) {
+        node.next_sample(stream.number())
+    } else {
+        None
+    }
+}
+
+/// The `i`-th of a node's samples.
+fn sample_event<T: PrefixTree>(plan: &Plan, node: &Node<T>, i: u64) -> Nth
+    requires { IsNodeOf plan.now node.now }
+    ensures { IsNth (flat_map (sample_of plan.now node.now) plan.now.streams) i result }
+{
+    let mut left = i;
+    for stream in plan.streams() {
+        if let Some(wave) = next_wave(plan, node, stream) {
+            if left == 0 {
+                return Nth::Found(Event::Sample {
+                    node: node.number(),
+                    stream: stream.number(),
+                    wave,
+                });
+            }
+            left -= 1;
+        }
+    }
+    Nth::Beyond(left)
+}
+
+/// The `i`-th of what a node may receive.
+fn receive_event<T: PrefixTree>(n: u32, inbox: &Inbox<T>, i: u64) -> Nth
+    ensures { IsNth (map (λ m. Recv n m) (senders_of inbox.now)) i result }
+{
+    match inbox.sender(i as usize) {
+        Some(from) => Nth::Found(Event::Recv { node: n, from }),
+        None => Nth::Beyond(i - inbox.len() as u64),
+    }
+}
+
+/// The `i`-th of a node's events that may come next.
+pub fn node_event<T: PrefixTree>(plan: &Plan, node: &Node<T>, inbox: &Inbox<T>, i: u64) -> Nth
+    requires { IsNodeOf plan.now node.now }
+    ensures { IsNth (node_events plan.now node.now inbox.now) i result }
+{
+    plan.is_plan();
+    let left = match sample_event(plan, node, i) {
+        Nth::Found(event) => return Nth::Found(event),
+        Nth::Beyond(left) => left,
+    };
+    let left = match receive_event(node.number(), inbox, left) {
+        Nth::Found(event) => return Nth::Found(event),
+        Nth::Beyond(left) => left,
+    };
+    if !node.has_running() {
+        return Nth::Beyond(left);
+    }
+    if left > 0 {
+        return Nth::Beyond(left - 1);
+    }
+    Nth::Found(Event::Tick {
+        node: node.number(),
+    })
+}
+
+/// Whether some event of a node may come next.
+pub fn has_event<T: PrefixTree>(plan: &Plan, node: &Node<T>, inbox: &Inbox<T>) -> bool
+    requires { IsNodeOf plan.now node.now }
+    ensures { result ≡ has_some (node_events plan.now node.now inbox.now) }
+{
+    match node_event(plan, node, inbox, 0) {
+        Nth::Found(_) => true,
+        Nth::Beyond(_) => false,
+    }
+}
+
+/// Whether an event may come next. It may be any event, also of nodes, streams and waves that the plan doesn't have.
+pub fn is_enabled<T: PrefixTree>(
+    plan: &Plan,
+    nodes: &[Node<T>],
+    inboxes: &[Inbox<T>],
+    event: Event,
+) -> bool
+    requires safe { plan.now.faults ≡ [] }
+    requires parts { AreParts plan.now nodes.now inboxes.now }
+    ensures { (releases : List TreeRelease) → result ≡ is_enabled plan.now (state_with plan.now nodes.now inboxes.now releases) event }
+{
+    plan.is_plan();
+    match event {
+        Event::Sample { node, stream, wave } => {
+            node < plan.nodes() && is_next_wave(plan, &nodes[node as usize], stream, wave)
+        }
+        Event::Recv { node, from } => {
+            node < plan.nodes() && inboxes[node as usize].is_waiting(from)
+        }
+        Event::Tick { node } => node < plan.nodes() && nodes[node as usize].has_running(),
+        Event::Lose { .. } => false,
+    }
+}
+
+/// Whether the wave is the one whose samples the node takes next of the stream, if the plan has it.
+fn is_next_wave<T: PrefixTree>(plan: &Plan, node: &Node<T>, s: u8, wave: u8) -> bool
+    requires { IsNodeOf plan.now node.now }
+    ensures { result ≡ (member node.now.number (daemons plan.now s) && is_wave (next_sample plan.now (node_of node.now) s) wave) }
+{
+    plan.is_plan();
+    match plan.stream(s) {
+        Some(stream) => next_wave(plan, node, stream) == Some(wave),
+        None => false,
+    }
+}
+
+/// The `i`-th of the events that may come next, by node, and of a node its samples by stream, what it may receive by sender,
+/// and its tick. Only the nodes that have one are looked at, and only as far as the event.
+pub fn nth_enabled<T: PrefixTree>(
+    plan: &Plan,
+    nodes: &[Node<T>],
+    inboxes: &[Inbox<T>],
+    ready: &BTreeSet<u32>,
+    i: u64,
+) -> Option<Event>
+    requires safe { plan.now.faults ≡ [] }
+    requires parts { AreParts plan.now nodes.now inboxes.now }
+    requires ready { AreReady plan.now nodes.now inboxes.now ready.now.keys }
+    ensures { (releases : List TreeRelease) → result ≡ slice_get (enabled_events plan.now (state_with plan.now nodes.now inboxes.now releases)) i }
+{
+    plan.is_plan();
+    let mut left = i;
+    for n in ready.iter() {
+        match node_event(plan, &nodes[*n as usize], &inboxes[*n as usize], left) {
+            Nth::Found(event) => return Some(event),
+            Nth::Beyond(beyond) => left = beyond,
+        }
+    }
+    None
+}
+
+/// A law: no event may come next just where no node has one.
+pub fn no_event_where_none_is_ready()
+    ensures { (p : Plan) (xs : List NodeView) (inboxes : List Waiting) (releases : List TreeRelease) (ready : List ℕ) → IsPlan p → p.faults ≡ [] → AreParts p xs inboxes → AreReady p xs inboxes ready → (ready ≡ []) ↔ (enabled_events p (state_with p xs inboxes releases) ≡ []) }
+{}
