@@ -1,24 +1,45 @@
--- The text of a report.
-use Rattle.std.specs.Prelude.{ℕ, List, ◌++◌, codes}
+-- The text of a report: its releases in order, and then what came of the faults of the plan's script.
+use Rattle.std.specs.Prelude.{◌≡◌, ℕ, Bool, true, false, List, [], ◌∷◌, ◌++◌, codes}
 use Rattle.std.specs.Fmt.{decimal}
-use Rattle.rank_set.specs.Ranks.{Ranks}
-use Rattle.rank_set.specs.Text.{text_of}
-use Rattle.call_path.specs.Path.{Path}
-use Rattle.prefix_tree.specs.Pairs.{Pairs}
-use Rattle.prefix_tree.specs.Tree.{Tree, tree_of}
-use Rattle.equiv_class.specs.Classes.{classes_of}
-use Rattle.front_end.specs.TreeText.{tree_text}
-use Rattle.front_end.specs.ClassText.{classes_text}
+use Rattle.std.specs.List.{flat_map, IsDistinct}
+use Rattle.std.specs.List.Sorted.{IsPermutation, IsStrictlySortedBy}
+use Rattle.std.specs.Ordering.{nat_cmp, ordering_then, eq_by_cmp}
+use Rattle.std.specs.declared.cmp.Ordering.{Ordering}
+use Rattle.stat_plan.specs.Names.{name_of}
+use Rattle.stat_plan.specs.NodeSets.{member}
+use Rattle.stat_plan.specs.Plans.{Plan}
+use Rattle.stat_plan.specs.declared.script.Fault.{Fault}
+use Rattle.overlay_core.specs.TreeReleases.{TreeRelease}
+use Rattle.front_end.specs.ReleaseText.{release_text}
 
--- what a release says: the ranks that it covers, its tree, and its classes
-abbrev pub release_body : Ranks → Tree → List (Ranks × List Path) → List ℕ
-release_body covered tree blocks =
-    codes "covered " ++ text_of covered ++ codes "\ntree\n" ++ tree_text tree ++ codes "classes\n" ++ classes_text blocks
+-- by stream, then by wave, then by number
+abbrev pub release_cmp : TreeRelease → TreeRelease → Ordering
+release_cmp a b = ordering_then (ordering_then (nat_cmp a.stream b.stream) (nat_cmp a.wave b.wave)) (nat_cmp a.number b.number)
 
--- the line above a final release of a stream's first wave, which is its first release
-abbrev pub heading : ℕ → List ℕ
-heading stream = codes "stream " ++ decimal stream ++ codes " wave 0 release 1 final\n"
+-- no two of the releases have the same stream, wave and number
+abbrev pub AreApart : List TreeRelease → Type 0
+AreApart releases = IsDistinct (eq_by_cmp release_cmp) releases
 
--- the report of one final release of a stream's first wave: its samples, merged directly over the covered ranks
-unfoldable pub direct_report : ℕ → Pairs → Ranks → List ℕ
-direct_report stream samples covered = heading stream ++ release_body covered (tree_of samples covered) (classes_of samples covered) ++ codes "end\n"
+-- the given releases in the order in which they are printed: the stream, the wave and the number rise
+pub record IsInOrder (given ordered : List TreeRelease) : Type 0 where
+  pub same : IsPermutation given ordered
+  pub rises : IsStrictlySortedBy release_cmp ordered
+
+-- a fault came to pass after so many events of its node, or the node had fewer events
+abbrev pub fate_text : Bool → Fault → List ℕ
+fate_text true fault = codes " lost after " ++ decimal fault.after
+fate_text false fault = codes " not reached"
+
+-- the line of a fault
+abbrev pub fault_line : Plan → List ℕ → Fault → List ℕ
+fault_line p lost fault = codes "fault " ++ name_of p.names fault.node ++ fate_text (member fault.node lost) fault ++ 10 ∷ []
+
+-- the whole text of releases in order
+unfoldable pub report_text : Plan → List ℕ → List TreeRelease → List ℕ
+report_text p lost ordered = flat_map (release_text p) ordered ++ flat_map (fault_line p lost) p.faults ++ codes "end\n"
+
+-- the text is the report of these releases of a plan, where these nodes were lost
+pub record IsReport (p : Plan) (given : List TreeRelease) (lost text : List ℕ) : Type 0 where
+  pub ordered : List TreeRelease
+  pub in_order : IsInOrder given ordered
+  pub is : text ≡ report_text p lost ordered

@@ -1,8 +1,16 @@
-//! Writes reports: the merged tree of a wave's samples, and the classes of ranks of like behaviour.
+//! Writes reports: the releases of a run, each with its merged tree and the classes of ranks of like behaviour, and what
+//! came of the faults of the script.
 #![tactic(auto)]
 
 mod class_text;
+mod laws;
+mod release_text;
 mod report;
+#[cfg(test)]
+mod tests;
 mod tree_text;
 
+pub use laws::{
+    classes_of_a_tree, numbered_releases_are_apart, ordered_releases_are_in_order, reports_are_one,
+};
 pub use report::report_text;

@@ -1,56 +1,105 @@
 //! The text of a report.
-ghost use Rattle.std.specs.Prelude.{◌≡◌, ◌++◌, IfOk, OnOk};
-ghost use Rattle.rank_set.specs.Ranks.{Ranks};
-ghost use Rattle.prefix_tree.specs.Pairs.{HasNoEmptyPath, Pairs};
-ghost use Rattle.prefix_tree.specs.Tree.{tree_of};
-ghost use Rattle.equiv_class.specs.ClassList.{class_views};
-ghost use Rattle.front_end.specs.Report.{direct_report, heading, release_body};
+ghost use Rattle.std.specs.Prelude.{◌≡◌, ◌++◌, ◌<◌, IfOk, OnOk, map};
+ghost use Rattle.std.specs.List.{flat_map};
+ghost use Rattle.stat_plan.specs.Plans.{nodes};
+ghost use Rattle.overlay_core.specs.TreeReleases.{releases_in};
+ghost use Rattle.front_end.specs.ReleaseText.{release_text};
+ghost use Rattle.front_end.specs.Report.{AreApart, IsInOrder, IsReport, fate_text, fault_line};
+ghost use Rattle.front_end.specs.Shown.{shown_releases};
 
-use crate::class_text::{write_classes, write_number};
-use crate::tree_text::write_tree;
-use equiv_class::{Class, classes};
+use crate::release_text::{is_among, write_numbered, write_release};
+use overlay_core::Release;
 use prefix_tree::PrefixTree;
+use stat_plan::{Fault, Plan};
 use std::alloc::{AllocError, Global};
 
-/// Appends what a release says of a tree and its classes.
-fn write_body<T: PrefixTree>(
-    tree: &T,
-    classes: &[Class],
-    out: &mut Vec<u8>,
-) -> Result<(), AllocError>
-    ensures { OnOk result (out.new.items ≡ out.old.items ++ release_body (T.tree tree.now).coverage (T.tree tree.now) (class_views classes.now)) }
+/// The report of a run: its releases, by stream, wave and number, and then each fault of the plan's script with what came of
+/// it. The releases may be given in any order, and `lost` are the nodes that the run lost. Each line ends with a line feed.
+pub fn report_text<T: PrefixTree>(
+    alloc: Global,
+    plan: &Plan,
+    releases: &[Release<T>],
+    lost: &[u32],
+) -> Result<Vec<u8>, AllocError>
+    requires distinct { AreApart (releases_in T.tree releases.now) }
+    ensures { IfOk result (λ text. IsReport plan.now (releases_in T.tree releases.now) lost.now text.items) }
 {
-    out.extend_from_slice(b"covered ")?;
-    tree.row(0).label.write_text(out)?;
-    out.extend_from_slice(b"\ntree\n")?;
-    write_tree(tree, out)?;
-    out.extend_from_slice(b"classes\n")?;
-    write_classes(classes, out)
+    let ordered = in_order(alloc, releases)?;
+    let mut text = Vec::new(alloc);
+    write_releases(plan, &ordered, &mut text)?;
+    write_faults(plan, lost, &mut text)?;
+    text.extend_from_slice(b"end\n")?;
+    Ok(text)
 }
 
-/// Appends the line above a final release of a stream's first wave.
-fn write_heading(stream: u8, out: &mut Vec<u8>) -> Result<(), AllocError>
-    ensures { OnOk result (out.new.items ≡ out.old.items ++ heading stream) }
+/// The releases by stream, wave and number.
+pub fn in_order<'a, T: PrefixTree>(
+    alloc: Global,
+    releases: &'a [Release<T>],
+) -> Result<Vec<&'a Release<T>>, AllocError>
+    requires distinct { AreApart (releases_in T.tree releases.now) }
+    ensures { IfOk result (λ ordered. IsInOrder (releases_in T.tree releases.now) (shown_releases T.tree ordered.items)) }
 {
-    out.extend_from_slice(b"stream ")?;
-    write_number(usize::from(stream), out)?;
-    out.extend_from_slice(b" wave 0 release 1 final\n")?;
+    let mut ordered = references(alloc, releases)?;
+    ordered.sort_unstable_by_key(|release| (release.stream, release.wave, release.number));
+    Ok(ordered)
+}
+
+// A reference to each of the releases.
+fn references<'a, T: PrefixTree>(
+    alloc: Global,
+    releases: &'a [Release<T>],
+) -> Result<Vec<&'a Release<T>>, AllocError>
+    ensures { IfOk result (λ all. map (λ release. release.now) all.items ≡ releases.now) }
+{
+    releases.iter().collect(alloc)
+}
+
+// Appends the releases, one after another.
+fn write_releases<T: PrefixTree>(
+    plan: &Plan,
+    releases: &[&Release<T>],
+    out: &mut Vec<u8>,
+) -> Result<(), AllocError>
+    ensures { OnOk result (out.new.items ≡ out.old.items ++ flat_map (release_text plan.now) (shown_releases T.tree releases.now)) }
+{
+    for release in releases {
+        write_release(plan, release, out)?;
+    }
     Ok(())
 }
 
-/// The report of one final release of a stream's first wave: the covered ranks, the tree and the classes, whatever
-/// samples it is the tree of. Each line ends with a line feed.
-pub fn report_text<T: PrefixTree>(
-    alloc: Global,
-    stream: u8,
-    tree: &T,
-) -> Result<Vec<u8>, AllocError>
-    ensures { IfOk result (λ text. (P : Pairs) (C : Ranks) → HasNoEmptyPath P → T.tree tree.now ≡ tree_of P C → text.items ≡ direct_report stream P C) }
+// Appends a line for each fault.
+fn write_faults(plan: &Plan, lost: &[u32], out: &mut Vec<u8>) -> Result<(), AllocError>
+    ensures { OnOk result (out.new.items ≡ out.old.items ++ flat_map (fault_line plan.now lost.now) plan.now.faults) }
 {
-    let classes = classes(alloc, tree)?;
-    let mut text = Vec::new(alloc);
-    write_heading(stream, &mut text)?;
-    write_body(tree, &classes, &mut text)?;
-    text.extend_from_slice(b"end\n")?;
-    Ok(text)
+    plan.is_plan();
+    for fault in plan.faults() {
+        write_fault(plan, lost, *fault, out)?;
+    }
+    Ok(())
+}
+
+// Appends the line of a fault.
+fn write_fault(plan: &Plan, lost: &[u32], fault: Fault, out: &mut Vec<u8>) -> Result<(), AllocError>
+    requires { fault.node < nodes plan.now }
+    ensures { OnOk result (out.new.items ≡ out.old.items ++ fault_line plan.now lost.now fault) }
+{
+    out.extend_from_slice(b"fault ")?;
+    out.extend_from_slice(plan.name(fault.node).as_bytes())?;
+    write_fate(is_among(lost, fault.node), fault, out)?;
+    out.push(b'\n')?;
+    Ok(())
+}
+
+// Appends what came of a fault.
+fn write_fate(is_lost: bool, fault: Fault, out: &mut Vec<u8>) -> Result<(), AllocError>
+    ensures { OnOk result (out.new.items ≡ out.old.items ++ fate_text is_lost fault) }
+{
+    if is_lost {
+        write_numbered(b" lost after ", fault.after as usize, out)?;
+    } else {
+        out.extend_from_slice(b" not reached")?;
+    }
+    Ok(())
 }

@@ -5,6 +5,7 @@ use Rattle.std.proofs.lemmas.Bool.{le-leb, lt-leb}
 use Rattle.stat_plan.specs.Topologies.{Nodes}
 use Rattle.stat_plan.specs.Plans.{Sampled}
 use Rattle.stat_plan.specs.declared.text_error.TextError.{TextError}
+use Rattle.stat_desk.specs.declared.event.Event.{Event}
 use Rattle.topology_text.specs.Whole.{topology_of}
 use Rattle.sample_text.specs.Whole.{samples_of_text}
 use Rattle.stat_tool.specs.Call.{Answered, DeskSeen, IsDetermined, SinkSeen, answer_of, given}
@@ -86,21 +87,21 @@ module _ (names : Names) (told : List ℕ → Option (List ℕ)) (t s c : List �
       ap answer_of (sym is) ∙ ap answer_of (sym (course_stays got (given t) (given s) (given c) (got_front got gave) (subst IsSettled (sym is) settled)))
 
 -- the texts determine the answer, where nothing fails
-pub determined : (names : Names) (desk : DeskSeen) (out : SinkSeen) (status : Status) → Answered (Some names) desk out status → IsDetermined names desk out status
-determined names desk out Done a t s c first second third no_fault no_loss =
+pub determined : (names : Names) (desk : DeskSeen) (out : SinkSeen) (journal : List Event) (status : Status) → Answered (Some names) desk out journal status → IsDetermined names desk out status
+determined names desk out journal Done a t s c first second third no_fault no_loss =
     inl (answers names desk.told t s c first second third a.0 (Does a.1.1.job) a.1.0 a.1.1.stands tt)
-determined names desk out OutOfMemory a t s c first second third no_fault no_loss = inr refl
-determined names desk out (BadInput file line reason) a t s c first second third no_fault no_loss =
+determined names desk out journal OutOfMemory a t s c first second third no_fault no_loss = inr refl
+determined names desk out journal (BadInput file line reason) a t s c first second third no_fault no_loss =
     inl (answers names desk.told t s c first second third a.0 (Answers (BadInput file line reason)) a.1.0 a.1.1.0 tt)
-determined names desk out (OverLimit file line what most) a t s c first second third no_fault no_loss =
+determined names desk out journal (OverLimit file line what most) a t s c first second third no_fault no_loss =
     inl (answers names desk.told t s c first second third a.0 (Answers (OverLimit file line what most)) a.1.0 a.1.1.0 tt)
-determined names desk out (NotYet role) a t s c first second third no_fault no_loss =
+determined names desk out journal (NotYet role) a t s c first second third no_fault no_loss =
     inl (answers names desk.told t s c first second third a.0 (Answers (NotYet role)) a.1.0 a.1.1.0 tt)
-determined names desk out (DeskFault role) a t s c first second third no_fault no_loss = absurd (no_fault a.1.1.0.1.rose)
-determined names desk out (SinkFault target) a t s c first second third no_fault no_loss = absurd (no_loss a.1.1.written.rose)
-determined names desk out (BadWords fault) a t s c first second third no_fault no_loss = absurd a.1.1.0
+determined names desk out journal (DeskFault role) a t s c first second third no_fault no_loss = absurd (no_fault a.1.1.0.1.rose)
+determined names desk out journal (SinkFault target) a t s c first second third no_fault no_loss = absurd (no_loss a.1.1.written.rose)
+determined names desk out journal (BadWords fault) a t s c first second third no_fault no_loss = absurd a.1.1.0
 
 -- the same, for any words
-pub all_determined : (names : Option Names) (desk : DeskSeen) (out : SinkSeen) (status : Status) → Answered names desk out status → IfSome names (λ n. IsDetermined n desk out status)
-all_determined None desk out status a = tt
-all_determined (Some names) desk out status a = determined names desk out status a
+pub all_determined : (names : Option Names) (desk : DeskSeen) (out : SinkSeen) (journal : List Event) (status : Status) → Answered names desk out journal status → IfSome names (λ n. IsDetermined n desk out status)
+all_determined None desk out journal status a = tt
+all_determined (Some names) desk out journal status a = determined names desk out journal status a

@@ -1,4 +1,4 @@
 pub mod Determined
-pub mod Plains
-pub mod Reports
+pub mod Ending
+pub mod Serial
 pub mod Stopping

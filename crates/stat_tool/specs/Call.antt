@@ -4,11 +4,13 @@ use Rattle.std.specs.Io.KnownBytes.{Appends}
 use Rattle.stat_desk.specs.Desk.{FailedAt, IsLonger, IsWhole}
 use Rattle.stat_desk.specs.Faults.{Rose}
 use Rattle.stat_desk.specs.Sink.{AppendsPrefix}
+use Rattle.stat_plan.specs.Plans.{Plan}
 use Rattle.stat_plan.specs.declared.text_error.TextError.{TextError}
+use Rattle.stat_desk.specs.declared.event.Event.{Event}
 use Rattle.stat_tool.specs.Status.{refusal_of}
 use Rattle.stat_tool.specs.Course.{Answers, Bytes, Does, Gave, Got, Progress, TooLong, Wants, course, limit, too_long}
 use Rattle.stat_tool.specs.Words.{Names, in_order, name_of}
-use Rattle.stat_tool.specs.Work.{ComesTo, Job, Work}
+use Rattle.stat_tool.specs.Work.{ComesTo, EndsWhole, Job, RunJob, Work}
 use Rattle.stat_tool.specs.declared.status.FileRole.{FileRole}
 use Rattle.stat_tool.specs.declared.status.WordFault.TheVariants.{Options}
 use Rattle.stat_tool.specs.declared.status.Status.{Status}
@@ -41,19 +43,20 @@ pub record GotPart (sink : SinkSeen) (text : List ℕ) : Type 0 where
   pub front : AppendsPrefix sink.held_before sink.held_now text
   pub rose : Rose sink.before sink.now
 
--- what the sink has at the end of a work, by the status
-abbrev pub Written : Work → SinkSeen → Status → Type 0
-Written work out Done = GotAll out work.report
-Written work out (SinkFault target) = GotPart out work.report
-Written work out status = ⊥
+-- what the sink has of a report, by the status
+abbrev pub Written : List ℕ → SinkSeen → Status → Type 0
+Written report out Done = GotAll out report
+Written report out (SinkFault target) = GotPart out report
+Written report out status = ⊥
 
--- the job was done: it came to a work, which was written so
-pub record Finishes (progress : Progress) (out : SinkSeen) (status : Status) : Type 0 where
+-- the job was done: it came to a work, whose journal is given back and whose report was written so
+pub record Finishes (progress : Progress) (out : SinkSeen) (journal : List Event) (status : Status) : Type 0 where
   pub job : Job
   pub work : Work
   pub stands : progress ≡ Does job
   pub came : ComesTo job work
-  pub written : Written work out status
+  pub given : journal ≡ work.journal
+  pub written : Written work.report out status
 
 -- Why a call stops before it writes: memory ran out; the file that it reads next did not come; or the files lead to this
 -- very answer.
@@ -67,17 +70,17 @@ Prevents names desk progress Done = ⊥
 Prevents names desk progress (BadWords fault) = ⊥
 Prevents names desk progress (SinkFault target) = ⊥
 
--- Why a call gives a status, and what it leaves in the sink: it did the job, or it stopped before it wrote.
-abbrev pub Explains : Names → DeskSeen → SinkSeen → Progress → Status → Type 0
-Explains names desk out progress Done = Finishes progress out Done
-Explains names desk out progress (SinkFault target) = Finishes progress out (SinkFault target)
-Explains names desk out progress status = Prevents names desk progress status × IsAsBefore out
+-- Why a call gives a status and a journal, and what it leaves in the sink: it did the job, or it stopped before it wrote.
+abbrev pub Explains : Names → DeskSeen → SinkSeen → Progress → List Event → Status → Type 0
+Explains names desk out progress journal Done = Finishes progress out journal Done
+Explains names desk out progress journal (SinkFault target) = Finishes progress out journal (SinkFault target)
+Explains names desk out progress journal status = Prevents names desk progress status × IsAsBefore out × (journal ≡ [])
 
 -- Good words: some files gave what the answer rests on. Bad words are told as such.
-abbrev pub Answered : Option Names → DeskSeen → SinkSeen → Status → Type 0
-Answered None desk out status = (status ≡ BadWords Options) × IsAsBefore out
-Answered (Some names) desk out status =
-    (got : List Got) × (Gave desk.told (in_order names) got × Explains names desk out (course got) status)
+abbrev pub Answered : Option Names → DeskSeen → SinkSeen → List Event → Status → Type 0
+Answered None desk out journal status = (status ≡ BadWords Options) × IsAsBefore out × (journal ≡ [])
+Answered (Some names) desk out journal status =
+    (got : List Got) × (Gave desk.told (in_order names) got × Explains names desk out (course got) journal status)
 
 -- what a read gives of a text, where nothing fails
 abbrev pub given : List ℕ → Got
@@ -95,6 +98,26 @@ IsDetermined names desk out status = (topology samples script : List ℕ)
     → desk.told names.topology ≡ Some topology → desk.told names.samples ≡ Some samples → desk.told names.script ≡ Some script
     → ¬ Rose desk.before desk.now → ¬ Rose out.before out.now
     → (status ≡ answer_of (course (given topology ∷ given samples ∷ given script ∷ []))) ⊎ (status ≡ OutOfMemory)
+
+-- the files gave what the plan of this job rests on
+abbrev pub IsPlanned : Names → (List ℕ → Option (List ℕ)) → Job → Type 0
+IsPlanned names told job = (got : List Got) × (Gave told (in_order names) got × (course got ≡ Does job))
+
+-- The files lead to a plan. The journal is whole, the report is that of its releases, each wave has ended with one final
+-- release that covers all ranks of its stream, and each release's tree and classes are the direct merge of the samples of
+-- exactly its covered ranks. And the report was written, by the status.
+pub record EndsByPlan (names : Names) (desk : DeskSeen) (out : SinkSeen) (journal : List Event) (status : Status) : Type 0 where
+  pub plan : Plan
+  pub report : List ℕ
+  pub read : IsPlanned names desk.told (RunJob plan)
+  pub run : EndsWhole plan journal report
+  pub written : Written report out status
+
+-- where a call has run a plan, it ends so
+abbrev pub Ended : Names → DeskSeen → SinkSeen → List Event → Status → Type 0
+Ended names desk out journal Done = EndsByPlan names desk out journal Done
+Ended names desk out journal (SinkFault target) = EndsByPlan names desk out journal (SinkFault target)
+Ended names desk out journal status = Unit {0}
 
 -- ---- the parts of a call
 
@@ -130,13 +153,9 @@ StopsAt read role name desk (SinkFault target) = ⊥
 StopsAt read role name desk (NotYet r) = ⊥
 
 -- the files gave what led to this work
-abbrev pub Prepared : Names → (List ℕ → Option (List ℕ)) → List ℕ → Type 0
-Prepared names told report = (got : List Got) × (Gave told (in_order names) got
-    × ((job : Job) × ((course got ≡ Does job) × ComesTo job (record { report = report }))))
-
--- the files gave what the plan of this job rests on
-abbrev pub IsPlanned : Names → (List ℕ → Option (List ℕ)) → Job → Type 0
-IsPlanned names told job = (got : List Got) × (Gave told (in_order names) got × (course got ≡ Does job))
+abbrev pub Prepared : Names → (List ℕ → Option (List ℕ)) → Work → Type 0
+Prepared names told work = (got : List Got) × (Gave told (in_order names) got
+    × ((job : Job) × ((course got ≡ Does job) × ComesTo job work)))
 
 -- the files gave why the call stops
 abbrev pub Prevented : Names → DeskSeen → Status → Type 0

@@ -1,5 +1,5 @@
 -- How far a call comes by the files that it gets, one after another.
-use Rattle.std.specs.Prelude.{ℕ, List, [], ◌∷◌, Option, Some, None, Result, Ok, Err, if◌then◌else◌}
+use Rattle.std.specs.Prelude.{ℕ, List, [], ◌∷◌, Bool, true, false, Option, Some, None, Result, Ok, Err, if◌then◌else◌}
 use Rattle.stat_desk.specs.Desk.{IsLonger, IsWhole}
 use Rattle.stat_plan.specs.Limits.{first_over}
 use Rattle.stat_plan.specs.Plans.{Plan, Sampled, Scripted, plan_of}
@@ -10,7 +10,7 @@ use Rattle.topology_text.specs.Whole.{topology_of}
 use Rattle.sample_text.specs.Whole.{samples_of_text}
 use Rattle.script_text.specs.Script.{script_of}
 use Rattle.stat_tool.specs.Status.{refusal_of}
-use Rattle.stat_tool.specs.Work.{Job, RunJob, has_inner_nodes, is_one_plain_wave}
+use Rattle.stat_tool.specs.Work.{Job, RunJob}
 use Rattle.stat_tool.specs.declared.status.FileRole.{FileRole}
 use Rattle.stat_tool.specs.declared.status.FileRole.TheVariants.{Topology, Samples, Script}
 use Rattle.stat_tool.specs.declared.status.Status.{Status}
@@ -35,9 +35,13 @@ limit = 33554432
 abbrev pub too_long : FileRole → Status
 too_long role = OverLimit role 0 TheBytes limit
 
--- what can be run: for now one front end with its daemons, and one wave that waits for all of them, without losses
+abbrev pub is_empty : {X : Type 0} → List X → Bool
+is_empty [] = true
+is_empty (x ∷ xs) = false
+
+-- what can be run: for now each plan whose script loses no node
 abbrev pub runnable : Plan → Progress
-runnable p = if has_inner_nodes p then Answers (NotYet Topology) else if is_one_plain_wave p then Does (RunJob p) else Answers (NotYet Script)
+runnable p = if is_empty p.faults then Does (RunJob p) else Answers (NotYet Script)
 
 -- a plan whose first wave over the limit of prefixes is this one
 abbrev pub by_limit : Plan → Option (ℕ × ℕ) → Progress

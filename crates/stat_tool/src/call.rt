@@ -1,20 +1,18 @@
 //! From words and files to a report.
-ghost use Rattle.std.specs.Prelude.{◌≡◌, ◌≢◌, ◌↔◌, true, [], IfSome, IfErr, IfOk, map, string_bytes};
-ghost use Rattle.stat_tool.specs.Call.{Answered, IsDetermined, Prepared, Prevented, Written};
+ghost use Rattle.std.specs.Prelude.{◌≡◌, ◌≢◌, ◌↔◌, [], IfSome, IfErr, IfOk, map, string_bytes};
+ghost use Rattle.stat_tool.specs.Call.{Answered, Ended, IsDetermined, Prepared, Prevented, Written};
 ghost use Rattle.stat_tool.specs.Words.{asked, names_of};
-ghost use Rattle.stat_tool.specs.Work.{ComesTo, RunJob, is_one_plain_wave};
+ghost use Rattle.stat_tool.specs.Work.{work_of};
 
 use crate::read::read_plan;
+use crate::run::{Ran, run_plan};
 use crate::status::{Outcome, Status, Target, WordFault};
 use crate::words::{Files, read_words};
-use front_end::report_text;
-use merge_filter::{Contribution, direct};
 use prefix_tree::OwnedTree;
 use stat_desk::{Desk, Journal, Sink, write_all_to};
-use stat_plan::Plan;
-use std::alloc::{AllocError, Global};
+use std::alloc::Global;
 
-/// Reads the files that the words name, merges their samples, and writes the report to the sink.
+/// Reads the files that the words name, runs the overlay on their samples, and writes the report to the sink.
 ///
 /// The words are `run --topology T --samples S --script C`. The report is built whole before the
 /// first byte is written.
@@ -22,68 +20,73 @@ pub fn stat<D: Desk, O: Sink>(alloc: Global, words: &[String], desk: &mut D, out
     ensures answered { Answered (asked (map string_bytes words.now))
         (record { before = D.faults desk.old; now = D.faults desk.new; last_fault = D.last_fault desk.new; told = D.told desk.old })
         (record { before = O.faults out.old; now = O.faults out.new; held_before = O.held out.old; held_now = O.held out.new })
-        result.status }
+        result.journal result.status }
+    ensures ends { IfSome (asked (map string_bytes words.now)) (λ names. Ended names
+        (record { before = D.faults desk.old; now = D.faults desk.new; last_fault = D.last_fault desk.new; told = D.told desk.old })
+        (record { before = O.faults out.old; now = O.faults out.new; held_before = O.held out.old; held_now = O.held out.new })
+        result.journal result.status) }
     ensures determined { IfSome (asked (map string_bytes words.now)) (λ names. IsDetermined names
         (record { before = D.faults desk.old; now = D.faults desk.new; last_fault = D.last_fault desk.new; told = D.told desk.old })
         (record { before = O.faults out.old; now = O.faults out.new; held_before = O.held out.old; held_now = O.held out.new })
         result.status) }
     ensures bad_words { (result.status ≡ Status.BadWords WordFault.Options) ↔ (asked (map string_bytes words.now) ≡ None) }
     ensures as_before { result.status ≢ Status.Done → result.status ≢ Status.SinkFault Target.Report → O.held out.new ≡ O.held out.old }
+    ensures journal { result.status ≢ Status.Done → result.status ≢ Status.SinkFault Target.Report → result.journal ≡ [] }
+{
+    run(alloc, words, desk, out)
+}
+
+/// What the call leaves.
+fn run<D: Desk, O: Sink>(alloc: Global, words: &[String], desk: &mut D, out: &mut O) -> Outcome
+    ensures answered { Answered (asked (map string_bytes words.now))
+        (record { before = D.faults desk.old; now = D.faults desk.new; last_fault = D.last_fault desk.new; told = D.told desk.old })
+        (record { before = O.faults out.old; now = O.faults out.new; held_before = O.held out.old; held_now = O.held out.new })
+        result.journal result.status }
+    ensures bad_words { (result.status ≡ Status.BadWords WordFault.Options) ↔ (asked (map string_bytes words.now) ≡ None) }
+    ensures as_before { result.status ≢ Status.Done → result.status ≢ Status.SinkFault Target.Report → O.held out.new ≡ O.held out.old }
+    ensures journal { result.status ≢ Status.Done → result.status ≢ Status.SinkFault Target.Report → result.journal ≡ [] }
+{
+    let Some(files) = read_words(words) else {
+        return stopped(alloc, Status::BadWords(WordFault::Options));
+    };
+    match prepare(alloc, files, desk) {
+        Ok(ran) => Outcome {
+            status: deliver(ran.report.as_slice(), out),
+            journal: ran.journal,
+        },
+        Err(status) => stopped(alloc, status),
+    }
+}
+
+/// What a call leaves that ends before anything is run.
+fn stopped(alloc: Global, status: Status) -> Outcome
+    ensures status { result.status ≡ status }
     ensures journal { result.journal ≡ [] }
 {
     Outcome {
-        status: run(alloc, words, desk, out),
+        status,
         journal: Journal::new(alloc),
     }
 }
 
-/// The status of the call.
-fn run<D: Desk, O: Sink>(alloc: Global, words: &[String], desk: &mut D, out: &mut O) -> Status
-    ensures answered { Answered (asked (map string_bytes words.now))
-        (record { before = D.faults desk.old; now = D.faults desk.new; last_fault = D.last_fault desk.new; told = D.told desk.old })
-        (record { before = O.faults out.old; now = O.faults out.new; held_before = O.held out.old; held_now = O.held out.new })
-        result }
-    ensures bad_words { (result ≡ Status.BadWords WordFault.Options) ↔ (asked (map string_bytes words.now) ≡ None) }
-    ensures as_before { result ≢ Status.Done → result ≢ Status.SinkFault Target.Report → O.held out.new ≡ O.held out.old }
-{
-    let Some(files) = read_words(words) else {
-        return Status::BadWords(WordFault::Options);
-    };
-    match prepare(alloc, files, desk) {
-        Ok(report) => deliver(report.as_slice(), out),
-        Err(status) => status,
-    }
-}
-
-/// The whole report of the files, before anything is written.
-fn prepare<D: Desk>(alloc: Global, files: Files<'_>, desk: &mut D) -> Result<Vec<u8>, Status>
-    ensures ok { IfOk result (λ report. Prepared (names_of files.entry) (D.told desk.old) report.items) }
+/// The run of what the files say, before anything is written.
+fn prepare<D: Desk>(alloc: Global, files: Files<'_>, desk: &mut D) -> Result<Ran, Status>
+    ensures ok { IfOk result (λ ran. Prepared (names_of files.entry) (D.told desk.old) (work_of ran)) }
     ensures err { IfErr result (Prevented (names_of files.entry) (record { before = D.faults desk.old; now = D.faults desk.new; last_fault = D.last_fault desk.new; told = D.told desk.old })) }
 {
     let plan = match read_plan(alloc, files, desk) {
         Ok(plan) => plan,
         Err(status) => return Err(status),
     };
-    match report_of(alloc, &plan) {
-        Ok(report) => Ok(report),
+    match run_plan::<OwnedTree>(alloc, &plan) {
+        Ok(ran) => Ok(ran),
         Err(_) => Err(Status::OutOfMemory),
     }
 }
 
-/// The report of a plan of one stream and one wave: each daemon's tree, merged one after another.
-fn report_of(alloc: Global, plan: &Plan) -> Result<Vec<u8>, AllocError>
-    requires { is_one_plain_wave plan.now ≡ true }
-    ensures { IfOk result (λ report. ComesTo (RunJob plan.now) (record { report = report.items })) }
-{
-    plan.is_plan();
-    let stream = plan.streams()[0].number();
-    let all: Contribution<OwnedTree> = direct(alloc, plan, stream, 0)?;
-    report_text(alloc, stream, all.tree())
-}
-
 /// Writes the report.
 fn deliver<O: Sink>(report: &[u8], out: &mut O) -> Status
-    ensures { Written (record { report = report.now })
+    ensures { Written report.now
         (record { before = O.faults out.old; now = O.faults out.new; held_before = O.held out.old; held_now = O.held out.new })
         result }
 {

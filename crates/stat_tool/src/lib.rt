@@ -3,7 +3,7 @@
 
 mod call;
 mod read;
-mod runnable;
+mod run;
 mod status;
 mod words;
 
@@ -11,4 +11,8 @@ pub use call::stat;
 pub use status::{FileRole, Outcome, Status, Target, WordFault};
 
 #[cfg(test)]
+mod net_tests;
+#[cfg(test)]
 mod tests;
+#[cfg(test)]
+mod worked;

@@ -1,5 +1,5 @@
 //! Reads the files that the words name, each whole, and tests each before the next.
-ghost use Rattle.std.specs.Prelude.{◌≡◌, ◌≤◌, true, IfErr, IfOk};
+ghost use Rattle.std.specs.Prelude.{◌≡◌, ◌≤◌, [], IfErr, IfOk};
 ghost use Rattle.stat_desk.specs.Desk.{IsWhole};
 ghost use Rattle.stat_plan.specs.Kept.{SamplesFit, ScriptFits};
 ghost use Rattle.stat_plan.specs.Limits.{first_over};
@@ -11,9 +11,8 @@ ghost use Rattle.stat_tool.specs.Call.{IsPlanRefusal, IsPlanned, Prevented, Refu
 ghost use Rattle.stat_tool.specs.Course.{Does, by_limit, limit as limit_of};
 ghost use Rattle.stat_tool.specs.Status.{refusal_of};
 ghost use Rattle.stat_tool.specs.Words.{names_of};
-ghost use Rattle.stat_tool.specs.Work.{RunJob, is_one_plain_wave as is_plain_wave_of};
+ghost use Rattle.stat_tool.specs.Work.{RunJob};
 
-use crate::runnable::{has_inner_nodes, is_one_plain_wave};
 use crate::status::{FileRole, Status};
 use crate::words::Files;
 use prefix_tree::PREFIX_LIMIT;
@@ -137,7 +136,7 @@ fn runnable_plan(
     requires samples { SamplesFit topology samples }
     requires script { ScriptFits topology script }
     ensures ok { IfOk result (λ plan. by_limit (plan_of topology samples script) (first_over (plan_of topology samples script)) ≡ Does (RunJob plan)) }
-    ensures plain { IfOk result (λ plan. is_plain_wave_of plan ≡ true) }
+    ensures safe { IfOk result (λ plan. plan.faults ≡ []) }
     ensures err { IfErr result (IsPlanRefusal (by_limit (plan_of topology samples script) (first_over (plan_of topology samples script)))) }
 {
     let plan = match Plan::build(alloc, topology, samples, script) {
@@ -152,10 +151,7 @@ fn runnable_plan(
         }
         Err(PlanError::OutOfMemory) => return Err(Status::OutOfMemory),
     };
-    if has_inner_nodes(&plan) {
-        return Err(Status::NotYet(FileRole::Topology));
-    }
-    if !is_one_plain_wave(&plan) {
+    if !plan.faults().is_empty() {
         return Err(Status::NotYet(FileRole::Script));
     }
     Ok(plan)
@@ -164,7 +160,7 @@ fn runnable_plan(
 /// The plan of the three files.
 pub fn read_plan<D: Desk>(alloc: Global, files: Files<'_>, desk: &mut D) -> Result<Plan, Status>
     ensures ok { IfOk result (λ plan. IsPlanned (names_of files.entry) (D.told desk.old) (RunJob plan)) }
-    ensures plain { IfOk result (λ plan. is_plain_wave_of plan ≡ true) }
+    ensures safe { IfOk result (λ plan. plan.faults ≡ []) }
     ensures err { IfErr result (Prevented (names_of files.entry) (record { before = D.faults desk.old; now = D.faults desk.new; last_fault = D.last_fault desk.new; told = D.told desk.old })) }
 {
     let topology = match read_topology(alloc, desk, files.topology) {

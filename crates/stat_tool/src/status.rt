@@ -116,6 +116,6 @@ impl fmt::Display for Status {
 pub struct Outcome {
     /// How the call ended.
     pub status: Status,
-    /// The events of the run; none yet.
+    /// The events of the run; none where nothing was run.
     pub journal: Journal,
 }

@@ -1,172 +1,15 @@
 //! Whole calls over a desk and a sink in memory, with worked jobs, and one over the real files.
+use crate::worked::{
+    ALL_SCR, DONT_WAIT_SCR, FOUR_SMP, INNER_TOP, ONE_TOP, TWO_TOP, WORKED, desk_of, desk_of_bytes,
+    put,
+};
 use crate::{FileRole, Status, Target, WordFault, stat};
-use stat_desk::{FileDesk, MemDesk, MemSink, StdSink};
+use stat_desk::{Event, FileDesk, MemDesk, MemSink, StdSink};
 use stat_plan::{Quantity, Reason};
 use std::alloc::{AllocError, Global};
 use std::fs;
 
-const TWO_TOP: &str = "fe:0 => a:0 b:0 ;\n";
-
-const ONE_TOP: &str = "fe:0 => a:0 ;\n";
-
-const ALL_SCR: &str = "stream 0 wait-for-all waves 1 samples 1 on all\n";
-
-const FOUR_SMP: &str =
-    "daemon a:0 0-1\ndaemon b:0 2-3\nstack 0 0,2-3 main;MPI_Barrier\nstack 0 1 main;compute\n";
-
 const WORDS: [&str; 7] = ["run", "--topology", "t", "--samples", "s", "--script", "c"];
-
-// A job's three files, and the report that the run of it must write.
-struct Worked {
-    topology: &'static str,
-    samples: &'static str,
-    script: &'static str,
-    report: &'static str,
-}
-
-const WORKED: [Worked; 7] = [
-    Worked {
-        topology: TWO_TOP,
-        samples: FOUR_SMP,
-        script: ALL_SCR,
-        report: "stream 0 wave 0 release 1 final
-covered 4:[0-3]
-tree
-4:[0-3] - /
-  4:[0-3] - main
-    3:[0,2-3] 3:[0,2-3] MPI_Barrier
-    1:[1] 1:[1] compute
-classes
-class 3:[0,2-3] paths 1
-  main;MPI_Barrier
-class 1:[1] paths 1
-  main;compute
-end
-",
-    },
-    // 64 ranks of which one waits for a message, in the text of a topology's generator
-    Worked {
-        topology: "# one front end\nfe:0 =>\n  n0:0 n1:0\n  n2:0 n3:0 ;",
-        samples: "daemon n0:0 0-15
-daemon n1:0 16-31
-daemon n2:0 32-47
-daemon n3:0 48-63
-stack 0 0-16,18-63 main;solver::step(Grid&);MPI_Barrier;PMPI_Barrier;poll
-stack 0 17 main;solver::step(Grid&);solver::exchange<double, 3>(Grid const&, int);MPI_Recv
-",
-        script: ALL_SCR,
-        report: "stream 0 wave 0 release 1 final
-covered 64:[0-63]
-tree
-64:[0-63] - /
-  64:[0-63] - main
-    64:[0-63] - solver::step(Grid&)
-      63:[0-16,18-63] - MPI_Barrier
-        63:[0-16,18-63] - PMPI_Barrier
-          63:[0-16,18-63] 63:[0-16,18-63] poll
-      1:[17] - solver::exchange<double, 3>(Grid const&, int)
-        1:[17] 1:[17] MPI_Recv
-classes
-class 63:[0-16,18-63] paths 1
-  main;solver::step(Grid&);MPI_Barrier;PMPI_Barrier;poll
-class 1:[17] paths 1
-  main;solver::step(Grid&);solver::exchange<double, 3>(Grid const&, int);MPI_Recv
-end
-",
-    },
-    // a daemon without samples
-    Worked {
-        topology: ONE_TOP,
-        samples: "daemon a:0 0\n",
-        script: ALL_SCR,
-        report: "stream 0 wave 0 release 1 final
-covered 1:[0]
-tree
-1:[0] - /
-classes
-class 1:[0] paths 0
-end
-",
-    },
-    // the greatest rank
-    Worked {
-        topology: ONE_TOP,
-        samples: "daemon a:0 16383\n",
-        script: ALL_SCR,
-        report: "stream 0 wave 0 release 1 final
-covered 1:[16383]
-tree
-1:[16383] - /
-classes
-class 1:[16383] paths 0
-end
-",
-    },
-    // one path goes on where another ends
-    Worked {
-        topology: ONE_TOP,
-        samples: "daemon a:0 0-1\nstack 0 0 main;a\nstack 0 1 main;a;b\n",
-        script: ALL_SCR,
-        report: "stream 0 wave 0 release 1 final
-covered 2:[0-1]
-tree
-2:[0-1] - /
-  2:[0-1] - main
-    2:[0-1] 1:[0] a
-      1:[1] 1:[1] b
-classes
-class 1:[0] paths 1
-  main;a
-class 1:[1] paths 1
-  main;a;b
-end
-",
-    },
-    // three samples, in which both ranks have the same paths, and one line after them
-    Worked {
-        topology: ONE_TOP,
-        samples: "daemon a:0 0-1
-stack 0 0 main;a
-stack 1 0 main;b
-stack 2 0 main;a
-stack 0 1 main;b
-stack 1 1 main;a
-stack 2 1 main;b
-stack 3 0 other
-",
-        script: "stream 0 wait-for-all waves 1 samples 3 on all\n",
-        report: "stream 0 wave 0 release 1 final
-covered 2:[0-1]
-tree
-2:[0-1] - /
-  2:[0-1] - main
-    2:[0-1] 2:[0-1] a
-    2:[0-1] 2:[0-1] b
-classes
-class 2:[0-1] paths 2
-  main;a
-  main;b
-end
-",
-    },
-    // ranks without a path are a class of their own, and a path may end in a space
-    Worked {
-        topology: TWO_TOP,
-        samples: "daemon a:0 0-2\ndaemon b:0 64,3-4\nstack 65535 0 late\nstack 0 64,2 f \n",
-        script: ALL_SCR,
-        report: "stream 0 wave 0 release 1 final
-covered 6:[0-4,64]
-tree
-6:[0-4,64] - /
-  2:[2,64] 2:[2,64] f 
-classes
-class 4:[0-1,3-4] paths 0
-class 2:[2,64] paths 1
-  f 
-end
-",
-    },
-];
 
 // A text of each file, and its first fault: its line and its reason. The other files are good.
 const BAD_TOPOLOGY: [(&[u8], u64, Reason); 9] = [
@@ -258,22 +101,20 @@ const LONG_SCRIPTS: [(&[u8], u64, Quantity, u64); 2] = [
     ),
 ];
 
-// Scripts of the small job that can be run: one stream of one wave waits for all daemons, and no node is lost.
-const PLAIN_SCRIPTS: [&str; 3] = [
+// Scripts of the small job that are run.
+const GOOD_SCRIPTS: [&str; 7] = [
     "stream 0 wait-for-all waves 1 samples 64 on all\n",
     "stream 0 wait-for-all waves 1 samples 1 on b:0 a:0\n",
     "# all\r\n\r\nstream 00 wait-for-all waves 01 samples 1 on all",
+    "stream 0 time-out 1 waves 1 samples 1 on all\n",
+    "stream 0 time-out 3 waves 2 samples 1 on a:0\n",
+    "stream 0 dont-wait waves 16 samples 1 on all\n",
+    "stream 0 wait-for-all waves 1 samples 1 on all\nstream 1 time-out 2 waves 2 samples 1 on b:0\n",
 ];
 
-// Scripts that are good, and can't be run yet.
-const LATER_SCRIPTS: [&str; 6] = [
-    "stream 0 dont-wait waves 1 samples 1 on all\n",
-    "stream 0 time-out 1 waves 1 samples 1 on all\n",
-    "stream 0 wait-for-all waves 2 samples 1 on all\n",
-    "stream 0 wait-for-all waves 1 samples 1 on a:0\n",
-    "stream 0 wait-for-all waves 1 samples 1 on all\nstream 1 wait-for-all waves 1 samples 1 on all\n",
-    "stream 0 wait-for-all waves 1 samples 1 on all\nlose a:0 after 0 keep 0\n",
-];
+// A script that is good, and isn't run yet.
+const LOSING_SCR: &str =
+    "stream 0 wait-for-all waves 1 samples 1 on all\nlose a:0 after 0 keep 0\n";
 
 fn bad(file: FileRole, line: u64, reason: Reason) -> Status {
     Status::BadInput { file, line, reason }
@@ -287,41 +128,10 @@ fn words_of(alloc: Global, texts: &[&str]) -> Result<Vec<String>, AllocError> {
     Ok(words)
 }
 
-fn put(alloc: Global, desk: &mut MemDesk, name: &str, text: &[u8]) -> Result<(), AllocError> {
-    desk.put(String::from_str(alloc, name)?, text.to_vec(alloc)?)
-}
-
-fn desk_of_bytes(
-    alloc: Global,
-    topology: &[u8],
-    samples: &[u8],
-    script: &[u8],
-) -> Result<MemDesk, AllocError> {
-    let mut desk = MemDesk::new(alloc);
-    put(alloc, &mut desk, "t", topology)?;
-    put(alloc, &mut desk, "s", samples)?;
-    put(alloc, &mut desk, "c", script)?;
-    Ok(desk)
-}
-
-fn desk_of(
-    alloc: Global,
-    topology: &str,
-    samples: &str,
-    script: &str,
-) -> Result<MemDesk, AllocError> {
-    desk_of_bytes(
-        alloc,
-        topology.as_bytes(),
-        samples.as_bytes(),
-        script.as_bytes(),
-    )
-}
-
 // The status of a run on a desk, and what it writes, sixteen bytes at a time.
 fn run_on(alloc: Global, desk: &mut MemDesk) -> Result<(Status, MemSink), AllocError> {
     let words = words_of(alloc, WORDS.as_slice())?;
-    let mut out = MemSink::new(alloc, 16, 10_000)?;
+    let mut out = MemSink::new(alloc, 16, 20_000)?;
     let outcome = stat(alloc, words.as_slice(), desk, &mut out);
     Ok((outcome.status, out))
 }
@@ -412,23 +222,109 @@ fn reads_the_files_in_order(rt: HostRuntime) -> Result<(), AllocError> {
 }
 
 #[test]
-fn runs_plain_scripts_and_no_others_yet(rt: HostRuntime) -> Result<(), AllocError> {
+fn runs_scripts_that_lose_no_node(rt: HostRuntime) -> Result<(), AllocError> {
     let alloc = rt.alloc();
-    for script in PLAIN_SCRIPTS.as_slice() {
+    for script in GOOD_SCRIPTS.as_slice() {
         let end = ends_with(alloc, FileRole::Script, script.as_bytes())?;
         assert_eq!(rt; end, (Status::Done, false));
     }
-    for script in LATER_SCRIPTS.as_slice() {
-        let end = ends_with(alloc, FileRole::Script, script.as_bytes())?;
-        assert_eq!(rt; end, (Status::NotYet(FileRole::Script), true));
-        let inner = ends(
-            alloc,
-            b"fe:0 => c:0 ;\nc:0 => a:0 b:0 ;",
-            FOUR_SMP.as_bytes(),
-            script.as_bytes(),
+    let end = ends_with(alloc, FileRole::Script, LOSING_SCR.as_bytes())?;
+    assert_eq!(rt; end, (Status::NotYet(FileRole::Script), true));
+    Ok(())
+}
+
+// The script of so many streams of so many waves each.
+fn script_of(alloc: Global, streams: u32, waves: u32) -> Result<String, AllocError> {
+    let mut script = String::new(alloc);
+    for stream in 0..streams {
+        let line = format!(in alloc;
+            "stream {stream} wait-for-all waves {waves} samples 1 on all\n"
         )?;
-        assert_eq!(rt; inner, (Status::NotYet(FileRole::Topology), true));
+        script.push_str(line.as_str())?;
     }
+    Ok(script)
+}
+
+// The report of so many streams of so many waves each, of one rank that was never seen.
+fn report_of(alloc: Global, streams: u32, waves: u32) -> Result<String, AllocError> {
+    let mut report = String::new(alloc);
+    for stream in 0..streams {
+        for wave in 0..waves {
+            let heading = format!(in alloc; "stream {stream} wave {wave} release 1 final\n")?;
+            report.push_str(heading.as_str())?;
+            report.push_str("covered 1:[0]\ntree\n1:[0] - /\nclasses\nclass 1:[0] paths 0\n")?;
+        }
+    }
+    report.push_str("end\n")?;
+    Ok(report)
+}
+
+#[test]
+fn reports_each_wave_of_each_stream(rt: HostRuntime) -> Result<(), AllocError> {
+    let alloc = rt.alloc();
+    for (streams, waves) in [(1, 16), (8, 1), (8, 16)] {
+        let script = script_of(alloc, streams, waves)?;
+        let mut desk = desk_of(alloc, ONE_TOP, "daemon a:0 0\n", script.as_str())?;
+        let (status, out) = run_on(alloc, &mut desk)?;
+        let report = report_of(alloc, streams, waves)?;
+        assert_eq!(rt; status, Status::Done);
+        assert_eq!(rt; out.bytes(), report.as_bytes());
+    }
+    Ok(())
+}
+
+fn sample(node: u32) -> Event {
+    Event::Sample {
+        node,
+        stream: 0,
+        wave: 0,
+    }
+}
+
+fn recv(node: u32, from: u32) -> Event {
+    Event::Recv { node, from }
+}
+
+// The events of a run of the small job by this topology and script.
+fn events_of(alloc: Global, topology: &str, script: &str) -> Result<Vec<Event>, AllocError> {
+    let mut desk = desk_of(alloc, topology, FOUR_SMP, script)?;
+    let words = words_of(alloc, WORDS.as_slice())?;
+    let mut out = MemSink::new(alloc, 16, 10_000)?;
+    let outcome = stat(alloc, words.as_slice(), &mut desk, &mut out);
+    let mut events = Vec::new(alloc);
+    for i in 0..outcome.journal.len() {
+        events.push(outcome.journal.at(i))?;
+    }
+    Ok(events)
+}
+
+#[test]
+fn gives_the_events_back(rt: HostRuntime) -> Result<(), AllocError> {
+    let alloc = rt.alloc();
+    let events = events_of(alloc, INNER_TOP, ALL_SCR)?;
+    let expected = [
+        sample(2),
+        recv(1, 2),
+        sample(3),
+        recv(1, 3),
+        recv(0, 1),
+        recv(1, 0),
+        recv(2, 1),
+        recv(3, 1),
+    ];
+    assert_eq!(rt; events.as_slice(), expected.as_slice());
+    let events = events_of(alloc, TWO_TOP, DONT_WAIT_SCR)?;
+    let expected = [
+        sample(1),
+        recv(0, 1),
+        sample(2),
+        recv(0, 2),
+        recv(1, 0),
+        recv(2, 0),
+    ];
+    assert_eq!(rt; events.as_slice(), expected.as_slice());
+    let events = events_of(alloc, TWO_TOP, LOSING_SCR)?;
+    assert!(rt; events.is_empty());
     Ok(())
 }
 
@@ -518,7 +414,7 @@ fn tells_a_fault_of_the_sink(rt: HostRuntime) -> Result<(), AllocError> {
     let outcome = stat(alloc, words.as_slice(), &mut desk, &mut out);
     assert_eq!(rt; outcome.status, Status::SinkFault(Target::Report));
     assert_eq!(rt; out.bytes(), b"stream 0 wave 0 ".as_slice());
-    assert_eq!(rt; outcome.journal.len(), 0);
+    assert_eq!(rt; outcome.journal.len(), 6);
     Ok(())
 }
 

@@ -1,0 +1,112 @@
+-- Releases have one order, and a sort finds it.
+use Rattle.std.proofs.Common.{◌≡◌, ℕ, zero, suc, ◌+◌, ◌<◌, inl, inr, Bool, false, List, [], ◌∷◌, map, length, get_or, sym, subst, ◌∙◌, ap, arith}
+use Rattle.std.specs.Cmp.{IsTotalOrder}
+use Rattle.std.specs.List.{All, IsDistinct}
+use Rattle.std.specs.List.Sorted.{IsPermutation, IsSortedBy, IsStrictlySortedBy}
+use Rattle.std.specs.Ordering.{eq_by_cmp, is_eq, is_lt, ordering_reverse}
+use Rattle.std.specs.declared.cmp.Ordering.{Ordering}
+use Rattle.std.specs.declared.cmp.Ordering.TheVariants.{Less, Equal, Greater}
+use Rattle.std.proofs.lemmas.Bool.{true≢false}
+use Rattle.std.proofs.lemmas.Cmp.{eq_by_cmp_equiv, nat_cmp_total, on_total, then_total}
+use Rattle.std.proofs.lemmas.List.Sorted.{All-permutation, IsPermutation-map, IsPermutation-sym, IsPermutation-trans}
+use Rattle.std.proofs.lemmas.Map.Keys.{IsDistinct-IsPermutation, apart_from_distinct, sorted_from_all_adjacent}
+use Rattle.std.proofs.lemmas.List.{get_or-map, length-map}
+use Rattle.std.proofs.lemmas.Simd.{map-map}
+use Rattle.std.specs.Borrow.{Bor}
+use Rattle.prefix_tree.specs.Tree.{Tree}
+use Rattle.stat_plan.specs.NodeSets.{In}
+use Rattle.stat_plan.specs.Plans.{Plan}
+use Rattle.stat_plan.proofs.FirstOver.{all_in}
+use Rattle.overlay_core.specs.TreeReleases.{TreeRelease, release_in, releases_in}
+use Rattle.overlay_core.specs.declared.release.Release.{Release}
+use Rattle.front_end.specs.Report.{AreApart, IsInOrder, IsReport, release_cmp, report_text}
+use Rattle.front_end.specs.Shown.{shown_releases}
+
+in_at : {X : Type 0} (xs : List X) (k : ℕ) (d : X) → k < length xs → In (get_or xs k d) xs
+in_at [] k d lt = absurd (omega arith)
+in_at (x ∷ xs) zero d lt = inl (λ i. x)
+in_at (x ∷ xs) (suc k) d lt = inr (in_at xs k d (omega arith))
+
+all_from : {X : Type 0} (P : X → Type 0) (xs : List X) → All P xs → (x : X) → In x xs → P x
+all_from P [] all x there = absurd there
+all_from P (y ∷ ys) all x (inl e) = subst P (sym e) (all 0 y (omega arith))
+all_from P (y ∷ ys) all x (inr there) = all_from P ys (λ k d lt. all (suc k) d (omega arith)) x there
+
+-- what one list has, a list of the same elements has
+in_permutation : {X : Type 0} (xs ys : List X) → IsPermutation xs ys → (x : X) → In x ys → In x xs
+in_permutation xs ys same = all_from (λ x. In x xs) ys (All-permutation (λ x. In x xs) xs ys same (in_at xs))
+
+module _ {X : Type 0} (R : X → X → Ordering) (total : IsTotalOrder R) where
+  not_both : (x y : X) → R x y ≡ Less → R y x ≡ Less → ⊥
+  not_both x y below above = let e : Less ≡ Greater = sym below ∙ total.antisymm x y ∙ ap ordering_reverse above in cc
+
+  -- two rising lists of the same elements are the same list
+  one_order : (xs ys : List X) → IsStrictlySortedBy R xs → IsStrictlySortedBy R ys → ((x : X) → In x xs → In x ys) → ((x : X) → In x ys → In x xs) → xs ≡ ys
+  unfolding IsStrictlySortedBy
+  one_order [] [] up up' there back = λ i. []
+  one_order [] (y ∷ ys) up up' there back = absurd (back y (inl (λ i. y)))
+  one_order (x ∷ xs) [] up up' there back = absurd (there x (inl (λ i. x)))
+  one_order (x ∷ xs) (y ∷ ys) up up' there back =
+      let first : x ≡ y = elim (there x (inl (λ i. x))) [
+        | inl e ↦ e
+        | inr later ↦ elim (back y (inl (λ i. y))) [
+          | inl e ↦ sym e
+          | inr behind ↦ absurd (not_both x y (all_in (λ z. R x z ≡ Less) xs y up.0 behind) (all_in (λ z. R y z ≡ Less) ys x up'.0 later))
+        ]
+      ] in
+      let rest : xs ≡ ys = one_order xs ys up.1 up'.1
+      (λ z i. elim (there z (inr i)) [
+        | inl e ↦ let less : R x x ≡ Less = subst (λ w. R x w ≡ Less) (e ∙ sym first) (all_in (λ w. R x w ≡ Less) xs z up.0 i) in absurd (not_both x x less less)
+        | inr j ↦ j
+      ])
+      (λ z i. elim (back z (inr i)) [
+        | inl e ↦ let less : R y y ≡ Less = subst (λ w. R y w ≡ Less) (e ∙ first) (all_in (λ w. R y w ≡ Less) ys z up'.0 i) in absurd (not_both y y less less)
+        | inr j ↦ j
+      ]) in
+      λ i. first i ∷ rest i
+
+  less_from : (o : Ordering) → is_lt (ordering_reverse o) ≡ false → is_eq o ≡ false → o ≡ Less
+  less_from Less not_less apart = λ i. Less
+  less_from Equal not_less apart = absurd (true≢false apart)
+  less_from Greater not_less apart = absurd (true≢false not_less)
+
+  -- a list that does not fall and has no ties rises
+  rises_where_apart : (xs : List X) → IsSortedBy (λ x y. is_lt (R x y)) xs → IsDistinct (eq_by_cmp R) xs → IsStrictlySortedBy R xs
+  unfolding IsStrictlySortedBy
+  rises_where_apart [] up apart = tt
+  rises_where_apart (x ∷ xs) up apart = sorted_from_all_adjacent total (x ∷ xs) x (λ k lt.
+      less_from (R (get_or (x ∷ xs) k x) (get_or (x ∷ xs) (k + 1) x)) (ap is_lt (sym (total.antisymm (get_or (x ∷ xs) (k + 1) x) (get_or (x ∷ xs) k x))) ∙ up k x (omega arith) lt)
+      (apart_from_distinct (eq_by_cmp R) (x ∷ xs) k (k + 1) x apart (omega arith) lt))
+
+release_cmp_total : IsTotalOrder release_cmp
+release_cmp_total =
+    then_total (then_total (on_total (λ (r : TreeRelease). r.stream) nat_cmp_total) (on_total (λ (r : TreeRelease). r.wave) nat_cmp_total)) (on_total (λ (r : TreeRelease). r.number) nat_cmp_total)
+
+pub reports_same : (p : Plan) (given : List TreeRelease) (lost text other : List ℕ) → IsReport p given lost text → IsReport p given lost other → text ≡ other
+reports_same p given lost text other one two =
+    let same : IsPermutation one.ordered two.ordered = IsPermutation-trans one.ordered given two.ordered (IsPermutation-sym given one.ordered one.in_order.same) two.in_order.same in
+    let ordered : one.ordered ≡ two.ordered =
+    one_order release_cmp release_cmp_total one.ordered two.ordered one.in_order.rises two.in_order.rises (in_permutation two.ordered one.ordered (IsPermutation-sym one.ordered two.ordered same)) (in_permutation one.ordered two.ordered same) in
+    one.is ∙ ap (report_text p lost) ordered ∙ sym two.is
+
+-- a list that is sorted by what f gives is sorted where f gave it
+sorted_map : {X Y : Type 0} (f : X → Y) (lt : Y → Y → Bool) (xs : List X) → IsSortedBy (λ x y. lt (f x) (f y)) xs → IsSortedBy lt (map f xs)
+sorted_map f lt [] up k d low high = absurd (omega arith)
+sorted_map f lt (x ∷ xs) up k d low high =
+    let within : k + 1 < length (x ∷ xs) = omega (arith, length-map (x ∷ xs) f) in
+    let later : get_or (map f (x ∷ xs)) (k + 1) d ≡ f (get_or (x ∷ xs) (k + 1) x) = get_or-map f (x ∷ xs) (k + 1) x d within in
+    let here : get_or (map f (x ∷ xs)) k d ≡ f (get_or (x ∷ xs) k x) = get_or-map f (x ∷ xs) k x d (omega arith) in
+    (λ i. lt (later i) (here i)) ∙ up k x (omega arith) within
+
+-- what references show is in order where what they were made of is apart, and a sort by stream, wave and number moved them
+pub in_order_from_sort : {X : Type 0} (tree : X → Tree) (given : List (Release X)) (all sorted : List (Bor (Release X))) → AreApart (releases_in tree given) → map (λ r. r.now) all ≡ given → IsPermutation all sorted
+    → IsSortedBy (λ (a b : Bor (Release X)). is_lt (release_cmp (release_in tree a.now) (release_in tree b.now))) sorted → IsInOrder (releases_in tree given) (shown_releases tree sorted)
+in_order_from_sort {X} tree given all sorted apart shows moved up =
+    let view : Bor (Release X) → TreeRelease = λ r. release_in tree r.now in
+    let viewed : shown_releases tree all ≡ releases_in tree given = sym (map-map (release_in tree) (λ (r : Bor (Release X)). r.now) all) ∙ ap (releases_in tree) shows in
+    let same : IsPermutation (releases_in tree given) (shown_releases tree sorted) = subst (λ rs. IsPermutation rs (shown_releases tree sorted)) viewed (IsPermutation-map view all sorted moved) in
+    record {
+      same = same;
+      rises = rises_where_apart release_cmp release_cmp_total (shown_releases tree sorted) (sorted_map view (λ a b. is_lt (release_cmp a b)) sorted up)
+          (IsDistinct-IsPermutation (eq_by_cmp release_cmp) (eq_by_cmp_equiv release_cmp_total).symm (releases_in tree given) (shown_releases tree sorted) same apart);
+    }

@@ -1,0 +1,63 @@
+-- Texts that were written piece by piece.
+use Rattle.std.proofs.Common.{◌≡◌, ℕ, false, cond, inl, inr, List, [], ◌∷◌, ◌++◌, ◌==◌, sym, ap, ◌∙◌, append_assoc, eqb-true}
+use Rattle.std.specs.Prelude.{codes}
+use Rattle.std.specs.List.{flat_map}
+use Rattle.std.proofs.lemmas.Bool.{cases_Bool}
+use Rattle.rank_set.specs.Ranks.{Ranks, size, is_empty}
+use Rattle.rank_set.specs.Text.{text_of}
+use Rattle.call_path.specs.Path.{Path}
+use Rattle.stat_plan.specs.Names.{name_of}
+use Rattle.stat_plan.specs.NodeSets.{member}
+use Rattle.stat_plan.specs.Plans.{Plan, daemons}
+use Rattle.overlay_core.specs.TreeReleases.{TreeRelease}
+use Rattle.front_end.specs.TreeText.{tree_text}
+use Rattle.front_end.specs.ClassText.{classes_text}
+use Rattle.front_end.specs.ReleaseText.{classes_in, heading, missing, missing_line, missing_text, release_text}
+use Rattle.front_end.specs.Report.{fault_line, report_text}
+
+-- the heading of a release
+pub heading_written : (out stream wave number kind a b c d e f : List ℕ) → a ≡ out ++ codes "stream " ++ stream → b ≡ a ++ codes " wave " ++ wave → c ≡ b ++ codes " release " ++ number → d ≡ c ++ 32 ∷ [] → e ≡ d ++ kind → f ≡ e ++ 10 ∷ []
+    → f ≡ out ++ (codes "stream " ++ stream ++ codes " wave " ++ wave ++ codes " release " ++ number ++ 32 ∷ [] ++ kind ++ 10 ∷ [])
+heading_written out stream wave number kind a b c d e f pa pb pc pd pe pf =
+    pf ∙ ap (λ ys. ys ++ 10 ∷ []) (pe ∙ ap (λ ys. ys ++ kind) (pd ∙ ap (λ ys. ys ++ 32 ∷ []) (pc ∙ ap (λ ys. ys ++ codes " release " ++ number) (pb ∙ ap (λ ys. ys ++ codes " wave " ++ wave) pa))))
+    ∙ regroup out (codes "stream ") stream (codes " wave ") wave (codes " release ") number (32 ∷ []) kind (10 ∷ [])
+  where
+    regroup : (out a b c d e f g h k : List ℕ) → ((((((((out ++ a) ++ b) ++ c) ++ d) ++ e) ++ f) ++ g) ++ h) ++ k ≡ out ++ ((((((((a ++ b) ++ c) ++ d) ++ e) ++ f) ++ g) ++ h) ++ k)
+    regroup out a b c d e f g h k = simp append_assoc
+
+-- ranks of which there are some are not empty
+some_ranks : (s : Ranks) → (size s ≡ 0 → ⊥) → is_empty s ≡ false
+some_ranks s some = elim (cases_Bool (size s == 0)) [ inl e ↦ absurd (some (eqb-true (size s) 0 e)) | inr e ↦ e ]
+
+-- the line of a daemon with missing ranks
+pub missing_written : (p : Plan) (covered : Ranks) (lost : List ℕ) (daemon : ℕ) (found : Ranks) (out a b c d e : List ℕ) → found ≡ missing p covered daemon → (size found ≡ 0 → ⊥)
+    → a ≡ out ++ missing_text (member daemon lost) → b ≡ a ++ name_of p.names daemon → c ≡ b ++ 32 ∷ [] → d ≡ c ++ text_of found → e ≡ d ++ 10 ∷ [] → e ≡ out ++ missing_line p covered lost daemon
+missing_written p covered lost daemon found out a b c d e is some pa pb pc pd pe =
+    let line : Ranks → List ℕ = λ s. missing_text (member daemon lost) ++ name_of p.names daemon ++ 32 ∷ [] ++ text_of s ++ 10 ∷ [] in
+    pe ∙ ap (λ ys. ys ++ 10 ∷ []) (pd ∙ ap (λ ys. ys ++ text_of found) (pc ∙ ap (λ ys. ys ++ 32 ∷ []) (pb ∙ ap (λ ys. ys ++ name_of p.names daemon) pa)))
+    ∙ regroup out (missing_text (member daemon lost)) (name_of p.names daemon) (32 ∷ []) (text_of found) (10 ∷ [])
+    ∙ ap (λ b. out ++ cond b [] (line found)) (sym (some_ranks found some)) ∙ ap (λ s. out ++ cond (is_empty s) [] (line s)) is
+  where
+    regroup : (out a b c d e : List ℕ) → ((((out ++ a) ++ b) ++ c) ++ d) ++ e ≡ out ++ ((((a ++ b) ++ c) ++ d) ++ e)
+    regroup out a b c d e = simp append_assoc
+
+-- all that a release says
+pub release_written : (p : Plan) (r : TreeRelease) (covered : Ranks) (lost : List ℕ) (blocks : List (Ranks × List Path)) (out a b c d e f g h : List ℕ) → covered ≡ r.tree.coverage → lost ≡ r.lost → blocks ≡ classes_in r.tree
+    → a ≡ out ++ heading r → b ≡ a ++ codes "covered " → c ≡ b ++ text_of covered → d ≡ c ++ 10 ∷ [] → e ≡ d ++ flat_map (missing_line p covered lost) (daemons p r.stream)
+    → f ≡ e ++ codes "tree\n" → g ≡ f ++ tree_text r.tree → h ≡ g ++ codes "classes\n" → h ++ classes_text blocks ≡ out ++ release_text p r
+unfolding release_text
+release_written p r covered lost blocks out a b c d e f g h is_covered is_lost is_blocks pa pb pc pd pe pf pg ph =
+    let lines : Ranks → List ℕ → List ℕ = λ covered lost. flat_map (missing_line p covered lost) (daemons p r.stream) in
+    let tree : List ℕ = tree_text r.tree in
+    ap (λ ys. ys ++ classes_text blocks) (ph ∙ ap (λ ys. ys ++ codes "classes\n") (pg ∙ ap (λ ys. ys ++ tree) (pf ∙ ap (λ ys. ys ++ codes "tree\n") (pe ∙ ap (λ ys. ys ++ lines covered lost) (pd ∙ ap (λ ys. ys ++ 10 ∷ []) (pc ∙ ap (λ ys. ys ++ text_of covered) (pb ∙ ap (λ ys. ys ++ codes "covered ") pa)))))))
+    ∙ regroup out (heading r) (codes "covered ") (text_of covered) (10 ∷ []) (lines covered lost) (codes "tree\n") tree (codes "classes\n") (classes_text blocks)
+    ∙ (λ i. out ++ (heading r ++ codes "covered " ++ text_of (is_covered i) ++ 10 ∷ [] ++ lines (is_covered i) (is_lost i) ++ codes "tree\n" ++ tree ++ codes "classes\n" ++ classes_text (is_blocks i)))
+  where
+    regroup : (out a b c d e f g h k : List ℕ) → ((((((((out ++ a) ++ b) ++ c) ++ d) ++ e) ++ f) ++ g) ++ h) ++ k ≡ out ++ ((((((((a ++ b) ++ c) ++ d) ++ e) ++ f) ++ g) ++ h) ++ k)
+    regroup out a b c d e f g h k = simp append_assoc
+
+-- the whole report
+pub report_written : (p : Plan) (lost : List ℕ) (ordered : List TreeRelease) (a b c d : List ℕ) → a ≡ [] → b ≡ a ++ flat_map (release_text p) ordered → c ≡ b ++ flat_map (fault_line p lost) p.faults → d ≡ c ++ codes "end\n" → d ≡ report_text p lost ordered
+unfolding report_text
+report_written p lost ordered a b c d pa pb pc pd =
+    pd ∙ ap (λ ys. ys ++ codes "end\n") (pc ∙ ap (λ ys. ys ++ flat_map (fault_line p lost) p.faults) (pb ∙ ap (λ ys. ys ++ flat_map (release_text p) ordered) pa))

@@ -1,0 +1,31 @@
+//! Laws of reports. The bodies are empty; what a law says is its contract, and who needs it calls its function.
+ghost use Rattle.std.specs.Prelude.{◌≡◌, ℕ, List, []};
+ghost use Rattle.std.specs.List.Sorted.{IsStrictlySortedBy};
+ghost use Rattle.rank_set.specs.Ranks.{Ranks};
+ghost use Rattle.prefix_tree.specs.Pairs.{HasNoEmptyPath, Pairs};
+ghost use Rattle.prefix_tree.specs.Tree.{Tree, tree_of};
+ghost use Rattle.equiv_class.specs.Classes.{classes_of};
+ghost use Rattle.stat_plan.specs.Plans.{Plan};
+ghost use Rattle.overlay_core.specs.TreeReleases.{AreNumbered, TreeRelease};
+ghost use Rattle.front_end.specs.ReleaseText.{classes_in};
+ghost use Rattle.front_end.specs.Report.{AreApart, IsInOrder, IsReport, release_cmp};
+
+/// A law: there is one report, byte for byte, of the same releases of a plan where the same nodes were lost.
+pub fn reports_are_one()
+    ensures { (p : Plan) (given : List TreeRelease) (lost text other : List ℕ) → IsReport p given lost text → IsReport p given lost other → text ≡ other }
+{}
+
+/// A law: no two releases that have their numbers have the same stream, wave and number.
+pub fn numbered_releases_are_apart()
+    ensures { (releases : List TreeRelease) → AreNumbered [] releases → AreApart releases }
+{}
+
+/// A law: releases whose stream, wave and number rise are printed as they stand.
+pub fn ordered_releases_are_in_order()
+    ensures { (releases : List TreeRelease) → IsStrictlySortedBy release_cmp releases → IsInOrder releases releases }
+{}
+
+/// A law: the classes that a report has of a tree are those of the samples that the tree was made of, whatever they were.
+pub fn classes_of_a_tree()
+    ensures { (P : Pairs) (C : Ranks) (t : Tree) → HasNoEmptyPath P → t ≡ tree_of P C → classes_in t ≡ classes_of P C }
+{}

@@ -1,0 +1,137 @@
+//! The text of a release.
+ghost use Rattle.std.specs.Prelude.{◌≡◌, ◌++◌, ◌<◌, OnOk};
+ghost use Rattle.std.specs.Fmt.{decimal};
+ghost use Rattle.std.specs.List.{AllByRecursion, flat_map};
+ghost use Rattle.stat_plan.specs.NodeSets.{member};
+ghost use Rattle.stat_plan.specs.Plans.{daemons, nodes};
+ghost use Rattle.overlay_core.specs.TreeReleases.{release_in};
+ghost use Rattle.front_end.specs.ReleaseText.{heading, kind_text as text_of_kind, missing_line, missing_text as text_of_missing, release_text};
+
+use crate::class_text::{write_classes, write_number};
+use crate::tree_text::write_tree;
+use equiv_class::classes;
+use overlay_core::{Kind, Release};
+use prefix_tree::PrefixTree;
+use rank_set::RankSet;
+use stat_plan::Plan;
+use std::alloc::AllocError;
+
+/// Appends all that a release says.
+pub fn write_release<T: PrefixTree>(
+    plan: &Plan,
+    release: &Release<T>,
+    out: &mut Vec<u8>,
+) -> Result<(), AllocError>
+    ensures { OnOk result (out.new.items ≡ out.old.items ++ release_text plan.now (release_in T.tree release.now)) }
+{
+    let classes = classes(*out.allocator(), &release.tree)?;
+    let covered = release.tree.row(0).label;
+    write_heading(release, out)?;
+    out.extend_from_slice(b"covered ")?;
+    covered.write_text(out)?;
+    out.push(b'\n')?;
+    write_missing(plan, release.stream, covered, &release.lost, out)?;
+    out.extend_from_slice(b"tree\n")?;
+    write_tree(&release.tree, out)?;
+    out.extend_from_slice(b"classes\n")?;
+    write_classes(&classes, out)
+}
+
+/// Appends the line above a release.
+pub fn write_heading<T: PrefixTree>(
+    release: &Release<T>,
+    out: &mut Vec<u8>,
+) -> Result<(), AllocError>
+    ensures { OnOk result (out.new.items ≡ out.old.items ++ heading (release_in T.tree release.now)) }
+{
+    write_numbered(b"stream ", usize::from(release.stream), out)?;
+    write_numbered(b" wave ", usize::from(release.wave), out)?;
+    write_numbered(b" release ", release.number as usize, out)?;
+    out.push(b' ')?;
+    out.extend_from_slice(kind_text(release.kind))?;
+    out.push(b'\n')?;
+    Ok(())
+}
+
+/// Appends a word and a number.
+pub fn write_numbered(word: &[u8], number: usize, out: &mut Vec<u8>) -> Result<(), AllocError>
+    ensures { OnOk result (out.new.items ≡ out.old.items ++ word.now ++ decimal number) }
+{
+    out.extend_from_slice(word)?;
+    write_number(number, out)
+}
+
+// Whether more of the wave can come.
+fn kind_text(kind: Kind) -> &'static [u8]
+    ensures { result.now ≡ text_of_kind kind }
+{
+    match kind {
+        Kind::Partial => b"partial",
+        Kind::Final => b"final",
+    }
+}
+
+// Appends a line for each daemon of the stream with missing ranks.
+fn write_missing(
+    plan: &Plan,
+    stream: u8,
+    covered: &RankSet,
+    lost: &[u32],
+    out: &mut Vec<u8>,
+) -> Result<(), AllocError>
+    ensures { OnOk result (out.new.items ≡ out.old.items ++ flat_map (missing_line plan.now covered.now lost.now) (daemons plan.now stream)) }
+{
+    for daemon in daemons_of(plan, stream) {
+        write_missing_line(plan, covered, lost, *daemon, out)?;
+    }
+    Ok(())
+}
+
+// The daemons of a stream; none where the plan has no such stream.
+fn daemons_of(plan: &Plan, stream: u8) -> &[u32]
+    ensures value { result.now ≡ daemons plan.now stream }
+    ensures nodes { AllByRecursion (λ d. d < nodes plan.now) result.now }
+{
+    plan.is_plan();
+    match plan.stream(stream) {
+        Some(stream) => stream.daemons(),
+        None => &[],
+    }
+}
+
+// Appends the line of a daemon with missing ranks; nothing where all are covered.
+fn write_missing_line(
+    plan: &Plan,
+    covered: &RankSet,
+    lost: &[u32],
+    daemon: u32,
+    out: &mut Vec<u8>,
+) -> Result<(), AllocError>
+    requires { daemon < nodes plan.now }
+    ensures { OnOk result (out.new.items ≡ out.old.items ++ missing_line plan.now covered.now lost.now daemon) }
+{
+    let missing = plan.ranks(daemon).difference(covered)?;
+    if missing.count() == 0 {
+        return Ok(());
+    }
+    out.extend_from_slice(missing_text(is_among(lost, daemon)))?;
+    out.extend_from_slice(plan.name(daemon).as_bytes())?;
+    out.push(b' ')?;
+    missing.write_text(out)?;
+    out.push(b'\n')?;
+    Ok(())
+}
+
+// What is said of missing ranks.
+fn missing_text(is_lost: bool) -> &'static [u8]
+    ensures { result.now ≡ text_of_missing is_lost }
+{
+    if is_lost { b"lost " } else { b"pending " }
+}
+
+/// Whether a node is one of some nodes.
+pub fn is_among(nodes: &[u32], node: u32) -> bool
+    ensures { result ≡ member node nodes.now }
+{
+    nodes.contains(&node)
+}

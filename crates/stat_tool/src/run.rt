@@ -1,0 +1,73 @@
+//! The run of a plan: the overlay does one event after another, and what it releases is told in a report.
+ghost use Rattle.std.specs.Prelude.{◌≡◌, [], false, IfOk, OnOk};
+ghost use Rattle.stat_plan.specs.Kept.{IsPlan};
+ghost use Rattle.overlay_core.specs.Machine.{start};
+ghost use Rattle.overlay_core.specs.Runs.{IsQuiet, after};
+ghost use Rattle.front_end.specs.Report.{IsReport};
+ghost use Rattle.overlay_net.specs.Nets.{IsLeftBy};
+ghost use Rattle.stat_tool.specs.Work.{HasRun, TakesFirst};
+
+use front_end::{numbered_releases_are_apart, report_text};
+use overlay_net::{Net, NetError};
+use prefix_tree::PrefixTree;
+use stat_desk::Journal;
+use stat_plan::Plan;
+use std::alloc::{AllocError, Global};
+
+/// What a run leaves.
+#[derive(Drop)]
+pub struct Ran {
+    /// The events, in the order in which they happened.
+    pub journal: Journal,
+    /// The text of the report.
+    pub report: Vec<u8>,
+}
+
+/// Runs a plan that loses no node, and writes the report of its releases.
+pub fn run_plan<T: PrefixTree>(alloc: Global, plan: &Plan) -> Result<Ran, AllocError>
+    requires { plan.now.faults ≡ [] }
+    ensures { IfOk result (λ ran. HasRun plan.now ran.journal ran.report.items) }
+{
+    plan.is_plan();
+    let mut net: Net<'_, T> = Net::new(alloc, plan)?;
+    let mut journal = Journal::new(alloc);
+    run_to_end(&mut net, &mut journal)?;
+    let report = report_of(alloc, plan, &net)?;
+    Ok(Ran { journal, report })
+}
+
+/// The report of what a net has released. No node is lost.
+pub fn report_of<T: PrefixTree>(
+    alloc: Global,
+    plan: &Plan,
+    net: &Net<'_, T>,
+) -> Result<Vec<u8>, AllocError>
+    requires { net.now.failed ≡ false }
+    ensures { IfOk result (λ report. IsReport plan.now net.now.releases [] report.items) }
+{
+    net.is_left();
+    numbered_releases_are_apart();
+    report_text(alloc, plan, net.releases(), &[])
+}
+
+/// Does the first of the events that may come next, again and again, until none may.
+fn run_to_end<T: PrefixTree>(net: &mut Net<'_, T>, journal: &mut Journal) -> Result<(), AllocError>
+    requires plan { IsPlan net.old.plan }
+    requires usable { net.old.failed ≡ false }
+    requires left { IsLeftBy net.old journal.old }
+    requires serial { TakesFirst net.old.plan (start net.old.plan) journal.old }
+    ensures plan { net.new.plan ≡ net.old.plan }
+    ensures usable { OnOk result (net.new.failed ≡ false) }
+    ensures left { OnOk result (IsLeftBy net.new journal.new) }
+    ensures serial { OnOk result (TakesFirst net.old.plan (start net.old.plan) journal.new) }
+    ensures quiet { OnOk result (IsQuiet net.old.plan (after net.old.plan journal.new)) }
+{
+    while let Some(event) = net.enabled(0) {
+        match net.apply(event) {
+            Ok(()) => journal.push(event)?,
+            Err(NetError::OutOfMemory) => return Err(AllocError),
+            Err(NetError::NotEnabled) => unreachable!(),
+        }
+    }
+    Ok(())
+}

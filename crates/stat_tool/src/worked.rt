@@ -1,0 +1,285 @@
+//! Worked jobs: their files, as texts and in a desk, and the reports that their runs must write.
+use stat_desk::MemDesk;
+use std::alloc::{AllocError, Global};
+
+pub const TWO_TOP: &str = "fe:0 => a:0 b:0 ;\n";
+
+pub const INNER_TOP: &str = "fe:0 => c0:0 ;\nc0:0 => a:0 b:0 ;\n";
+
+pub const ONE_TOP: &str = "fe:0 => a:0 ;\n";
+
+pub const ALL_SCR: &str = "stream 0 wait-for-all waves 1 samples 1 on all\n";
+
+pub const DONT_WAIT_SCR: &str = "stream 0 dont-wait waves 1 samples 1 on all\n";
+
+pub const FOUR_SMP: &str =
+    "daemon a:0 0-1\ndaemon b:0 2-3\nstack 0 0,2-3 main;MPI_Barrier\nstack 0 1 main;compute\n";
+
+// The report of the four ranks, whatever stands between the front end and their daemons.
+const FOUR_REPORT: &str = "stream 0 wave 0 release 1 final
+covered 4:[0-3]
+tree
+4:[0-3] - /
+  4:[0-3] - main
+    3:[0,2-3] 3:[0,2-3] MPI_Barrier
+    1:[1] 1:[1] compute
+classes
+class 3:[0,2-3] paths 1
+  main;MPI_Barrier
+class 1:[1] paths 1
+  main;compute
+end
+";
+
+// 64 ranks of which one waits for a message.
+const SOLVER_SMP: &str = "daemon n0:0 0-15
+daemon n1:0 16-31
+daemon n2:0 32-47
+daemon n3:0 48-63
+stack 0 0-16,18-63 main;solver::step(Grid&);MPI_Barrier;PMPI_Barrier;poll
+stack 0 17 main;solver::step(Grid&);solver::exchange<double, 3>(Grid const&, int);MPI_Recv
+";
+
+const SOLVER_REPORT: &str = "stream 0 wave 0 release 1 final
+covered 64:[0-63]
+tree
+64:[0-63] - /
+  64:[0-63] - main
+    64:[0-63] - solver::step(Grid&)
+      63:[0-16,18-63] - MPI_Barrier
+        63:[0-16,18-63] - PMPI_Barrier
+          63:[0-16,18-63] 63:[0-16,18-63] poll
+      1:[17] - solver::exchange<double, 3>(Grid const&, int)
+        1:[17] 1:[17] MPI_Recv
+classes
+class 63:[0-16,18-63] paths 1
+  main;solver::step(Grid&);MPI_Barrier;PMPI_Barrier;poll
+class 1:[17] paths 1
+  main;solver::step(Grid&);solver::exchange<double, 3>(Grid const&, int);MPI_Recv
+end
+";
+
+// A job's three files, and the report that the run of it must write.
+pub struct Worked {
+    pub topology: &'static str,
+    pub samples: &'static str,
+    pub script: &'static str,
+    pub report: &'static str,
+}
+
+pub const WORKED: [Worked; 13] = [
+    Worked {
+        topology: TWO_TOP,
+        samples: FOUR_SMP,
+        script: ALL_SCR,
+        report: FOUR_REPORT,
+    },
+    // in the text of a topology's generator
+    Worked {
+        topology: "# one front end\nfe:0 =>\n  n0:0 n1:0\n  n2:0 n3:0 ;",
+        samples: SOLVER_SMP,
+        script: ALL_SCR,
+        report: SOLVER_REPORT,
+    },
+    // a daemon without samples
+    Worked {
+        topology: ONE_TOP,
+        samples: "daemon a:0 0\n",
+        script: ALL_SCR,
+        report: "stream 0 wave 0 release 1 final
+covered 1:[0]
+tree
+1:[0] - /
+classes
+class 1:[0] paths 0
+end
+",
+    },
+    // the greatest rank
+    Worked {
+        topology: ONE_TOP,
+        samples: "daemon a:0 16383\n",
+        script: ALL_SCR,
+        report: "stream 0 wave 0 release 1 final
+covered 1:[16383]
+tree
+1:[16383] - /
+classes
+class 1:[16383] paths 0
+end
+",
+    },
+    // one path goes on where another ends
+    Worked {
+        topology: ONE_TOP,
+        samples: "daemon a:0 0-1\nstack 0 0 main;a\nstack 0 1 main;a;b\n",
+        script: ALL_SCR,
+        report: "stream 0 wave 0 release 1 final
+covered 2:[0-1]
+tree
+2:[0-1] - /
+  2:[0-1] - main
+    2:[0-1] 1:[0] a
+      1:[1] 1:[1] b
+classes
+class 1:[0] paths 1
+  main;a
+class 1:[1] paths 1
+  main;a;b
+end
+",
+    },
+    // three samples, in which both ranks have the same paths, and one line after them
+    Worked {
+        topology: ONE_TOP,
+        samples: "daemon a:0 0-1
+stack 0 0 main;a
+stack 1 0 main;b
+stack 2 0 main;a
+stack 0 1 main;b
+stack 1 1 main;a
+stack 2 1 main;b
+stack 3 0 other
+",
+        script: "stream 0 wait-for-all waves 1 samples 3 on all\n",
+        report: "stream 0 wave 0 release 1 final
+covered 2:[0-1]
+tree
+2:[0-1] - /
+  2:[0-1] - main
+    2:[0-1] 2:[0-1] a
+    2:[0-1] 2:[0-1] b
+classes
+class 2:[0-1] paths 2
+  main;a
+  main;b
+end
+",
+    },
+    // ranks without a path are a class of their own, and a path may end in a space
+    Worked {
+        topology: TWO_TOP,
+        samples: "daemon a:0 0-2\ndaemon b:0 64,3-4\nstack 65535 0 late\nstack 0 64,2 f \n",
+        script: ALL_SCR,
+        report: "stream 0 wave 0 release 1 final
+covered 6:[0-4,64]
+tree
+6:[0-4,64] - /
+  2:[2,64] 2:[2,64] f 
+classes
+class 4:[0-1,3-4] paths 0
+class 2:[2,64] paths 1
+  f 
+end
+",
+    },
+    // an inner node for two daemons each
+    Worked {
+        topology: "fe:0 => c0:0 c1:0 ;\nc0:0 => n0:0 n1:0 ;\nc1:0 => n2:0 n3:0 ;\n",
+        samples: SOLVER_SMP,
+        script: ALL_SCR,
+        report: SOLVER_REPORT,
+    },
+    // one inner node
+    Worked {
+        topology: INNER_TOP,
+        samples: FOUR_SMP,
+        script: ALL_SCR,
+        report: FOUR_REPORT,
+    },
+    // a daemon beside an inner node
+    Worked {
+        topology: "fe:0 => a:0 c:0 ;\nc:0 => b:0 ;\n",
+        samples: FOUR_SMP,
+        script: ALL_SCR,
+        report: FOUR_REPORT,
+    },
+    // the greatest depth
+    Worked {
+        topology: "fe:0 => c:1 ;\nc:1 => c:2 ;\nc:2 => c:3 ;\nc:3 => c:4 ;\nc:4 => c:5 ;\nc:5 => c:6 ;\nc:6 => c:7 ;\nc:7 => a:0 b:0 ;\n",
+        samples: FOUR_SMP,
+        script: ALL_SCR,
+        report: FOUR_REPORT,
+    },
+    // a stream on some of the daemons
+    Worked {
+        topology: TWO_TOP,
+        samples: FOUR_SMP,
+        script: "stream 0 wait-for-all waves 1 samples 1 on b:0\n",
+        report: "stream 0 wave 0 release 1 final
+covered 2:[2-3]
+tree
+2:[2-3] - /
+  2:[2-3] - main
+    2:[2-3] 2:[2-3] MPI_Barrier
+classes
+class 2:[2-3] paths 1
+  main;MPI_Barrier
+end
+",
+    },
+    // what comes in is released at once
+    Worked {
+        topology: TWO_TOP,
+        samples: FOUR_SMP,
+        script: DONT_WAIT_SCR,
+        report: "stream 0 wave 0 release 1 partial
+covered 2:[0-1]
+pending b:0 2:[2-3]
+tree
+2:[0-1] - /
+  2:[0-1] - main
+    1:[0] 1:[0] MPI_Barrier
+    1:[1] 1:[1] compute
+classes
+class 1:[0] paths 1
+  main;MPI_Barrier
+class 1:[1] paths 1
+  main;compute
+stream 0 wave 0 release 2 final
+covered 4:[0-3]
+tree
+4:[0-3] - /
+  4:[0-3] - main
+    3:[0,2-3] 3:[0,2-3] MPI_Barrier
+    1:[1] 1:[1] compute
+classes
+class 3:[0,2-3] paths 1
+  main;MPI_Barrier
+class 1:[1] paths 1
+  main;compute
+end
+",
+    },
+];
+
+pub fn put(alloc: Global, desk: &mut MemDesk, name: &str, text: &[u8]) -> Result<(), AllocError> {
+    desk.put(String::from_str(alloc, name)?, text.to_vec(alloc)?)
+}
+
+pub fn desk_of_bytes(
+    alloc: Global,
+    topology: &[u8],
+    samples: &[u8],
+    script: &[u8],
+) -> Result<MemDesk, AllocError> {
+    let mut desk = MemDesk::new(alloc);
+    put(alloc, &mut desk, "t", topology)?;
+    put(alloc, &mut desk, "s", samples)?;
+    put(alloc, &mut desk, "c", script)?;
+    Ok(desk)
+}
+
+pub fn desk_of(
+    alloc: Global,
+    topology: &str,
+    samples: &str,
+    script: &str,
+) -> Result<MemDesk, AllocError> {
+    desk_of_bytes(
+        alloc,
+        topology.as_bytes(),
+        samples.as_bytes(),
+        script.as_bytes(),
+    )
+}
