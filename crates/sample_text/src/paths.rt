@@ -72,6 +72,7 @@ impl Paths {
         let _ = self.texts.insert_full(String::from_str(alloc, text)?)?;
         Ok(number as u32)
     }
+
     /// The paths by number.
     pub fn into_paths(self) -> Vec<CallPath>
         ensures { result.items ≡ self.paths.items }

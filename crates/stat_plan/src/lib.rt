@@ -3,7 +3,7 @@
 //!
 //! A [`Topology`] is a tree of named nodes, as a contract sees it a value of `Nodes`: the names in order of number, and each
 //! node's parent. What every topology of a job is, `IsTopology` says. The module [`lines`] cuts a text into lines and words
-//! for those who read what stands on them. A [`Plan`] is a job of one wave.
+//! for those who read what stands on them. A [`Plan`] is what the three files of a job say together, with its look-ups.
 #![tactic(auto)]
 
 ghost use Rattle.std.specs.Prelude.{◌≡◌, ◌≤◌, ℕ, true};
