@@ -116,34 +116,37 @@ module _ (self : Path) (text ends : List ℕ) (view : cut_from 0 ends text ≡ s
   pub good_at : (i : ℕ) → i < length self → IsTrue (is_good_frame (get_or self i []))
   good_at i lt = (cuts_shown self text ends view h).good.good i [] lt
 
-  module _ (d : ℕ) (le : d ≤ length self) (shown : List ℕ) (end : ℕ) (is : shown ≡ ends) (to : end ≡ end_in shown d) where
-    -- the text may be cut where its first frames end
-    pub first_boundary : IsUtf8 text → IsCharBoundary text end
-    first_boundary u = subst (IsCharBoundary text) (sym (to ∙ ap (λ es. end_in es d) is)) (depth_boundary self text ends u (cuts_shown self text ends view h) d le)
+  module _ (d : ℕ) (le : d ≤ length self) where
+    -- the first frames are good
+    pub front_good : AreGoodFrames (take d self)
+    front_good =
+        let held = cuts_shown self text ends view h in
+        let e = length-take d self in
+        let few = held.good.few in
+        record { few = omega (arith, e, few); good = All-take (λ f. IsTrue (is_good_frame f)) d self held.good.good }
 
-    module _ (new_text new_ends : List ℕ) (front : new_text ≡ take end text) (few : new_ends ≡ take d ends) where
-      held_text : new_text ≡ path_text (take d self)
-      held_text =
+    module _ (shown : List ℕ) (end : ℕ) (is : shown ≡ ends) (to : end ≡ end_in shown d) where
+      -- the text may be cut where its first frames end
+      pub front_boundary : IsUtf8 text → IsCharBoundary text end
+      front_boundary u = subst (IsCharBoundary text) (sym (to ∙ ap (λ es. end_in es d) is)) (depth_boundary self text ends u (cuts_shown self text ends view h) d le)
+
+      -- up to there it is their text
+      pub front_text : take end text ≡ path_text (take d self)
+      front_text =
           let held = cuts_shown self text ends view h in
-          front ∙ (λ i. take (to i) (held.joined i)) ∙ (λ i. take (end_in ((is ∙ held.places) i) d) (path_text self)) ∙ sym (text-take d self le)
+          (λ i. take (to i) (held.joined i)) ∙ (λ i. take (end_in ((is ∙ held.places) i) d) (path_text self)) ∙ sym (text-take d self le)
 
-      held_ends : new_ends ≡ ends_from 0 (take d self)
-      held_ends = few ∙ ap (take d) (cuts_shown self text ends view h).places ∙ sym (ends-take 0 d self)
+    module _ (new_text new_ends : List ℕ) (front : new_text ≡ path_text (take d self)) (few : new_ends ≡ take d ends) where
+      first_ends : new_ends ≡ ends_from 0 (take d self)
+      first_ends = few ∙ ap (take d) (cuts_shown self text ends view h).places ∙ sym (ends-take 0 d self)
 
-      held_good : AreGoodFrames (take d self)
-      held_good =
-          let held = cuts_shown self text ends view h in
-          let e = length-take d self in
-          let few = held.good.few in
-          record { few = omega (arith, e, few); good = All-take (λ f. IsTrue (is_good_frame f)) d self held.good.good }
-
-      -- the first part of the text, with the first ends, holds the first frames
+      -- the text of the first frames, with the first ends, holds the first frames
       pub first_cuts : AreCuts (cut_from 0 new_ends new_text) new_text new_ends
-      first_cuts = cuts_of (take d self) new_text new_ends held_text held_ends held_good
+      first_cuts = cuts_of (take d self) new_text new_ends front first_ends front_good
 
       -- and shows them
       pub first_is : cut_from 0 new_ends new_text ≡ take d self
-      first_is = cut_is (take d self) new_text new_ends held_text held_ends
+      first_is = cut_is (take d self) new_text new_ends front first_ends
 
 -- the text with one more frame: past a `;`, if there are frames
 abbrev pub longer : Bool → List ℕ → List ℕ → List ℕ

@@ -7,7 +7,7 @@ use Rattle.std.proofs.lemmas.List.Elements.{All-nil, All-cons, All-head, All-tai
 use Rattle.std.proofs.lemmas.List.Splits.{slice_split_none, slice_split_at}
 use Rattle.call_path.specs.declared.read.PathError.{PathError}
 use Rattle.call_path.specs.Path.{Path, path_text}
-use Rattle.call_path.specs.Good.{is_plain, is_good_frame, IsGoodPath}
+use Rattle.call_path.specs.Good.{is_plain, is_good_frame, AreGoodFrames, IsGoodPath}
 use Rattle.call_path.specs.Reading.{frames, frame_fault, first_fault, is_control, unless, path_of}
 use Rattle.call_path.proofs.Faults.{text-frames, good_text, frames_some}
 
@@ -76,6 +76,14 @@ frames_text : (p : Path) → IsGoodPath p → frames (path_text p) ≡ p
 unfolding frames
 frames_text [] h = absurd (omega (arith, h.some))
 frames_text (f ∷ p) h = split_text f p h.good.good
+
+-- as many good frames with the same text are the same frames
+pub same_frames : (p q : Path) → AreGoodFrames p → AreGoodFrames q → length p ≡ length q → path_text p ≡ path_text q → p ≡ q
+same_frames [] [] good more long e = refl
+same_frames [] (g ∷ q) good more long e = absurd (omega (arith, long))
+same_frames (f ∷ p) [] good more long e = absurd (omega (arith, long))
+same_frames (f ∷ p) (g ∷ q) good more long e =
+    sym (frames_text (f ∷ p) (record { some = omega arith; good = good })) ∙ ap frames e ∙ frames_text (g ∷ q) (record { some = omega arith; good = more })
 
 -- the text of a good path is read as that path
 pub good_read : (p : Path) → IsGoodPath p → path_of (path_text p) ≡ Ok p

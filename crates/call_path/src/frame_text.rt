@@ -83,11 +83,15 @@ impl FrameText {
     pub fn cmp(&self, other: &FrameText) -> Ordering
         ensures { result ≡ path_cmp self.now other.now }
     {
-        for i in 0..self.len().min(other.len()) {
-            match self.frame(i).cmp(other.frame(i)) {
-                Ordering::Less => return Ordering::Less,
-                Ordering::Equal => {}
-                Ordering::Greater => return Ordering::Greater,
+        let shared = self.len().min(other.len());
+        // Most paths that are compared share frames, and one test of whole texts is cheap.
+        if self.front(shared) != other.front(shared) {
+            for i in 0..shared {
+                let frame = self.frame(i);
+                let other_frame = other.frame(i);
+                if frame != other_frame {
+                    return frame.cmp(other_frame);
+                }
             }
         }
         self.len().cmp(&other.len())
@@ -108,13 +112,21 @@ impl FrameText {
         true
     }
 
+    // The text of the first `depth` frames.
+    fn front(&self, depth: usize) -> &str
+        requires { depth ≤ length self.now }
+        ensures text { result.now ≡ path_text (take depth self.now) }
+        ensures good { AreGoodFrames (take depth self.now) }
+    {
+        &self.text.as_str()[..end_in(&self.ends, depth)]
+    }
+
     /// The first `depth` frames.
     pub fn first(&self, depth: usize) -> Result<FrameText, AllocError>
         requires { depth ≤ length self.now }
         ensures { IfOk result (λ first. first ≡ take depth self.now) }
     {
-        let end = end_in(&self.ends, depth);
-        let text = String::from_str(*self.ends.allocator(), &self.text.as_str()[..end])?;
+        let text = String::from_str(*self.ends.allocator(), self.front(depth))?;
         let ends = Vec::from_slice(*self.ends.allocator(), &self.ends[..depth])?;
         Ok(FrameText { text, ends })
     }

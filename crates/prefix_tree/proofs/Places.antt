@@ -105,6 +105,10 @@ module _ (p : Path) where
           above = h.above;
         }
 
+  -- what is known up to two bounds is known up to the same bounds
+  pub same_bounds : (es : List (Path × Marks)) (low high new_low new_high : ℕ) → new_low ≡ low → new_high ≡ high → IsSearchedTo es low high → IsSearchedTo es new_low new_high
+  same_bounds es low high new_low new_high l r h = subst (λ n. IsSearchedTo es n new_high) (sym l) (subst (IsSearchedTo es low) (sym r) h)
+
   -- where nothing is left to search, the path goes there
   pub search_end : (es : List (Path × Marks)) (low high : ℕ) → IsSearchedTo es low high → high ≤ low → Err low ≡ place_of p es
   search_end es low high h le =
@@ -113,5 +117,9 @@ module _ (p : Path) where
       sym (place_between es no_entry low (omega (arith, o, i)) h.below (λ k start lt. h.above k (omega (arith, start, le)) lt))
 
 -- the path of a row
-pub row_at : (rows : List TreeRow) (k : ℕ) (row : TreeRow) → k < length rows → row ≡ get_or rows k row → (get_or (entries_in rows) k no_entry).0 ≡ row.path
+row_at : (rows : List TreeRow) (k : ℕ) (row : TreeRow) → k < length rows → row ≡ get_or rows k row → (get_or (entries_in rows) k no_entry).0 ≡ row.path
 row_at rows k row lt is = ap (λ (e : Path × Marks). e.0) (get_or-map entry_of rows k row no_entry lt ∙ ap entry_of (sym is))
+
+-- how a path compares with a row
+pub row_compared : (p : Path) (rows : List TreeRow) (k : ℕ) (row : TreeRow) (o : Ordering) → k < length rows → row ≡ get_or rows k row → path_cmp p (get_or rows k row).path ≡ o → path_cmp p (get_or (entries_in rows) k no_entry).0 ≡ o
+row_compared p rows k row o lt is e = ap (path_cmp p) (row_at rows k row lt is) ∙ ap (λ (r : TreeRow). path_cmp p r.path) is ∙ e

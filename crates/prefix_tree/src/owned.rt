@@ -131,8 +131,23 @@ fn shown(rows: &[TreeRow], i: usize) -> Row<'_>
     }
 }
 
-// Where the row of a path is, or where it would go.
-fn place(rows: &[TreeRow], path: &CallPath) -> Result<usize, usize>
+// Where to look next between two bounds: at the guess, or halfway where it lies outside.
+fn next_look(low: usize, high: usize, guess: usize) -> usize
+    requires { low < high }
+    ensures from { low ≤ result }
+    ensures to { result < high }
+{
+    if low <= guess && guess < high {
+        guess
+    } else {
+        low + (high - low) / 2
+    }
+}
+
+// Where the row of a path is, or where it would go. It is looked for from the guess on, in steps
+// that double, and halfway between as soon as it lies between two rows that were looked at: so the
+// cost grows with the logarithm of how far the guess was off.
+fn place(rows: &[TreeRow], path: &CallPath, guess: usize) -> Result<usize, usize>
     requires { IsInOrder rows.now }
     ensures place { result ≡ place_of path.now (entries_in rows.now) }
     ensures found { IfOk result (λ at. at < length rows.now) }
@@ -140,13 +155,22 @@ fn place(rows: &[TreeRow], path: &CallPath) -> Result<usize, usize>
 {
     let mut low = 0;
     let mut high = rows.len();
+    let mut guess = guess.min(high.saturating_sub(1));
+    let mut step: usize = 1;
     while low < high {
-        let middle = low + (high - low) / 2;
-        match path.cmp(&rows[middle].path) {
-            Ordering::Less => high = middle,
-            Ordering::Equal => return Ok(middle),
-            Ordering::Greater => low = middle + 1,
+        let look = next_look(low, high, guess);
+        match path.cmp(&rows[look].path) {
+            Ordering::Less => {
+                high = look;
+                guess = look.saturating_sub(step);
+            }
+            Ordering::Equal => return Ok(look),
+            Ordering::Greater => {
+                low = look + 1;
+                guess = look.saturating_add(step);
+            }
         }
+        step = step.saturating_mul(2);
     }
     Err(low)
 }
@@ -174,8 +198,10 @@ fn united(set: &RankSet, more: &RankSet) -> Result<RankSet, AllocError>
 }
 
 // The marks of a path as they will be once these are united into them, and whether its row is new.
+// The guess is where its row may be, and then where that of the next path may be.
 fn united_marks(
     rows: &[TreeRow],
+    guess: &mut usize,
     path: &CallPath,
     label: &RankSet,
     ends: &RankSet,
@@ -184,12 +210,16 @@ fn united_marks(
     ensures marks { IfOk result (λ m. (path.now, (m.0, m.1)) ≡ changed (below_in rows.now) (path.now, (label.now, ends.now))) }
     ensures new { IfOk result (λ m. m.2 ≡ is_new (below_in rows.now) (path.now, (label.now, ends.now))) }
 {
-    match place(rows, path) {
+    match place(rows, path, *guess) {
         Ok(at) => {
+            *guess = at + 1;
             let row = &rows[at];
             Ok((united(&row.label, label)?, united(&row.ends, ends)?, false))
         }
-        Err(_) => Ok((label.copy()?, ends.copy()?, true)),
+        Err(at) => {
+            *guess = at;
+            Ok((label.copy()?, ends.copy()?, true))
+        }
     }
 }
 
@@ -198,6 +228,8 @@ fn united_marks(
 struct Changes {
     rows: Vec<TreeRow>,
     added: usize,
+    // Where the row of the next path may be.
+    guess: usize,
 }
 
 impl Changes {
@@ -215,7 +247,7 @@ impl Changes {
         ensures added { OnOk result (self.new.added ≡ self.old.added + new_among (below_in rows.now) ((path, (label.now, ends.now)) ∷ [])) }
         ensures few { OnOk result (self.new.added ≤ length self.new.rows.items) }
     {
-        let (label, ends, is_new) = united_marks(rows, &path, label, ends)?;
+        let (label, ends, is_new) = united_marks(rows, &mut self.guess, &path, label, ends)?;
         self.rows.push(TreeRow { path, label, ends })?;
         if is_new {
             self.added += 1;
@@ -233,6 +265,7 @@ fn row_changes(alloc: Global, rows: &[TreeRow], others: &[TreeRow]) -> Result<Ch
     let mut changes = Changes {
         rows: Vec::with_capacity(alloc, others.len())?,
         added: 0,
+        guess: 0,
     };
     for row in others {
         changes.note(rows, row.path.copy()?, &row.label, &row.ends)?;
@@ -257,6 +290,7 @@ fn path_changes(
     let mut changes = Changes {
         rows: Vec::with_capacity(alloc, path.len())?,
         added: 0,
+        guess: 0,
     };
     for depth in 1..path.len() {
         changes.note(rows, path.prefix(depth)?, ranks, nobody)?;
@@ -279,10 +313,15 @@ fn put_rows(rows: &mut Vec<TreeRow>, changes: Vec<TreeRow>)
     requires room { length (puts (entries_in rows.old.items) (entries_in changes.items)) ≤ vec_capacity rows.old }
     ensures { entries_in rows.new.items ≡ puts (entries_in rows.old.items) (entries_in changes.items) }
 {
+    let mut guess = 0;
     for row in changes {
-        match place(rows, &row.path) {
-            Ok(at) => rows[at] = row,
+        match place(rows, &row.path, guess) {
+            Ok(at) => {
+                guess = at + 1;
+                rows[at] = row;
+            }
             Err(at) => {
+                guess = at + 1;
                 let _ = rows.insert(at, row);
             }
         }

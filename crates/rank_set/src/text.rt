@@ -8,14 +8,15 @@ ghost use Rattle.rank_set.specs.Text.{run_text, runs_text, runs_of};
 
 use crate::WORD_LIMIT;
 use crate::words::next_run;
+use itoa::Buffer;
 use std::alloc::AllocError;
 
 // Appends the number's decimal digits.
 pub(crate) fn write_number(n: u32, out: &mut Vec<u8>) -> Result<(), AllocError>
     ensures { OnOk result (out.new.items ≡ out.old.items ++ decimal n) }
 {
-    let digits = n.to_string(*out.allocator())?;
-    out.extend_from_slice(digits.as_bytes())?;
+    let mut digits = Buffer::new();
+    out.extend_from_slice(digits.format(n).as_bytes())?;
     Ok(())
 }
 
