@@ -9,3 +9,5 @@ pub mod GoodPaths
 pub mod ChangeLemmas
 pub mod Places
 pub mod Putting
+pub mod Weaving
+pub mod Rising

@@ -1,6 +1,6 @@
 -- What a binary search over rows in order finds.
-use Rattle.std.proofs.Common.{◌≡◌, ℕ, zero, suc, ◌+◌, ◌<◌, ◌≤◌, Bool, true, false, ◌&&◌, List, [], ◌∷◌, Ok, Err, sym, ap, ◌∙◌, subst, T, length, get_or, arith, inl, inr}
-use Rattle.std.specs.Ordering.{is_lt, ordering_reverse}
+use Rattle.std.proofs.Common.{◌≡◌, ℕ, zero, suc, ◌+◌, ◌<◌, ◌≤◌, ◌&&◌, List, [], ◌∷◌, Ok, Err, sym, ap, ◌∙◌, subst, T, length, get_or, arith, inl, inr}
+use Rattle.std.specs.Ordering.{is_lt}
 use Rattle.std.specs.declared.cmp.Ordering.{Ordering}
 use Rattle.std.specs.declared.cmp.Ordering.TheVariants.{Less, Equal, Greater}
 use Rattle.std.specs.FinMap as finmap
@@ -12,11 +12,7 @@ use Rattle.call_path.specs.Path.{Path, path_cmp, path_cmp_total}
 use Rattle.prefix_tree.specs.Tree.{Marks}
 use Rattle.prefix_tree.specs.declared.owned.TreeRow.{TreeRow}
 use Rattle.prefix_tree.specs.Owned.{by_order, next_place, place_of, entry_of, entries_in}
-use Rattle.prefix_tree.proofs.Rows.{first, second, less}
-
-both : (a b : Bool) → T a → T b → T (a && b)
-both true b p q = q
-both false b p q = p
+use Rattle.prefix_tree.proofs.Rows.{both, first, second, less, turned}
 
 -- rows in order without their second
 after_second : (e f : Path × Marks) (es : List (Path × Marks)) → T (finmap.is_sorted path_cmp (e ∷ f ∷ es)) → T (finmap.is_sorted path_cmp (e ∷ es))
@@ -40,9 +36,6 @@ row_below (e ∷ es) d zero zero up le lt = absurd (omega arith)
 row_below (e ∷ es) d zero (suc j) up le lt = first_below e es d j up (omega arith)
 row_below (e ∷ es) d (suc i) zero up le lt = absurd (omega arith)
 row_below (e ∷ es) d (suc i) (suc j) up le lt = row_below es d i j (second (below_all path_cmp e.0 es) (finmap.is_sorted path_cmp es) up) (omega arith) (omega arith)
-
-turned : (p q : Path) (o : Ordering) → path_cmp p q ≡ o → path_cmp q p ≡ ordering_reverse o
-turned p q o e = path_cmp_total.antisymm q p ∙ ap ordering_reverse e
 
 -- the entry of no row
 abbrev pub no_entry : Path × Marks

@@ -1,7 +1,7 @@
 -- What is seen in rows that are put together.
 use Rattle.std.proofs.Common.{◌≡◌, ℕ, Bool, true, false, cond, ◌&&◌, ◌||◌, List, [], ◌∷◌, Some, None, refl, sym, ap, ◌∙◌, T}
 use Rattle.std.specs.List.{list_any}
-use Rattle.std.specs.Ordering.{eq_by_cmp, is_eq, is_lt}
+use Rattle.std.specs.Ordering.{eq_by_cmp, is_eq, is_lt, ordering_reverse}
 use Rattle.std.specs.declared.cmp.Ordering.{Ordering}
 use Rattle.std.specs.declared.cmp.Ordering.TheVariants.{Less, Equal, Greater}
 use Rattle.std.specs.Cmp.{Equal-is, alike_right}
@@ -57,6 +57,11 @@ module _ (test : Marks → Bool) (spreads : Spreads test) where
   seen-put_rows b [] q = sym (or_false (seen test b q))
   seen-put_rows b (e ∷ es) q = seen-put_rows (put_row b e.0 e.1) es q ∙ ap (λ x. x || in_rows test es q) (seen-put_row b e.0 e.1 q) ∙ or_assoc (seen test b q) (is_path q e.0 && test e.1) (in_rows test es q)
 
+-- two tests at once
+pub both : (a b : Bool) → T a → T b → T (a && b)
+both true b p q = q
+both false b p q = p
+
 -- the first of two tests
 pub first : (a b : Bool) → T (a && b) → T a
 first true b p = tt
@@ -72,6 +77,10 @@ pub less : (o : Ordering) → T (is_lt o) → o ≡ Less
 less Less p = refl
 less Equal p = absurd p
 less Greater p = absurd p
+
+-- the other way round, two paths compare the other way round
+pub turned : (p q : Path) (o : Ordering) → path_cmp p q ≡ o → path_cmp q p ≡ ordering_reverse o
+turned p q o e = path_cmp_total.antisymm q p ∙ ap ordering_reverse e
 
 -- a key below the first of a list in order is at no entry
 pub none_from : (test : Marks → Bool) (q : Path) (e : Path × Marks) (es : List (Path × Marks)) → path_cmp q e.0 ≡ Less → T (finmap.is_sorted path_cmp (e ∷ es)) → in_rows test (e ∷ es) q ≡ false

@@ -1,5 +1,5 @@
 //! A tree as one vector of rows.
-ghost use Rattle.std.specs.Prelude.{◌≡◌, ◌≤◌, ◌<◌, ◌+◌, ◌++◌, [], ◌∷◌, OnOk, OnErr, IfOk, IfErr, IfSome, slice_get, length, map, nat_le};
+ghost use Rattle.std.specs.Prelude.{◌≡◌, ◌≤◌, ◌<◌, ◌+◌, ◌-◌, ◌++◌, [], ◌∷◌, OnOk, OnErr, IfOk, IfErr, IfSome, slice_get, length, map, take, drop, reverse, nat_le};
 ghost use Rattle.std.specs.Vec.{vec_capacity};
 ghost use Rattle.rank_set.specs.Ranks.{none, union};
 ghost use Rattle.call_path.specs.Good.{IsGoodPath};
@@ -75,8 +75,7 @@ impl PrefixTree for OwnedTree {
         if !has_room(&self.rows, changes.added) {
             return Err(TreeError::TooManyPrefixes);
         }
-        self.rows.reserve(changes.added)?;
-        put_rows(&mut self.rows, changes.rows);
+        put_changes(&mut self.rows, changes)?;
         Ok(())
     }
 
@@ -85,9 +84,9 @@ impl PrefixTree for OwnedTree {
         if !has_room(&self.rows, changes.added) {
             return Err(TreeError::TooManyPrefixes);
         }
-        self.rows.reserve(changes.added)?;
-        self.coverage.union_into(&other.coverage)?;
-        put_rows(&mut self.rows, changes.rows);
+        let coverage = united(&self.coverage, &other.coverage)?;
+        put_changes(&mut self.rows, changes)?;
+        self.coverage = coverage;
         Ok(())
     }
 
@@ -326,4 +325,72 @@ fn put_rows(rows: &mut Vec<TreeRow>, changes: Vec<TreeRow>)
             }
         }
     }
+}
+
+// Puts a row behind others, for which there is room.
+fn push_row(rows: &mut Vec<TreeRow>, row: TreeRow)
+    requires { length rows.old.items < vec_capacity rows.old }
+    ensures rows { rows.new.items ≡ rows.old.items ++ row ∷ [] }
+    ensures room { vec_capacity rows.old ≤ vec_capacity rows.new }
+{
+    let _ = rows.push(row);
+}
+
+// Moves the rows from a place on behind others, the last one first.
+fn move_behind(rows: &mut Vec<TreeRow>, place: usize, behind: &mut Vec<TreeRow>)
+    requires within { place ≤ length rows.old.items }
+    requires room { length behind.old.items + (length rows.old.items - place) ≤ vec_capacity behind.old }
+    ensures rows { rows.new.items ≡ take place rows.old.items }
+    ensures behind { reverse behind.new.items ≡ drop place rows.old.items ++ reverse behind.old.items }
+    ensures count { length behind.new.items + place ≡ length behind.old.items + length rows.old.items }
+    ensures room { vec_capacity rows.new ≡ vec_capacity rows.old }
+    ensures room_behind { vec_capacity behind.old ≤ vec_capacity behind.new }
+{
+    while rows.len() > place {
+        if let Some(row) = rows.pop() {
+            push_row(behind, row);
+        }
+    }
+}
+
+// Puts rows in order in their places in one pass, for which there is room: the rows behind each are set aside, from the last
+// on, and come back at the end. A refusal leaves the rows as they were.
+fn weave_rows(rows: &mut Vec<TreeRow>, mut changes: Vec<TreeRow>) -> Result<(), AllocError>
+    requires in_order { IsInOrder rows.old.items }
+    requires rising { IsInOrder changes.items }
+    requires room { length (puts (entries_in rows.old.items) (entries_in changes.items)) ≤ vec_capacity rows.old }
+    ensures ok { OnOk result (entries_in rows.new.items ≡ puts (entries_in rows.old.items) (entries_in changes.items)) }
+    ensures err { OnErr result (rows.new.items ≡ rows.old.items) }
+{
+    let mut behind = Vec::with_capacity(*rows.allocator(), rows.len() + changes.len())?;
+    while let Some(change) = changes.pop() {
+        match place(rows, &change.path, rows.len()) {
+            Ok(at) => {
+                move_behind(rows, at + 1, &mut behind);
+                rows.truncate(at);
+            }
+            Err(at) => move_behind(rows, at, &mut behind),
+        }
+        push_row(&mut behind, change);
+    }
+    behind.as_mut_slice().reverse();
+    let _ = rows.append(&mut behind);
+    Ok(())
+}
+
+// Puts each of the changes in its place. One new row is put by itself, several are woven in. A refusal leaves the rows as they
+// were.
+fn put_changes(rows: &mut Vec<TreeRow>, changes: Changes) -> Result<(), AllocError>
+    requires in_order { IsInOrder rows.old.items }
+    requires rising { IsInOrder changes.rows.items }
+    requires added { length (puts (entries_in rows.old.items) (entries_in changes.rows.items)) ≤ length rows.old.items + changes.added }
+    ensures ok { OnOk result (entries_in rows.new.items ≡ puts (entries_in rows.old.items) (entries_in changes.rows.items)) }
+    ensures err { OnErr result (rows.new.items ≡ rows.old.items) }
+{
+    rows.reserve(changes.added)?;
+    if changes.added > 1 {
+        return weave_rows(rows, changes.rows);
+    }
+    put_rows(rows, changes.rows);
+    Ok(())
 }
