@@ -68,7 +68,7 @@ fn take_line<T: PrefixTree>(
 }
 
 /// The tree of a wave's samples of some ranks. `numbers` are those of the lines that have one of the ranks. It takes the least
-/// time where those of one path stand together.
+/// time where they come in the order of their paths.
 pub fn own_tree<T: PrefixTree>(
     alloc: Global,
     lines: &[StackLine],

@@ -21,7 +21,7 @@ use Rattle.prefix_tree.proofs.PairLemmas.{in_rows-under, no_root}
 use Rattle.prefix_tree.proofs.Edits.{put_sorted, from_sorted-put}
 
 -- a row of any marks
-abbrev pub any_marks : Marks → Bool
+abbrev any_marks : Marks → Bool
 any_marks m = true
 
 -- no path stands twice
@@ -41,8 +41,7 @@ apart_under : (f : List ℕ) (es : List (Path × Marks)) → AreApart es → Are
 apart_under f [] h = tt
 apart_under f (e ∷ es) h = (in_rows-under any_marks f f e.0 es ∙ (λ i. same_first f i && h.0 i), apart_under f es h.1)
 
--- no row of a path is the root
-pub rootless : (C : Ranks) (p : Path) → in_rows any_marks (path_rows C p) [] ≡ false
+rootless : (C : Ranks) (p : Path) → in_rows any_marks (path_rows C p) [] ≡ false
 rootless C [] = refl
 rootless C (f ∷ p) = no_root any_marks f (path_rows C p)
 

@@ -75,7 +75,8 @@ impl PrefixTree for OwnedTree {
         if !has_room(&self.rows, changes.added) {
             return Err(TreeError::TooManyPrefixes);
         }
-        put_changes(&mut self.rows, changes)?;
+        self.rows.reserve(changes.added)?;
+        put_rows(&mut self.rows, changes.rows);
         Ok(())
     }
 

@@ -80,6 +80,32 @@ fn merges<T: PrefixTree>(rt: &impl Abort, alloc: Global) -> Result<(), TreeError
     Ok(())
 }
 
+// A tree of one rank and the paths that it was seen in.
+fn of_paths<T: PrefixTree>(
+    rt: &impl Abort,
+    alloc: Global,
+    rank: u32,
+    texts: &[&str],
+) -> Result<T, TreeError> {
+    let mut tree = covered::<T>(rt, alloc, &[rank])?;
+    for text in texts {
+        add(rt, alloc, &mut tree, &[rank], text)?;
+    }
+    Ok(tree)
+}
+
+// New rows go before, between and behind the rows that stand, and one stands already.
+fn weaves<T: PrefixTree>(rt: &impl Abort, alloc: Global) -> Result<(), TreeError> {
+    let mut left = of_paths::<T>(rt, alloc, 0, &["e", "b", "d"])?;
+    let right = of_paths::<T>(rt, alloc, 1, &["f", "d;x", "c;y;z", "a"])?;
+    left.merge(&right)?;
+    let want = b"0 / 2:[0-1] 0:[]\n1 a 1:[1] 1:[1]\n1 b 1:[0] 1:[0]\n\
+        1 c 1:[1] 0:[]\n2 y 1:[1] 0:[]\n3 z 1:[1] 1:[1]\n\
+        1 d 2:[0-1] 1:[0]\n2 x 1:[1] 1:[1]\n1 e 1:[0] 1:[0]\n1 f 1:[1] 1:[1]\n";
+    assert_rows(rt, alloc, &left, want)?;
+    Ok(())
+}
+
 // A tree with 2,048 rows besides the root.
 fn full<T: PrefixTree>(rt: &impl Abort, alloc: Global) -> Result<T, TreeError> {
     let mut tree = covered::<T>(rt, alloc, &[0, 1])?;
@@ -111,6 +137,12 @@ fn refuses_when_full<T: PrefixTree>(rt: &impl Abort, alloc: Global) -> Result<()
 #[test]
 fn merges_owned(rt: HostRuntime) -> Result<(), Fail> {
     merges::<OwnedTree>(&rt, rt.alloc())?;
+    Ok(())
+}
+
+#[test]
+fn weaves_owned(rt: HostRuntime) -> Result<(), Fail> {
+    weaves::<OwnedTree>(&rt, rt.alloc())?;
     Ok(())
 }
 

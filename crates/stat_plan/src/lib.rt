@@ -17,6 +17,7 @@ mod ancestors;
 mod expected;
 mod job;
 mod limit;
+mod line_order;
 pub mod lines;
 mod lookup;
 mod own_lines;

@@ -126,23 +126,6 @@ fn homes_of(alloc: Global, placed: &[RankSet]) -> Result<Vec<u32>, AllocError>
     Ok(homes)
 }
 
-/// The numbers of the lines. Lines of the same path stand together.
-pub fn by_path(alloc: Global, lines: &[StackLine]) -> Result<Vec<u32>, AllocError>
-    requires { length lines.now ≤ LINE_LIMIT }
-    ensures { IfOk result (λ numbers. AreLineNumbers (length lines.now) numbers.items) }
-{
-    let mut keyed = Vec::new(alloc);
-    for (i, line) in lines.iter().enumerate() {
-        keyed.push((line.path, i as u32))?;
-    }
-    keyed.sort_by_key(|entry| entry.0)?;
-    let mut numbers = Vec::with_capacity(alloc, keyed.len())?;
-    for entry in &keyed {
-        numbers.push(entry.1)?;
-    }
-    Ok(numbers)
-}
-
 // Notes the numbers of lines at the nodes of their ranks.
 fn note_all(
     table: &mut [Vec<u32>],

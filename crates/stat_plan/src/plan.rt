@@ -15,8 +15,9 @@ use crate::ancestors::ancestors_table;
 use crate::expected::expected_sets;
 use crate::job::Job;
 use crate::limit::check_limit;
+use crate::line_order::by_path;
 use crate::lookup::{fault_of, is_among, stream_place};
-use crate::own_lines::{by_path, own_lines};
+use crate::own_lines::own_lines;
 use crate::plan_error::PlanError;
 use crate::samples::{Lines, Samples};
 use crate::script::{Fault, Script, StreamDef};
@@ -31,7 +32,7 @@ pub struct Plan {
     job: Job,
     // By node number, nearest first.
     ancestors: Vec<Vec<u32>>,
-    // By node number: the numbers of the lines that have a rank of the node, those of one path together.
+    // By node number: the numbers of the lines that have a rank of the node, in the order of their paths.
     own_lines: Vec<Vec<u32>>,
     // By place of the stream, then by node number.
     expected: Vec<Vec<RankSet>>,
@@ -105,7 +106,8 @@ impl Plan {
     {
         let job = Job::new(topology, samples, script);
         job.is_job();
-        let numbers = by_path(alloc, job.lines().lines)?;
+        let all = job.lines();
+        let numbers = by_path(alloc, all.paths, all.lines)?;
         match check_limit(alloc, &job, &numbers) {
             Ok(()) => {}
             Err(e) => return Err(e),
@@ -247,7 +249,7 @@ impl Plan {
         self.job.lines()
     }
 
-    /// The numbers of the lines that have a rank of a node. Lines of the same path stand together.
+    /// The numbers of the lines that have a rank of a node, in the order of their paths.
     pub fn own_lines(&self, n: u32) -> &[u32]
         requires { n < nodes self.now }
         ensures { AreOwnLines self.now.lines (ranks self.now n) result.now }

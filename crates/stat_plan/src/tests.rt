@@ -1,6 +1,9 @@
-//! What no clause says: the ends of lines, blanks and numbers, by texts from outside.
+//! What no clause says: the ends of lines, blanks and numbers, by texts from outside; in what order lines are gone through.
 
+use crate::line_order::path_places;
 use crate::lines::{after_blanks, next_line, next_word, number_in, says_nothing};
+use call_path::CallPath;
+use std::test::Fail;
 
 // A text, its first line, and what is left after it.
 const LINES: [(&str, Option<(&str, &str)>); 8] = [
@@ -100,4 +103,19 @@ fn reads_numbers_of_any_length(rt: HostRuntime) {
     for (word, number) in NUMBERS {
         assert_eq!(rt; number_in(word.as_bytes(), 65_536), number, "{word:?}");
     }
+}
+
+// The order of paths isn't that of their texts: `;` comes after `!`.
+const PATHS: [&str; 4] = ["b", "a!", "a;b", "a"];
+
+#[test]
+fn places_paths_in_their_order(rt: HostRuntime) -> Result<(), Fail> {
+    let alloc = rt.alloc();
+    let mut paths = Vec::new(alloc);
+    for text in PATHS {
+        paths.push(CallPath::read(alloc, text).expect(&rt, "good"))?;
+    }
+    let places = path_places(alloc, &paths)?;
+    assert_eq!(rt; places.as_slice(), [3, 2, 1, 0].as_slice());
+    Ok(())
 }

@@ -1,6 +1,6 @@
 use Rattle.std.proofs.Common.{◌≡◌, ℕ, map, take}
 use Rattle.stat_plan.specs.Plans.{up_to}
-use Rattle.stat_plan.proofs.own_lines.by_path.Given as goal
+use Rattle.stat_plan.proofs.line_order.by_path.Given as goal
 
 abbrev pub invariant-loop-i : goal.invariant-loop-i
 invariant-loop-i l = map (λ (e : ℕ × ℕ). e.1) l.keyed.items ≡ up_to l.i

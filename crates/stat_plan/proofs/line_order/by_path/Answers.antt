@@ -2,7 +2,7 @@ use Rattle.std.proofs.Common.{◌≡◌, ℕ, ap, ◌∙◌, arith, map, length}
 use Rattle.stat_plan.specs.Plans.{up_to}
 use Rattle.std.proofs.lemmas.List.{take_all}
 use Rattle.stat_plan.proofs.InLists.{numbers_permuted}
-use Rattle.stat_plan.proofs.own_lines.by_path.Goals as goal
+use Rattle.stat_plan.proofs.line_order.by_path.Goals as goal
 
 pub returns : goal.returns
 returns c =

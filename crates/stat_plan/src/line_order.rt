@@ -1,0 +1,50 @@
+//! The order in which the lines of samples are gone through: that of their paths. So lines of one path stand together, and a
+//! tree to which paths are added grows at its end. The order is for speed alone, and no clause tells it.
+
+ghost use Rattle.std.specs.Prelude.{◌≡◌, ◌≤◌, IfOk, length};
+ghost use Rattle.stat_plan.specs.declared.samples.TheConstants.{LINE_LIMIT};
+ghost use Rattle.stat_plan.specs.StackLines.{AreNumbered};
+ghost use Rattle.stat_plan.specs.Tables.{AreLineNumbers};
+
+use crate::samples::StackLine;
+use call_path::CallPath;
+use std::alloc::{AllocError, Global};
+
+/// By path number, the place of the path among all in order.
+pub fn path_places(alloc: Global, paths: &[CallPath]) -> Result<Vec<usize>, AllocError>
+    ensures { IfOk result (λ places. length places.items ≡ length paths.now) }
+{
+    let mut ordered = Vec::with_capacity(alloc, paths.len())?;
+    for (number, path) in paths.iter().enumerate() {
+        ordered.push((path, number))?;
+    }
+    ordered.sort_by(|one, other| one.0.cmp(other.0))?;
+    let mut places = vec![in alloc; 0; paths.len()]?;
+    for (place, entry) in ordered.iter().enumerate() {
+        places[entry.1] = place;
+    }
+    Ok(places)
+}
+
+/// The numbers of the lines, in the order of their paths.
+pub fn by_path(
+    alloc: Global,
+    paths: &[CallPath],
+    lines: &[StackLine],
+) -> Result<Vec<u32>, AllocError>
+    requires numbered { AreNumbered paths.now lines.now }
+    requires few { length lines.now ≤ LINE_LIMIT }
+    ensures { IfOk result (λ numbers. AreLineNumbers (length lines.now) numbers.items) }
+{
+    let places = path_places(alloc, paths)?;
+    let mut keyed = Vec::with_capacity(alloc, lines.len())?;
+    for (i, line) in lines.iter().enumerate() {
+        keyed.push((places[line.path as usize], i as u32))?;
+    }
+    keyed.sort_by_key(|entry| entry.0)?;
+    let mut numbers = Vec::with_capacity(alloc, keyed.len())?;
+    for entry in &keyed {
+        numbers.push(entry.1)?;
+    }
+    Ok(numbers)
+}
