@@ -37,9 +37,9 @@ abbrev pub TakesFirst : Plan → State → List Event → Type 0
 TakesFirst p st [] = ⊤
 TakesFirst p st (e ∷ es) = (slice_get (enabled_events p st) 0 ≡ Some e) × TakesFirst p (step p st e) es
 
--- What a run of a plan comes to that loses no node. The journal is whole, and each of its events is the first that may come next. The front end
--- gave out the releases of the journal, each with its number, and with the tree of the wave's samples over the ranks that it
--- covers. The text is the report of these releases.
+-- What a run of a plan comes to that loses no node. The journal is whole, and each of its events is the first that may come
+-- next. The front end gave out the releases of the journal, each with its number, and with the tree of the wave's samples
+-- over the ranks that it covers. The text is the report of these releases.
 pub record HasRun (p : Plan) (journal : List Event) (report : List ℕ) : Type 0 where
   pub plan : IsPlan p
   pub safe : p.faults ≡ []

@@ -1,4 +1,4 @@
-//! A net, event by event, and the report of what it has released.
+//! A net, event by event, and the report of what it has released; in what order a plan's lines are gone through.
 
 ghost use Rattle.std.specs.Prelude.{◌≡◌, [], false, IfOk, OnOk};
 
@@ -44,10 +44,10 @@ class 1:[1] paths 1
 end
 ";
 
-fn plan(alloc: Global) -> Result<Plan, Status>
+fn plan(alloc: Global, samples: &str) -> Result<Plan, Status>
     ensures { IfOk result (λ plan. plan.faults ≡ []) }
 {
-    let mut desk = match desk_of(alloc, TWO_TOP, FOUR_SMP, SCRIPT) {
+    let mut desk = match desk_of(alloc, TWO_TOP, samples, SCRIPT) {
         Ok(desk) => desk,
         Err(_) => return Err(Status::OutOfMemory),
     };
@@ -91,7 +91,7 @@ fn last_release(net: &mut Net<'_, OwnedTree>) -> Result<(), NetError>
 #[test]
 fn seven_events_release_a_part_and_the_whole(rt: HostRuntime) {
     let alloc = rt.alloc();
-    let plan = plan(alloc).expect(&rt, "a plan");
+    let plan = plan(alloc, FOUR_SMP).expect(&rt, "a plan");
     let mut net: Net<'_, OwnedTree> = Net::new(alloc, &plan).expect(&rt, "a net");
     first_release(&mut net).expect(&rt, "three events");
     assert!(rt; !net.is_quiet());
@@ -134,7 +134,7 @@ const NOT_NEXT: [Event; 9] = [
 #[test]
 fn other_events_change_nothing(rt: HostRuntime) {
     let alloc = rt.alloc();
-    let plan = plan(alloc).expect(&rt, "a plan");
+    let plan = plan(alloc, FOUR_SMP).expect(&rt, "a plan");
     let mut net: Net<'_, OwnedTree> = Net::new(alloc, &plan).expect(&rt, "a net");
     for event in NOT_NEXT {
         assert_eq!(rt; net.apply(event), Err(NetError::NotEnabled));
@@ -144,7 +144,7 @@ fn other_events_change_nothing(rt: HostRuntime) {
 #[test]
 fn the_first_events_are_told_in_order(rt: HostRuntime) {
     let alloc = rt.alloc();
-    let plan = plan(alloc).expect(&rt, "a plan");
+    let plan = plan(alloc, FOUR_SMP).expect(&rt, "a plan");
     let net: Net<'_, OwnedTree> = Net::new(alloc, &plan).expect(&rt, "a net");
     let first = Event::Sample {
         node: 1,
@@ -159,4 +159,21 @@ fn the_first_events_are_told_in_order(rt: HostRuntime) {
     assert_eq!(rt; net.enabled(0), Some(first));
     assert_eq!(rt; net.enabled(1), Some(second));
     assert_eq!(rt; net.enabled(2), None);
+}
+
+// Of the daemon a's lines, counted from 0 on, the fourth has the least path: `a;b` comes before `a!`.
+const UNORDERED_SMP: &str = "daemon a:0 0-1
+daemon b:0 2-3
+stack 0 0 main;b
+stack 0 2 main;c
+stack 0 0-1 main;a!
+stack 0 1,3 main;a;b
+stack 0 1 main;b
+";
+
+#[test]
+fn goes_through_lines_in_the_order_of_their_paths(rt: HostRuntime) {
+    let plan = plan(rt.alloc(), UNORDERED_SMP).expect(&rt, "a plan");
+    assert!(rt; plan.nodes() > 1);
+    assert_eq!(rt; plan.own_lines(1), [3u32, 2, 0, 4].as_slice());
 }
