@@ -7,7 +7,7 @@ use mathlib.Core.Logic.{dite}
 use native.Mathlib.Decide.{ℕ_discrete}
 use Rattle.stat_desk.specs.declared.event.Event.{Event}
 use Rattle.board_turn.specs.declared.holding.Holding.{Holding}
-use Rattle.board_turn.specs.declared.view.Entry.{Entry}
+use Rattle.board_turn.specs.declared.view.LogEntry.{LogEntry}
 use Rattle.board_turn.specs.Entries.{node_of, holding, Kept, set_out, claimed_in, committed_in, added, kept_after, kept, IsUnmoved, taken}
 use Rattle.board_turn.specs.Turns.{Sound}
 
@@ -175,7 +175,7 @@ sound_commit n made c x k h s out =
     }
 
 -- entries after entries
-pub kept-append : (x : Kept) (xs ys : List Entry) → kept_after x (xs ++ ys) ≡ kept_after (kept_after x xs) ys
+pub kept-append : (x : Kept) (xs ys : List LogEntry) → kept_after x (xs ++ ys) ≡ kept_after (kept_after x xs) ys
 kept-append x [] ys = refl
 kept-append x (e ∷ xs) ys = kept-append (added x e) xs ys
 
@@ -183,15 +183,15 @@ grows_by : (b : Bool) (x : Kept) (k : ℕ) (e : Event) → IsPrefix x.journal (c
 grows_by true x k e = prefix_self x.journal
 grows_by false x k e = (e ∷ [], refl)
 
-grows : (x : Kept) (es : List Entry) → IsPrefix x.journal (kept_after x es).journal
+grows : (x : Kept) (es : List LogEntry) → IsPrefix x.journal (kept_after x es).journal
 grows x [] = prefix_self x.journal
 grows x (e ∷ es) = prefix_trans x.journal (added x e).journal (kept_after (added x e) es).journal (grows_by e.claims x e.seat e.event) (grows (added x e) es)
 
 -- the journal of more entries begins with that of fewer
-pub saw_grows : (n : ℕ) (seen log : List Entry) → IsPrefix seen log → IsPrefix (kept n seen).journal (kept n log).journal
-saw_grows n seen log p = subst (λ (l : List Entry). IsPrefix (kept n seen).journal (kept n l).journal) p.1
+pub saw_grows : (n : ℕ) (seen log : List LogEntry) → IsPrefix seen log → IsPrefix (kept n seen).journal (kept n log).journal
+saw_grows n seen log p = subst (λ (l : List LogEntry). IsPrefix (kept n seen).journal (kept n l).journal) p.1
     (subst (λ (z : Kept). IsPrefix (kept n seen).journal z.journal) (sym (kept-append record { journal = []; holders = replicate n None; outs = λ _. None } seen p.0)) (grows (kept n seen) p.0))
 
 -- the last entry changes what is kept so
-pub kept-snoc : (n : ℕ) (log : List Entry) (e : Entry) → kept n (log ++ e ∷ []) ≡ added (kept n log) e
+pub kept-snoc : (n : ℕ) (log : List LogEntry) (e : LogEntry) → kept n (log ++ e ∷ []) ≡ added (kept n log) e
 kept-snoc n log e = kept-append record { journal = []; holders = replicate n None; outs = λ _. None } log (e ∷ [])

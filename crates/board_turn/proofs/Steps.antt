@@ -10,7 +10,7 @@ use Rattle.atomic_table.specs.Table.{State, Me, Act, keeps, takes, gives, step, 
 use Rattle.atomic_table.proofs.Lists.{at_set, set_else, set_again, at_longer, at_snoc, exchanged}
 use Rattle.stat_desk.specs.declared.event.Event.{Event}
 use Rattle.board_turn.specs.declared.holding.Holding.{Holding}
-use Rattle.board_turn.specs.declared.view.Entry.{Entry}
+use Rattle.board_turn.specs.declared.view.LogEntry.{LogEntry}
 use Rattle.board_turn.specs.declared.view.View.{View}
 use Rattle.board_turn.specs.Entries.{node_of, holding, claim_of, commit_of, Kept, added, kept, IsUnmoved}
 use Rattle.board_turn.specs.Turns.{Sound, Fits, Ruled, first_view, with_turn, with_no_turn, with_entry, with_none_due, with_one_more, split_off, spent_view, knows, IsKeptBy, took, freed, counted, committed, claimed, with_lift, laid, picked}
@@ -36,7 +36,7 @@ module _ {X Y : Type 0} (journal : X → List Event) (holders : X → List (Opti
   Rule = Ruled journal holders base x
 
   -- what a living seat knows
-  abbrev Fit : ℕ → ℕ → ℕ → Bool → List Entry → V → Type 0
+  abbrev Fit : ℕ → ℕ → ℕ → Bool → List LogEntry → V → Type 0
   Fit = Fits journal holders base N
 
   -- no two living seats have one number
@@ -143,7 +143,7 @@ module _ {X Y : Type 0} (journal : X → List Event) (holders : X → List (Opti
   worded s r P p = subst P (sym r.words) p
 
   -- what the view keeps is what its entries leave
-  saw_is : (v : V) (n : ℕ) (log : List Entry) → v.nodes ≡ n → v.known ≡ log → knows v ≡ kept n log
+  saw_is : (v : V) (n : ℕ) (log : List LogEntry) → v.nodes ≡ n → v.known ≡ log → knows v ≡ kept n log
   saw_is v n log a b = λ i. kept (a i) (b i)
 
   taken_turn : (s : St) (r : Rule s) (id k : ℕ) (v : V) (c : List (ℕ × Option X)) (b : X) → get_elem? s.views id ≡ some v → v.spent ≡ false → v.number ≡ k → r.owner ≡ 0 → s.homes ≡ some (Some b) ∷ [] → r.pending ≡ 0
@@ -227,7 +227,7 @@ module _ {X Y : Type 0} (journal : X → List Event) (holders : X → List (Opti
   ruled_words s r = r.owner ∷ length (kept N r.log).journal ∷ r.entries ∷ []
 
   -- the last entry changes what is kept so
-  snoc_is : (log : List Entry) (e : Entry) → kept N (log ++ e ∷ []) ≡ added (kept N log) e
+  snoc_is : (log : List LogEntry) (e : LogEntry) → kept N (log ++ e ∷ []) ≡ added (kept N log) e
   snoc_is log e = kept-append record { journal = []; holders = replicate N None; outs = λ _. None } log (e ∷ [])
 
   -- of freeing the turn, with the board in the slot
@@ -364,14 +364,14 @@ module _ {X Y : Type 0} (journal : X → List Event) (holders : X → List (Opti
   )
 
   -- the owner adds an entry, which is not counted yet
-  entered : (s : St) (r : Rule s) (id : ℕ) (v : V) (c : List (ℕ × Option X)) (e : Entry) (o : Option Holding) (word n : ℕ) → get_elem? s.views id ≡ some v → v.spent ≡ false → v.turn ≡ true → v.due ≡ 0
+  entered : (s : St) (r : Rule s) (id : ℕ) (v : V) (c : List (ℕ × Option X)) (e : LogEntry) (o : Option Holding) (word n : ℕ) → get_elem? s.views id ≡ some v → v.spent ≡ false → v.turn ≡ true → v.due ≡ 0
       → e.seat ≡ v.number
       → Sound N r.made (length r.log + 1) (added (kept N r.log) e)
       → o ≡ (added (kept N r.log) e).outs v.number
       → ((u : ℕ) → u ≢ v.number → (added (kept N r.log) e).outs u ≡ (kept N r.log).outs u)
       → set (ruled_words s r) word n ≡ r.owner ∷ length (added (kept N r.log) e).journal ∷ r.entries ∷ []
       → Rule (stepped (at_words s (ruled_words s r)) word n id c (with_entry v e o) keeps)
-  entered s r id v c e o word n at living has settled own good out others words = let f = r.each id v at living in let w : V = with_entry v e o in let t = f.turn has in let log : List Entry = r.log ++ e ∷ [] in
+  entered s r id v c e o word n at living has settled own good out others words = let f = r.each id v at living in let w : V = with_entry v e o in let t = f.turn has in let log : List LogEntry = r.log ++ e ∷ [] in
       let snoc : kept N log ≡ added (kept N r.log) e = snoc_is r.log e in let long : length log ≡ length r.log + 1 = length-append r.log (e ∷ []) in let owned = owner_is s r id v at living has in
       let none_due : r.pending ≡ 0 = sym t.2 ∙ settled in let all : v.known ++ e ∷ [] ≡ log = ap (λ l. l ++ e ∷ []) t.1 in
       let sound' : Sound N r.made (length log) (kept N log) = subst (λ (p : ℕ × Kept). Sound N r.made p.0 p.1) (λ i. (sym long i, sym snoc i)) good in
@@ -395,9 +395,9 @@ module _ {X Y : Type 0} (journal : X → List Event) (holders : X → List (Opti
               low = f.low;
               high = f.high;
               first = f.first;
-              saw = subst (λ (l : List Entry). IsPrefix l log) (sym all) (prefix_self log);
+              saw = subst (λ (l : List LogEntry). IsPrefix l log) (sym all) (prefix_self log);
               out = out';
-              noted = λ h is. subst (λ (l : List Entry). h.since ≤ length (kept N l).journal) (sym all) (sound'.noted v.number h (sym out' ∙ is)).0;
+              noted = λ h is. subst (λ (l : List LogEntry). h.since ≤ length (kept N l).journal) (sym all) (sound'.noted v.number h (sym out' ∙ is)).0;
               turn = λ _. (t.0, all, refl, t.3);
             }
             (λ j u ne there lu. let g = r.each j u there lu in record {
@@ -436,7 +436,7 @@ module _ {X Y : Type 0} (journal : X → List Event) (holders : X → List (Opti
   pub commits : (slots id count : ℕ) (h : Holding) (me : M) → me.0.spent ≡ false → me.0.turn ≡ true → me.0.due ≡ 0 → me.0.out ≡ Some h → count ≡ length (knows me.0).journal + 1
       → Allows Rule slots id me 1 (λ _. count) (λ _. committed (step slots 1 count 0 none) me count)
   commits slots id count h me living has settled out is s r _ at _ = let v : V = me.0 in let f = r.each id v at living in let t = f.turn has in let all : knows v ≡ kept N r.log = saw_is v N r.log f.nodes t.1 in
-      let x' : Kept = kept N r.log in let e : Entry = commit_of v.number h.event in let count' : count ≡ length (x'.journal ++ h.event ∷ []) = is ∙ (ap (λ (q : Kept). length q.journal + 1) all ∙ sym (length-append x'.journal (h.event ∷ []))) in (
+      let x' : Kept = kept N r.log in let e : LogEntry = commit_of v.number h.event in let count' : count ≡ length (x'.journal ++ h.event ∷ []) = is ∙ (ap (λ (q : Kept). length q.journal + 1) all ∙ sym (length-append x'.journal (h.event ∷ []))) in (
         with_entry v e None,
         keeps,
         tt,

@@ -3,7 +3,7 @@ use Rattle.std.specs.Prelude.{◌≡◌, ◌≢◌, ℕ, ◌+◌, ◌≤◌, ◌
 use Rattle.stat_desk.specs.declared.event.Event.{Event}
 use Rattle.stat_desk.specs.declared.event.Event.TheVariants.{Sample, Recv, Tick, Lose}
 use Rattle.board_turn.specs.declared.holding.Holding.{Holding}
-use Rattle.board_turn.specs.declared.view.Entry.{Entry}
+use Rattle.board_turn.specs.declared.view.LogEntry.{LogEntry}
 
 -- the node of an event
 abbrev pub node_of : Event → ℕ
@@ -17,11 +17,11 @@ abbrev pub holding : ℕ → Event → ℕ → Holding
 holding k e i = record { seat = k; event = e; since = i }
 
 -- the entry of a claim by a seat
-abbrev pub claim_of : ℕ → Event → Entry
+abbrev pub claim_of : ℕ → Event → LogEntry
 claim_of k e = record { seat = k; event = e; claims = true }
 
 -- the entry of a commit by a seat
-abbrev pub commit_of : ℕ → Event → Entry
+abbrev pub commit_of : ℕ → Event → LogEntry
 commit_of k e = record { seat = k; event = e; claims = false }
 
 -- what entries leave: the journal, who has each node out, and what each seat has out
@@ -47,16 +47,16 @@ abbrev pub committed_in : Kept → ℕ → Event → Kept
 committed_in x k e = record { journal = x.journal ++ e ∷ []; holders = slice_set x.holders (node_of e) None; outs = set_out x.outs k None }
 
 -- after one more entry
-abbrev pub added : Kept → Entry → Kept
+abbrev pub added : Kept → LogEntry → Kept
 added x e = cond e.claims (claimed_in x e.seat e.event) (committed_in x e.seat e.event)
 
 -- after more entries, one by one
-abbrev pub kept_after : Kept → List Entry → Kept
+abbrev pub kept_after : Kept → List LogEntry → Kept
 kept_after x [] = x
 kept_after x (e ∷ es) = kept_after (added x e) es
 
 -- what the entries leave of a board of n nodes
-abbrev pub kept : ℕ → List Entry → Kept
+abbrev pub kept : ℕ → List LogEntry → Kept
 kept n log = kept_after record { journal = []; holders = replicate n None; outs = λ _. None } log
 
 -- no event of the node stands in the journal at or after the claim

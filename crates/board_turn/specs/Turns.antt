@@ -6,7 +6,7 @@ use lib.ListN.{get_elem?}
 use Rattle.atomic_table.specs.Table.{State, Me, Step, rest}
 use Rattle.stat_desk.specs.declared.event.Event.{Event}
 use Rattle.board_turn.specs.declared.holding.Holding.{Holding}
-use Rattle.board_turn.specs.declared.view.Entry.{Entry}
+use Rattle.board_turn.specs.declared.view.LogEntry.{LogEntry}
 use Rattle.board_turn.specs.declared.view.View.{View}
 use Rattle.board_turn.specs.Entries.{node_of, holding, claim_of, commit_of, Kept, kept, taken, IsUnmoved}
 
@@ -29,7 +29,7 @@ pub record Sound (n made entries : ℕ) (x : Kept) : Type 0 where
 
 module _ {X Y : Type 0} (journal : X → List Event) (holders : X → List (Option Holding)) (base : X → Y) where
   -- what a living seat knows
-  pub record Fits (n made owner pending : ℕ) (lifted : Bool) (log : List Entry) (v : View) : Type 0 where
+  pub record Fits (n made owner pending : ℕ) (lifted : Bool) (log : List LogEntry) (v : View) : Type 0 where
     pub nodes : v.nodes ≡ n
     pub low : 1 ≤ v.number
     pub high : v.number ≤ made + 1
@@ -45,7 +45,7 @@ module _ {X Y : Type 0} (journal : X → List Event) (holders : X → List (Opti
     pub turn : v.turn ≡ true → (v.number ≡ owner) × (v.known ≡ log) × (v.due ≡ pending) × (v.lifts ≡ lifted)
 
   -- the board has what the entries leave, and the base of the board x
-  pub record Matches (x : X) (n : ℕ) (log : List Entry) (b : X) : Type 0 where
+  pub record Matches (x : X) (n : ℕ) (log : List LogEntry) (b : X) : Type 0 where
     pub same_journal : journal b ≡ (kept n log).journal
     pub same_holders : holders b ≡ (kept n log).holders
     pub same_base : base b ≡ base x
@@ -54,7 +54,7 @@ module _ {X Y : Type 0} (journal : X → List Event) (holders : X → List (Opti
   -- and what each seat knows. The other definitions of this file say what each step changes.
   pub record Ruled (x : X) (s : State (Option X) View) : Type 0 where
     -- the claims and commits so far
-    pub log : List Entry
+    pub log : List LogEntry
     -- how many seats were split off
     pub made : ℕ
     -- the number of the seat that has the turn, or 0
@@ -86,7 +86,7 @@ abbrev pub first_view : ℕ → View
 first_view n = record { nodes = n; number = 1; turn = false; spent = false; made = 0; due = 0; lifts = false; seen = []; known = []; out = None }
 
 -- the view that takes the turn, and keeps these entries
-abbrev pub with_turn : View → List Entry → View
+abbrev pub with_turn : View → List LogEntry → View
 with_turn v log = record { nodes = v.nodes; number = v.number; turn = true; spent = v.spent; made = v.made; due = 0; lifts = true; seen = v.seen; known = log; out = v.out }
 
 -- the view without the turn
@@ -94,7 +94,7 @@ abbrev pub with_no_turn : View → View
 with_no_turn v = record { nodes = v.nodes; number = v.number; turn = false; spent = v.spent; made = v.made; due = v.due; lifts = false; seen = v.seen; known = v.known; out = v.out }
 
 -- the view that made this entry, which is not counted yet, and has this out then
-abbrev pub with_entry : View → Entry → Option Holding → View
+abbrev pub with_entry : View → LogEntry → Option Holding → View
 with_entry v e o = record { nodes = v.nodes; number = v.number; turn = v.turn; spent = v.spent; made = v.made; due = 1; lifts = v.lifts; seen = v.known ++ e ∷ []; known = v.known ++ e ∷ []; out = o }
 
 -- the view whose entry is counted

@@ -1,4 +1,4 @@
-//! The rule of the table under the turn, and what a seat knows. No value of an `Entry` or a `View` is made: they stand in
+//! The rule of the table under the turn, and what a seat knows. No value of an `LogEntry` or a `View` is made: they stand in
 //! contracts and proofs alone.
 use crate::board::Board;
 use crate::holding::Holding;
@@ -10,7 +10,7 @@ use std::marker::PhantomData;
 use std::snapshot::Snapshot;
 
 /// The claim of an event by a seat, or its commit.
-pub struct Entry {
+pub struct LogEntry {
     pub seat: u32,
     pub event: Event,
     pub claims: bool,
@@ -33,20 +33,20 @@ pub struct View {
     /// Whether it carries the slot.
     pub lifts: bool,
     /// The entries that it saw last.
-    pub seen: LinkedList<Entry>,
+    pub seen: LinkedList<LogEntry>,
     /// The entries that it keeps while it has the turn.
-    pub known: LinkedList<Entry>,
+    pub known: LinkedList<LogEntry>,
     /// What it has out.
     pub out: Option<Holding>,
 }
 
 /// The rule of the turn. Word 0 is the number of the seat that has the turn, or 0. Word 1 is the journal's length, and word
 /// 2 the number of entries. Slot 0 has the board, while nobody has the turn.
-pub struct Turns<B> {
+pub struct TurnRule<B> {
     of: PhantomData<B>,
 }
 
-impl<B: Board> TableRule<Option<B>, View, Snapshot<B>> for Turns<B> {
+impl<B: Board> TableRule<Option<B>, View, Snapshot<B>> for TurnRule<B> {
     ghost use Rattle.std.specs.Prelude.{length};
     ghost use Rattle.board_turn.specs.Turns.{Ruled, first_view};
 
@@ -56,7 +56,7 @@ impl<B: Board> TableRule<Option<B>, View, Snapshot<B>> for Turns<B> {
 }
 
 /// The table under a turn.
-pub type TurnTable<B> = Table<Option<B>, View, Snapshot<B>, Turns<B>, Global>;
+pub type TurnTable<B> = Table<Option<B>, View, Snapshot<B>, TurnRule<B>, Global>;
 
 /// A seat of that table.
 pub type TableSeat<B> = Seat<Option<B>, View>;

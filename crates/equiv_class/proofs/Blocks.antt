@@ -1,4 +1,4 @@
--- Blocks of alike ranks, one after another.
+-- Blocks of equivalent ranks, one after another.
 use Rattle.std.proofs.Common.{◌≡◌, ℕ, ◌<◌, ◌≤◌, Bool, true, false, cond, not, ◌&&◌, ◌||◌, ltb, List, [], ◌∷◌, Some, Option, length, map, refl, sym, ap, ◌∙◌, inl, inr, arith}
 use Rattle.std.specs.List.{list_any, filter, slice_get}
 use Rattle.std.specs.Option.{unwrap_or}
@@ -9,24 +9,24 @@ use Rattle.std.proofs.lemmas.Bool.{true≢false, and_parts, eqb-true, ltb-true, 
 use Rattle.rank_set.specs.Ranks.{Ranks, has, in_order, size, those, has-in_order, has-those, same_ranks}
 use Rattle.call_path.specs.Path.{Path}
 use Rattle.prefix_tree.specs.Pairs.{Pairs}
-use Rattle.equiv_class.specs.Classes.{alike, is_least, paths_of, classes_of}
-use Rattle.equiv_class.proofs.Alike.{alike-from_paths, paths-from_alike}
+use Rattle.equiv_class.specs.Classes.{equivalent, is_least, paths_of, classes_of}
+use Rattle.equiv_class.proofs.Equivalent.{equivalent-from_paths, paths-from_equivalent}
 use Rattle.equiv_class.proofs.Ordered.{first_below, filter_on, filter_twice, in_order-those, kept_in, map_on}
 
--- each rank is alike to itself
-pub alike_itself : (P : Pairs) (r : ℕ) → alike P r r ≡ true
-alike_itself P r = alike-from_paths P r r (λ p. refl)
+-- each rank is equivalent to itself
+pub equivalent_itself : (P : Pairs) (r : ℕ) → equivalent P r r ≡ true
+equivalent_itself P r = equivalent-from_paths P r r (λ p. refl)
 
-alike_turned : (P : Pairs) (r s : ℕ) → alike P r s ≡ true → alike P s r ≡ true
-alike_turned P r s e = alike-from_paths P s r (λ p. sym (paths-from_alike P r s e p))
+equivalent_turned : (P : Pairs) (r s : ℕ) → equivalent P r s ≡ true → equivalent P s r ≡ true
+equivalent_turned P r s e = equivalent-from_paths P s r (λ p. sym (paths-from_equivalent P r s e p))
 
-alike_chain : (P : Pairs) (q r s : ℕ) → alike P q r ≡ true → alike P r s ≡ true → alike P q s ≡ true
-alike_chain P q r s e f = alike-from_paths P q s (λ p. paths-from_alike P q r e p ∙ paths-from_alike P r s f p)
+equivalent_chain : (P : Pairs) (q r s : ℕ) → equivalent P q r ≡ true → equivalent P r s ≡ true → equivalent P q s ≡ true
+equivalent_chain P q r s e f = equivalent-from_paths P q s (λ p. paths-from_equivalent P q r e p ∙ paths-from_equivalent P r s f p)
 
 module _ (P : Pairs) (C : Ranks) (r : ℕ) (rest : List ℕ) (is : in_order C ≡ r ∷ rest) where
   -- the ranks that are not of the first block
   abbrev pub others : Ranks
-  others = those (λ s. not (alike P r s)) C
+  others = those (λ s. not (equivalent P r s)) C
 
   member : (s : ℕ) → list_any (eq_by_cmp nat_cmp s) rest ≡ true → has C s ≡ true
   member s one = has-in_order C s ∙ ap (list_any (eq_by_cmp nat_cmp s)) is ∙ or_right (eq_by_cmp nat_cmp s r) (list_any (eq_by_cmp nat_cmp s) rest) one
@@ -70,41 +70,41 @@ module _ (P : Pairs) (C : Ranks) (r : ℕ) (rest : List ℕ) (is : in_order C �
 
   head_is_least : is_least P C r ≡ true
   head_is_least = ap not (false_from_ne_true _ (λ one.
-      let q = any_member C (λ s. ltb s r && alike P r s) one in
-      absurd (omega (arith, ltb-true q.0 r ((and_parts (ltb q.0 r) (alike P r q.0) q.1.1).0), least_first q.0 q.1.0))))
+      let q = any_member C (λ s. ltb s r && equivalent P r s) one in
+      absurd (omega (arith, ltb-true q.0 r ((and_parts (ltb q.0 r) (equivalent P r q.0) q.1.1).0), least_first q.0 q.1.0))))
 
-  in_others : (q : ℕ) → has others q ≡ (has C q && not (alike P r q))
-  in_others q = has-those (λ s. not (alike P r s)) C q
+  in_others : (q : ℕ) → has others q ≡ (has C q && not (equivalent P r q))
+  in_others q = has-those (λ s. not (equivalent P r s)) C q
 
-  least_later : (s : ℕ) → list_any (eq_by_cmp nat_cmp s) rest ≡ true → is_least P C s ≡ (not (alike P r s) && is_least P others s)
-  least_later s one = elim (alike P r s) as (λ b. alike P r s ≡ b → is_least P C s ≡ (not b && is_least P others s)) [
-    | true ↦ λ e. ap not (member_any C (λ q. ltb q s && alike P s q) r has_head ((λ i. Rattle.std.proofs.lemmas.Bool.lt-ltb r s (above s one) i && alike_turned P r s e i)))
+  least_later : (s : ℕ) → list_any (eq_by_cmp nat_cmp s) rest ≡ true → is_least P C s ≡ (not (equivalent P r s) && is_least P others s)
+  least_later s one = elim (equivalent P r s) as (λ b. equivalent P r s ≡ b → is_least P C s ≡ (not b && is_least P others s)) [
+    | true ↦ λ e. ap not (member_any C (λ q. ltb q s && equivalent P s q) r has_head ((λ i. Rattle.std.proofs.lemmas.Bool.lt-ltb r s (above s one) i && equivalent_turned P r s e i)))
     | false ↦ λ e. ap not (both_ways _ _
         (λ some.
-        let q = any_member C (λ q. ltb q s && alike P s q) some in
-        let parts = and_parts (ltb q.0 s) (alike P s q.0) q.1.1 in
-        member_any others (λ x. ltb x s && alike P s x) q.0 (in_others q.0 ∙ (λ i. q.1.0 i && not (false_from_ne_true (alike P r q.0) (λ f. true≢false (sym (alike_chain P r q.0 s f (alike_turned P s q.0 parts.1)) ∙ e)) i))) q.1.1)
+        let q = any_member C (λ q. ltb q s && equivalent P s q) some in
+        let parts = and_parts (ltb q.0 s) (equivalent P s q.0) q.1.1 in
+        member_any others (λ x. ltb x s && equivalent P s x) q.0 (in_others q.0 ∙ (λ i. q.1.0 i && not (false_from_ne_true (equivalent P r q.0) (λ f. true≢false (sym (equivalent_chain P r q.0 s f (equivalent_turned P s q.0 parts.1)) ∙ e)) i))) q.1.1)
         (λ some.
-        let q = any_member others (λ x. ltb x s && alike P s x) some in
-        member_any C (λ x. ltb x s && alike P s x) q.0 ((and_parts (has C q.0) (not (alike P r q.0)) (sym (in_others q.0) ∙ q.1.0)).0) q.1.1))
+        let q = any_member others (λ x. ltb x s && equivalent P s x) some in
+        member_any C (λ x. ltb x s && equivalent P s x) q.0 ((and_parts (has C q.0) (not (equivalent P r q.0)) (sym (in_others q.0) ∙ q.1.0)).0) q.1.1))
   ] refl
 
   -- the block of a rank
   abbrev block : ℕ → Ranks × List Path
-  block s = (those (alike P s) C, paths_of P s)
+  block s = (those (equivalent P s) C, paths_of P s)
 
   -- its block in what is left
   abbrev block_later : ℕ → Ranks × List Path
-  block_later s = (those (alike P s) others, paths_of P s)
+  block_later s = (those (equivalent P s) others, paths_of P s)
 
   -- the block of a rank that is left is the same in what is left
   same_block : (s : ℕ) → has others s ≡ true → block s ≡ block_later s
   same_block s there =
-      let apart : not (alike P r s) ≡ true = (and_parts (has C s) (not (alike P r s)) (sym (in_others s) ∙ there)).1 in
+      let apart : not (equivalent P r s) ≡ true = (and_parts (has C s) (not (equivalent P r s)) (sym (in_others s) ∙ there)).1 in
       ap (λ (b : Ranks). let x : Ranks × List Path = (b, paths_of P s) in x) (same_ranks _ _ (λ q.
-      has-those (alike P s) C q
-      ∙ both_if (has C q) (alike P r q) (alike P s q) (λ sq. false_from_ne_true (alike P r q) (λ f. true≢false (sym apart ∙ ap not (alike_chain P r q s f (alike_turned P s q sq)))))
-      ∙ sym (has-those (alike P s) others q ∙ ap (λ b. b && alike P s q) (in_others q))))
+      has-those (equivalent P s) C q
+      ∙ both_if (has C q) (equivalent P r q) (equivalent P s q) (λ sq. false_from_ne_true (equivalent P r q) (λ f. true≢false (sym apart ∙ ap not (equivalent_chain P r q s f (equivalent_turned P s q sq)))))
+      ∙ sym (has-those (equivalent P s) others q ∙ ap (λ b. b && equivalent P s q) (in_others q))))
     where
       both_if : (c a b : Bool) → (b ≡ true → a ≡ false) → (c && b) ≡ ((c && not a) && b)
       both_if true a true f = sym (ap (λ x. not x && true) (f refl))
@@ -112,32 +112,32 @@ module _ (P : Pairs) (C : Ranks) (r : ℕ) (rest : List ℕ) (is : in_order C �
       both_if true false false f = refl
       both_if false a b f = refl
 
-  others_in_order : in_order others ≡ filter (λ s. not (alike P r s)) rest
+  others_in_order : in_order others ≡ filter (λ s. not (equivalent P r s)) rest
   others_in_order =
-      in_order-those (λ s. not (alike P r s)) C ∙ ap (filter (λ s. not (alike P r s))) is
-      ∙ ap (λ b. cond (not b) (r ∷ filter (λ s. not (alike P r s)) rest) (filter (λ s. not (alike P r s)) rest)) (alike_itself P r)
+      in_order-those (λ s. not (equivalent P r s)) C ∙ ap (filter (λ s. not (equivalent P r s))) is
+      ∙ ap (λ b. cond (not b) (r ∷ filter (λ s. not (equivalent P r s)) rest) (filter (λ s. not (equivalent P r s)) rest)) (equivalent_itself P r)
 
   -- the first block, and those of what is left
-  pub classes_step : classes_of P C ≡ (those (alike P r) C, paths_of P r) ∷ classes_of P others
+  pub classes_step : classes_of P C ≡ (those (equivalent P r) C, paths_of P r) ∷ classes_of P others
   unfolding classes_of
   classes_step =
       ap (λ xs. map block (filter (is_least P C) xs)) is
       ∙ ap (λ b. map block (cond b (r ∷ filter (is_least P C) rest) (filter (is_least P C) rest))) head_is_least
-      ∙ ap (λ xs. block r ∷ map block xs) (filter_on (is_least P C) (λ s. not (alike P r s) && is_least P others s) rest least_later
-      ∙ sym (filter_twice (is_least P others) (λ s. not (alike P r s)) rest) ∙ ap (filter (is_least P others)) (sym others_in_order))
+      ∙ ap (λ xs. block r ∷ map block xs) (filter_on (is_least P C) (λ s. not (equivalent P r s) && is_least P others s) rest least_later
+      ∙ sym (filter_twice (is_least P others) (λ s. not (equivalent P r s)) rest) ∙ ap (filter (is_least P others)) (sym others_in_order))
       ∙ ap (λ xs. block r ∷ xs) (map_on block block_later (filter (is_least P others) (in_order others)) (λ s one. same_block s (has-in_order others s ∙ kept_in (is_least P others) (in_order others) s one)))
 
 -- no ranks, no classes
 pub classes_none : (P : Pairs) (C : Ranks) → in_order C ≡ [] → classes_of P C ≡ []
 unfolding classes_of
-classes_none P C e = ap (λ xs. map (λ r. (those (alike P r) C, paths_of P r)) (filter (is_least P C) xs)) e
+classes_none P C e = ap (λ xs. map (λ r. (those (equivalent P r) C, paths_of P r)) (filter (is_least P C) xs)) e
 
 first_of : (xs : List ℕ) (r : ℕ) → slice_get xs 0 ≡ Some r → (rest : List ℕ) × (xs ≡ r ∷ rest)
 first_of [] r e = absurd (Rattle.std.proofs.lemmas.Option.none-some r e)
 first_of (x ∷ xs) r e = (xs, ap (λ (o : Option ℕ). unwrap_or o x ∷ xs) e)
 
 -- the same, from the least rank
-pub next_class : (P : Pairs) (C : Ranks) (r : ℕ) → slice_get (in_order C) 0 ≡ Some r → classes_of P C ≡ (those (alike P r) C, paths_of P r) ∷ classes_of P (those (λ s. not (alike P r s)) C)
+pub next_class : (P : Pairs) (C : Ranks) (r : ℕ) → slice_get (in_order C) 0 ≡ Some r → classes_of P C ≡ (those (equivalent P r) C, paths_of P r) ∷ classes_of P (those (λ s. not (equivalent P r s)) C)
 next_class P C r e = let parts = first_of (in_order C) r e in classes_step P C r parts.0 parts.1
 
 -- the first rank is a member

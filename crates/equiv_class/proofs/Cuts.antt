@@ -8,7 +8,7 @@ use Rattle.std.proofs.lemmas.Bool.{true≢false, and_parts, and_from, cases_lt}
 use Rattle.rank_set.specs.Ranks.{Ranks, none, has, those, union, is_subset, size, in_order, has-none, has-those, has-union, has-in_order, same_ranks, subset_has}
 use Rattle.call_path.specs.Path.{Path}
 use Rattle.equiv_class.specs.Classes.{same_answer}
-use Rattle.equiv_class.specs.SeenPaths.{AreSeveral, entries_in, entry_of, paths_to, same_in, shares_all, times}
+use Rattle.equiv_class.specs.SeenPaths.{AreSeveral, entries_view, entry_of, paths_to, same_paths, has_all_paths, times}
 use Rattle.equiv_class.specs.declared.SeenPath.{SeenPath}
 use Rattle.equiv_class.proofs.Ordered.{same_number}
 
@@ -37,9 +37,9 @@ those-on s t u each = same_ranks _ _ (λ q. has-those t s q ∙ under (has s q) 
     under false b c f = refl
 
 -- ranks were seen in the same paths exactly where each shares all paths of the other
-pub same_in-shares : (r s : ℕ) (es : List (Path × Ranks)) → same_in r s es ≡ (shares_all r s es && shares_all s r es)
-same_in-shares r s [] = refl
-same_in-shares r s (e ∷ es) = split (has e.1 r) (has e.1 s) (same_in r s es) (shares_all r s es) (shares_all s r es) (same_in-shares r s es)
+pub same_paths-shares : (r s : ℕ) (es : List (Path × Ranks)) → same_paths r s es ≡ (has_all_paths r s es && has_all_paths s r es)
+same_paths-shares r s [] = refl
+same_paths-shares r s (e ∷ es) = split (has e.1 r) (has e.1 s) (same_paths r s es) (has_all_paths r s es) (has_all_paths s r es) (same_paths-shares r s es)
   where
     split : (a b x y z : Bool) → x ≡ (y && z) → (same_answer a b && x) ≡ (((not a || b) && y) && ((not b || a) && z))
     split true true x y z e = e
@@ -49,10 +49,10 @@ same_in-shares r s (e ∷ es) = split (has e.1 r) (has e.1 s) (same_in r s es) (
     split false false x y z e = e
 
 -- a rank that shares all paths of r was seen at least as often
-pub times-shares : (r s : ℕ) (es : List (Path × Ranks)) → shares_all r s es ≡ true → times r es ≤ times s es
+pub times-shares : (r s : ℕ) (es : List (Path × Ranks)) → has_all_paths r s es ≡ true → times r es ≤ times s es
 times-shares r s [] all = omega arith
 times-shares r s (e ∷ es) all =
-    let parts = and_parts (not (has e.1 r) || has e.1 s) (shares_all r s es) all in
+    let parts = and_parts (not (has e.1 r) || has e.1 s) (has_all_paths r s es) all in
     step (has e.1 r) (has e.1 s) (times r es) (times s es) parts.0 (times-shares r s es parts.1)
   where
     step : (a b : Bool) (m n : ℕ) → (not a || b) ≡ true → m ≤ n → cond a (suc m) m ≤ cond b (suc n) n
@@ -62,11 +62,11 @@ times-shares r s (e ∷ es) all =
     step false false m n h le = le
 
 -- and where it was seen no more often, in the same paths
-pub same_from_times : (r s : ℕ) (es : List (Path × Ranks)) → shares_all r s es ≡ true → times s es ≤ times r es → same_in r s es ≡ true
+pub same_from_times : (r s : ℕ) (es : List (Path × Ranks)) → has_all_paths r s es ≡ true → times s es ≤ times r es → same_paths r s es ≡ true
 same_from_times r s [] all le = refl
 same_from_times r s (e ∷ es) all le =
-    let parts = and_parts (not (has e.1 r) || has e.1 s) (shares_all r s es) all in
-    step (has e.1 r) (has e.1 s) (times r es) (times s es) (same_in r s es) parts.0 (times-shares r s es parts.1) (same_from_times r s es parts.1) le
+    let parts = and_parts (not (has e.1 r) || has e.1 s) (has_all_paths r s es) all in
+    step (has e.1 r) (has e.1 s) (times r es) (times s es) (same_paths r s es) parts.0 (times-shares r s es parts.1) (same_from_times r s es parts.1) le
   where
     step : (a b : Bool) (m n : ℕ) (x : Bool) → (not a || b) ≡ true → m ≤ n → (n ≤ m → x ≡ true) → cond b (suc n) n ≤ cond a (suc m) m → (same_answer a b && x) ≡ true
     step true true m n x h fewer f le = f (omega (arith, le))
@@ -75,10 +75,10 @@ same_from_times r s (e ∷ es) all le =
     step false false m n x h fewer f le = f le
 
 -- ranks that were seen in the same paths were seen equally often
-pub times-same : (r s : ℕ) (es : List (Path × Ranks)) → same_in r s es ≡ true → times s es ≡ times r es
+pub times-same : (r s : ℕ) (es : List (Path × Ranks)) → same_paths r s es ≡ true → times s es ≡ times r es
 times-same r s [] same = refl
 times-same r s (e ∷ es) same =
-    let parts = and_parts (same_answer (has e.1 r) (has e.1 s)) (same_in r s es) same in
+    let parts = and_parts (same_answer (has e.1 r) (has e.1 s)) (same_paths r s es) same in
     step (has e.1 r) (has e.1 s) (times r es) (times s es) parts.0 (times-same r s es parts.1)
   where
     step : (a b : Bool) (m n : ℕ) → same_answer a b ≡ true → n ≡ m → cond b (suc n) n ≡ cond a (suc m) m
@@ -106,58 +106,58 @@ not_several n e = ap (λ k. not (nat_lt 1 k)) e
 
 -- where r was seen in one path, its block is that of its sharers which were not seen in several
 pub single_block : (r : ℕ) (es : List (Path × Ranks)) (several left : Ranks) → AreSeveral several es → times r es ≡ 1
-    → those (λ s. not (has several s)) (those (λ s. shares_all r s es) left) ≡ those (λ s. same_in r s es) left
+    → those (λ s. not (has several s)) (those (λ s. has_all_paths r s es) left) ≡ those (λ s. same_paths r s es) left
 single_block r es several left are one =
-    those-those left (λ s. shares_all r s es) (λ s. not (has several s))
-    ∙ those-on left (λ s. shares_all r s es && not (has several s)) (λ s. same_in r s es) (λ s _. ap (λ b. shares_all r s es && not b) (are s) ∙ both_ways _ _
-    (λ both. let parts = and_parts (shares_all r s es) (not (nat_lt 1 (times s es))) both in
+    those-those left (λ s. has_all_paths r s es) (λ s. not (has several s))
+    ∙ those-on left (λ s. has_all_paths r s es && not (has several s)) (λ s. same_paths r s es) (λ s _. ap (λ b. has_all_paths r s es && not b) (are s) ∙ both_ways _ _
+    (λ both. let parts = and_parts (has_all_paths r s es) (not (nat_lt 1 (times s es))) both in
     same_from_times r s es parts.0 (omega (arith, at_most_one (times s es) parts.1, one)))
-    (λ same. and_from (shares_all r s es) (not (nat_lt 1 (times s es)))
-    ((and_parts (shares_all r s es) (shares_all s r es) (sym (same_in-shares r s es) ∙ same)).0)
+    (λ same. and_from (has_all_paths r s es) (not (nat_lt 1 (times s es)))
+    ((and_parts (has_all_paths r s es) (has_all_paths s r es) (sym (same_paths-shares r s es) ∙ same)).0)
     (not_several (times s es) (times-same r s es same ∙ one))))
 
 -- in general its block is that of its sharers of which it shares all paths
-pub whole_block : (r : ℕ) (es : List (Path × Ranks)) (left : Ranks) → those (λ s. shares_all s r es) (those (λ s. shares_all r s es) left) ≡ those (λ s. same_in r s es) left
+pub whole_block : (r : ℕ) (es : List (Path × Ranks)) (left : Ranks) → those (λ s. has_all_paths s r es) (those (λ s. has_all_paths r s es) left) ≡ those (λ s. same_paths r s es) left
 whole_block r es left =
-    those-those left (λ s. shares_all r s es) (λ s. shares_all s r es)
-    ∙ those-on left (λ s. shares_all r s es && shares_all s r es) (λ s. same_in r s es) (λ s _. sym (same_in-shares r s es))
+    those-those left (λ s. has_all_paths r s es) (λ s. has_all_paths s r es)
+    ∙ those-on left (λ s. has_all_paths r s es && has_all_paths s r es) (λ s. same_paths r s es) (λ s _. sym (same_paths-shares r s es))
 
 -- each rank shares all its paths
-pub shares_own : (r : ℕ) (es : List (Path × Ranks)) → shares_all r r es ≡ true
+pub shares_own : (r : ℕ) (es : List (Path × Ranks)) → has_all_paths r r es ≡ true
 shares_own r [] = refl
-shares_own r (e ∷ es) = and_from (not (has e.1 r) || has e.1 r) (shares_all r r es) (either (has e.1 r)) (shares_own r es)
+shares_own r (e ∷ es) = and_from (not (has e.1 r) || has e.1 r) (has_all_paths r r es) (either (has e.1 r)) (shares_own r es)
   where
     either : (a : Bool) → (not a || a) ≡ true
     either true = refl
     either false = refl
 
 -- each rank was seen in the same paths as itself
-pub same_own : (r : ℕ) (es : List (Path × Ranks)) → same_in r r es ≡ true
-same_own r es = same_in-shares r r es ∙ and_from (shares_all r r es) (shares_all r r es) (shares_own r es) (shares_own r es)
+pub same_own : (r : ℕ) (es : List (Path × Ranks)) → same_paths r r es ≡ true
+same_own r es = same_paths-shares r r es ∙ and_from (has_all_paths r r es) (has_all_paths r r es) (shares_own r es) (shares_own r es)
 
 -- one path's step of the loop that keeps sharers
 pub keep_step : (r : ℕ) (e : Path × Ranks) (rest es : List (Path × Ranks)) (before after all : Ranks) → rest ≡ e ∷ es → after ≡ those (λ s. not (has e.1 r) || has e.1 s) before
-    → those (λ s. shares_all r s rest) before ≡ all → those (λ s. shares_all r s es) after ≡ all
+    → those (λ s. has_all_paths r s rest) before ≡ all → those (λ s. has_all_paths r s es) after ≡ all
 keep_step r e rest es before after all first is so_far =
-    ap (those (λ s. shares_all r s es)) is ∙ those-those before (λ s. not (has e.1 r) || has e.1 s) (λ s. shares_all r s es)
-    ∙ ap (λ xs. those (λ s. shares_all r s xs) before) (sym first) ∙ so_far
+    ap (those (λ s. has_all_paths r s es)) is ∙ those-those before (λ s. not (has e.1 r) || has e.1 s) (λ s. has_all_paths r s es)
+    ∙ ap (λ xs. those (λ s. has_all_paths r s xs) before) (sym first) ∙ so_far
 
 -- after it
-pub keep_end : (r : ℕ) (rest : List (Path × Ranks)) (block all : Ranks) → rest ≡ [] → those (λ s. shares_all r s rest) block ≡ all → block ≡ all
+pub keep_end : (r : ℕ) (rest : List (Path × Ranks)) (block all : Ranks) → rest ≡ [] → those (λ s. has_all_paths r s rest) block ≡ all → block ≡ all
 keep_end r rest block all none_left so_far =
-    sym (ap (λ xs. those (λ s. shares_all r s xs) block) none_left ∙ those-all block (λ s. true) (λ q _. refl)) ∙ so_far
+    sym (ap (λ xs. those (λ s. has_all_paths r s xs) block) none_left ∙ those-all block (λ s. true) (λ q _. refl)) ∙ so_far
 
 -- one path's step of the loop that drops the others
 pub drop_step : (r : ℕ) (e : Path × Ranks) (rest es : List (Path × Ranks)) (before after all : Ranks) → rest ≡ e ∷ es → after ≡ those (λ s. not (has e.1 s) || has e.1 r) before
-    → those (λ s. shares_all s r rest) before ≡ all → those (λ s. shares_all s r es) after ≡ all
+    → those (λ s. has_all_paths s r rest) before ≡ all → those (λ s. has_all_paths s r es) after ≡ all
 drop_step r e rest es before after all first is so_far =
-    ap (those (λ s. shares_all s r es)) is ∙ those-those before (λ s. not (has e.1 s) || has e.1 r) (λ s. shares_all s r es)
-    ∙ ap (λ xs. those (λ s. shares_all s r xs) before) (sym first) ∙ so_far
+    ap (those (λ s. has_all_paths s r es)) is ∙ those-those before (λ s. not (has e.1 s) || has e.1 r) (λ s. has_all_paths s r es)
+    ∙ ap (λ xs. those (λ s. has_all_paths s r xs) before) (sym first) ∙ so_far
 
 -- after it
-pub drop_end : (r : ℕ) (rest : List (Path × Ranks)) (block all : Ranks) → rest ≡ [] → those (λ s. shares_all s r rest) block ≡ all → block ≡ all
+pub drop_end : (r : ℕ) (rest : List (Path × Ranks)) (block all : Ranks) → rest ≡ [] → those (λ s. has_all_paths s r rest) block ≡ all → block ≡ all
 drop_end r rest block all none_left so_far =
-    sym (ap (λ xs. those (λ s. shares_all s r xs) block) none_left ∙ those-all block (λ s. true) (λ q _. refl)) ∙ so_far
+    sym (ap (λ xs. those (λ s. has_all_paths s r xs) block) none_left ∙ those-all block (λ s. true) (λ q _. refl)) ∙ so_far
 
 -- whether a rank is seen in more than one path, by what was found so far and what is still to come
 abbrev pub seen_twice : Ranks → Ranks → List (Path × Ranks) → ℕ → Bool
@@ -270,11 +270,11 @@ some_dropped E s a no_ = those-on s (λ q. not (has E q)) (λ q. not (has E q) |
     or_false false = refl
 
 -- the paths that are left, one by one
-pub next_path : (seen : List SeenPath) (i : ℕ) (x : SeenPath) → i < length seen → x ≡ get_or seen i x → entries_in (drop i seen) ≡ entry_of x ∷ entries_in (drop (i + 1) seen)
+pub next_path : (seen : List SeenPath) (i : ℕ) (x : SeenPath) → i < length seen → x ≡ get_or seen i x → entries_view (drop i seen) ≡ entry_of x ∷ entries_view (drop (i + 1) seen)
 next_path seen i x lt is =
     let n : suc i ≡ i + 1 = omega arith in
-    ap entries_in (drop-cons seen i x lt) ∙ ap (λ y. entry_of y ∷ entries_in (drop (suc i) seen)) (sym is) ∙ ap (λ k. entry_of x ∷ entries_in (drop k seen)) n
+    ap entries_view (drop-cons seen i x lt) ∙ ap (λ y. entry_of y ∷ entries_view (drop (suc i) seen)) (sym is) ∙ ap (λ k. entry_of x ∷ entries_view (drop k seen)) n
 
 -- and in the end none
-pub no_path : (seen : List SeenPath) (i : ℕ) → length seen ≤ i → entries_in (drop i seen) ≡ []
-no_path seen i le = ap entries_in (drop_all i seen le)
+pub no_path : (seen : List SeenPath) (i : ℕ) → length seen ≤ i → entries_view (drop i seen) ≡ []
+no_path seen i le = ap entries_view (drop_all i seen le)

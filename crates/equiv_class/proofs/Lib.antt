@@ -1,5 +1,5 @@
 pub mod Ordered
-pub mod Alike
+pub mod Equivalent
 pub mod Blocks
 pub mod PathsInOrder
 pub mod TreePaths

@@ -4,7 +4,7 @@ use Rattle.std.specs.List.{list_any, list_all, filter}
 use Rattle.std.specs.Ordering.{nat_cmp, eq_by_cmp, is_eq}
 use Rattle.std.specs.Cmp.{nat_cmp_total, unsigned_tied, tied_itself}
 use Rattle.std.proofs.lemmas.Bool.{true≢false, and_parts, or_cases, or_right, eqb-true, ltb-true}
-use Rattle.rank_set.specs.Ranks.{Ranks, in_order, those, is_rising, from_T}
+use Rattle.rank_set.specs.Ranks.{Ranks, in_order, those, is_strictly_increasing, from_T}
 
 -- a number is tied with itself
 pub tied_self : (r : ℕ) → eq_by_cmp nat_cmp r r ≡ true
@@ -22,8 +22,8 @@ in_order-those t s = refl
 -- a later member is above the first
 pub first_below : (s : Ranks) (x : ℕ) (xs : List ℕ) → in_order s ≡ x ∷ xs → (y : ℕ) → list_any (eq_by_cmp nat_cmp y) xs ≡ true → x < y
 first_below s x xs is y one =
-    let up : is_rising (x ∷ xs) ≡ true = subst (λ zs. is_rising zs ≡ true) is (from_T _ s.rises) in
-    member xs (and_parts (list_all (λ z. nat_lt x z) xs) (is_rising xs) up).0 one
+    let up : is_strictly_increasing (x ∷ xs) ≡ true = subst (λ zs. is_strictly_increasing zs ≡ true) is (from_T _ s.rises) in
+    member xs (and_parts (list_all (λ z. nat_lt x z) xs) (is_strictly_increasing xs) up).0 one
   where
     member : (ys : List ℕ) → list_all (λ z. nat_lt x z) ys ≡ true → list_any (eq_by_cmp nat_cmp y) ys ≡ true → x < y
     member [] a e = absurd (true≢false (sym e))

@@ -5,9 +5,9 @@ use Rattle.std.specs.Ordering.{nat_cmp, eq_by_cmp}
 use Rattle.std.proofs.lemmas.Bool.{and_parts}
 use Rattle.rank_set.specs.Ranks.{Ranks, has, in_order, size, those, has-in_order, has-those}
 use Rattle.prefix_tree.specs.Pairs.{Pairs}
-use Rattle.equiv_class.specs.Classes.{HaveOwnPaths, alike, classes_of, classes_with, paths_of}
-use Rattle.equiv_class.proofs.Alike.{paths-from_alike}
-use Rattle.equiv_class.proofs.Blocks.{alike_itself, classes_none, fewer_without, next_class}
+use Rattle.equiv_class.specs.Classes.{HaveOwnPaths, equivalent, classes_of, classes_with, paths_of}
+use Rattle.equiv_class.proofs.Equivalent.{paths-from_equivalent}
+use Rattle.equiv_class.proofs.Blocks.{equivalent_itself, classes_none, fewer_without, next_class}
 use Rattle.equiv_class.proofs.PathsInOrder.{paths_of-same}
 
 -- a rank stands in one class where it is covered, and else in none
@@ -27,11 +27,11 @@ classes_with-classes_of P C r = go (suc (size C)) C (omega arith)
         by_first smaller [] is = ap (classes_with r) (classes_none P C is) ∙ sym (ap (λ b. cond b 1 0) (has-in_order C r ∙ ap (list_any (eq_by_cmp nat_cmp r)) is))
         by_first smaller (x ∷ xs) is =
             let least : slice_get (in_order C) 0 ≡ Some x = ap (λ ys. slice_get ys 0) is in
-            let left : Ranks = those (λ s. not (alike P x s)) C in
-            let fewer : size left < size C = fewer_without (alike P x) C x least (alike_itself P x) in
+            let left : Ranks = those (λ s. not (equivalent P x s)) C in
+            let fewer : size left < size C = fewer_without (equivalent P x) C x least (equivalent_itself P x) in
             ap (classes_with r) (next_class P C x least)
-            ∙ ap (λ b. cond b (suc (classes_with r (classes_of P left))) (classes_with r (classes_of P left))) (has-those (alike P x) C r)
-            ∙ count (has C r) (alike P x r) (classes_with r (classes_of P left)) (smaller left (omega (arith, lt, fewer)) ∙ ap (λ b. cond b 1 0) (has-those (λ s. not (alike P x s)) C r))
+            ∙ ap (λ b. cond b (suc (classes_with r (classes_of P left))) (classes_with r (classes_of P left))) (has-those (equivalent P x) C r)
+            ∙ count (has C r) (equivalent P x r) (classes_with r (classes_of P left)) (smaller left (omega (arith, lt, fewer)) ∙ ap (λ b. cond b 1 0) (has-those (λ s. not (equivalent P x s)) C r))
 
 -- the paths of each class are those of each of its ranks
 pub classes_have_own_paths : (P : Pairs) (C : Ranks) → HaveOwnPaths P (classes_of P C)
@@ -45,8 +45,8 @@ classes_have_own_paths P C = go (suc (size C)) C (omega arith)
         by_first smaller [] is = subst (HaveOwnPaths P) (sym (classes_none P C is)) tt
         by_first smaller (x ∷ xs) is =
             let least : slice_get (in_order C) 0 ≡ Some x = ap (λ ys. slice_get ys 0) is in
-            let left : Ranks = those (λ s. not (alike P x s)) C in
-            let fewer : size left < size C = fewer_without (alike P x) C x least (alike_itself P x) in
-            let own : (r : ℕ) → has (those (alike P x) C) r ≡ true → paths_of P x ≡ paths_of P r = λ r there.
-            paths_of-same P P x r (paths-from_alike P x r ((and_parts (has C r) (alike P x r) (sym (has-those (alike P x) C r) ∙ there)).1)) in
+            let left : Ranks = those (λ s. not (equivalent P x s)) C in
+            let fewer : size left < size C = fewer_without (equivalent P x) C x least (equivalent_itself P x) in
+            let own : (r : ℕ) → has (those (equivalent P x) C) r ≡ true → paths_of P x ≡ paths_of P r = λ r there.
+            paths_of-same P P x r (paths-from_equivalent P x r ((and_parts (has C r) (equivalent P x r) (sym (has-those (equivalent P x) C r) ∙ there)).1)) in
             subst (HaveOwnPaths P) (sym (next_class P C x least)) (own, smaller left (omega (arith, lt, fewer)))

@@ -10,17 +10,17 @@ use Rattle.prefix_tree.specs.Pairs.{HasNoEmptyPath, Pairs, is_pair}
 use Rattle.prefix_tree.specs.Tree.{Tree, pairs_of, tree_of}
 use Rattle.prefix_tree.proofs.PairLemmas.{is_pair-pairs_of}
 use Rattle.prefix_tree.proofs.TreeLemmas.{IsTreeOf-from_equal, coverage-tree_of}
-use Rattle.equiv_class.specs.Classes.{alike, paths_of, classes_of, is_least}
-use Rattle.equiv_class.proofs.Alike.{alike-from_paths, paths-from_alike}
+use Rattle.equiv_class.specs.Classes.{equivalent, paths_of, classes_of, is_least}
+use Rattle.equiv_class.proofs.Equivalent.{equivalent-from_paths, paths-from_equivalent}
 use Rattle.equiv_class.proofs.Ordered.{filter_on, kept_in, map_on, tied_self}
 use Rattle.equiv_class.proofs.PathsInOrder.{paths_of-same}
 
 -- pairs that are the same at covered ranks make the same classes
 module _ (P Q : Pairs) (C : Ranks) (same : (r : ℕ) (p : Path) → has C r ≡ true → is_pair P r p ≡ is_pair Q r p) where
-  same_alike : (r s : ℕ) → has C r ≡ true → has C s ≡ true → alike P r s ≡ alike Q r s
+  same_alike : (r s : ℕ) → has C r ≡ true → has C s ≡ true → equivalent P r s ≡ equivalent Q r s
   same_alike r s hr hs = both_ways _ _
-      (λ one. alike-from_paths Q r s (λ p. sym (same r p hr) ∙ paths-from_alike P r s one p ∙ same s p hs))
-      (λ one. alike-from_paths P r s (λ p. same r p hr ∙ paths-from_alike Q r s one p ∙ sym (same s p hs)))
+      (λ one. equivalent-from_paths Q r s (λ p. sym (same r p hr) ∙ paths-from_equivalent P r s one p ∙ same s p hs))
+      (λ one. equivalent-from_paths P r s (λ p. same r p hr ∙ paths-from_equivalent Q r s one p ∙ sym (same s p hs)))
 
   any_on : (f g : ℕ → Bool) (xs : List ℕ) → ((x : ℕ) → list_any (eq_by_cmp nat_cmp x) xs ≡ true → f x ≡ g x) → list_any f xs ≡ list_any g xs
   any_on f g [] each = refl
@@ -30,18 +30,18 @@ module _ (P Q : Pairs) (C : Ranks) (same : (r : ℕ) (p : Path) → has C r ≡ 
   in_C : (x : ℕ) → list_any (eq_by_cmp nat_cmp x) (in_order C) ≡ true → has C x ≡ true
   in_C x one = has-in_order C x ∙ one
 
-  same_paths : (r : ℕ) → has C r ≡ true → paths_of P r ≡ paths_of Q r
-  same_paths r hr = paths_of-same P Q r r (λ p. same r p hr)
+  paths_agree : (r : ℕ) → has C r ≡ true → paths_of P r ≡ paths_of Q r
+  paths_agree r hr = paths_of-same P Q r r (λ p. same r p hr)
 
   -- so they have the same classes
   pub classes-same_pairs : classes_of P C ≡ classes_of Q C
   unfolding classes_of
   classes-same_pairs =
-      ap (map (λ r. let b : Ranks × List Path = (those (alike P r) C, paths_of P r) in b)) (filter_on (is_least P C) (is_least Q C) (in_order C) (λ r there.
-      ap not (any_on (λ s. ltb s r && alike P r s) (λ s. ltb s r && alike Q r s) (in_order C) (λ s here. ap (λ b. ltb s r && b) (same_alike r s (in_C r there) (in_C s here))))))
-      ∙ map_on (λ r. let b : Ranks × List Path = (those (alike P r) C, paths_of P r) in b) (λ r. let b : Ranks × List Path = (those (alike Q r) C, paths_of Q r) in b) (filter (is_least Q C) (in_order C)) (λ r one.
+      ap (map (λ r. let b : Ranks × List Path = (those (equivalent P r) C, paths_of P r) in b)) (filter_on (is_least P C) (is_least Q C) (in_order C) (λ r there.
+      ap not (any_on (λ s. ltb s r && equivalent P r s) (λ s. ltb s r && equivalent Q r s) (in_order C) (λ s here. ap (λ b. ltb s r && b) (same_alike r s (in_C r there) (in_C s here))))))
+      ∙ map_on (λ r. let b : Ranks × List Path = (those (equivalent P r) C, paths_of P r) in b) (λ r. let b : Ranks × List Path = (those (equivalent Q r) C, paths_of Q r) in b) (filter (is_least Q C) (in_order C)) (λ r one.
       let hr = in_C r (kept_in (is_least Q C) (in_order C) r one) in
-      (λ i. (same_ranks (those (alike P r) C) (those (alike Q r) C) (λ q. has-those (alike P r) C q ∙ under (has C q) (alike P r q) (alike Q r q) (λ hq. same_alike r q hr hq) ∙ sym (has-those (alike Q r) C q)) i, same_paths r hr i)))
+      (λ i. (same_ranks (those (equivalent P r) C) (those (equivalent Q r) C) (λ q. has-those (equivalent P r) C q ∙ under (has C q) (equivalent P r q) (equivalent Q r q) (λ hq. same_alike r q hr hq) ∙ sym (has-those (equivalent Q r) C q)) i, paths_agree r hr i)))
     where
       under : (a b c : Bool) → (a ≡ true → b ≡ c) → (a && b) ≡ (a && c)
       under true b c f = f refl

@@ -1,4 +1,4 @@
--- What the rows of a tree say of its pairs: which ranks are alike, and the paths of each.
+-- What the rows of a tree say of its pairs: which ranks are equivalent, and the paths of each.
 use Rattle.std.proofs.Common.{◌≡◌, ℕ, ◌==◌, Bool, true, false, cond, not, ◌&&◌, ◌||◌, List, [], ◌∷◌, Some, None, is_some, map, refl, sym, ap, ◌∙◌, T}
 use Rattle.std.specs.List.{list_all, filter}
 use Rattle.std.specs.Cmp.{both_ways}
@@ -13,10 +13,10 @@ use Rattle.prefix_tree.specs.Tree.{Tree, Marks, pairs_of}
 use Rattle.prefix_tree.specs.Joined.{in_rows, ended}
 use Rattle.prefix_tree.proofs.Rows.{in_rows-entries, is_path-exact, is_path-itself, first, second, less, none_from}
 use Rattle.prefix_tree.proofs.PairLemmas.{is_pair-pairs_of}
-use Rattle.equiv_class.specs.Classes.{alike, same_answer, paths_of}
-use Rattle.equiv_class.specs.SeenPaths.{Lists, ends_at, has_ends, paths_to, same_in, seen_in}
+use Rattle.equiv_class.specs.Classes.{equivalent, same_answer, paths_of}
+use Rattle.equiv_class.specs.SeenPaths.{Lists, ends_at, has_ends, paths_to, same_paths, seen_in}
 use Rattle.equiv_class.proofs.PathsInOrder.{find_paths, keys-marked_paths, marked_paths, tags}
-use Rattle.equiv_class.proofs.Alike.{alike-from_paths, paths-from_alike, same_from_equal, equal_from_same}
+use Rattle.equiv_class.proofs.Equivalent.{equivalent-from_paths, paths-from_equivalent, same_from_equal, equal_from_same}
 
 -- each of the rows has both ranks in its ends, or neither
 abbrev same_in_rows : ℕ → ℕ → List (Path × Marks) → Bool
@@ -64,11 +64,11 @@ rows_same r s (e ∷ es) up each =
     let f : Path × Marks = (q, e.1) in
     sym (skip_row (ended r) e f es up there) ∙ each q (or_right (is_path q e.0 && true) (in_rows (λ m. true) es q) there) ∙ skip_row (ended s) e f es up there))
 
--- ranks are alike exactly where each row has both or neither in its ends
-alike_rows : (t : Tree) (r s : ℕ) → alike (pairs_of t) r s ≡ same_in_rows r s (finmap.entries t.below)
+-- ranks are equivalent exactly where each row has both or neither in its ends
+alike_rows : (t : Tree) (r s : ℕ) → equivalent (pairs_of t) r s ≡ same_in_rows r s (finmap.entries t.below)
 alike_rows t r s = both_ways _ _
-    (λ one. rows_same r s (finmap.entries t.below) (finmap.entries_sorted t.below) (λ q there. sym (pair_rows t r q) ∙ paths-from_alike (pairs_of t) r s one q ∙ pair_rows t s q))
-    (λ one. alike-from_paths (pairs_of t) r s (λ q. pair_rows t r q ∙ same_rows r s (finmap.entries t.below) q one ∙ sym (pair_rows t s q)))
+    (λ one. rows_same r s (finmap.entries t.below) (finmap.entries_sorted t.below) (λ q there. sym (pair_rows t r q) ∙ paths-from_equivalent (pairs_of t) r s one q ∙ pair_rows t s q))
+    (λ one. equivalent-from_paths (pairs_of t) r s (λ q. pair_rows t r q ∙ same_rows r s (finmap.entries t.below) q one ∙ sym (pair_rows t s q)))
 
 -- the paths of the rows at which the rank ends
 abbrev paths_in_rows : ℕ → List (Path × Marks) → List Path
@@ -128,11 +128,11 @@ paths_of_rows t r =
 no_end : (E : Ranks) → (size E == 0) ≡ true → (r : ℕ) → has E r ≡ false
 no_end E e r = ap (λ (S : Ranks). has S r) (none_from_size E (eqb-true (size E) 0 e)) ∙ has-none r
 
-same_in-seen : (r s : ℕ) (es : List (Path × Marks)) → same_in r s (map ends_at (filter has_ends es)) ≡ same_in_rows r s es
-same_in-seen r s [] = refl
-same_in-seen r s (e ∷ es) = elim (size e.1.1 == 0) as (λ b. (size e.1.1 == 0) ≡ b → same_in r s (map ends_at (cond (not b) (e ∷ filter has_ends es) (filter has_ends es))) ≡ same_in_rows r s (e ∷ es)) [
-  | true ↦ λ empty. same_in-seen r s es ∙ sym (λ i. same_answer (no_end e.1.1 empty r i) (no_end e.1.1 empty s i) && same_in_rows r s es)
-  | false ↦ λ some. ap (λ b. same_answer (has e.1.1 r) (has e.1.1 s) && b) (same_in-seen r s es)
+same_paths-seen : (r s : ℕ) (es : List (Path × Marks)) → same_paths r s (map ends_at (filter has_ends es)) ≡ same_in_rows r s es
+same_paths-seen r s [] = refl
+same_paths-seen r s (e ∷ es) = elim (size e.1.1 == 0) as (λ b. (size e.1.1 == 0) ≡ b → same_paths r s (map ends_at (cond (not b) (e ∷ filter has_ends es) (filter has_ends es))) ≡ same_in_rows r s (e ∷ es)) [
+  | true ↦ λ empty. same_paths-seen r s es ∙ sym (λ i. same_answer (no_end e.1.1 empty r i) (no_end e.1.1 empty s i) && same_in_rows r s es)
+  | false ↦ λ some. ap (λ b. same_answer (has e.1.1 r) (has e.1.1 s) && b) (same_paths-seen r s es)
 ] refl
 
 paths_to-seen : (r : ℕ) (es : List (Path × Marks)) → paths_to r (map ends_at (filter has_ends es)) ≡ paths_in_rows r es
@@ -148,6 +148,6 @@ paths_to-seen r (e ∷ es) = elim (size e.1.1 == 0) as (λ b. (size e.1.1 == 0) 
 -- the paths of a tree in which ranks were seen say of each rank what the tree's pairs say
 pub Lists-tree : (t : Tree) → Lists (pairs_of t) (seen_in t)
 Lists-tree t = record {
-  same_ranks = λ r s. alike_rows t r s ∙ sym (same_in-seen r s (finmap.entries t.below));
-  same_paths = λ r. paths_of_rows t r ∙ sym (paths_to-seen r (finmap.entries t.below));
+  same_ranks = λ r s. alike_rows t r s ∙ sym (same_paths-seen r s (finmap.entries t.below));
+  paths_agree = λ r. paths_of_rows t r ∙ sym (paths_to-seen r (finmap.entries t.below));
 }

@@ -12,8 +12,8 @@ same_answer true b = b
 same_answer false b = not b
 
 -- two ranks were seen in the same paths
-abbrev pub alike : Pairs → ℕ → ℕ → Bool
-alike P r s = list_all (λ e. same_answer (is_pair P r e.1) (is_pair P s e.1)) P
+abbrev pub equivalent : Pairs → ℕ → ℕ → Bool
+equivalent P r s = list_all (λ e. same_answer (is_pair P r e.1) (is_pair P s e.1)) P
 
 -- a path in its place of a list in order, once
 abbrev pub put_path : Path → List Path → List Path
@@ -25,13 +25,13 @@ abbrev pub paths_of : Pairs → ℕ → List Path
 paths_of [] r = []
 paths_of (e ∷ P) r = cond (nat_eq e.0 r) (put_path e.1 (paths_of P r)) (paths_of P r)
 
--- no lesser rank of C is alike
+-- no lesser rank of C is equivalent
 abbrev pub is_least : Pairs → Ranks → ℕ → Bool
-is_least P C r = not (list_any (λ s. nat_lt s r && alike P r s) (in_order C))
+is_least P C r = not (list_any (λ s. nat_lt s r && equivalent P r s) (in_order C))
 
--- the blocks of alike ranks of C by their least ranks, each with its paths in order
+-- the blocks of equivalent ranks of C by their least ranks, each with its paths in order
 unfoldable pub classes_of : Pairs → Ranks → List (Ranks × List Path)
-classes_of P C = map (λ r. (those (alike P r) C, paths_of P r)) (filter (is_least P C) (in_order C))
+classes_of P C = map (λ r. (those (equivalent P r) C, paths_of P r)) (filter (is_least P C) (in_order C))
 
 -- in how many classes a rank stands
 abbrev pub classes_with : ℕ → List (Ranks × List Path) → ℕ

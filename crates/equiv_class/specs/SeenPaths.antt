@@ -6,7 +6,7 @@ use Rattle.rank_set.specs.Ranks.{Ranks, has, is_empty}
 use Rattle.call_path.specs.Path.{Path}
 use Rattle.prefix_tree.specs.Pairs.{Pairs}
 use Rattle.prefix_tree.specs.Tree.{Tree, Marks}
-use Rattle.equiv_class.specs.Classes.{same_answer, alike, paths_of}
+use Rattle.equiv_class.specs.Classes.{same_answer, equivalent, paths_of}
 use Rattle.equiv_class.specs.declared.SeenPath.{SeenPath}
 
 -- a path, with the ranks that were seen in it
@@ -14,8 +14,8 @@ abbrev pub entry_of : SeenPath → Path × Ranks
 entry_of seen = (seen.path, seen.ranks.now)
 
 -- each of them
-abbrev pub entries_in : List SeenPath → List (Path × Ranks)
-entries_in seen = map entry_of seen
+abbrev pub entries_view : List SeenPath → List (Path × Ranks)
+entries_view seen = map entry_of seen
 
 -- some rank ends at the row
 abbrev pub has_ends : Path × Marks → Bool
@@ -30,12 +30,12 @@ abbrev pub seen_in : Tree → List (Path × Ranks)
 seen_in t = map ends_at (filter has_ends (finmap.entries t.below))
 
 -- r and s were seen in the same paths
-abbrev pub same_in : ℕ → ℕ → List (Path × Ranks) → Bool
-same_in r s es = list_all (λ e. same_answer (has e.1 r) (has e.1 s)) es
+abbrev pub same_paths : ℕ → ℕ → List (Path × Ranks) → Bool
+same_paths r s es = list_all (λ e. same_answer (has e.1 r) (has e.1 s)) es
 
 -- s was seen in each path in which r was seen
-abbrev pub shares_all : ℕ → ℕ → List (Path × Ranks) → Bool
-shares_all r s es = list_all (λ e. not (has e.1 r) || has e.1 s) es
+abbrev pub has_all_paths : ℕ → ℕ → List (Path × Ranks) → Bool
+has_all_paths r s es = list_all (λ e. not (has e.1 r) || has e.1 s) es
 
 -- in how many of the paths r was seen
 abbrev pub times : ℕ → List (Path × Ranks) → ℕ
@@ -52,5 +52,5 @@ AreSeveral several es = (r : ℕ) → has several r ≡ nat_lt 1 (times r es)
 
 -- the paths say of each rank what the pairs say
 pub record Lists (P : Pairs) (es : List (Path × Ranks)) : Type 0 where
-  pub same_ranks : (r s : ℕ) → alike P r s ≡ same_in r s es
-  pub same_paths : (r : ℕ) → paths_of P r ≡ paths_to r es
+  pub same_ranks : (r s : ℕ) → equivalent P r s ≡ same_paths r s es
+  pub paths_agree : (r : ℕ) → paths_of P r ≡ paths_to r es

@@ -9,9 +9,9 @@ ghost use Rattle.std.specs.List.Sorted.{IsStrictlySortedBy};
 ghost use Rattle.call_path.specs.Path.{Path, is_path, path_cmp};
 ghost use Rattle.prefix_tree.specs.Pairs.{HasNoEmptyPath, Pairs, is_pair};
 ghost use Rattle.prefix_tree.specs.Tree.{tree_of, pairs_of};
-ghost use Rattle.equiv_class.specs.Classes.{HaveOwnPaths, alike, classes_of, classes_with, paths_of};
+ghost use Rattle.equiv_class.specs.Classes.{HaveOwnPaths, equivalent, classes_of, classes_with, paths_of};
 ghost use Rattle.equiv_class.specs.ClassList.{class_view, class_views};
-ghost use Rattle.equiv_class.specs.SeenPaths.{AreSeveral, Lists, entries_in, same_in, seen_in, shares_all, times, paths_to};
+ghost use Rattle.equiv_class.specs.SeenPaths.{AreSeveral, Lists, entries_view, same_paths, seen_in, has_all_paths, times, paths_to};
 
 use call_path::{CallPath, PathBuilder};
 use prefix_tree::PrefixTree;
@@ -38,10 +38,10 @@ struct SeenPath<'a> {
     ranks: &'a RankSet,
 }
 
-/// A law of classes: two ranks are alike exactly where they were seen in the same paths.
-pub fn alike_by_paths()
-    ensures same { (P : Pairs) (r s : ℕ) → ((p : Path) → is_pair P r p ≡ is_pair P s p) → alike P r s ≡ true }
-    ensures alike { (P : Pairs) (r s : ℕ) → alike P r s ≡ true → (p : Path) → is_pair P r p ≡ is_pair P s p }
+/// A law of classes: two ranks are equivalent exactly where they were seen in the same paths.
+pub fn equivalent_by_paths()
+    ensures same { (P : Pairs) (r s : ℕ) → ((p : Path) → is_pair P r p ≡ is_pair P s p) → equivalent P r s ≡ true }
+    ensures equivalent { (P : Pairs) (r s : ℕ) → equivalent P r s ≡ true → (p : Path) → is_pair P r p ≡ is_pair P s p }
 {}
 
 /// A law of classes: each covered rank stands in just one of them, and no other rank in any.
@@ -79,7 +79,7 @@ fn seen_paths<'a, T: PrefixTree>(
     frames: &mut PathBuilder,
 ) -> Result<Vec<SeenPath<'a>>, AllocError>
     requires { frames.old ≡ [] }
-    ensures { IfOk result (λ seen. entries_in seen.items ≡ seen_in (T.tree tree.now)) }
+    ensures { IfOk result (λ seen. entries_view seen.items ≡ seen_in (T.tree tree.now)) }
 {
     let mut seen = Vec::new(alloc);
     for i in 1..tree.rows() {
@@ -99,7 +99,7 @@ fn seen_paths<'a, T: PrefixTree>(
 
 // The ranks that were seen in more than one of the paths.
 fn ranks_in_several(alloc: Global, seen: &[SeenPath<'_>]) -> Result<RankSet, AllocError>
-    ensures { IfOk result (λ several. AreSeveral several (entries_in seen.now)) }
+    ensures { IfOk result (λ several. AreSeveral several (entries_view seen.now)) }
 {
     let mut once = RankSet::new(alloc);
     let mut several = RankSet::new(alloc);
@@ -115,7 +115,7 @@ fn count_ranks(
 ) -> Result<(), AllocError>
     requires once { once.old ≡ none }
     requires several { several.old ≡ none }
-    ensures { OnOk result (AreSeveral several.new (entries_in seen.now)) }
+    ensures { OnOk result (AreSeveral several.new (entries_view seen.now)) }
 {
     for path in seen {
         several.union_into(&common(path.ranks, once)?)?;
@@ -131,8 +131,8 @@ fn take_classes(
     several: &RankSet,
     left: &mut RankSet,
 ) -> Result<Vec<Class>, AllocError>
-    requires { AreSeveral several.now (entries_in seen.now) }
-    ensures { IfOk result (λ all. (P : Pairs) → Lists P (entries_in seen.now) → class_views all.items ≡ classes_of P left.old) }
+    requires { AreSeveral several.now (entries_view seen.now) }
+    ensures { IfOk result (λ all. (P : Pairs) → Lists P (entries_view seen.now) → class_views all.items ≡ classes_of P left.old) }
 {
     let mut all = Vec::new(alloc);
     while let Some(r) = left.first() {
@@ -150,10 +150,10 @@ fn take_class(
     r: u32,
     left: &mut RankSet,
 ) -> Result<Class, AllocError>
-    requires several { AreSeveral several.now (entries_in seen.now) }
+    requires several { AreSeveral several.now (entries_view seen.now) }
     requires member { IsTrue (has left.old r) }
-    ensures class { IfOk result (λ class. class_view class ≡ (those (λ s. same_in r s (entries_in seen.now)) left.old, paths_to r (entries_in seen.now))) }
-    ensures left { OnOk result (left.new ≡ those (λ s. not (same_in r s (entries_in seen.now))) left.old) }
+    ensures class { IfOk result (λ class. class_view class ≡ (those (λ s. same_paths r s (entries_view seen.now)) left.old, paths_to r (entries_view seen.now))) }
+    ensures left { OnOk result (left.new ≡ those (λ s. not (same_paths r s (entries_view seen.now))) left.old) }
 {
     let paths = rank_paths(alloc, seen, r)?;
     let ranks = block(seen, several, r, paths.len(), left)?;
@@ -163,7 +163,7 @@ fn take_class(
 
 // The paths of a rank.
 fn rank_paths(alloc: Global, seen: &[SeenPath<'_>], r: u32) -> Result<Vec<CallPath>, AllocError>
-    ensures { IfOk result (λ paths. paths.items ≡ paths_to r (entries_in seen.now)) }
+    ensures { IfOk result (λ paths. paths.items ≡ paths_to r (entries_view seen.now)) }
 {
     let mut paths = Vec::new(alloc);
     for path in seen {
@@ -182,10 +182,10 @@ fn block(
     count: usize,
     left: &RankSet,
 ) -> Result<RankSet, AllocError>
-    requires several { AreSeveral several.now (entries_in seen.now) }
+    requires several { AreSeveral several.now (entries_view seen.now) }
     requires member { IsTrue (has left.now r) }
-    requires count { count ≡ times r (entries_in seen.now) }
-    ensures { IfOk result (λ block. block ≡ those (λ s. same_in r s (entries_in seen.now)) left.now) }
+    requires count { count ≡ times r (entries_view seen.now) }
+    ensures { IfOk result (λ block. block ≡ those (λ s. same_paths r s (entries_view seen.now)) left.now) }
 {
     let mut block = left.copy()?;
     keep_sharers(seen, r, &mut block)?;
@@ -198,7 +198,7 @@ fn block(
 
 // Keeps the ranks that were seen in each path of r.
 fn keep_sharers(seen: &[SeenPath<'_>], r: u32, block: &mut RankSet) -> Result<(), AllocError>
-    ensures { OnOk result (block.new ≡ those (λ s. shares_all r s (entries_in seen.now)) block.old) }
+    ensures { OnOk result (block.new ≡ those (λ s. has_all_paths r s (entries_view seen.now)) block.old) }
 {
     for path in seen {
         keep_if_shared(path.ranks, r, block)?;
@@ -219,7 +219,7 @@ fn keep_if_shared(ranks: &RankSet, r: u32, block: &mut RankSet) -> Result<(), Al
 // Keeps the ranks that were seen in no other path than those of r.
 fn drop_others(seen: &[SeenPath<'_>], r: u32, block: &mut RankSet) -> Result<(), AllocError>
     requires { IsTrue (has block.old r) }
-    ensures { OnOk result (block.new ≡ those (λ s. shares_all s r (entries_in seen.now)) block.old) }
+    ensures { OnOk result (block.new ≡ those (λ s. has_all_paths s r (entries_view seen.now)) block.old) }
 {
     for path in seen {
         drop_if_unshared(path.ranks, r, block)?;

@@ -81,7 +81,7 @@ fn is_sent<T: Send>(_value: &T) -> bool {
 #[test]
 fn laws_and_threads(rt: HostRuntime) -> Result<(), AllocError> {
     let alloc = rt.alloc();
-    alike_by_paths();
+    equivalent_by_paths();
     classes_part_ranks();
     paths_of_classes();
     assert!(rt; is_sent(&classes(alloc, &tree_over(&rt, alloc, &[3])?)?));

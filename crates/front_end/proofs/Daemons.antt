@@ -2,7 +2,7 @@
 use Rattle.std.proofs.Common.{◌≡◌, ℕ, ◌<◌, ◌==◌, List, [], ◌∷◌, Option, Some, None, refl, sym, ap, ◌||◌}
 use Rattle.std.specs.List.{AllByRecursion, list_any}
 use Rattle.std.proofs.lemmas.Cmp.{nat_eq_equiv}
-use Rattle.stat_plan.specs.Kept.{IsPlan, IsDaemon}
+use Rattle.stat_plan.specs.Invariants.{IsPlan, IsDaemon}
 use Rattle.stat_plan.specs.NodeSets.{member}
 use Rattle.stat_plan.specs.Plans.{Plan, Stream, daemons, nodes, nodes_of, stream_of}
 use Rattle.stat_plan.proofs.FirstOver.{all_in, found_in}

@@ -10,8 +10,8 @@ use Rattle.std.proofs.lemmas.List.Elements.{filter-append}
 use Rattle.std.proofs.lemmas.Map.Keys.{IsDistinct-cons}
 use Rattle.overlay_core.specs.Nodes.{Release}
 use Rattle.overlay_core.specs.History.{of_wave}
-use Rattle.overlay_core.specs.TreeReleases.{TreeRelease, AreNumbered, bare_release, bare_releases, numbers_after}
-use Rattle.front_end.specs.Report.{AreApart, release_cmp}
+use Rattle.overlay_core.specs.TreeReleases.{TreeRelease, AreNumberedInOrder, bare_release, bare_releases, numbers_after}
+use Rattle.front_end.specs.Report.{AreDistinct, release_cmp}
 
 -- the head and the tail of one list that is another
 first_same : (x y : ℕ) (xs ys : List ℕ) → x ∷ xs ≡ y ∷ ys → x ≡ y
@@ -20,11 +20,11 @@ first_same x y xs ys e = cc
 rest_same : (x y : ℕ) (xs ys : List ℕ) → x ∷ xs ≡ y ∷ ys → xs ≡ ys
 rest_same x y xs ys e = cc
 
-rest_numbered : (earlier : List Release) (r : TreeRelease) (rs : List TreeRelease) → AreNumbered earlier (r ∷ rs) → AreNumbered (earlier ++ bare_release r ∷ []) rs
+rest_numbered : (earlier : List Release) (r : TreeRelease) (rs : List TreeRelease) → AreNumberedInOrder earlier (r ∷ rs) → AreNumberedInOrder (earlier ++ bare_release r ∷ []) rs
 rest_numbered earlier r rs e =
     rest_same r.number (suc (length (of_wave r.stream r.wave earlier))) (map (λ (r : TreeRelease). r.number) rs) (numbers_after (earlier ++ bare_release r ∷ []) (bare_releases rs)) e
 
-first_number : (earlier : List Release) (r : TreeRelease) (rs : List TreeRelease) → AreNumbered earlier (r ∷ rs) → r.number ≡ suc (length (of_wave r.stream r.wave earlier))
+first_number : (earlier : List Release) (r : TreeRelease) (rs : List TreeRelease) → AreNumberedInOrder earlier (r ∷ rs) → r.number ≡ suc (length (of_wave r.stream r.wave earlier))
 first_number earlier r rs e =
     first_same r.number (suc (length (of_wave r.stream r.wave earlier))) (map (λ (r : TreeRelease). r.number) rs) (numbers_after (earlier ++ bare_release r ∷ []) (bare_releases rs)) e
 
@@ -46,7 +46,7 @@ same_number : (x y : ℕ) → is_eq (nat_cmp x y) ≡ true → x ≡ y
 same_number x y e = eqb-true x y (sym (unsigned_tied x y) ∙ e)
 
 -- a release whose number isn't greater than how many of its wave came before some others is none of these
-none_is_it : (a : TreeRelease) (earlier : List Release) (rs : List TreeRelease) → AreNumbered earlier rs → a.number ≤ length (of_wave a.stream a.wave earlier) → AllByRecursion (λ y. eq_by_cmp release_cmp a y ≡ false) rs
+none_is_it : (a : TreeRelease) (earlier : List Release) (rs : List TreeRelease) → AreNumberedInOrder earlier rs → a.number ≤ length (of_wave a.stream a.wave earlier) → AllByRecursion (λ y. eq_by_cmp release_cmp a y ≡ false) rs
 none_is_it a earlier [] numbered few = tt
 none_is_it a earlier (r ∷ rs) numbered few = (
   elim (cases_Bool (eq_by_cmp release_cmp a r)) [
@@ -65,16 +65,16 @@ none_is_it a earlier (r ∷ rs) numbered few = (
       none_is_it a (earlier ++ bare_release r ∷ []) rs (rest_numbered earlier r rs numbered) (omega arith),
 )
 
-numbered_apart : (earlier : List Release) (rs : List TreeRelease) → AreNumbered earlier rs → AreApart rs
+numbered_apart : (earlier : List Release) (rs : List TreeRelease) → AreNumberedInOrder earlier rs → AreDistinct rs
 unfolding IsDistinct
 numbered_apart earlier [] numbered = tt
 numbered_apart earlier (r ∷ rs) numbered =
     let next : r.number ≡ suc (length (of_wave r.stream r.wave earlier)) = first_number earlier r rs numbered in
     let more : length (of_wave r.stream r.wave (earlier ++ bare_release r ∷ [])) ≡ length (of_wave r.stream r.wave earlier) + length (of_wave r.stream r.wave (bare_release r ∷ [])) = length_more r.stream r.wave earlier (bare_release r) in
     let own : length (of_wave r.stream r.wave (bare_release r ∷ [])) ≡ 1 = ap (λ (rs : List Release). length rs) (one_of_own_wave (bare_release r)) in
-    let later : AreNumbered (earlier ++ bare_release r ∷ []) rs = rest_numbered earlier r rs numbered in
+    let later : AreNumberedInOrder (earlier ++ bare_release r ∷ []) rs = rest_numbered earlier r rs numbered in
     (none_is_it r (earlier ++ bare_release r ∷ []) rs later (omega arith), numbered_apart (earlier ++ bare_release r ∷ []) rs later)
 
 -- releases that have their numbers are apart
-pub apart_where_numbered : (releases : List TreeRelease) → AreNumbered [] releases → AreApart releases
+pub apart_where_numbered : (releases : List TreeRelease) → AreNumberedInOrder [] releases → AreDistinct releases
 apart_where_numbered releases numbered = numbered_apart [] releases numbered

@@ -17,9 +17,9 @@ use Rattle.prefix_tree.specs.Tree.{Tree}
 use Rattle.stat_plan.specs.NodeSets.{In}
 use Rattle.stat_plan.specs.Plans.{Plan}
 use Rattle.stat_plan.proofs.FirstOver.{all_in}
-use Rattle.overlay_core.specs.TreeReleases.{TreeRelease, release_in, releases_in}
+use Rattle.overlay_core.specs.TreeReleases.{TreeRelease, release_view, releases_view}
 use Rattle.overlay_core.specs.declared.release.Release.{Release}
-use Rattle.front_end.specs.Report.{AreApart, IsInOrder, IsReport, release_cmp, report_text}
+use Rattle.front_end.specs.Report.{AreDistinct, IsInOrder, IsReport, release_cmp, report_text}
 use Rattle.front_end.specs.Shown.{shown_releases}
 
 in_at : {X : Type 0} (xs : List X) (k : ℕ) (d : X) → k < length xs → In (get_or xs k d) xs
@@ -99,14 +99,14 @@ sorted_map f lt (x ∷ xs) up k d low high =
     (λ i. lt (later i) (here i)) ∙ up k x (omega arith) within
 
 -- what references show is in order where what they were made of is apart, and a sort by stream, wave and number moved them
-pub in_order_from_sort : {X : Type 0} (tree : X → Tree) (given : List (Release X)) (all sorted : List (Bor (Release X))) → AreApart (releases_in tree given) → map (λ r. r.now) all ≡ given → IsPermutation all sorted
-    → IsSortedBy (λ (a b : Bor (Release X)). is_lt (release_cmp (release_in tree a.now) (release_in tree b.now))) sorted → IsInOrder (releases_in tree given) (shown_releases tree sorted)
+pub in_order_from_sort : {X : Type 0} (tree : X → Tree) (given : List (Release X)) (all sorted : List (Bor (Release X))) → AreDistinct (releases_view tree given) → map (λ r. r.now) all ≡ given → IsPermutation all sorted
+    → IsSortedBy (λ (a b : Bor (Release X)). is_lt (release_cmp (release_view tree a.now) (release_view tree b.now))) sorted → IsInOrder (releases_view tree given) (shown_releases tree sorted)
 in_order_from_sort {X} tree given all sorted apart shows moved up =
-    let view : Bor (Release X) → TreeRelease = λ r. release_in tree r.now in
-    let viewed : shown_releases tree all ≡ releases_in tree given = sym (map-map (release_in tree) (λ (r : Bor (Release X)). r.now) all) ∙ ap (releases_in tree) shows in
-    let same : IsPermutation (releases_in tree given) (shown_releases tree sorted) = subst (λ rs. IsPermutation rs (shown_releases tree sorted)) viewed (IsPermutation-map view all sorted moved) in
+    let view : Bor (Release X) → TreeRelease = λ r. release_view tree r.now in
+    let viewed : shown_releases tree all ≡ releases_view tree given = sym (map-map (release_view tree) (λ (r : Bor (Release X)). r.now) all) ∙ ap (releases_view tree) shows in
+    let same : IsPermutation (releases_view tree given) (shown_releases tree sorted) = subst (λ rs. IsPermutation rs (shown_releases tree sorted)) viewed (IsPermutation-map view all sorted moved) in
     record {
       same = same;
       rises = rises_where_apart release_cmp release_cmp_total (shown_releases tree sorted) (sorted_map view (λ a b. is_lt (release_cmp a b)) sorted up)
-          (IsDistinct-IsPermutation (eq_by_cmp release_cmp) (eq_by_cmp_equiv release_cmp_total).symm (releases_in tree given) (shown_releases tree sorted) same apart);
+          (IsDistinct-IsPermutation (eq_by_cmp release_cmp) (eq_by_cmp_equiv release_cmp_total).symm (releases_view tree given) (shown_releases tree sorted) same apart);
     }

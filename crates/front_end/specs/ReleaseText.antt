@@ -25,7 +25,7 @@ abbrev pub kind_text : Kind → List ℕ
 kind_text Partial = codes "partial"
 kind_text Final = codes "final"
 
--- the line above a release: its stream, its wave, the how-manieth release of the wave it is, and whether it is the last
+-- the line above a release: its stream, its wave, the release's number within its wave, and whether it is the last
 abbrev pub heading : TreeRelease → List ℕ
 heading r = codes "stream " ++ decimal r.stream ++ codes " wave " ++ decimal r.wave ++ codes " release " ++ decimal r.number ++ 32 ∷ [] ++ kind_text r.kind ++ 10 ∷ []
 

@@ -17,8 +17,8 @@ abbrev pub release_cmp : TreeRelease → TreeRelease → Ordering
 release_cmp a b = ordering_then (ordering_then (nat_cmp a.stream b.stream) (nat_cmp a.wave b.wave)) (nat_cmp a.number b.number)
 
 -- no two of the releases have the same stream, wave and number
-abbrev pub AreApart : List TreeRelease → Type 0
-AreApart releases = IsDistinct (eq_by_cmp release_cmp) releases
+abbrev pub AreDistinct : List TreeRelease → Type 0
+AreDistinct releases = IsDistinct (eq_by_cmp release_cmp) releases
 
 -- the given releases in the order in which they are printed: the stream, the wave and the number rise
 pub record IsInOrder (given ordered : List TreeRelease) : Type 0 where

@@ -6,9 +6,9 @@ ghost use Rattle.prefix_tree.specs.Pairs.{HasNoEmptyPath, Pairs};
 ghost use Rattle.prefix_tree.specs.Tree.{Tree, tree_of};
 ghost use Rattle.equiv_class.specs.Classes.{classes_of};
 ghost use Rattle.stat_plan.specs.Plans.{Plan};
-ghost use Rattle.overlay_core.specs.TreeReleases.{AreNumbered, TreeRelease};
+ghost use Rattle.overlay_core.specs.TreeReleases.{AreNumberedInOrder, TreeRelease};
 ghost use Rattle.front_end.specs.ReleaseText.{classes_in};
-ghost use Rattle.front_end.specs.Report.{AreApart, IsInOrder, IsReport, release_cmp};
+ghost use Rattle.front_end.specs.Report.{AreDistinct, IsInOrder, IsReport, release_cmp};
 
 /// A law: there is one report, byte for byte, of the same releases of a plan where the same nodes were lost.
 pub fn reports_are_one()
@@ -16,8 +16,8 @@ pub fn reports_are_one()
 {}
 
 /// A law: no two releases that have their numbers have the same stream, wave and number.
-pub fn numbered_releases_are_apart()
-    ensures { (releases : List TreeRelease) → AreNumbered [] releases → AreApart releases }
+pub fn numbered_releases_are_distinct()
+    ensures { (releases : List TreeRelease) → AreNumberedInOrder [] releases → AreDistinct releases }
 {}
 
 /// A law: releases whose stream, wave and number rise are printed as they stand.

@@ -11,6 +11,7 @@ mod tests;
 mod tree_text;
 
 pub use laws::{
-    classes_of_a_tree, numbered_releases_are_apart, ordered_releases_are_in_order, reports_are_one,
+    classes_of_a_tree, numbered_releases_are_distinct, ordered_releases_are_in_order,
+    reports_are_one,
 };
 pub use report::report_text;

@@ -4,7 +4,7 @@ ghost use Rattle.std.specs.Fmt.{decimal};
 ghost use Rattle.std.specs.List.{AllByRecursion, flat_map};
 ghost use Rattle.stat_plan.specs.NodeSets.{member};
 ghost use Rattle.stat_plan.specs.Plans.{daemons, nodes};
-ghost use Rattle.overlay_core.specs.TreeReleases.{release_in};
+ghost use Rattle.overlay_core.specs.TreeReleases.{release_view};
 ghost use Rattle.front_end.specs.ReleaseText.{heading, kind_text as text_of_kind, missing_line, missing_text as text_of_missing, release_text};
 
 use crate::class_text::{write_classes, write_number};
@@ -22,7 +22,7 @@ pub fn write_release<T: PrefixTree>(
     release: &Release<T>,
     out: &mut Vec<u8>,
 ) -> Result<(), AllocError>
-    ensures { OnOk result (out.new.items ≡ out.old.items ++ release_text plan.now (release_in T.tree release.now)) }
+    ensures { OnOk result (out.new.items ≡ out.old.items ++ release_text plan.now (release_view T.tree release.now)) }
 {
     let classes = classes(*out.allocator(), &release.tree)?;
     let covered = release.tree.row(0).label;
@@ -42,7 +42,7 @@ pub fn write_heading<T: PrefixTree>(
     release: &Release<T>,
     out: &mut Vec<u8>,
 ) -> Result<(), AllocError>
-    ensures { OnOk result (out.new.items ≡ out.old.items ++ heading (release_in T.tree release.now)) }
+    ensures { OnOk result (out.new.items ≡ out.old.items ++ heading (release_view T.tree release.now)) }
 {
     write_numbered(b"stream ", usize::from(release.stream), out)?;
     write_numbered(b" wave ", usize::from(release.wave), out)?;
@@ -92,7 +92,7 @@ fn daemons_of(plan: &Plan, stream: u8) -> &[u32]
     ensures value { result.now ≡ daemons plan.now stream }
     ensures nodes { AllByRecursion (λ d. d < nodes plan.now) result.now }
 {
-    plan.is_plan();
+    plan.invariant();
     match plan.stream(stream) {
         Some(stream) => stream.daemons(),
         None => &[],

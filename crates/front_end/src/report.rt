@@ -2,9 +2,9 @@
 ghost use Rattle.std.specs.Prelude.{◌≡◌, ◌++◌, ◌<◌, IfOk, OnOk, map};
 ghost use Rattle.std.specs.List.{flat_map};
 ghost use Rattle.stat_plan.specs.Plans.{nodes};
-ghost use Rattle.overlay_core.specs.TreeReleases.{releases_in};
+ghost use Rattle.overlay_core.specs.TreeReleases.{releases_view};
 ghost use Rattle.front_end.specs.ReleaseText.{release_text};
-ghost use Rattle.front_end.specs.Report.{AreApart, IsInOrder, IsReport, fate_text, fault_line};
+ghost use Rattle.front_end.specs.Report.{AreDistinct, IsInOrder, IsReport, fate_text, fault_line};
 ghost use Rattle.front_end.specs.Shown.{shown_releases};
 
 use crate::release_text::{is_among, write_numbered, write_release};
@@ -21,8 +21,8 @@ pub fn report_text<T: PrefixTree>(
     releases: &[Release<T>],
     lost: &[u32],
 ) -> Result<Vec<u8>, AllocError>
-    requires distinct { AreApart (releases_in T.tree releases.now) }
-    ensures { IfOk result (λ text. IsReport plan.now (releases_in T.tree releases.now) lost.now text.items) }
+    requires distinct { AreDistinct (releases_view T.tree releases.now) }
+    ensures { IfOk result (λ text. IsReport plan.now (releases_view T.tree releases.now) lost.now text.items) }
 {
     let ordered = in_order(alloc, releases)?;
     let mut text = Vec::new(alloc);
@@ -37,8 +37,8 @@ pub fn in_order<'a, T: PrefixTree>(
     alloc: Global,
     releases: &'a [Release<T>],
 ) -> Result<Vec<&'a Release<T>>, AllocError>
-    requires distinct { AreApart (releases_in T.tree releases.now) }
-    ensures { IfOk result (λ ordered. IsInOrder (releases_in T.tree releases.now) (shown_releases T.tree ordered.items)) }
+    requires distinct { AreDistinct (releases_view T.tree releases.now) }
+    ensures { IfOk result (λ ordered. IsInOrder (releases_view T.tree releases.now) (shown_releases T.tree ordered.items)) }
 {
     let mut ordered = references(alloc, releases)?;
     ordered.sort_unstable_by_key(|release| (release.stream, release.wave, release.number));
@@ -73,7 +73,7 @@ fn write_releases<T: PrefixTree>(
 fn write_faults(plan: &Plan, lost: &[u32], out: &mut Vec<u8>) -> Result<(), AllocError>
     ensures { OnOk result (out.new.items ≡ out.old.items ++ flat_map (fault_line plan.now lost.now) plan.now.faults) }
 {
-    plan.is_plan();
+    plan.invariant();
     for fault in plan.faults() {
         write_fault(plan, lost, *fault, out)?;
     }

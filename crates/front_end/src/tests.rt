@@ -7,7 +7,8 @@ use crate::release_text::write_heading;
 use crate::report::in_order;
 use crate::tree_text::write_tree;
 use crate::{
-    classes_of_a_tree, numbered_releases_are_apart, ordered_releases_are_in_order, reports_are_one,
+    classes_of_a_tree, numbered_releases_are_distinct, ordered_releases_are_in_order,
+    reports_are_one,
 };
 use call_path::PathBuilder;
 use equiv_class::classes;
@@ -102,7 +103,7 @@ fn writes_a_tree_and_its_classes(rt: HostRuntime) -> Result<(), AllocError> {
 #[test]
 fn laws(_rt: HostRuntime) {
     reports_are_one();
-    numbered_releases_are_apart();
+    numbered_releases_are_distinct();
     ordered_releases_are_in_order();
     classes_of_a_tree();
 }

@@ -4,7 +4,7 @@ use Rattle.std.specs.Prelude.{find, IsSome}
 use Rattle.std.specs.List.{AllByRecursion}
 use Rattle.std.proofs.lemmas.Bool.{or_left, or_right}
 use Rattle.rank_set.specs.Ranks.{Ranks, none, has, Has, IsSubset, union, has-union}
-use Rattle.stat_plan.specs.Kept.{IsPlan, IsDaemon}
+use Rattle.stat_plan.specs.Invariants.{IsPlan, IsDaemon}
 use Rattle.stat_plan.specs.NodeSets.{In}
 use Rattle.stat_plan.specs.Samples.{SampleLine, IsWithinLimit, ranks_with, samples_of, wave_lines}
 use Rattle.stat_plan.specs.Plans.{Plan, Stream, daemons, nodes, nodes_of, ranks, sample_count, samples, ranks_on, stream_of, stream_ranks, up_to, waves_of}

@@ -6,17 +6,17 @@ use Rattle.prefix_tree.specs.Pairs.{Pairs}
 use Rattle.prefix_tree.specs.Tree.{Tree, tree_of, merged, count_below}
 use Rattle.prefix_tree.proofs.TreeLemmas.{coverage-tree_of}
 use Rattle.prefix_tree.proofs.TreeLaws.{merged-tree_of, tree_of-uncovered}
-use Rattle.stat_plan.specs.Kept.{IsPlan}
+use Rattle.stat_plan.specs.Invariants.{IsPlan}
 use Rattle.stat_plan.specs.Plans.{Plan, samples, stream_ranks}
 use Rattle.stat_plan.proofs.Prefixes.{count-more}
-use Rattle.merge_filter.specs.Contributions.{Contrib, HasWave, StandsFor, contrib, cov_of}
+use Rattle.merge_filter.specs.Contributions.{Contrib, HasWave, IsPartialMerge, contrib, cov_of}
 
 -- a tree of some ranks covers them
 pub covers : (t : Tree) (P : Pairs) (C : Ranks) → t ≡ tree_of P C → t.coverage ≡ C
 covers t P C is = ap (λ (u : Tree). u.coverage) is ∙ coverage-tree_of P C
 
 -- a tree of a wave's samples over ranks of the stream
-pub stands_from : (p : Plan) (s w : ℕ) (C : Ranks) (t : Tree) → t ≡ tree_of (samples p s w) C → IsSubset C (stream_ranks p s) → HasWave p s w → StandsFor p (contrib s w t)
+pub stands_from : (p : Plan) (s w : ℕ) (C : Ranks) (t : Tree) → t ≡ tree_of (samples p s w) C → IsSubset C (stream_ranks p s) → HasWave p s w → IsPartialMerge p (contrib s w t)
 stands_from p s w C t is lies wave =
     let same : t.coverage ≡ C = covers t (samples p s w) C is in
     record {
@@ -26,11 +26,11 @@ stands_from p s w C t is lies wave =
     }
 
 -- a tree of nothing
-pub stands_none : (p : Plan) (s w : ℕ) (t : Tree) → t ≡ tree_of [] none → HasWave p s w → StandsFor p (contrib s w t)
+pub stands_none : (p : Plan) (s w : ℕ) (t : Tree) → t ≡ tree_of [] none → HasWave p s w → IsPartialMerge p (contrib s w t)
 stands_none p s w t is wave = stands_from p s w none t (is ∙ tree_of-uncovered [] (samples p s w)) (λ r there. absurd (true≢false (sym there ∙ has-none r))) wave
 
 -- two contributions to one wave
-module _ (p : Plan) (a b : Contrib) (first : StandsFor p a) (second : StandsFor p b) (one_stream : b.stream ≡ a.stream) (one_wave : b.wave ≡ a.wave) where
+module _ (p : Plan) (a b : Contrib) (first : IsPartialMerge p a) (second : IsPartialMerge p b) (one_stream : b.stream ≡ a.stream) (one_wave : b.wave ≡ a.wave) where
   merged_is : merged a.tree b.tree ≡ tree_of (samples p a.stream a.wave) (union (cov_of a) (cov_of b))
   merged_is =
       let other : b.tree ≡ tree_of (samples p a.stream a.wave) (cov_of b) = second.tree ∙ (λ i. tree_of (samples p (one_stream i) (one_wave i)) b.tree.coverage) in
@@ -42,7 +42,7 @@ module _ (p : Plan) (a b : Contrib) (first : StandsFor p a) (second : StandsFor 
     | (inr here) ↦ subst (λ s. Has r (stream_ranks p s)) one_stream (second.lies r here)
   ]
 
-  both_stand : (t : Tree) → t ≡ merged a.tree b.tree → StandsFor p (contrib a.stream a.wave t)
+  both_stand : (t : Tree) → t ≡ merged a.tree b.tree → IsPartialMerge p (contrib a.stream a.wave t)
   both_stand t is = stands_from p a.stream a.wave (union (cov_of a) (cov_of b)) t (is ∙ merged_is) both_lie first.wave
 
   both_covered : (t : Tree) → t ≡ merged a.tree b.tree → t.coverage ≡ union (cov_of a) (cov_of b)
@@ -57,12 +57,12 @@ module _ (p : Plan) (a b : Contrib) (first : StandsFor p a) (second : StandsFor 
       omega (arith, fewer, within, over)
 
 -- the same, of what a program holds
-module _ (p : Plan) (a b v u : Contrib) (va : v ≡ a) (ub : u ≡ b) (first : StandsFor p a) (second : StandsFor p b) (one_stream : b.stream ≡ a.stream) (one_wave : b.wave ≡ a.wave) where
-  v_stands : StandsFor p v
-  v_stands = subst (StandsFor p) (sym va) first
+module _ (p : Plan) (a b v u : Contrib) (va : v ≡ a) (ub : u ≡ b) (first : IsPartialMerge p a) (second : IsPartialMerge p b) (one_stream : b.stream ≡ a.stream) (one_wave : b.wave ≡ a.wave) where
+  v_stands : IsPartialMerge p v
+  v_stands = subst (IsPartialMerge p) (sym va) first
 
-  u_stands : StandsFor p u
-  u_stands = subst (StandsFor p) (sym ub) second
+  u_stands : IsPartialMerge p u
+  u_stands = subst (IsPartialMerge p) (sym ub) second
 
   streams : u.stream ≡ v.stream
   streams = ap (λ (c : Contrib). c.stream) ub ∙ one_stream ∙ sym (ap (λ (c : Contrib). c.stream) va)
@@ -71,7 +71,7 @@ module _ (p : Plan) (a b v u : Contrib) (va : v ≡ a) (ub : u ≡ b) (first : S
   waves = ap (λ (c : Contrib). c.wave) ub ∙ one_wave ∙ sym (ap (λ (c : Contrib). c.wave) va)
 
   -- the merged tree stands for the plan
-  pub united : (t : Tree) → t ≡ merged v.tree u.tree → StandsFor p (contrib v.stream v.wave t)
+  pub united : (t : Tree) → t ≡ merged v.tree u.tree → IsPartialMerge p (contrib v.stream v.wave t)
   united t is = both_stand p v u v_stands u_stands streams waves t is
 
   -- it covers the ranks of both

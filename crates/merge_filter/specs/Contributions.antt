@@ -30,7 +30,7 @@ abbrev pub HasWave : Plan → ℕ → ℕ → Type 0
 HasWave p s w = In (s, w) (waves_of p.streams)
 
 -- the tree is that of the wave's samples over the ranks that it covers, which are ranks of the stream
-pub record StandsFor (p : Plan) (c : Contrib) : Type 0 where
+pub record IsPartialMerge (p : Plan) (c : Contrib) : Type 0 where
   pub tree : c.tree ≡ tree_of (samples p c.stream c.wave) c.tree.coverage
   pub lies : IsSubset c.tree.coverage (stream_ranks p c.stream)
   pub wave : HasWave p c.stream c.wave

@@ -9,7 +9,7 @@ ghost use Rattle.std.specs.Prelude.{◌≡◌, IfOk, IsSome, OnOk, OnErr};
 ghost use Rattle.rank_set.specs.Ranks.{none, union};
 ghost use Rattle.stat_plan.specs.NodeSets.{In};
 ghost use Rattle.stat_plan.specs.Plans.{Plan, daemons, ranks, sample_count, stream_of, stream_ranks};
-ghost use Rattle.merge_filter.specs.Contributions.{HasWave, StandsFor, contrib, cov_of};
+ghost use Rattle.merge_filter.specs.Contributions.{HasWave, IsPartialMerge, contrib, cov_of};
 
 mod own_tree;
 
@@ -66,7 +66,7 @@ impl<T: PrefixTree> Contribution<T> {
         ensures stream { result.stream ≡ s }
         ensures wave { result.wave ≡ w }
         ensures cov { cov_of result ≡ none }
-        ensures stands { (p : Plan) → HasWave p s w → StandsFor p result }
+        ensures stands { (p : Plan) → HasWave p s w → IsPartialMerge p result }
     {
         Contribution::of_tree(s, w, T::empty(alloc))
     }
@@ -84,12 +84,12 @@ impl<T: PrefixTree> Contribution<T> {
         ensures stream { IfOk result (λ c. c.stream ≡ s) }
         ensures wave { IfOk result (λ c. c.wave ≡ w) }
         ensures cov { IfOk result (λ c. cov_of c ≡ ranks plan.now d) }
-        ensures stands { IfOk result (StandsFor plan.now) }
+        ensures stands { IfOk result (IsPartialMerge plan.now) }
     {
-        plan.is_plan();
+        plan.invariant();
         let samples = sample_count(plan, s);
         let all = plan.lines();
-        let numbers = plan.own_lines(d);
+        let numbers = plan.line_index(d);
         let own = plan.ranks(d);
         let tree = own_tree(alloc, all.lines, all.paths, numbers, samples, w, own)?;
         Ok(Contribution::of_tree(s, w, tree))
@@ -108,17 +108,17 @@ impl<T: PrefixTree> Contribution<T> {
 
     /// Unites another part of the wave into it. A refusal leaves it as it was.
     pub fn absorb(&mut self, plan: &Plan, other: &Contribution<T>) -> Result<(), AllocError>
-        requires stands { StandsFor plan.now self.old }
-        requires other { StandsFor plan.now other.now }
+        requires stands { IsPartialMerge plan.now self.old }
+        requires other { IsPartialMerge plan.now other.now }
         requires stream { other.now.stream ≡ self.old.stream }
         requires wave { other.now.wave ≡ self.old.wave }
         ensures stream { OnOk result (self.new.stream ≡ self.old.stream) }
         ensures wave { OnOk result (self.new.wave ≡ self.old.wave) }
-        ensures stands { OnOk result (StandsFor plan.now self.new) }
+        ensures stands { OnOk result (IsPartialMerge plan.now self.new) }
         ensures cov { OnOk result (cov_of self.new ≡ union (cov_of self.old) (cov_of other.now)) }
         ensures err { OnErr result (self.new ≡ self.old) }
     {
-        plan.is_plan();
+        plan.invariant();
         match self.tree.merge(&other.tree) {
             Ok(()) => {}
             Err(TreeError::OutOfMemory) => return Err(AllocError),
@@ -185,7 +185,7 @@ pub fn direct<T: PrefixTree>(
     ensures stream { IfOk result (λ c. c.stream ≡ s) }
     ensures wave { IfOk result (λ c. c.wave ≡ w) }
     ensures cov { IfOk result (λ c. cov_of c ≡ stream_ranks plan.now s) }
-    ensures stands { IfOk result (StandsFor plan.now) }
+    ensures stands { IfOk result (IsPartialMerge plan.now) }
 {
     let mut all: Contribution<T> = Contribution::none(alloc, s, w);
     for d in daemons_of(plan, s) {

@@ -5,7 +5,7 @@ ghost use Rattle.rank_set.specs.Ranks.{Ranks};
 ghost use Rattle.prefix_tree.specs.Pairs.{Pairs};
 ghost use Rattle.prefix_tree.specs.Tree.{tree_of};
 ghost use Rattle.stat_plan.specs.Samples.{IsWithinLimit, samples_of, wave_lines};
-ghost use Rattle.stat_plan.specs.StackLines.{AreNumbered, line_of, lines_of};
+ghost use Rattle.stat_plan.specs.StackLines.{PathIndicesInRange, line_of, lines_of};
 ghost use Rattle.stat_plan.specs.Tables.{AreOwnLines};
 ghost use Rattle.merge_filter.specs.Gathering.{HasRoomFor, TakesLine, with_pending};
 
@@ -56,7 +56,7 @@ fn take_line<T: PrefixTree>(
     ensures { OnOk result ((P : Pairs) → T.tree tree.old ≡ tree_of P own.now → TakesLine P own.now paths.now (line_of paths.now line.now) line.now.path pending.old pending.new (T.tree tree.new)) }
 {
     let mut here = own.copy()?;
-    here.keep(&line.ranks);
+    here.intersect_with(&line.ranks);
     if line.path == pending.path {
         pending.ranks.union_into(&here)?;
         return Ok(());
@@ -78,7 +78,7 @@ pub fn own_tree<T: PrefixTree>(
     wave: u8,
     own: &RankSet,
 ) -> Result<T, AllocError>
-    requires numbered { AreNumbered paths.now lines.now }
+    requires numbered { PathIndicesInRange paths.now lines.now }
     requires numbers { AreOwnLines (lines_of paths.now lines.now) own.now numbers.now }
     requires within { IsWithinLimit (samples_of (wave_lines samples wave (lines_of paths.now lines.now))) own.now }
     ensures { IfOk result (λ tree. T.tree tree ≡ tree_of (samples_of (wave_lines samples wave (lines_of paths.now lines.now))) own.now) }

@@ -6,9 +6,9 @@ use Rattle.stat_plan.specs.NodeSets.{In}
 use Rattle.stat_plan.specs.Waves.{put_at, Wave, Open, Closed, Book, set_wave}
 use Rattle.stat_plan.specs.Plans.{Plan, IsUnder, serves, mode, is_front, waves_of}
 use Rattle.stat_plan.specs.Due.{due_act}
-use Rattle.overlay_core.specs.Nodes.{Packet, Up, Done, Work, due_at, to_parent, dones, acted, act_as, act, act_each}
+use Rattle.overlay_core.specs.Nodes.{Packet, Up, Done, Effects, due_at, to_parent, dones, acted, act_as, act, act_each}
 use Rattle.stat_plan.specs.Kin.{Kin, complete}
-use Rattle.overlay_core.specs.Sound.{SendIsSound, OpenIsSound, WaveIsSound, BookIsSound}
+use Rattle.overlay_core.specs.LinkInvariant.{SendIsSound, OpenIsSound, WaveIsSound, BookIsSound}
 use Rattle.stat_plan.specs.declared.script.Mode.{Mode}
 use Rattle.stat_plan.specs.declared.script.Mode.TheVariants.{WaitForAll, TimeOut, DontWait}
 use Rattle.stat_plan.specs.declared.act.Timer.{Timer}
@@ -37,7 +37,7 @@ pub record KinFits (p : Plan) (n : ℕ) (kin : Kin) : Type 0 where
 abbrev pub SendsAreSound : Plan → ℕ → List (ℕ × Packet) → Type 0
 SendsAreSound p n sends = (m : ℕ) (q : Packet) → In (m, q) sends → SendIsSound p n m q
 
-pub record WorkIsSound (p : Plan) (n : ℕ) (k : Work) : Type 0 where
+pub record WorkIsSound (p : Plan) (n : ℕ) (k : Effects) : Type 0 where
   pub book : BookIsSound p n k.book
   pub sends : SendsAreSound p n k.sends
 
@@ -74,7 +74,7 @@ dones_sound p n s w kin fits named m q i =
 pub subset_refl : (xs : Ranks) → IsSubset xs xs
 subset_refl xs x h = h
 
-acted_sound : (p : Plan) (n : ℕ) (kin : Kin) (s w : ℕ) (cov sent : Ranks) (timer : Timer) (k : Work) (a : Act) → In (s, w) (waves_of p.streams) → KinFits p n kin → WorkIsSound p n k → OpenIsSound p n s cov sent → (a ≡ Send → cov ≢ none) → WorkIsSound p n (acted p kin s w cov sent timer k a)
+acted_sound : (p : Plan) (n : ℕ) (kin : Kin) (s w : ℕ) (cov sent : Ranks) (timer : Timer) (k : Effects) (a : Act) → In (s, w) (waves_of p.streams) → KinFits p n kin → WorkIsSound p n k → OpenIsSound p n s cov sent → (a ≡ Send → cov ≢ none) → WorkIsSound p n (acted p kin s w cov sent timer k a)
 unfolding acted
 acted_sound p n kin s w cov sent timer k Hold named fits h o grown = h
 acted_sound p n kin s w cov sent timer k Arm named fits h o grown = record {
@@ -94,16 +94,16 @@ acted_sound p n kin s w cov sent timer k Final named fits h o grown = record {
   sends = sends_append p n k.sends _ h.sends (dones_sound p n s w kin fits named);
 }
 
-act_as_sound : (p : Plan) (n : ℕ) (kin : Kin) (s w : ℕ) (k : Work) (v : Wave) → In (s, w) (waves_of p.streams) → KinFits p n kin → WorkIsSound p n k → WaveIsSound p n s v → WorkIsSound p n (act_as p n kin s w k v)
+act_as_sound : (p : Plan) (n : ℕ) (kin : Kin) (s w : ℕ) (k : Effects) (v : Wave) → In (s, w) (waves_of p.streams) → KinFits p n kin → WorkIsSound p n k → WaveIsSound p n s v → WorkIsSound p n (act_as p n kin s w k v)
 unfolding due_at
 act_as_sound p n kin s w k (Open cov sent timer) named fits h hv =
     acted_sound p n kin s w cov sent timer k (due_at p n kin.lost s cov sent timer) named fits h hv
     (λ e. grown_not_empty cov sent hv.within (send_grown (mode p s) (complete p n kin.lost s cov) (not (is_same cov sent)) (is_front p n) timer e))
 act_as_sound p n kin s w k Closed named fits h hv = h
 
-pub act_sound : (p : Plan) (n : ℕ) (kin : Kin) (s w : ℕ) (k : Work) → In (s, w) (waves_of p.streams) → KinFits p n kin → WorkIsSound p n k → WorkIsSound p n (act p n kin s w k)
+pub act_sound : (p : Plan) (n : ℕ) (kin : Kin) (s w : ℕ) (k : Effects) → In (s, w) (waves_of p.streams) → KinFits p n kin → WorkIsSound p n k → WorkIsSound p n (act p n kin s w k)
 act_sound p n kin s w k named fits h = act_as_sound p n kin s w k (k.book s w) named fits h (h.book s w)
 
-pub act_each_sound : (p : Plan) (n : ℕ) (kin : Kin) (vs : List (ℕ × ℕ)) (k : Work) → IsSubsetOf vs (waves_of p.streams) → KinFits p n kin → WorkIsSound p n k → WorkIsSound p n (act_each p n kin vs k)
+pub act_each_sound : (p : Plan) (n : ℕ) (kin : Kin) (vs : List (ℕ × ℕ)) (k : Effects) → IsSubsetOf vs (waves_of p.streams) → KinFits p n kin → WorkIsSound p n k → WorkIsSound p n (act_each p n kin vs k)
 act_each_sound p n kin [] k named fits h = h
 act_each_sound p n kin (v ∷ vs) k named fits h = act_each_sound p n kin vs (act p n kin v.0 v.1 k) (λ x i. named x (inr i)) fits (act_sound p n kin v.0 v.1 k (named v (inl refl)) fits h)

@@ -6,7 +6,7 @@ use Rattle.stat_plan.specs.Plans.{Plan, fault}
 use Rattle.stat_plan.specs.declared.script.Fault.{Fault}
 use Rattle.overlay_core.specs.Nodes.{Packet, Up, Done, Attach, Down, Node, Outcome}
 use Rattle.overlay_core.specs.Machine.{State, commit, to, is_spent, is_doomed}
-use Rattle.overlay_core.specs.Sound.{AreRelated, KinIsSound, PacketIsSound, SendIsSound, BookIsSound, LinkIsSound, EndsAtDown, LossIsTold, CountIsSound, FrontIsAlive, Sound}
+use Rattle.overlay_core.specs.LinkInvariant.{AreRelated, KinIsSound, PacketIsSound, SendIsSound, BookIsSound, LinkIsSound, EndsAtDown, LossIsTold, CountIsSound, FrontIsAlive, LinkInvariant}
 use Rattle.overlay_core.proofs.Lists.{in_append, append_left}
 use Rattle.overlay_core.proofs.Acts.{SendsAreSound}
 use Rattle.overlay_core.proofs.Outcomes.{OutcomeIsSound}
@@ -144,7 +144,7 @@ count_goes_on p st n f ef d le =
     let ne : (st.node n).count ≡ f.after → ⊥ = eqb-false _ _ t in
     omega arith
 
-pub commit_sound : (p : Plan) (st : State) (n : ℕ) (heard : List ℕ) (o : Outcome) → IsReady p st n heard → OutcomeIsSound p st.alive n (st.node n) heard o → Sound p (commit st n o)
+pub commit_sound : (p : Plan) (st : State) (n : ℕ) (heard : List ℕ) (o : Outcome) → IsReady p st n heard → OutcomeIsSound p st.alive n (st.node n) heard o → LinkInvariant p (commit st n o)
 unfolding commit
 commit_sound p st n heard o r h = record {
   front = r.front;

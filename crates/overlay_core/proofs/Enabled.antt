@@ -6,16 +6,16 @@ use Rattle.stat_plan.specs.Plans.{Plan, nodes, waves_of, up_to}
 use Rattle.overlay_core.specs.Nodes.{Packet}
 use Rattle.overlay_core.specs.Machine.{State, is_enabled, is_pending, samples_of, events_of, events_below, enabled_events}
 use Rattle.overlay_core.specs.Runs.{IsQuiet}
-use Rattle.overlay_core.proofs.Grounds.{HasGrounds}
-use Rattle.overlay_core.specs.Sound.{Sound}
+use Rattle.overlay_core.proofs.PlanFacts.{HasPlanFacts}
+use Rattle.overlay_core.specs.LinkInvariant.{LinkInvariant}
 use Rattle.stat_desk.specs.declared.event.Event.{Event}
 use Rattle.stat_desk.specs.declared.event.Event.TheVariants.{Sample, Recv, Tick, Lose}
 use Rattle.overlay_core.proofs.Lists.{append_left, append_right, nil-no, filter_from}
 use Rattle.overlay_core.proofs.Outcomes.{next_is_named}
-use Rattle.overlay_core.proofs.Goes.{in_filter}
+use Rattle.overlay_core.proofs.ParentLinks.{in_filter}
 use Rattle.overlay_core.proofs.Steps.{active_parts}
 use Rattle.overlay_core.proofs.Whole.{in_up_to}
-use Rattle.overlay_core.proofs.Weights.{sender_below}
+use Rattle.overlay_core.proofs.Potential.{sender_below}
 
 in_samples : (n : ℕ) (vs : List (ℕ × ℕ)) (s w : ℕ) → In (s, w) vs → In (Sample n s w) (samples_of n vs)
 in_samples n [] s w i = absurd i
@@ -39,7 +39,7 @@ first_in : (l : List Packet) → is_pending l ≡ true → (q : Packet) × In q 
 first_in [] e = absurd (true≢false (sym e))
 first_in (q ∷ qs) e = (q, inl refl)
 
-can_be_named : (p : Plan) (st : State) (e : Event) → HasGrounds p → Sound p st → ((n : ℕ) → st.alive n ≡ true → n < nodes p) → is_enabled p st e ≡ true → In e (events_below p (nodes p))
+can_be_named : (p : Plan) (st : State) (e : Event) → HasPlanFacts p → LinkInvariant p st → ((n : ℕ) → st.alive n ≡ true → n < nodes p) → is_enabled p st e ≡ true → In e (events_below p (nodes p))
 can_be_named p st (Sample n s w) plan h below e =
     let t = and_parts _ _ e in
     let u = and_parts _ _ t.0 in
@@ -53,7 +53,7 @@ can_be_named p st (Tick n) plan h below e =
     in_below p (nodes p) n (Tick n) (below n (active_parts p st n (and_parts _ _ e).0).0) (inr (append_right (Tick n) (samples_of n (waves_of p.streams) ++ map (λ m. Recv n m) (up_to (nodes p))) (Tick n ∷ []) (inl refl)))
 can_be_named p st (Lose n) plan h below e = in_below p (nodes p) n (Lose n) (below n (and_parts _ _ e).0) (inl refl)
 
-pub enabled_listed : (p : Plan) (st : State) (e : Event) → HasGrounds p → Sound p st → ((n : ℕ) → st.alive n ≡ true → n < nodes p) → is_enabled p st e ≡ true → In e (enabled_events p st)
+pub enabled_listed : (p : Plan) (st : State) (e : Event) → HasPlanFacts p → LinkInvariant p st → ((n : ℕ) → st.alive n ≡ true → n < nodes p) → is_enabled p st e ≡ true → In e (enabled_events p st)
 unfolding enabled_events
 enabled_listed p st e plan h below en = in_filter (is_enabled p st) (events_below p (nodes p)) e (can_be_named p st e plan h below en) en
 
@@ -61,5 +61,5 @@ pub listed_enabled : (p : Plan) (st : State) (e : Event) → In e (enabled_event
 unfolding enabled_events
 listed_enabled p st e i = (filter_from (is_enabled p st) (events_below p (nodes p)) e i).1
 
-pub quiet_from_list : (p : Plan) (st : State) → HasGrounds p → Sound p st → ((n : ℕ) → st.alive n ≡ true → n < nodes p) → enabled_events p st ≡ [] → IsQuiet p st
+pub quiet_from_list : (p : Plan) (st : State) → HasPlanFacts p → LinkInvariant p st → ((n : ℕ) → st.alive n ≡ true → n < nodes p) → enabled_events p st ≡ [] → IsQuiet p st
 quiet_from_list p st plan h below z e = elim (cases_Bool (is_enabled p st e)) [ inl t ↦ absurd (nil-no e (enabled_events p st) (enabled_listed p st e plan h below t) z) | inr f ↦ f ]

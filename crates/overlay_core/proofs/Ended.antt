@@ -14,12 +14,12 @@ use Rattle.overlay_core.specs.Runs.{after, IsWhole}
 use Rattle.overlay_core.specs.Losses.{IsLost}
 use Rattle.overlay_core.specs.History.{of_wave}
 use Rattle.overlay_core.specs.Whole.{EndsFinally, HasEnded, LosesNoDaemon, HasOneRelease}
-use Rattle.overlay_core.proofs.Grounds.{HasGrounds}
+use Rattle.overlay_core.proofs.PlanFacts.{HasPlanFacts}
 use Rattle.overlay_core.proofs.Lists.{filter_from, in_union, union_left, union_right, same_from_members, no_rank}
 use Rattle.overlay_core.proofs.Whole.{EndsWith, whole_is_over, dead_is_lost}
 use Rattle.overlay_core.proofs.Releases.{legal_log}
 
-daemon_below : (p : Plan) (d s : ℕ) → HasGrounds p → In d (daemons p s) → d < nodes p
+daemon_below : (p : Plan) (d s : ℕ) → HasPlanFacts p → In d (daemons p s) → d < nodes p
 daemon_below p d s plan i = elim (plan.daemon_place d s i) [ inl e ↦ subst (λ x. x < nodes p) (sym e) plan.front_below | inr u ↦ (plan.under_nodes d (front p) u).0 ]
 
 alive_at_start : (p : Plan) (n : ℕ) → n < nodes p → (start p).alive n ≡ true
@@ -30,7 +30,7 @@ alive_at_start p n lt = lt-ltb n (nodes p) lt
 lost_by : (p : Plan) (journal : List Event) (n : ℕ) → n < nodes p → (after p journal).alive n ≡ false → IsLost journal n
 lost_by p journal n lt dead = dead_is_lost p (start p) journal n (alive_at_start p n lt) dead
 
-by_journal : (p : Plan) (journal : List Event) (s : ℕ) (rs : List Release) → HasGrounds p → EndsWith p (after p journal).alive s rs → EndsFinally p journal s rs
+by_journal : (p : Plan) (journal : List Event) (s : ℕ) (rs : List Release) → HasPlanFacts p → EndsWith p (after p journal).alive s rs → EndsFinally p journal s rs
 by_journal p journal s rs plan e = record {
   before = e.before;
   final = e.final;
@@ -48,7 +48,7 @@ by_journal p journal s rs plan e = record {
   names = λ n lt i. lost_by p journal n lt (e.misses.dead n i);
 }
 
-pub whole_has_ended : (p : Plan) (journal : List Event) → HasGrounds p → IsWhole p journal → HasEnded p journal
+pub whole_has_ended : (p : Plan) (journal : List Event) → HasPlanFacts p → IsWhole p journal → HasEnded p journal
 whole_has_ended p journal plan l =
     let over = whole_is_over p journal plan l in
     record { final = λ s w i. by_journal p journal s (of_wave s w (after p journal).releases) plan (over.final s w i); closed = over.closed }
@@ -96,7 +96,7 @@ all_of_stream p s cov from each = same_from_members cov (all_ranks (map (ranks p
     down r h = elim (in_ranks_with (ranks p) (daemons p s) none r h) [ inl i ↦ absurd (no_rank r i) | inr k ↦ each k.0 k.1 r k.2 ]
 
 -- a stream that waits for all, and loses no daemon, has one release of each wave, which covers all
-pub waits_for_all : (p : Plan) (journal : List Event) (s w : ℕ) → HasGrounds p → IsWhole p journal → mode p s ≡ WaitForAll → LosesNoDaemon p journal s → In (s, w) (waves_of p.streams) → HasOneRelease p s (of_wave s w (after p journal).releases)
+pub waits_for_all : (p : Plan) (journal : List Event) (s w : ℕ) → HasPlanFacts p → IsWhole p journal → mode p s ≡ WaitForAll → LosesNoDaemon p journal s → In (s, w) (waves_of p.streams) → HasOneRelease p s (of_wave s w (after p journal).releases)
 waits_for_all p journal s w plan l waits safe i =
     let ended = whole_has_ended p journal plan l in
     let log = legal_log p journal plan l.0 in

@@ -7,11 +7,11 @@ use Rattle.stat_plan.specs.NodeSets.{In, member}
 use Rattle.stat_plan.specs.Waves.{put_at, Wave, Open, Closed, Book, set_wave, is_open, is_closed, is_fired, sent_of, covering, growing, ticked, unsent}
 use Rattle.stat_plan.specs.Plans.{Plan, IsUnder, ancestors, serves, mode, is_front, front, daemons, ranks, is_within, is_related, waves_at, waves_of}
 use Rattle.stat_plan.specs.Due.{due_act}
-use Rattle.overlay_core.specs.Nodes.{Packet, Up, Done, Attach, Down, Node, Work, Outcome, Release, begin, due_at, to_parent, dones, acted, act_as, act, act_each, done_work, sampled, after_tick, received_up, received_done, received_attach, received_down, received}
+use Rattle.overlay_core.specs.Nodes.{Packet, Up, Done, Attach, Down, Node, Effects, Outcome, Release, begin, due_at, to_parent, dones, acted, act_as, act, act_each, done_work, sampled, after_tick, received_up, received_done, received_attach, received_down, received}
 use Rattle.stat_plan.specs.Kin.{Kin, complete, is_parent, without_child, with_parent}
 use Rattle.overlay_core.specs.Machine.{State, start, step, commit, with_link, lose, receive, is_enabled, is_empty_open}
-use Rattle.overlay_core.proofs.Grounds.{HasGrounds}
-use Rattle.overlay_core.specs.Sound.{Sound, KinIsSound, PacketIsSound, WaveIsSound, BookIsSound, OpenIsSound}
+use Rattle.overlay_core.proofs.PlanFacts.{HasPlanFacts}
+use Rattle.overlay_core.specs.LinkInvariant.{LinkInvariant, KinIsSound, PacketIsSound, WaveIsSound, BookIsSound, OpenIsSound}
 use Rattle.overlay_core.specs.History.{of_wave, ByKind, MissesOnlyLost, IsHistory, HistoryIsSound}
 use Rattle.overlay_core.specs.declared.release.Kind.{Kind}
 use Rattle.overlay_core.specs.declared.release.Kind.TheVariants.{Partial as PartialRelease, Final as FinalRelease}
@@ -27,11 +27,11 @@ use Rattle.overlay_core.proofs.Lists.{filter_from, list_all_in, subset_from_test
 use Rattle.overlay_core.proofs.Acts.{IsSubsetOf, each_wave_set, WorkIsSound, act_sound}
 use Rattle.overlay_core.proofs.Outcomes.{next_is_named, waves_at_named, kin_fits, begin_sound, next_is_empty, covering_sound, growing_sound, ticked_sound, received_sound}
 use Rattle.overlay_core.proofs.Steps.{popped_in}
-use Rattle.overlay_core.proofs.Goes.{set_wave_here, test_from_within, BookGrows, covering_grows, growing_grows, ticking_grows, OutcomeGoes, sampled_goes, tick_goes, received_goes, front_top_of}
-use Rattle.overlay_core.proofs.Calm.{set_wave_else, ne_from_grown}
+use Rattle.overlay_core.proofs.ParentLinks.{set_wave_here, test_from_within, BookGrows, covering_grows, growing_grows, ticking_grows, OutcomeGoes, sampled_goes, tick_goes, received_goes, front_top_of}
+use Rattle.overlay_core.proofs.Settled.{set_wave_else, ne_from_grown}
 use Rattle.overlay_core.proofs.Commits.{commit_link}
 use Rattle.overlay_core.proofs.Losses.{still_dead}
-use Rattle.overlay_core.proofs.Pairs.{node_here, node_else}
+use Rattle.overlay_core.proofs.ParentChild.{node_here, node_else}
 
 -- a history looks at its wave for what was sent and for whether it is open
 history_like : (p : Plan) (alive : ℕ → Bool) (s : ℕ) (last : Ranks) (rs : List Release) (v v' : Wave) → is_open v' ≡ is_open v → sent_of v' ≡ sent_of v → IsHistory p alive s last rs v → IsHistory p alive s last rs v'
@@ -68,7 +68,7 @@ history_more p alive s last (r ∷ rs) cov sent t y v h hy = (h.0, go r.kind (λ
     go PartialRelease ih x = (x.0, ih x.1)
     go FinalRelease ih x = absurd (true≢false x.2)
 
-abbrev WorkIsLogged : Plan → (ℕ → Bool) → List Release → Work → Type 0
+abbrev WorkIsLogged : Plan → (ℕ → Bool) → List Release → Effects → Type 0
 WorkIsLogged p alive old k = (s w : ℕ) → IsHistory p alive s none (of_wave s w (old ++ k.releases)) (k.book s w)
 
 of_wave_here : (s w : ℕ) (rs : List Release) (r : Release) → r.stream ≡ s → r.wave ≡ w → of_wave s w (rs ++ r ∷ []) ≡ of_wave s w rs ++ r ∷ []
@@ -86,7 +86,7 @@ swap_test a b s w e = elim (cases_Bool ((s == a) && (w == b))) [
 ]
 
 -- a release of one wave, after which it stands as v
-one_logged : (p : Plan) (alive : ℕ → Bool) (old : List Release) (k : Work) (s w : ℕ) (cov sent : Ranks) (t : Timer) (r : Release) (v : Wave) → WorkIsLogged p alive old k → k.book s w ≡ Open cov sent t → r.stream ≡ s → r.wave ≡ w → IsHistory p alive s sent (r ∷ []) v → (a b : ℕ) → IsHistory p alive a none (of_wave a b (old ++ (k.releases ++ r ∷ []))) (set_wave k.book s w v a b)
+one_logged : (p : Plan) (alive : ℕ → Bool) (old : List Release) (k : Effects) (s w : ℕ) (cov sent : Ranks) (t : Timer) (r : Release) (v : Wave) → WorkIsLogged p alive old k → k.book s w ≡ Open cov sent t → r.stream ≡ s → r.wave ≡ w → IsHistory p alive s sent (r ∷ []) v → (a b : ℕ) → IsHistory p alive a none (of_wave a b (old ++ (k.releases ++ r ∷ []))) (set_wave k.book s w v a b)
 one_logged p alive old k s w cov sent t r v h ev es ew hr a b =
     subst (λ l. IsHistory p alive a none (of_wave a b l) (set_wave k.book s w v a b)) (append_assoc old k.releases (r ∷ []))
     (elim (cases_Bool ((a == s) && (b == w))) [
@@ -142,7 +142,7 @@ final_says (TimeOut k) false true true Fired e = absurd (cc)
 final_says (TimeOut k) false true false Fired e = absurd (cc)
 final_says (TimeOut k) false false top Fired e = absurd (cc)
 
-misses_only_lost : (p : Plan) (alive : ℕ → Bool) (n : ℕ) (kin : Kin) (s : ℕ) (cov : Ranks) → HasGrounds p → is_front p n ≡ true → KinIsSound p alive n kin → complete p n kin.lost s cov ≡ true → MissesOnlyLost p alive s cov kin.lost
+misses_only_lost : (p : Plan) (alive : ℕ → Bool) (n : ℕ) (kin : Kin) (s : ℕ) (cov : Ranks) → HasPlanFacts p → is_front p n ≡ true → KinIsSound p alive n kin → complete p n kin.lost s cov ≡ true → MissesOnlyLost p alive s cov kin.lost
 unfolding complete is_front
 misses_only_lost p alive n kin s cov plan top hk e = record {
   each = λ d i.
@@ -156,7 +156,7 @@ misses_only_lost p alive n kin s cov plan top hk e = record {
   dead = hk.lost;
 }
 
-acted_logged : (p : Plan) (alive : ℕ → Bool) (n : ℕ) (kin : Kin) (old : List Release) (s w : ℕ) (cov sent : Ranks) (timer : Timer) (k : Work) (a : Act) → HasGrounds p → is_front p n ≡ true → KinIsSound p alive n kin → OpenIsSound p n s cov sent → k.book s w ≡ Open cov sent timer → WorkIsLogged p alive old k → due_at p n kin.lost s cov sent timer ≡ a → WorkIsLogged p alive old (acted p kin s w cov sent timer k a)
+acted_logged : (p : Plan) (alive : ℕ → Bool) (n : ℕ) (kin : Kin) (old : List Release) (s w : ℕ) (cov sent : Ranks) (timer : Timer) (k : Effects) (a : Act) → HasPlanFacts p → is_front p n ≡ true → KinIsSound p alive n kin → OpenIsSound p n s cov sent → k.book s w ≡ Open cov sent timer → WorkIsLogged p alive old k → due_at p n kin.lost s cov sent timer ≡ a → WorkIsLogged p alive old (acted p kin s w cov sent timer k a)
 unfolding acted due_at
 acted_logged p alive n kin old s w cov sent timer k Hold plan top hk ho ev h e = h
 acted_logged p alive n kin old s w cov sent timer k Arm plan top hk ho ev h e =
@@ -168,18 +168,18 @@ acted_logged p alive n kin old s w cov sent timer k Partial plan top hk ho ev h 
 acted_logged p alive n kin old s w cov sent timer k Final plan top hk ho ev h e =
     one_logged p alive old k s w cov sent timer _ _ h ev refl refl (ho.within, (misses_only_lost p alive n kin s cov plan top hk (final_says (mode p s) _ _ _ timer e).0, refl, refl))
 
-act_as_logged : (p : Plan) (alive : ℕ → Bool) (n : ℕ) (kin : Kin) (old : List Release) (s w : ℕ) (k : Work) (v : Wave) → HasGrounds p → is_front p n ≡ true → KinIsSound p alive n kin → WaveIsSound p n s v → k.book s w ≡ v → WorkIsLogged p alive old k → WorkIsLogged p alive old (act_as p n kin s w k v)
+act_as_logged : (p : Plan) (alive : ℕ → Bool) (n : ℕ) (kin : Kin) (old : List Release) (s w : ℕ) (k : Effects) (v : Wave) → HasPlanFacts p → is_front p n ≡ true → KinIsSound p alive n kin → WaveIsSound p n s v → k.book s w ≡ v → WorkIsLogged p alive old k → WorkIsLogged p alive old (act_as p n kin s w k v)
 act_as_logged p alive n kin old s w k (Open cov sent timer) plan top hk hv ev h = acted_logged p alive n kin old s w cov sent timer k (due_at p n kin.lost s cov sent timer) plan top hk hv ev h refl
 act_as_logged p alive n kin old s w k Closed plan top hk hv ev h = h
 
-act_each_logged : (p : Plan) (alive : ℕ → Bool) (n : ℕ) (kin : Kin) (old : List Release) (vs : List (ℕ × ℕ)) (k : Work) → IsSubsetOf vs (waves_of p.streams) → HasGrounds p → is_front p n ≡ true → KinIsSound p alive n kin → WorkIsSound p n k → WorkIsLogged p alive old k → WorkIsLogged p alive old (act_each p n kin vs k)
+act_each_logged : (p : Plan) (alive : ℕ → Bool) (n : ℕ) (kin : Kin) (old : List Release) (vs : List (ℕ × ℕ)) (k : Effects) → IsSubsetOf vs (waves_of p.streams) → HasPlanFacts p → is_front p n ≡ true → KinIsSound p alive n kin → WorkIsSound p n k → WorkIsLogged p alive old k → WorkIsLogged p alive old (act_each p n kin vs k)
 act_each_logged p alive n kin old [] k named plan top hk hw h = h
 act_each_logged p alive n kin old (v ∷ vs) k named plan top hk hw h =
     act_each_logged p alive n kin old vs (act p n kin v.0 v.1 k) (λ x i. named x (inr i)) plan top hk (act_sound p n kin v.0 v.1 k (named v (inl refl)) (kin_fits p alive n kin hk) hw)
     (act_as_logged p alive n kin old v.0 v.1 k (k.book v.0 v.1) plan top hk (hw.book v.0 v.1) refl h)
 
 -- acts elsewhere release nothing and close nothing
-acted_below : (p : Plan) (kin : Kin) (s w : ℕ) (cov sent : Ranks) (timer : Timer) (k : Work) (a : Act) → k.book s w ≡ Open cov sent timer → (a ≡ Partial → ⊥) → (a ≡ Final → ⊥) → ((acted p kin s w cov sent timer k a).releases ≡ k.releases) × ((x y : ℕ) → is_open ((acted p kin s w cov sent timer k a).book x y) ≡ is_open (k.book x y))
+acted_below : (p : Plan) (kin : Kin) (s w : ℕ) (cov sent : Ranks) (timer : Timer) (k : Effects) (a : Act) → k.book s w ≡ Open cov sent timer → (a ≡ Partial → ⊥) → (a ≡ Final → ⊥) → ((acted p kin s w cov sent timer k a).releases ≡ k.releases) × ((x y : ℕ) → is_open ((acted p kin s w cov sent timer k a).book x y) ≡ is_open (k.book x y))
 unfolding acted
 acted_below p kin s w cov sent timer k Hold ev f g = (refl, λ x y. refl)
 acted_below p kin s w cov sent timer k Arm ev f g = (refl, each_wave_set (λ x y v. is_open v ≡ is_open (k.book x y)) k.book s w _ (λ x y. refl) (sym (ap is_open ev)))
@@ -201,10 +201,10 @@ partial_top (TimeOut k) false false false Off e = absurd (cc)
 partial_top (TimeOut k) false false false (Running j) e = absurd (cc)
 partial_top (TimeOut k) false false false Fired e = absurd (cc)
 
-abbrev KeepsOpen : Work → Work → Type 0
+abbrev KeepsOpen : Effects → Effects → Type 0
 KeepsOpen k k' = (k'.releases ≡ k.releases) × ((x y : ℕ) → is_open (k'.book x y) ≡ is_open (k.book x y))
 
-act_as_below : (p : Plan) (n : ℕ) (kin : Kin) (s w : ℕ) (k : Work) (v : Wave) → is_front p n ≡ false → k.book s w ≡ v → KeepsOpen k (act_as p n kin s w k v)
+act_as_below : (p : Plan) (n : ℕ) (kin : Kin) (s w : ℕ) (k : Effects) (v : Wave) → is_front p n ≡ false → k.book s w ≡ v → KeepsOpen k (act_as p n kin s w k v)
 unfolding due_at
 act_as_below p n kin s w k (Open cov sent timer) low ev =
     acted_below p kin s w cov sent timer k (due_at p n kin.lost s cov sent timer) ev
@@ -212,7 +212,7 @@ act_as_below p n kin s w k (Open cov sent timer) low ev =
     (λ e. true≢false (sym (final_says (mode p s) _ _ _ timer e).1 ∙ low))
 act_as_below p n kin s w k Closed low ev = (refl, λ x y. refl)
 
-pub act_each_below : (p : Plan) (n : ℕ) (kin : Kin) (vs : List (ℕ × ℕ)) (k : Work) → is_front p n ≡ false → KeepsOpen k (act_each p n kin vs k)
+pub act_each_below : (p : Plan) (n : ℕ) (kin : Kin) (vs : List (ℕ × ℕ)) (k : Effects) → is_front p n ≡ false → KeepsOpen k (act_each p n kin vs k)
 act_each_below p n kin [] k low = (refl, λ x y. refl)
 act_each_below p n kin (v ∷ vs) k low =
     let a = act_as_below p n kin v.0 v.1 k (k.book v.0 v.1) low refl in
@@ -220,7 +220,7 @@ act_each_below p n kin (v ∷ vs) k low =
     (b.0 ∙ a.0, λ x y. b.1 x y ∙ a.1 x y)
 
 -- each Done that is sent is of a closed wave
-abbrev DonesAreClosed : Work → Type 0
+abbrev DonesAreClosed : Effects → Type 0
 DonesAreClosed k = (c s w : ℕ) → In (c, Done s w) k.sends → is_open (k.book s w) ≡ false
 
 stays_closed : (book : Book) (s w : ℕ) (v : Wave) → is_open (book s w) ≡ true → (x y : ℕ) → is_open (book x y) ≡ false → is_open (set_wave book s w v x y) ≡ false
@@ -236,7 +236,7 @@ dones_say p kin s w c a b i =
     let e : Done a b ≡ Done s w = ap (λ v. v.1) r.3 in
     (cc, cc)
 
-acted_dones : (p : Plan) (kin : Kin) (s w : ℕ) (cov sent : Ranks) (timer : Timer) (k : Work) (a : Act) → k.book s w ≡ Open cov sent timer → DonesAreClosed k → DonesAreClosed (acted p kin s w cov sent timer k a)
+acted_dones : (p : Plan) (kin : Kin) (s w : ℕ) (cov sent : Ranks) (timer : Timer) (k : Effects) (a : Act) → k.book s w ≡ Open cov sent timer → DonesAreClosed k → DonesAreClosed (acted p kin s w cov sent timer k a)
 unfolding acted
 acted_dones p kin s w cov sent timer k Hold ev h = h
 acted_dones p kin s w cov sent timer k Arm ev h = λ c x y i. stays_closed k.book s w _ (ap is_open ev) x y (h c x y i)
@@ -255,11 +255,11 @@ acted_dones p kin s w cov sent timer k Final ev h = λ c x y i. elim (in_append 
   | inr j ↦ let t = dones_say p kin s w c x y j in closed_here k.book s w x y t.0 t.1
 ]
 
-act_as_dones : (p : Plan) (n : ℕ) (kin : Kin) (s w : ℕ) (k : Work) (v : Wave) → k.book s w ≡ v → DonesAreClosed k → DonesAreClosed (act_as p n kin s w k v)
+act_as_dones : (p : Plan) (n : ℕ) (kin : Kin) (s w : ℕ) (k : Effects) (v : Wave) → k.book s w ≡ v → DonesAreClosed k → DonesAreClosed (act_as p n kin s w k v)
 act_as_dones p n kin s w k (Open cov sent timer) ev h = acted_dones p kin s w cov sent timer k (due_at p n kin.lost s cov sent timer) ev h
 act_as_dones p n kin s w k Closed ev h = h
 
-act_each_dones : (p : Plan) (n : ℕ) (kin : Kin) (vs : List (ℕ × ℕ)) (k : Work) → DonesAreClosed k → DonesAreClosed (act_each p n kin vs k)
+act_each_dones : (p : Plan) (n : ℕ) (kin : Kin) (vs : List (ℕ × ℕ)) (k : Effects) → DonesAreClosed k → DonesAreClosed (act_each p n kin vs k)
 act_each_dones p n kin [] k h = h
 act_each_dones p n kin (v ∷ vs) k h = act_each_dones p n kin vs (act p n kin v.0 v.1 k) (act_as_dones p n kin v.0 v.1 k (k.book v.0 v.1) refl h)
 
@@ -274,7 +274,7 @@ begin_logged : (p : Plan) (alive : ℕ → Bool) (old : List Release) (x b : Boo
 begin_logged p alive old x b g h s w = subst (λ l. IsHistory p alive s none (of_wave s w l) (b s w)) (sym (append-nil old)) (history_like p alive s none (of_wave s w old) (x s w) (b s w) (g.opens s w) (g.sent s w) (h s w))
 
 -- acts from a book that has grown
-acts_logged : (p : Plan) (alive : ℕ → Bool) (n : ℕ) (x : Node) (taken : List (ℕ × Packet)) (kin : Kin) (b : Book) (vs : List (ℕ × ℕ)) → IsSubsetOf vs (waves_of p.streams) → HasGrounds p → KinIsSound p alive n kin → BookIsSound p n b → BookGrows x.book b → OutcomeIsLogged p alive n x taken (record { kin = kin; work = act_each p n kin vs (begin b) })
+acts_logged : (p : Plan) (alive : ℕ → Bool) (n : ℕ) (x : Node) (taken : List (ℕ × Packet)) (kin : Kin) (b : Book) (vs : List (ℕ × ℕ)) → IsSubsetOf vs (waves_of p.streams) → HasPlanFacts p → KinIsSound p alive n kin → BookIsSound p n b → BookGrows x.book b → OutcomeIsLogged p alive n x taken (record { kin = kin; work = act_each p n kin vs (begin b) })
 acts_logged p alive n x taken kin b vs named plan hk hb g = record {
   quiet = λ low. (act_each_below p n kin vs (begin b) low).0;
   closes = λ low s w e. inl (sym (g.opens s w) ∙ sym ((act_each_below p n kin vs (begin b) low).1 s w) ∙ e);
@@ -289,15 +289,15 @@ pub only_wave : (p : Plan) (s w : ℕ) → In (s, w) (waves_of p.streams) → Is
 only_wave p s w named v (inl e) = subst (λ a. In a (waves_of p.streams)) (sym e) named
 only_wave p s w named v (inr i) = absurd i
 
-pub sampled_logged : (p : Plan) (alive : ℕ → Bool) (n : ℕ) (x : Node) (s w : ℕ) → In (s, w) (waves_of p.streams) → HasGrounds p → KinIsSound p alive n x.kin → BookIsSound p n (set_wave x.book s w (covering (ranks p n) (x.book s w))) → is_empty_open (x.book s w) ≡ true → OutcomeIsLogged p alive n x [] (sampled p n x s w)
+pub sampled_logged : (p : Plan) (alive : ℕ → Bool) (n : ℕ) (x : Node) (s w : ℕ) → In (s, w) (waves_of p.streams) → HasPlanFacts p → KinIsSound p alive n x.kin → BookIsSound p n (set_wave x.book s w (covering (ranks p n) (x.book s w))) → is_empty_open (x.book s w) ≡ true → OutcomeIsLogged p alive n x [] (sampled p n x s w)
 unfolding sampled
 sampled_logged p alive n x s w named plan hk hb e = acts_logged p alive n x [] x.kin _ ((s, w) ∷ []) (only_wave p s w named) plan hk hb (covering_grows x.book s w (ranks p n) e)
 
-pub tick_logged : (p : Plan) (alive : ℕ → Bool) (n : ℕ) (x : Node) → HasGrounds p → KinIsSound p alive n x.kin → BookIsSound p n (λ s w. ticked (x.book s w)) → OutcomeIsLogged p alive n x [] (after_tick p n x)
+pub tick_logged : (p : Plan) (alive : ℕ → Bool) (n : ℕ) (x : Node) → HasPlanFacts p → KinIsSound p alive n x.kin → BookIsSound p n (λ s w. ticked (x.book s w)) → OutcomeIsLogged p alive n x [] (after_tick p n x)
 unfolding after_tick
 tick_logged p alive n x plan hk hb = acts_logged p alive n x [] x.kin _ (filter (λ v. is_fired (ticked (x.book v.0 v.1))) (waves_at p n)) (λ v i. waves_at_named p n v (filter_from (λ v. is_fired (ticked (x.book v.0 v.1))) (waves_at p n) v i).0) plan hk hb (ticking_grows x.book)
 
-up_logged : (p : Plan) (alive : ℕ → Bool) (n : ℕ) (x : Node) (taken : List (ℕ × Packet)) (s w : ℕ) (set : Ranks) → In (s, w) (waves_of p.streams) → HasGrounds p → KinIsSound p alive n x.kin → BookIsSound p n (set_wave x.book s w (growing set (x.book s w))) → OutcomeIsLogged p alive n x taken (received_up p n x s w set)
+up_logged : (p : Plan) (alive : ℕ → Bool) (n : ℕ) (x : Node) (taken : List (ℕ × Packet)) (s w : ℕ) (set : Ranks) → In (s, w) (waves_of p.streams) → HasPlanFacts p → KinIsSound p alive n x.kin → BookIsSound p n (set_wave x.book s w (growing set (x.book s w))) → OutcomeIsLogged p alive n x taken (received_up p n x s w set)
 unfolding received_up
 up_logged p alive n x taken s w set named plan hk hb = acts_logged p alive n x taken x.kin _ ((s, w) ∷ []) (only_wave p s w named) plan hk hb (growing_grows x.book s w set)
 
@@ -340,14 +340,14 @@ attach_logged p alive n x taken m = record {
     closed_open (Open cov sent t) e = absurd (true≢false (sym e))
     closed_open Closed e = refl
 
-top_parent : (p : Plan) (alive : ℕ → Bool) (n : ℕ) (x : Node) (m : ℕ) → HasGrounds p → KinIsSound p alive n x.kin → is_front p n ≡ true → is_parent x.kin.parent m ≡ false
+top_parent : (p : Plan) (alive : ℕ → Bool) (n : ℕ) (x : Node) (m : ℕ) → HasPlanFacts p → KinIsSound p alive n x.kin → is_front p n ≡ true → is_parent x.kin.parent m ≡ false
 top_parent p alive n x m plan hk top = rw (front_top_of p alive n x.kin plan hk top) refl
 
 unsent_open' : (v : Wave) → is_open (unsent v) ≡ is_open v
 unsent_open' (Open cov sent t) = refl
 unsent_open' Closed = refl
 
-down_logged : (p : Plan) (alive : ℕ → Bool) (n : ℕ) (x : Node) (taken : List (ℕ × Packet)) (m : ℕ) → HasGrounds p → KinIsSound p alive n x.kin → KinIsSound p alive n (received_down p n x m).kin → BookIsSound p n x.book → OutcomeIsLogged p alive n x taken (received_down p n x m)
+down_logged : (p : Plan) (alive : ℕ → Bool) (n : ℕ) (x : Node) (taken : List (ℕ × Packet)) (m : ℕ) → HasPlanFacts p → KinIsSound p alive n x.kin → KinIsSound p alive n (received_down p n x m).kin → BookIsSound p n x.book → OutcomeIsLogged p alive n x taken (received_down p n x m)
 unfolding received_down
 down_logged p alive n x taken m plan hk hk' hb =
     (cond_both (is_parent x.kin.parent m) _ _ (λ o. KinIsSound p alive n o.kin → OutcomeIsLogged p alive n x taken o)
@@ -364,7 +364,7 @@ down_logged p alive n x taken m plan hk hk' hb =
     no_done (Some m) c s w (inl e) = let q : Done s w ≡ Attach = ap (λ v. v.1) e in cc
     no_done (Some m) c s w (inr j) = j
 
-received_logged : (p : Plan) (alive : ℕ → Bool) (n : ℕ) (x : Node) (m : ℕ) (q : Packet) → HasGrounds p → KinIsSound p alive n x.kin → KinIsSound p alive n (received p n x m q).kin → BookIsSound p n x.book → PacketIsSound p alive m n q → OutcomeIsLogged p alive n x ((m, q) ∷ []) (received p n x m q)
+received_logged : (p : Plan) (alive : ℕ → Bool) (n : ℕ) (x : Node) (m : ℕ) (q : Packet) → HasPlanFacts p → KinIsSound p alive n x.kin → KinIsSound p alive n (received p n x m q).kin → BookIsSound p n x.book → PacketIsSound p alive m n q → OutcomeIsLogged p alive n x ((m, q) ∷ []) (received p n x m q)
 unfolding is_front
 received_logged p alive n x m (Up s w set) plan hk hk' hb hq =
     up_logged p alive n x ((m, Up s w set) ∷ []) s w set hq.3 plan hk (each_wave_set (λ a b v. WaveIsSound p n a v) x.book s w _ hb (growing_sound p m n s set (x.book s w) plan hq.0 hq.1 (hb s w)))
@@ -436,7 +436,7 @@ commit_history p old st n taken o g l from still rel closed told = record {
     swap : (front p == n) ≡ false → (n == front p) ≡ false
     swap f = elim (cases_Bool (n == front p)) [ inl t ↦ absurd (eqb-false (front p) n f (sym (eqb-true n (front p) t))) | inr k ↦ k ]
 
-receive_history : (p : Plan) (st : State) (n m : ℕ) (qs : List Packet) → HasGrounds p → Sound p st → HistoryIsSound p st → st.link m n ≡ qs → HistoryIsSound p (receive p st n m qs)
+receive_history : (p : Plan) (st : State) (n m : ℕ) (qs : List Packet) → HasPlanFacts p → LinkInvariant p st → HistoryIsSound p st → st.link m n ≡ qs → HistoryIsSound p (receive p st n m qs)
 unfolding with_link
 receive_history p st n m [] plan hs h e = h
 receive_history p st n m (q ∷ qs) plan hs h e =
@@ -470,7 +470,7 @@ lose_history p st n h = record {
   told = λ a b s w i. h.told a b s w (lose_in p st n a b s w i);
 }
 
-pub step_history : (p : Plan) (st : State) (e : Event) → HasGrounds p → Sound p st → HistoryIsSound p st → is_enabled p st e ≡ true → HistoryIsSound p (step p st e)
+pub step_history : (p : Plan) (st : State) (e : Event) → HasPlanFacts p → LinkInvariant p st → HistoryIsSound p st → is_enabled p st e ≡ true → HistoryIsSound p (step p st e)
 step_history p st (Sample n s w) plan hs h e =
     let t = and_parts _ _ e in
     let u = and_parts _ _ t.0 in

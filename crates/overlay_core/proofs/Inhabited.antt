@@ -16,7 +16,7 @@ use Rattle.stat_plan.specs.Trees.{parent_of, ancestors, root_of, is_daemon, IsTr
 use Rattle.stat_plan.specs.Topologies.{IsTopology}
 use Rattle.stat_plan.specs.Samples.{IsWithinLimit}
 use Rattle.stat_plan.specs.Plans.{nodes_of, scripted_of, samples, stream_ranks}
-use Rattle.stat_plan.specs.Kept.{IsPlan, IsScript, ArePlacedOnce, ScriptFits}
+use Rattle.stat_plan.specs.Invariants.{IsPlan, IsScript, ArePlacedOnce, ScriptFits}
 use Rattle.overlay_core.specs.Rows.{lost_late}
 
 front_name : IsName (codes "fe:0")

@@ -8,9 +8,9 @@ use Rattle.overlay_core.specs.Bound.{bound}
 use Rattle.overlay_core.specs.Losses.{IsLost}
 use Rattle.overlay_core.specs.Machine.{State, start, step, is_enabled, enabled_events}
 use Rattle.overlay_core.specs.Runs.{run, after, IsLegal, IsLegalFrom, IsQuiet}
-use Rattle.overlay_core.proofs.Grounds.{HasGrounds}
+use Rattle.overlay_core.proofs.PlanFacts.{HasPlanFacts}
 use Rattle.overlay_core.proofs.Whole.{legal_is_sound, lives_below, start_below, dead_is_lost}
-use Rattle.overlay_core.proofs.Weights.{legal_is_short}
+use Rattle.overlay_core.proofs.Potential.{legal_is_short}
 use Rattle.overlay_core.proofs.Enabled.{enabled_listed, listed_enabled, quiet_from_list}
 use Rattle.overlay_core.proofs.Picks.{lost_is_dead, list_from_quiet}
 
@@ -36,19 +36,19 @@ pub legal_less : (p : Plan) (journal : List Event) (e : Event) → IsLegal p (jo
 legal_less p journal e l = legal_from_less p (start p) journal e l
 
 -- there is room for an event that may come
-pub legal_has_room : (p : Plan) (journal : List Event) (e : Event) → HasGrounds p → IsLegal p journal → is_enabled p (after p journal) e ≡ true → length journal < bound p
+pub legal_has_room : (p : Plan) (journal : List Event) (e : Event) → HasPlanFacts p → IsLegal p journal → is_enabled p (after p journal) e ≡ true → length journal < bound p
 legal_has_room p journal e plan l en =
     let short : length (journal ++ e ∷ []) ≤ bound p = legal_is_short p (journal ++ e ∷ []) plan (legal_more p journal e l en) in
     let more : length (journal ++ e ∷ []) ≡ length journal + 1 = length-append journal (e ∷ []) in
     omega arith
 
-pub listed_where_enabled : (p : Plan) (journal : List Event) (e : Event) → HasGrounds p → IsLegal p journal → (is_enabled p (after p journal) e ≡ true) ↔ In e (enabled_events p (after p journal))
+pub listed_where_enabled : (p : Plan) (journal : List Event) (e : Event) → HasPlanFacts p → IsLegal p journal → (is_enabled p (after p journal) e ≡ true) ↔ In e (enabled_events p (after p journal))
 listed_where_enabled p journal e plan l = (
   (λ en. enabled_listed p (after p journal) e plan (legal_is_sound p journal plan l).base (lives_below p (start p) journal (start_below p)) en),
   (λ i. listed_enabled p (after p journal) e i),
 )
 
-pub quiet_where_empty : (p : Plan) (journal : List Event) → HasGrounds p → IsLegal p journal → IsQuiet p (after p journal) ↔ (enabled_events p (after p journal) ≡ [])
+pub quiet_where_empty : (p : Plan) (journal : List Event) → HasPlanFacts p → IsLegal p journal → IsQuiet p (after p journal) ↔ (enabled_events p (after p journal) ≡ [])
 quiet_where_empty p journal plan l = (
   (λ quiet. list_from_quiet p (after p journal) quiet),
   (λ none. quiet_from_list p (after p journal) plan (legal_is_sound p journal plan l).base (lives_below p (start p) journal (start_below p)) none),

@@ -3,7 +3,7 @@ use Rattle.std.proofs.Common.{◌≡◌, ◌≢◌, ◌⊎◌, inl, inr, ℕ, su
 use Rattle.std.specs.List.{list_all, list_any}
 use Rattle.std.proofs.lemmas.Bool.{true≢false, or_cases, or_left, or_right, eqb-false, and_parts, and_from, ltb-false, ltb-true}
 use Rattle.stat_plan.specs.Plans.{up_to}
-use Rattle.stat_plan.specs.NodeSets.{In, member, with_number, without_number, IsAscending}
+use Rattle.stat_plan.specs.NodeSets.{In, member, with_number, without_number, IsStrictlyIncreasing}
 use Rattle.rank_set.specs.Ranks.{Ranks, none, has, size, in_order, union, is_subset, is_same, is_empty, Has, IsSubset, has-none, has-union, has-in_order, same_ranks, subset_has, subset_from, none_from_size}
 use Rattle.std.specs.Ordering.{nat_cmp, eq_by_cmp, is_eq}
 use Rattle.std.specs.Cmp.{both_ways, nat_cmp_total, tied_itself}
@@ -92,11 +92,11 @@ nil-no x (y ∷ ys) h e = cc
 pub eqb_self : (x : ℕ) → (x == x) ≡ true
 eqb_self x = eq-eqb x x refl
 
-pub with_number_rises : (x : ℕ) (ys : List ℕ) → IsAscending ys → IsAscending (with_number x ys)
+pub with_number_rises : (x : ℕ) (ys : List ℕ) → IsStrictlyIncreasing ys → IsStrictlyIncreasing (with_number x ys)
 with_number_rises x [] h = (λ y i. absurd i, tt)
 with_number_rises x (z ∷ zs) h = go (with_number_rises x zs h.1) (nat_lt x z) (x == z) refl refl
   where
-    go : IsAscending (with_number x zs) → (a b : Bool) → nat_lt x z ≡ a → (x == z) ≡ b → IsAscending (cond a (x ∷ z ∷ zs) (cond b (z ∷ zs) (z ∷ with_number x zs)))
+    go : IsStrictlyIncreasing (with_number x zs) → (a b : Bool) → nat_lt x z ≡ a → (x == z) ≡ b → IsStrictlyIncreasing (cond a (x ∷ z ∷ zs) (cond b (z ∷ zs) (z ∷ with_number x zs)))
     go ih true b ea eb = let lt : x < z = ltb-true x z ea in (λ y i. elim i [ inl e ↦ subst (λ t. x < t) (sym e) lt | inr j ↦ lt_trans lt (h.0 y j) ], h)
     go ih false true ea eb = h
     go ih false false ea eb =
@@ -105,11 +105,11 @@ with_number_rises x (z ∷ zs) h = go (with_number_rises x zs h.1) (nat_lt x z) 
         let lt : z < x = omega arith in
         (λ y i. elim (in_with_number y x zs i) [ inl e ↦ subst (λ t. z < t) (sym e) lt | inr j ↦ h.0 y j ], ih)
 
-pub without_rises : (x : ℕ) (ys : List ℕ) → IsAscending ys → IsAscending (without_number x ys)
+pub without_rises : (x : ℕ) (ys : List ℕ) → IsStrictlyIncreasing ys → IsStrictlyIncreasing (without_number x ys)
 without_rises x [] h = tt
 without_rises x (z ∷ zs) h = go (without_rises x zs h.1) (x == z)
   where
-    go : IsAscending (without_number x zs) → (b : Bool) → IsAscending (cond b (without_number x zs) (z ∷ without_number x zs))
+    go : IsStrictlyIncreasing (without_number x zs) → (b : Bool) → IsStrictlyIncreasing (cond b (without_number x zs) (z ∷ without_number x zs))
     go ih true = ih
     go ih false = (λ y i. h.0 y (in_without y x zs i), ih)
 
@@ -122,15 +122,15 @@ filter_from {X} test (z ∷ zs) x i = go (filter_from test zs x) (test z) refl i
     go ih true e (inr k) = let r = ih k in (inr r.0, r.1)
     go ih false e k = let r = ih k in (inr r.0, r.1)
 
-pub filter_rises : (test : ℕ → Bool) (ys : List ℕ) → IsAscending ys → IsAscending (filter test ys)
+pub filter_rises : (test : ℕ → Bool) (ys : List ℕ) → IsStrictlyIncreasing ys → IsStrictlyIncreasing (filter test ys)
 filter_rises test [] h = tt
 filter_rises test (z ∷ zs) h = go (filter_rises test zs h.1) (test z)
   where
-    go : IsAscending (filter test zs) → (b : Bool) → IsAscending (cond b (z ∷ filter test zs) (filter test zs))
+    go : IsStrictlyIncreasing (filter test zs) → (b : Bool) → IsStrictlyIncreasing (cond b (z ∷ filter test zs) (filter test zs))
     go ih true = (λ y i. h.0 y (filter_from test zs y i).0, ih)
     go ih false = ih
 
-append_rises : (xs : List ℕ) (y : ℕ) → IsAscending xs → ((x : ℕ) → In x xs → x < y) → IsAscending (xs ++ y ∷ [])
+append_rises : (xs : List ℕ) (y : ℕ) → IsStrictlyIncreasing xs → ((x : ℕ) → In x xs → x < y) → IsStrictlyIncreasing (xs ++ y ∷ [])
 append_rises [] y h f = (λ z i. absurd i, tt)
 append_rises (x ∷ xs) y h f = (λ z i. elim (in_append z xs (y ∷ []) i) [ inl j ↦ h.0 z j | inr j ↦ elim j [ inl e ↦ subst (λ a. x < a) (sym e) (f x (inl refl)) | inr k ↦ absurd k ] ], append_rises xs y h.1 (λ z i. f z (inr i)))
 
@@ -138,7 +138,7 @@ pub up_to_below : (n x : ℕ) → In x (up_to n) → x < n
 up_to_below zero x i = absurd i
 up_to_below (suc n) x i = elim (in_append x (up_to n) (n ∷ []) i) [ inl j ↦ (let k = up_to_below n x j in omega arith) | inr j ↦ elim j [ inl e ↦ omega arith | inr k ↦ absurd k ] ]
 
-pub up_to_rises : (n : ℕ) → IsAscending (up_to n)
+pub up_to_rises : (n : ℕ) → IsStrictlyIncreasing (up_to n)
 up_to_rises zero = tt
 up_to_rises (suc n) = append_rises (up_to n) n (up_to_rises n) (λ x i. up_to_below n x i)
 

@@ -6,8 +6,8 @@ use Rattle.stat_plan.specs.Waves.{put_at}
 use Rattle.stat_plan.specs.Plans.{Plan, fault, front, is_related, is_under, ancestors}
 use Rattle.overlay_core.specs.Nodes.{Packet, Up, Done, Attach, Down}
 use Rattle.overlay_core.specs.Machine.{State, lose, keep_of, is_spent, is_doomed}
-use Rattle.overlay_core.proofs.Grounds.{HasGrounds}
-use Rattle.overlay_core.specs.Sound.{AreRelated, PacketIsSound, LinkIsSound, EndsAtDown, LossIsTold, Sound}
+use Rattle.overlay_core.proofs.PlanFacts.{HasPlanFacts}
+use Rattle.overlay_core.specs.LinkInvariant.{AreRelated, PacketIsSound, LinkIsSound, EndsAtDown, LossIsTold, LinkInvariant}
 use Rattle.overlay_core.proofs.Lists.{in_append, append_right, in_take, in_member, in_from_member}
 use Rattle.overlay_core.proofs.Commits.{ends_append}
 
@@ -40,7 +40,7 @@ packet_later p alive later m n (Done s w) h hq = hq
 packet_later p alive later m n Attach h hq = hq
 packet_later p alive later m n Down h hq = (h m hq.0, hq.1)
 
-front_lost : (p : Plan) (st : State) → HasGrounds p → is_doomed p st (front p) ≡ true → ⊥
+front_lost : (p : Plan) (st : State) → HasPlanFacts p → is_doomed p st (front p) ≡ true → ⊥
 unfolding is_doomed
 front_lost p st plan d = let e : is_spent None (st.node (front p)).count ≡ true = subst (λ o. is_spent o (st.node (front p)).count ≡ true) plan.front_stays d in cc
 
@@ -58,7 +58,7 @@ ends_notice : (t : Bool) → EndsAtDown (cond t (Down ∷ []) [])
 ends_notice true = refl
 ends_notice false = tt
 
-cut_sound : (p : Plan) (st : State) (n a b : ℕ) → Sound p st → st.alive n ≡ true → a ≡ n → (b == n) ≡ false → LinkIsSound p (put_at st.alive n false) a b (cut p st n a b)
+cut_sound : (p : Plan) (st : State) (n a b : ℕ) → LinkInvariant p st → st.alive n ≡ true → a ≡ n → (b == n) ≡ false → LinkIsSound p (put_at st.alive n false) a b (cut p st n a b)
 cut_sound p st n a b h up ea nb = record {
   into_lost = λ d. elim (now_dead st.alive n b d) [
     | inl e ↦ absurd (eqb-false b n nb e)
@@ -85,7 +85,7 @@ cut_sound p st n a b h up ea nb = record {
     back p n m (inl u) = inr u
     back p n m (inr u) = inl u
 
-lose_links : (p : Plan) (st : State) (n : ℕ) → Sound p st → st.alive n ≡ true → (a b : ℕ) → LinkIsSound p (put_at st.alive n false) a b ((lose p st n).link a b)
+lose_links : (p : Plan) (st : State) (n : ℕ) → LinkInvariant p st → st.alive n ≡ true → (a b : ℕ) → LinkIsSound p (put_at st.alive n false) a b ((lose p st n).link a b)
 unfolding lose
 lose_links p st n h up a b =
     cond_both (b == n) [] _ (LinkIsSound p (put_at st.alive n false) a b)
@@ -112,7 +112,7 @@ notice_there p st n a b up rel =
     append_right Down (take (keep_of (fault p n)) (st.link a b)) _
     (subst (λ t. In Down (cond t (Down ∷ []) [])) (sym (and_from _ _ up (test_from_related p n b rel))) (inl refl))
 
-lose_losses : (p : Plan) (st : State) (n : ℕ) → Sound p st → st.alive n ≡ true → (a b : ℕ) → LossIsTold p (lose p st n) a b
+lose_losses : (p : Plan) (st : State) (n : ℕ) → LinkInvariant p st → st.alive n ≡ true → (a b : ℕ) → LossIsTold p (lose p st n) a b
 unfolding lose
 lose_losses p st n h up a b = record {
   told = λ u d rel.
@@ -136,7 +136,7 @@ lose_losses p st n h up a b = record {
     other : (x : ℕ) → st.alive x ≡ false → (x == n) ≡ false
     other x dx = elim (cases_Bool (x == n)) [ inl t ↦ absurd (let e : x ≡ n = eqb-true x n t in let k : st.alive x ≡ true = subst (λ y. st.alive y ≡ true) (sym e) up in cc) | inr f ↦ f ]
 
-pub lose_sound : (p : Plan) (st : State) (n : ℕ) → HasGrounds p → Sound p st → st.alive n ≡ true → is_doomed p st n ≡ true → Sound p (lose p st n)
+pub lose_sound : (p : Plan) (st : State) (n : ℕ) → HasPlanFacts p → LinkInvariant p st → st.alive n ≡ true → is_doomed p st n ≡ true → LinkInvariant p (lose p st n)
 unfolding lose
 lose_sound p st n plan h up doom = record {
   front = cond_both (front p == n) false (st.alive (front p)) (λ b. b ≡ true)

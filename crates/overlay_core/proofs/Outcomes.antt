@@ -4,12 +4,12 @@ use Rattle.std.proofs.Common.{◌≡◌, ◌⊎◌, inl, inr, ℕ, Bool, true, f
 use Rattle.std.proofs.lemmas.Bool.{cond_both, and_parts, cases_Bool, eqb-false}
 use Rattle.stat_plan.specs.NodeSets.{In, member, with_number}
 use Rattle.stat_plan.specs.Plans.{Plan, IsUnder, ancestors, serves, daemons, ranks, waves_at, waves_of}
-use Rattle.overlay_core.specs.Nodes.{Packet, Up, Done, Attach, Down, Node, Work, Outcome, begin, done_work, sampled, after_tick, received_up, received_done, received_attach, received_down, received}
+use Rattle.overlay_core.specs.Nodes.{Packet, Up, Done, Attach, Down, Node, Effects, Outcome, begin, done_work, sampled, after_tick, received_up, received_done, received_attach, received_down, received}
 use Rattle.stat_plan.specs.Kin.{Kin, nearest, is_parent, without_child, with_parent}
 use Rattle.stat_plan.specs.Waves.{Wave, Open, Closed, Book, covering, growing, ticked, unsent, is_closed, is_fired}
 use Rattle.overlay_core.specs.Machine.{next_sample, is_empty_open, is_wave}
-use Rattle.overlay_core.proofs.Grounds.{HasGrounds}
-use Rattle.overlay_core.specs.Sound.{AreRelated, ComesWhole, KinIsSound, PacketIsSound, SendIsSound, WaveIsSound, BookIsSound, IsUnion}
+use Rattle.overlay_core.proofs.PlanFacts.{HasPlanFacts}
+use Rattle.overlay_core.specs.LinkInvariant.{AreRelated, ComesWhole, KinIsSound, PacketIsSound, SendIsSound, WaveIsSound, BookIsSound, IsUnion}
 use Rattle.overlay_core.proofs.Lists.{in_map_filter, in_member, in_from_member, in_with_number, with_number_old, with_number_new, in_without, in_union, union_left, union_right, with_number_rises, without_rises, filter_from, no_rank, empty_true}
 use Rattle.overlay_core.proofs.Acts.{IsSubsetOf, each_wave_set, KinFits, WorkIsSound, act_sound, act_each_sound, dones_sound, to_parent_sound}
 
@@ -52,7 +52,7 @@ pub begin_sound : (p : Plan) (n : ℕ) (book : Book) → BookIsSound p n book �
 begin_sound p n book h = record { book = h; sends = λ m q i. absurd i }
 
 -- an event that leaves the kin as it is
-same_kin : (p : Plan) (alive : ℕ → Bool) (n : ℕ) (x : Node) (k : Work) → KinIsSound p alive n x.kin → WorkIsSound p n k → OutcomeIsSound p alive n x [] (record { kin = x.kin; work = k })
+same_kin : (p : Plan) (alive : ℕ → Bool) (n : ℕ) (x : Node) (k : Effects) → KinIsSound p alive n x.kin → WorkIsSound p n k → OutcomeIsSound p alive n x [] (record { kin = x.kin; work = k })
 same_kin p alive n x k hk hw = record { kin = hk; kept = λ m i. i; new = λ m i. inl i; told = λ m i. absurd i; work = hw }
 
 pub find_passes : {X : Type 0} (test : X → Bool) (xs : List X) (v : X) → find test xs ≡ Some v → test v ≡ true
@@ -102,12 +102,12 @@ next_is_empty p x s w e = go (next_sample p x s) refl e
 own_ranks : (p : Plan) (n s : ℕ) → In n (daemons p s) → IsUnion p s n (ranks p n)
 own_ranks p n s h r i = record { daemon = n; place = record { listed = h; within = inl refl }; holds = i; all = λ x j. j }
 
-pub covering_sound : (p : Plan) (n s : ℕ) (v : Wave) → HasGrounds p → In n (daemons p s) → is_empty_open v ≡ true → WaveIsSound p n s v → WaveIsSound p n s (covering (ranks p n) v)
+pub covering_sound : (p : Plan) (n s : ℕ) (v : Wave) → HasPlanFacts p → In n (daemons p s) → is_empty_open v ≡ true → WaveIsSound p n s v → WaveIsSound p n s (covering (ranks p n) v)
 covering_sound p n s (Open cov sent timer) plan h e hv = record { within = λ x i. absurd (no_rank x (subst (Has x) (empty_true cov e) (hv.within x i))); whole = own_ranks p n s h }
 covering_sound p n s Closed plan h e hv = tt
 
 -- a sample
-pub sampled_sound : (p : Plan) (alive : ℕ → Bool) (n : ℕ) (x : Node) (s w : ℕ) → HasGrounds p → KinIsSound p alive n x.kin → BookIsSound p n x.book → In n (daemons p s) → In (s, w) (waves_of p.streams) → is_empty_open (x.book s w) ≡ true → OutcomeIsSound p alive n x [] (sampled p n x s w)
+pub sampled_sound : (p : Plan) (alive : ℕ → Bool) (n : ℕ) (x : Node) (s w : ℕ) → HasPlanFacts p → KinIsSound p alive n x.kin → BookIsSound p n x.book → In n (daemons p s) → In (s, w) (waves_of p.streams) → is_empty_open (x.book s w) ≡ true → OutcomeIsSound p alive n x [] (sampled p n x s w)
 unfolding sampled
 sampled_sound p alive n x s w plan hk hb hd named he =
     same_kin p alive n x _ hk (act_sound p n x.kin s w _ named (kin_fits p alive n x.kin hk)
@@ -126,7 +126,7 @@ tick_sound p alive n x hk hb =
 whole_within : (p : Plan) (s n : ℕ) (xs ys : Ranks) (r : ℕ) → IsSubset xs ys → ComesWhole p s n xs r → ComesWhole p s n ys r
 whole_within p s n xs ys r sub c = record { daemon = c.daemon; place = c.place; holds = c.holds; all = λ x i. sub x (c.all x i) }
 
-whole_above : (p : Plan) (s m n : ℕ) (xs : Ranks) (r : ℕ) → HasGrounds p → IsUnder p m n → ComesWhole p s m xs r → ComesWhole p s n xs r
+whole_above : (p : Plan) (s m n : ℕ) (xs : Ranks) (r : ℕ) → HasPlanFacts p → IsUnder p m n → ComesWhole p s m xs r → ComesWhole p s n xs r
 whole_above p s m n xs r plan h c = record {
   daemon = c.daemon;
   place = record {
@@ -137,7 +137,7 @@ whole_above p s m n xs r plan h c = record {
   all = c.all;
 }
 
-pub growing_sound : (p : Plan) (m n s : ℕ) (set : Ranks) (v : Wave) → HasGrounds p → IsUnder p m n → IsUnion p s m set → WaveIsSound p n s v → WaveIsSound p n s (growing set v)
+pub growing_sound : (p : Plan) (m n s : ℕ) (set : Ranks) (v : Wave) → HasPlanFacts p → IsUnder p m n → IsUnion p s m set → WaveIsSound p n s v → WaveIsSound p n s (growing set v)
 growing_sound p m n s set (Open cov sent timer) plan u hs hv = record {
   within = λ x i. union_left x cov set (hv.within x i);
   whole = λ r i. elim (in_union r cov set i) [
@@ -148,7 +148,7 @@ growing_sound p m n s set (Open cov sent timer) plan u hs hv = record {
 growing_sound p m n s set Closed plan u hs hv = tt
 
 -- ranks that come up
-pub up_sound : (p : Plan) (alive : ℕ → Bool) (n : ℕ) (x : Node) (m s w : ℕ) (set : Ranks) → HasGrounds p → KinIsSound p alive n x.kin → BookIsSound p n x.book → PacketIsSound p alive m n (Up s w set) → OutcomeIsSound p alive n x [] (received_up p n x s w set)
+pub up_sound : (p : Plan) (alive : ℕ → Bool) (n : ℕ) (x : Node) (m s w : ℕ) (set : Ranks) → HasPlanFacts p → KinIsSound p alive n x.kin → BookIsSound p n x.book → PacketIsSound p alive m n (Up s w set) → OutcomeIsSound p alive n x [] (received_up p n x s w set)
 unfolding received_up
 up_sound p alive n x m s w set plan hk hb hq =
     same_kin p alive n x _ hk (act_sound p n x.kin s w _ hq.3 (kin_fits p alive n x.kin hk)
@@ -254,7 +254,7 @@ heard_in (Done s w) m = []
 heard_in Attach m = []
 heard_in Down m = m ∷ []
 
-pub received_sound : (p : Plan) (alive : ℕ → Bool) (n : ℕ) (x : Node) (m : ℕ) (q : Packet) → HasGrounds p → KinIsSound p alive n x.kin → BookIsSound p n x.book → PacketIsSound p alive m n q → OutcomeIsSound p alive n x (heard_in q m) (received p n x m q)
+pub received_sound : (p : Plan) (alive : ℕ → Bool) (n : ℕ) (x : Node) (m : ℕ) (q : Packet) → HasPlanFacts p → KinIsSound p alive n x.kin → BookIsSound p n x.book → PacketIsSound p alive m n q → OutcomeIsSound p alive n x (heard_in q m) (received p n x m q)
 received_sound p alive n x m (Up s w set) plan hk hb hq = up_sound p alive n x m s w set plan hk hb hq
 received_sound p alive n x m (Done s w) plan hk hb hq = done_sound p alive n x s w hq.2 hk hb
 received_sound p alive n x m Attach plan hk hb hq = attach_sound p alive n x m hk hb hq

@@ -6,14 +6,14 @@ use Rattle.stat_plan.specs.NodeSets.{In}
 use Rattle.stat_plan.specs.Plans.{Plan, nodes}
 use Rattle.overlay_core.specs.Machine.{State, start, step, lose, is_enabled, enabled_events}
 use Rattle.overlay_core.specs.Runs.{run, after, IsLegal, IsLegalFrom, IsQuiet, IsWhole}
-use Rattle.overlay_core.proofs.Grounds.{HasGrounds}
+use Rattle.overlay_core.proofs.PlanFacts.{HasPlanFacts}
 use Rattle.overlay_core.specs.Whole.{IsSound}
 use Rattle.overlay_core.specs.Bound.{bound}
 use Rattle.overlay_core.specs.Losses.{IsLost}
 use Rattle.overlay_core.specs.Pick.{next_number, picked_event, picked_from, picked, PicksFrom, Picks, IsPickedFrom}
 use Rattle.stat_desk.specs.declared.event.Event.{Event}
 use Rattle.overlay_core.proofs.Whole.{step_is_sound, start_is_sound, step_alive, start_below}
-use Rattle.overlay_core.proofs.Weights.{weight, step_spends, start_weight, legal_is_short}
+use Rattle.overlay_core.proofs.Potential.{weight, step_spends, start_weight, legal_is_short}
 use Rattle.overlay_core.proofs.Enabled.{listed_enabled, quiet_from_list}
 
 get_in : {X : Type 0} (xs : List X) (i : ℕ) (x : X) → slice_get xs i ≡ Some x → In x xs
@@ -30,13 +30,13 @@ none_listed : {X : Type 0} (xs : List X) (i : ℕ) → slice_get xs (i % length 
 none_listed [] i e = refl
 none_listed (y ∷ ys) i e = let k : length (y ∷ ys) ≤ i % length (y ∷ ys) = get_none (y ∷ ys) (i % length (y ∷ ys)) e in absurd (omega arith)
 
-picked_whole : (p : Plan) (fuel x : ℕ) (st : State) → HasGrounds p → IsSound p st → ((n : ℕ) → st.alive n ≡ true → n < nodes p) → weight p st < fuel → IsLegalFrom p st (picked_from p fuel x st) × IsQuiet p (run p st (picked_from p fuel x st))
+picked_whole : (p : Plan) (fuel x : ℕ) (st : State) → HasPlanFacts p → IsSound p st → ((n : ℕ) → st.alive n ≡ true → n < nodes p) → weight p st < fuel → IsLegalFrom p st (picked_from p fuel x st) × IsQuiet p (run p st (picked_from p fuel x st))
 unfolding picked_event
 picked_whole p zero x st plan h below lt = absurd (omega arith)
 picked_whole p (suc fuel) x st plan h below lt = go (picked_event p st (next_number x)) refl (λ e. picked_whole p fuel (next_number x) (step p st e))
   where
     go : (o : Option Event) → picked_event p st (next_number x) ≡ o
-        → ((e : Event) → HasGrounds p → IsSound p (step p st e) → ((n : ℕ) → (step p st e).alive n ≡ true → n < nodes p) → weight p (step p st e) < fuel → IsLegalFrom p (step p st e) (picked_from p fuel (next_number x) (step p st e)) × IsQuiet p (run p (step p st e) (picked_from p fuel (next_number x) (step p st e))))
+        → ((e : Event) → HasPlanFacts p → IsSound p (step p st e) → ((n : ℕ) → (step p st e).alive n ≡ true → n < nodes p) → weight p (step p st e) < fuel → IsLegalFrom p (step p st e) (picked_from p fuel (next_number x) (step p st e)) × IsQuiet p (run p (step p st e) (picked_from p fuel (next_number x) (step p st e))))
         → IsLegalFrom p st (elim o [ None ↦ [] | Some e ↦ e ∷ picked_from p fuel (next_number x) (step p st e) ]) × IsQuiet p (run p st (elim o [ None ↦ [] | Some e ↦ e ∷ picked_from p fuel (next_number x) (step p st e) ]))
     go None eo ih = (tt, quiet_from_list p st plan h.base below (none_listed (enabled_events p st) (next_number x / 2 ^ 33) eo))
     go (Some e) eo ih =
@@ -45,7 +45,7 @@ picked_whole p (suc fuel) x st plan h below lt = go (picked_event p st (next_num
         let r = ih e plan (step_is_sound p st e plan h en) (λ n u. below n (step_alive p st e n u)) (omega arith) in
         ((en, r.0), r.1)
 
-pub picked_is_whole : (p : Plan) (seed : ℕ) → HasGrounds p → IsWhole p (picked p seed)
+pub picked_is_whole : (p : Plan) (seed : ℕ) → HasPlanFacts p → IsWhole p (picked p seed)
 picked_is_whole p seed plan = let w = start_weight p plan in picked_whole p (bound p + 1) seed (start p) plan (start_is_sound p plan) (start_below p) (omega arith)
 
 -- a quiet state has no event in its list
@@ -91,7 +91,7 @@ picks_of p (suc most) x st = go (picked_event p st (next_number x)) refl (λ e. 
     go None k ih = (x, refl)
     go (Some e) k ih = let r = ih e in (r.0, (k, r.1))
 
-pub picked_is_picked : (p : Plan) (seed : ℕ) → HasGrounds p → IsPickedFrom p seed (picked p seed)
+pub picked_is_picked : (p : Plan) (seed : ℕ) → HasPlanFacts p → IsPickedFrom p seed (picked p seed)
 picked_is_picked p seed plan =
     let r = picks_of p (bound p + 1) seed (start p) in
     record { last = r.0; picks = r.1; ends = list_from_quiet p (after p (picked p seed)) (picked_is_whole p seed plan).1 }
@@ -104,7 +104,7 @@ picks_one p (suc most) x st (e ∷ es) y h ends lt =
     let ih : es ≡ picked_from p most (next_number x) (step p st e) = picks_one p most (next_number x) (step p st e) es y h.1 ends (omega arith) in
     subst (λ (o : Option Event). e ∷ es ≡ elim o [ None ↦ [] | Some e ↦ e ∷ picked_from p most (next_number x) (step p st e) ]) (sym h.0) (ap (λ l. e ∷ l) ih)
 
-pub picked_is_one : (p : Plan) (seed : ℕ) (journal : List Event) → HasGrounds p → IsPickedFrom p seed journal → journal ≡ picked p seed
+pub picked_is_one : (p : Plan) (seed : ℕ) (journal : List Event) → HasPlanFacts p → IsPickedFrom p seed journal → journal ≡ picked p seed
 picked_is_one p seed journal plan h =
     let short : length journal ≤ bound p = legal_is_short p journal plan (picks_are_legal p seed journal h.last h.picks) in
     picks_one p (bound p + 1) seed (start p) journal h.last h.picks h.ends (omega arith)

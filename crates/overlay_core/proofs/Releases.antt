@@ -5,13 +5,13 @@ use Rattle.std.proofs.lemmas.Bool.{cond_both, and_parts}
 use Rattle.stat_plan.specs.NodeSets.{In}
 use Rattle.stat_plan.specs.Plans.{Plan, front, is_front, mode, daemons, waves_at, waves_of}
 use Rattle.stat_plan.specs.Due.{due_act}
-use Rattle.overlay_core.specs.Nodes.{Packet, Up, Done, Attach, Down, Node, Work, Outcome, Release, begin, due_at, acted, act_as, act, act_each, to_parent, done_work, sampled, after_tick, received_up, received_done, received_attach, received_down, received}
+use Rattle.overlay_core.specs.Nodes.{Packet, Up, Done, Attach, Down, Node, Effects, Outcome, Release, begin, due_at, acted, act_as, act, act_each, to_parent, done_work, sampled, after_tick, received_up, received_done, received_attach, received_down, received}
 use Rattle.stat_plan.specs.Kin.{Kin, is_parent, without_child, with_parent}
 use Rattle.stat_plan.specs.Waves.{Wave, Open, Closed, Book, is_fired, ticked, unsent}
 use Rattle.overlay_core.specs.Machine.{State, start, step, commit, with_link, lose, receive, is_enabled}
 use Rattle.overlay_core.specs.Runs.{run, after, IsLegal, IsLegalFrom}
-use Rattle.overlay_core.proofs.Grounds.{HasGrounds}
-use Rattle.overlay_core.specs.Sound.{Sound, KinIsSound, PacketIsSound, OpenIsSound, WaveIsSound, BookIsSound, IsUnion}
+use Rattle.overlay_core.proofs.PlanFacts.{HasPlanFacts}
+use Rattle.overlay_core.specs.LinkInvariant.{LinkInvariant, KinIsSound, PacketIsSound, OpenIsSound, WaveIsSound, BookIsSound, IsUnion}
 use Rattle.overlay_core.specs.Whole.{IsSound}
 use Rattle.overlay_core.specs.Releases.{ReleaseIsSound, ReleasesAreSound}
 use Rattle.overlay_core.specs.declared.release.Kind.TheVariants.{Partial as PartialRelease, Final as FinalRelease}
@@ -37,14 +37,14 @@ partial_mode WaitForAll false grown top t e k = cc
 partial_mode DontWait false grown top t e k = cc
 partial_mode (TimeOut j) false grown top t e k = cc
 
-abbrev LogIsSound : Plan → Work → Type 0
+abbrev LogIsSound : Plan → Effects → Type 0
 LogIsSound p k = (r : Release) → In r k.releases → ReleaseIsSound p r
 
 at_front : (p : Plan) (n s : ℕ) (cov : Ranks) → is_front p n ≡ true → IsUnion p s n cov → IsUnion p s (front p) cov
 unfolding is_front
 at_front p n s cov top h = subst (λ a. IsUnion p s a cov) (eqb-true n (front p) top) h
 
-acted_log : (p : Plan) (n : ℕ) (kin : Kin) (s w : ℕ) (cov sent : Ranks) (timer : Timer) (k : Work) (a : Act) → In (s, w) (waves_of p.streams) → OpenIsSound p n s cov sent → due_at p n kin.lost s cov sent timer ≡ a → LogIsSound p k → LogIsSound p (acted p kin s w cov sent timer k a)
+acted_log : (p : Plan) (n : ℕ) (kin : Kin) (s w : ℕ) (cov sent : Ranks) (timer : Timer) (k : Effects) (a : Act) → In (s, w) (waves_of p.streams) → OpenIsSound p n s cov sent → due_at p n kin.lost s cov sent timer ≡ a → LogIsSound p k → LogIsSound p (acted p kin s w cov sent timer k a)
 unfolding acted due_at
 acted_log p n kin s w cov sent timer k Hold i o e h = h
 acted_log p n kin s w cov sent timer k Arm i o e h = h
@@ -75,11 +75,11 @@ acted_log p n kin s w cov sent timer k Final i o e h = λ r j. elim (in_append r
     not_partial : FinalRelease ≡ PartialRelease → ⊥
     not_partial z = cc
 
-act_as_log : (p : Plan) (n : ℕ) (kin : Kin) (s w : ℕ) (k : Work) (v : Wave) → In (s, w) (waves_of p.streams) → WaveIsSound p n s v → LogIsSound p k → LogIsSound p (act_as p n kin s w k v)
+act_as_log : (p : Plan) (n : ℕ) (kin : Kin) (s w : ℕ) (k : Effects) (v : Wave) → In (s, w) (waves_of p.streams) → WaveIsSound p n s v → LogIsSound p k → LogIsSound p (act_as p n kin s w k v)
 act_as_log p n kin s w k (Open cov sent timer) i hv h = acted_log p n kin s w cov sent timer k (due_at p n kin.lost s cov sent timer) i hv refl h
 act_as_log p n kin s w k Closed i hv h = h
 
-act_each_log : (p : Plan) (n : ℕ) (kin : Kin) (vs : List (ℕ × ℕ)) (k : Work) → IsSubsetOf vs (waves_of p.streams) → KinFits p n kin → WorkIsSound p n k → LogIsSound p k → LogIsSound p (act_each p n kin vs k)
+act_each_log : (p : Plan) (n : ℕ) (kin : Kin) (vs : List (ℕ × ℕ)) (k : Effects) → IsSubsetOf vs (waves_of p.streams) → KinFits p n kin → WorkIsSound p n k → LogIsSound p k → LogIsSound p (act_each p n kin vs k)
 act_each_log p n kin [] k i fits hw h = h
 act_each_log p n kin (v ∷ vs) k i fits hw h =
     act_each_log p n kin vs (act p n kin v.0 v.1 k) (λ x j. i x (inr j)) fits (act_sound p n kin v.0 v.1 k (i v (inl refl)) fits hw)
@@ -88,7 +88,7 @@ act_each_log p n kin (v ∷ vs) k i fits hw h =
 begin_log : (p : Plan) (n : ℕ) (kin : Kin) (b : Book) (vs : List (ℕ × ℕ)) → IsSubsetOf vs (waves_of p.streams) → KinFits p n kin → BookIsSound p n b → LogIsSound p (act_each p n kin vs (begin b))
 begin_log p n kin b vs i fits hb = act_each_log p n kin vs (begin b) i fits (begin_sound p n b hb) (λ r j. absurd j)
 
-received_log : (p : Plan) (alive : ℕ → Bool) (n : ℕ) (x : Node) (m : ℕ) (q : Packet) → HasGrounds p → KinIsSound p alive n x.kin → KinIsSound p alive n (received p n x m q).kin → BookIsSound p n x.book → PacketIsSound p alive m n q → LogIsSound p (received p n x m q).work
+received_log : (p : Plan) (alive : ℕ → Bool) (n : ℕ) (x : Node) (m : ℕ) (q : Packet) → HasPlanFacts p → KinIsSound p alive n x.kin → KinIsSound p alive n (received p n x m q).kin → BookIsSound p n x.book → PacketIsSound p alive m n q → LogIsSound p (received p n x m q).work
 unfolding received_up received_done received_attach received_down
 received_log p alive n x m (Up s w set) plan hk hk' hb hq =
     begin_log p n x.kin _ ((s, w) ∷ []) (only_wave p s w hq.3) (kin_fits p alive n x.kin hk)
@@ -114,7 +114,7 @@ commit_log : (p : Plan) (st : State) (n : ℕ) (o : Outcome) → ReleasesAreSoun
 unfolding commit
 commit_log p st n o h l r i = elim (in_append r st.releases o.work.releases i) [ inl j ↦ h r j | inr j ↦ l r j ]
 
-step_log : (p : Plan) (st : State) (e : Event) → HasGrounds p → Sound p st → ReleasesAreSound p st → is_enabled p st e ≡ true → ReleasesAreSound p (step p st e)
+step_log : (p : Plan) (st : State) (e : Event) → HasPlanFacts p → LinkInvariant p st → ReleasesAreSound p st → is_enabled p st e ≡ true → ReleasesAreSound p (step p st e)
 unfolding sampled after_tick lose with_link
 step_log p st (Sample n s w) plan hs h e =
     let t = and_parts _ _ e in
@@ -134,10 +134,10 @@ step_log p st (Tick n) plan hs h e =
     commit_log p st n _ h (begin_log p n x.kin _ (filter (λ v. is_fired (ticked (x.book v.0 v.1))) (waves_at p n)) (λ v i. waves_at_named p n v (filter_from (λ v. is_fired (ticked (x.book v.0 v.1))) (waves_at p n) v i).0) (kin_fits p st.alive n x.kin (hs.kin n)) (λ s w. ticked_sound p n s (x.book s w) (hs.books n s w)))
 step_log p st (Lose n) plan hs h e = h
 
-run_log : (p : Plan) (st : State) (es : List Event) → HasGrounds p → IsSound p st → ReleasesAreSound p st → IsLegalFrom p st es → ReleasesAreSound p (run p st es)
+run_log : (p : Plan) (st : State) (es : List Event) → HasPlanFacts p → IsSound p st → ReleasesAreSound p st → IsLegalFrom p st es → ReleasesAreSound p (run p st es)
 run_log p st [] plan hs h l = h
 run_log p st (e ∷ es) plan hs h l = run_log p (step p st e) es plan (step_is_sound p st e plan hs l.0) (step_log p st e plan hs.base h l.0) l.1
 
-pub legal_log : (p : Plan) (journal : List Event) → HasGrounds p → IsLegal p journal → ReleasesAreSound p (after p journal)
+pub legal_log : (p : Plan) (journal : List Event) → HasPlanFacts p → IsLegal p journal → ReleasesAreSound p (after p journal)
 unfolding start
 legal_log p journal plan l = run_log p (start p) journal plan (start_is_sound p plan) (λ r i. absurd i) l

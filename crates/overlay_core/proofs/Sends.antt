@@ -18,15 +18,15 @@ use Rattle.stat_plan.specs.declared.act.Act.TheVariants.{Hold, Arm, Send, Partia
 use Rattle.stat_desk.specs.declared.event.Event.{Event}
 use Rattle.stat_desk.specs.declared.event.Event.TheVariants.{Sample, Recv, Tick, Lose}
 use Rattle.overlay_core.specs.declared.release.Kind.TheVariants.{Partial as PartialRelease, Final as FinalRelease}
-use Rattle.overlay_core.specs.Nodes.{Packet, Up, Done, Attach, Down, Node, Work, Outcome, release, begin, due_at, to_parent, dones, acted, act_as, act, act_each, done_work, sampled, after_tick, received_up, received_done, received_attach, received_down, received, handled}
+use Rattle.overlay_core.specs.Nodes.{Packet, Up, Done, Attach, Down, Node, Effects, Outcome, release, begin, due_at, to_parent, dones, acted, act_as, act, act_each, done_work, sampled, after_tick, received_up, received_done, received_attach, received_down, received, handled}
 use Rattle.overlay_core.specs.Machine.{State, start, step, commit, with_link, lose, receive}
 use Rattle.overlay_core.specs.Runs.{run, after}
-use Rattle.overlay_core.specs.Apart.{node_of, first_from, outcome}
+use Rattle.overlay_core.specs.Independent.{node_of, first_from, outcome}
 use Rattle.overlay_core.specs.Counts.{one_if, is_up_of, is_partial_of, sends_in, grows, is_same_parent, is_unsent, sends_at, sends, growths, moves}
 use Rattle.overlay_core.proofs.Lists.{in_member, with_number_new, test_from_same, same_true}
-use Rattle.overlay_core.proofs.Goes.{set_wave_here}
-use Rattle.overlay_core.proofs.Calm.{set_wave_else}
-use Rattle.overlay_core.proofs.Apart.{node_else}
+use Rattle.overlay_core.proofs.ParentLinks.{set_wave_here}
+use Rattle.overlay_core.proofs.Settled.{set_wave_else}
+use Rattle.overlay_core.proofs.Independent.{node_else}
 
 count_append : {X : Type 0} (test : X → Bool) (xs ys : List X) → count_by test (xs ++ ys) ≡ count_by test xs + count_by test ys
 count_append test xs ys = sum_by-append (λ x. one_if (test x)) xs ys
@@ -71,7 +71,7 @@ wave_is x a b v s w e t =
     subst (λ c. x c w ≡ v) (sym (eqb-true s a u.0)) (subst (λ d. x a d ≡ v) (sym (eqb-true w b u.1)) e)
 
 -- sends, and one more where something wasn't sent yet
-abbrev pub spent : ℕ → ℕ → Work → ℕ
+abbrev pub spent : ℕ → ℕ → Effects → ℕ
 spent s w k = sends_in s w k + one_if (is_unsent (k.book s w))
 
 send_grown : (m : Mode) (done grown top : Bool) (t : Timer) → due_act m done grown top t ≡ Send → grown ≡ true
@@ -109,7 +109,7 @@ pass_pays x a b cov sent timer s w e grown =
     (λ f. let none : one_if ((s == a) && (w == b)) ≡ 0 = ap one_if f in omega arith)
 
 -- no act on a wave raises what is spent on any
-acted_pays : (p : Plan) (n : ℕ) (kin : Kin) (a b : ℕ) (cov sent : Ranks) (timer : Timer) (k : Work) (what : Act) (s w : ℕ) → k.book a b ≡ Open cov sent timer → due_at p n kin.lost a cov sent timer ≡ what → spent s w (acted p kin a b cov sent timer k what) ≤ spent s w k
+acted_pays : (p : Plan) (n : ℕ) (kin : Kin) (a b : ℕ) (cov sent : Ranks) (timer : Timer) (k : Effects) (what : Act) (s w : ℕ) → k.book a b ≡ Open cov sent timer → due_at p n kin.lost a cov sent timer ≡ what → spent s w (acted p kin a b cov sent timer k what) ≤ spent s w k
 unfolding acted due_at
 acted_pays p n kin a b cov sent timer k Hold s w e d = le_refl _
 acted_pays p n kin a b cov sent timer k Arm s w e d =
@@ -135,11 +135,11 @@ acted_pays p n kin a b cov sent timer k Final s w e d =
     let final : count_by (is_partial_of s w) (k.releases ++ release a b cov FinalRelease kin.lost ∷ []) ≡ count_by (is_partial_of s w) k.releases + 0 = count_append (is_partial_of s w) k.releases (release a b cov FinalRelease kin.lost ∷ []) in
     omega arith
 
-act_as_pays : (p : Plan) (n : ℕ) (kin : Kin) (a b : ℕ) (k : Work) (v : Wave) (s w : ℕ) → k.book a b ≡ v → spent s w (act_as p n kin a b k v) ≤ spent s w k
+act_as_pays : (p : Plan) (n : ℕ) (kin : Kin) (a b : ℕ) (k : Effects) (v : Wave) (s w : ℕ) → k.book a b ≡ v → spent s w (act_as p n kin a b k v) ≤ spent s w k
 act_as_pays p n kin a b k Closed s w e = le_refl _
 act_as_pays p n kin a b k (Open cov sent timer) s w e = acted_pays p n kin a b cov sent timer k (due_at p n kin.lost a cov sent timer) s w e refl
 
-act_each_pays : (p : Plan) (n : ℕ) (kin : Kin) (vs : List (ℕ × ℕ)) (k : Work) (s w : ℕ) → spent s w (act_each p n kin vs k) ≤ spent s w k
+act_each_pays : (p : Plan) (n : ℕ) (kin : Kin) (vs : List (ℕ × ℕ)) (k : Effects) (s w : ℕ) → spent s w (act_each p n kin vs k) ≤ spent s w k
 act_each_pays p n kin [] k s w = le_refl _
 act_each_pays p n kin (v ∷ vs) k s w =
     let one : spent s w (act p n kin v.0 v.1 k) ≤ spent s w k = act_as_pays p n kin v.0 v.1 k (k.book v.0 v.1) s w refl in
@@ -215,7 +215,7 @@ act_here p n x a b (Open old sent was) Closed e l = absurd l
 act_here p n x a b Closed (Open cov same timer) e l = absurd l
 act_here p n x a b Closed Closed e l = pays_by x x.kin (set_wave x.book a b Closed) a b 0 Closed Closed e (set_wave_here x.book a b Closed) (omega arith)
 
-abbrev pub touched : Plan → ℕ → Node → ℕ → ℕ → Wave → Work
+abbrev pub touched : Plan → ℕ → Node → ℕ → ℕ → Wave → Effects
 touched p n x a b v = act p n x.kin a b (begin (set_wave x.book a b v))
 
 touched_here : (p : Plan) (n : ℕ) (x : Node) (a b : ℕ) (v : Wave) → IsLater (x.book a b) v → Pays x x.kin (touched p n x a b v).book a b (sends_in a b (touched p n x a b v))
@@ -305,7 +305,7 @@ received_pays p n x m Down s w =
 
     moved : is_parent x.kin.parent m ≡ true → Pays x (with_parent p n x.kin m) (act_each p n (with_parent p n x.kin m) (waves_at p n) (record { book = λ s w. unsent (x.book s w); sends = to_parent (with_parent p n x.kin m).parent Attach; releases = [] })).book s w (sends_in s w (act_each p n (with_parent p n x.kin m) (waves_at p n) (record { book = λ s w. unsent (x.book s w); sends = to_parent (with_parent p n x.kin m).parent Attach; releases = [] })))
     moved e =
-        let k : Work = record { book = λ s w. unsent (x.book s w); sends = to_parent (with_parent p n x.kin m).parent Attach; releases = [] } in
+        let k : Effects = record { book = λ s w. unsent (x.book s w); sends = to_parent (with_parent p n x.kin m).parent Attach; releases = [] } in
         let le : spent s w (act_each p n (with_parent p n x.kin m) (waves_at p n) k) ≤ spent s w k = act_each_pays p n (with_parent p n x.kin m) (waves_at p n) k s w in
         let none : count_by (λ v. is_up_of s w v.1) (to_parent (with_parent p n x.kin m).parent Attach) ≡ 0 = no_attach_ups (with_parent p n x.kin m).parent s w in
         let one : one_if (is_unsent (unsent (x.book s w))) ≤ 1 = at_most_one (is_unsent (unsent (x.book s w))) in
@@ -352,8 +352,8 @@ at_start : (p : Plan) (n s w : ℕ) → one_if (is_unsent (((start p).node n).bo
 unfolding start
 at_start p n s w = none_unsent none
 
-pub sends_are_paid : (p : Plan) (journal : List Event) (n s w : ℕ) → sends p (start p) journal n s w + one_if (is_unsent (((after p journal).node n).book s w)) ≤ growths p (start p) journal n s w + moves p (start p) journal n
-sends_are_paid p journal n s w =
+pub sends_are_bounded : (p : Plan) (journal : List Event) (n s w : ℕ) → sends p (start p) journal n s w + one_if (is_unsent (((after p journal).node n).book s w)) ≤ growths p (start p) journal n s w + moves p (start p) journal n
+sends_are_bounded p journal n s w =
     let h = run_pays p (start p) journal n s w in
     let z : one_if (is_unsent (((start p).node n).book s w)) ≡ 0 = at_start p n s w in
     omega arith

@@ -7,8 +7,8 @@ use Rattle.overlay_core.specs.Nodes.{Packet, Up, Done, Attach, Down}
 use Rattle.stat_plan.specs.Kin.{nearest}
 use Rattle.overlay_core.specs.Machine.{State, start, step, with_link, receive, is_enabled, is_active, is_doomed, children_of}
 use Rattle.overlay_core.specs.Runs.{run, after, IsLegal, IsLegalFrom}
-use Rattle.overlay_core.proofs.Grounds.{HasGrounds}
-use Rattle.overlay_core.specs.Sound.{AreRelated, LinkIsSound, EndsAtDown, Sound}
+use Rattle.overlay_core.proofs.PlanFacts.{HasPlanFacts}
+use Rattle.overlay_core.specs.LinkInvariant.{AreRelated, LinkIsSound, EndsAtDown, LinkInvariant}
 use Rattle.stat_desk.specs.declared.event.Event.{Event}
 use Rattle.stat_desk.specs.declared.event.Event.TheVariants.{Sample, Recv, Tick, Lose}
 use Rattle.overlay_core.proofs.Lists.{filter_rises, up_to_rises, in_from_member, in_map_filter, no_rank}
@@ -21,7 +21,7 @@ unfolding is_active
 active_parts p st n e = let t = and_parts (st.alive n) (not (is_doomed p st n)) e in (t.0, not-true (is_doomed p st n) t.1)
 
 -- a sound state with nothing taken off its links
-ready : (p : Plan) (st : State) (n : ℕ) → Sound p st → is_active p st n ≡ true → IsReady p st n []
+ready : (p : Plan) (st : State) (n : ℕ) → LinkInvariant p st → is_active p st n ≡ true → IsReady p st n []
 ready p st n h e = let t = active_parts p st n e in record {
   up = t.0;
   active = t.1;
@@ -86,7 +86,7 @@ link_popped st m n qs = cond-true ((m == m) && (n == n)) qs (st.link m n) (and_f
 pub popped_in : (st : State) (m n : ℕ) (q : Packet) (qs : List Packet) → st.link m n ≡ q ∷ qs → (a b : ℕ) (x : Packet) → In x ((with_link st m n qs).link a b) → In x (st.link a b)
 popped_in st m n q qs e a b x = popped st m n q qs e (λ a b l. In x l → In x (st.link a b)) (λ a b i. i) (λ h i. h (inr i)) a b
 
-popped_losses : (p : Plan) (st : State) (m n : ℕ) (q : Packet) (qs : List Packet) → Sound p st → st.link m n ≡ q ∷ qs → (a b : ℕ) → LossIsHeard p (with_link st m n qs) n (heard_in q m) a b
+popped_losses : (p : Plan) (st : State) (m n : ℕ) (q : Packet) (qs : List Packet) → LinkInvariant p st → st.link m n ≡ q ∷ qs → (a b : ℕ) → LossIsHeard p (with_link st m n qs) n (heard_in q m) a b
 unfolding with_link
 popped_losses p st m n q qs h e a b = record {
   told = λ u d r. elim ((h.losses a b).told u d r) [
@@ -110,7 +110,7 @@ popped_losses p st m n q qs h e a b = record {
         elim (down_or_taken q qs m k) [ inl j ↦ inl (inr j) | inr j ↦ inr (ea, subst (λ x. In x (heard_in q m)) (sym eb) j) ])
         (λ t. inl (inr i))
 
-ready_popped : (p : Plan) (st : State) (m n : ℕ) (q : Packet) (qs : List Packet) → Sound p st → is_active p st n ≡ true → st.link m n ≡ q ∷ qs → IsReady p (with_link st m n qs) n (heard_in q m)
+ready_popped : (p : Plan) (st : State) (m n : ℕ) (q : Packet) (qs : List Packet) → LinkInvariant p st → is_active p st n ≡ true → st.link m n ≡ q ∷ qs → IsReady p (with_link st m n qs) n (heard_in q m)
 unfolding with_link is_doomed
 ready_popped p st m n q qs h act e = let t = active_parts p st n act in record {
   up = t.0;
@@ -123,14 +123,14 @@ ready_popped p st m n q qs h act e = let t = active_parts p st n act in record {
   counts = h.counts;
 }
 
-receive_sound : (p : Plan) (st : State) (n m : ℕ) (qs : List Packet) → HasGrounds p → Sound p st → is_active p st n ≡ true → st.link m n ≡ qs → Sound p (receive p st n m qs)
+receive_sound : (p : Plan) (st : State) (n m : ℕ) (qs : List Packet) → HasPlanFacts p → LinkInvariant p st → is_active p st n ≡ true → st.link m n ≡ qs → LinkInvariant p (receive p st n m qs)
 unfolding with_link
 receive_sound p st n m [] plan h act e = h
 receive_sound p st n m (q ∷ qs) plan h act e =
     commit_sound p (with_link st m n qs) n (heard_in q m) _ (ready_popped p st m n q qs h act e)
     (received_sound p st.alive n (st.node n) m q plan (h.kin n) (h.books n) ((h.links m n).packets q (subst (λ l. In q l) (sym e) (inl refl))))
 
-pub step_sound : (p : Plan) (st : State) (e : Event) → HasGrounds p → Sound p st → is_enabled p st e ≡ true → Sound p (step p st e)
+pub step_sound : (p : Plan) (st : State) (e : Event) → HasPlanFacts p → LinkInvariant p st → is_enabled p st e ≡ true → LinkInvariant p (step p st e)
 step_sound p st (Sample n s w) plan h e =
     let t = and_parts _ _ e in
     let u = and_parts _ _ t.0 in
@@ -140,7 +140,7 @@ step_sound p st (Recv n m) plan h e = receive_sound p st n m (st.link m n) plan 
 step_sound p st (Tick n) plan h e = commit_sound p st n [] _ (ready p st n h (and_parts _ _ e).0) (tick_sound p st.alive n (st.node n) (h.kin n) (h.books n))
 step_sound p st (Lose n) plan h e = lose_sound p st n plan h (and_parts _ _ e).0 (and_parts _ _ e).1
 
-pub run_sound : (p : Plan) (st : State) (es : List Event) → HasGrounds p → Sound p st → IsLegalFrom p st es → Sound p (run p st es)
+pub run_sound : (p : Plan) (st : State) (es : List Event) → HasPlanFacts p → LinkInvariant p st → IsLegalFrom p st es → LinkInvariant p (run p st es)
 run_sound p st [] plan h l = h
 run_sound p st (e ∷ es) plan h l = run_sound p (step p st e) es plan (step_sound p st e plan h l.0) l.1
 
@@ -157,7 +157,7 @@ children_under p n c i =
     go a None e t = absurd (cc)
     go a (Some m) e t = subst (λ x. In x (ancestors p a)) (eqb-true m n t) (nearest_in (ancestors p a) [] m e)
 
-pub start_sound : (p : Plan) → HasGrounds p → Sound p (start p)
+pub start_sound : (p : Plan) → HasPlanFacts p → LinkInvariant p (start p)
 unfolding start
 start_sound p plan = record {
   front = lt-ltb (front p) (nodes p) plan.front_below;
@@ -175,5 +175,5 @@ start_sound p plan = record {
     below n m (inl u) = (plan.under_nodes n m u).1
     below n m (inr u) = (plan.under_nodes m n u).0
 
-pub legal_sound : (p : Plan) (journal : List Event) → HasGrounds p → IsLegal p journal → Sound p (after p journal)
+pub legal_sound : (p : Plan) (journal : List Event) → HasPlanFacts p → IsLegal p journal → LinkInvariant p (after p journal)
 legal_sound p journal plan l = run_sound p (start p) journal plan (start_sound p plan) l

@@ -1,7 +1,7 @@
 -- Sums over lists.
 use Rattle.std.proofs.Common.{◌≡◌, ◌⊎◌, ◌≤◌, ◌<◌, ◌+◌, ◌*◌, inl, inr, ℕ, suc, zero, Bool, true, false, cond, ◌==◌, List, [], ◌∷◌, ◌++◌, filter, length, refl, sym, ap, subst, ◌∙◌, arith, eqb-true, zero-le}
 use Rattle.std.proofs.lemmas.Bool.{cases_Bool, eqb-false, true≢false}
-use Rattle.stat_plan.specs.NodeSets.{In, IsAscending}
+use Rattle.stat_plan.specs.NodeSets.{In, IsStrictlyIncreasing}
 use Rattle.stat_plan.specs.Plans.{up_to}
 use Rattle.overlay_core.proofs.Lists.{up_to_below}
 
@@ -100,7 +100,7 @@ length_filter_drop {X} f g (x ∷ xs) y h i ef eg = go (f x) (g x) refl refl i (
     go false false ea eb (inr j) less ih = ih j
 
 -- an ascending list of numbers below n
-pub length_below : (xs : List ℕ) (lo n : ℕ) → IsAscending xs → ((x : ℕ) → In x xs → (lo ≤ x) × (x < n)) → length xs + lo ≤ n ⊎ (xs ≡ [])
+pub length_below : (xs : List ℕ) (lo n : ℕ) → IsStrictlyIncreasing xs → ((x : ℕ) → In x xs → (lo ≤ x) × (x < n)) → length xs + lo ≤ n ⊎ (xs ≡ [])
 length_below [] lo n h f = inr refl
 length_below (x ∷ xs) lo n h f =
     let a = f x (inl refl) in

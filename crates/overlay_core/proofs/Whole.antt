@@ -10,10 +10,10 @@ use Rattle.stat_plan.specs.Waves.{Wave, Open, Closed, is_open, cov_of, sent_of}
 use Rattle.stat_plan.specs.Kin.{complete, nearest}
 use Rattle.overlay_core.specs.Machine.{State, start, step, is_enabled, is_active, is_doomed, is_pending, is_empty_open, next_sample, is_wave, commit, lose, with_link, receive}
 use Rattle.overlay_core.specs.Runs.{run, after, IsLegal, IsLegalFrom, IsQuiet, IsWhole}
-use Rattle.overlay_core.proofs.Grounds.{HasGrounds}
-use Rattle.overlay_core.specs.Sound.{AreRelated, WaveIsSound, OpenIsSound}
-use Rattle.overlay_core.specs.Joined.{PairsHold}
-use Rattle.overlay_core.specs.Calm.{WaveIsCalm}
+use Rattle.overlay_core.proofs.PlanFacts.{HasPlanFacts}
+use Rattle.overlay_core.specs.LinkInvariant.{AreRelated, WaveIsSound, OpenIsSound}
+use Rattle.overlay_core.specs.ParentChild.{ParentChildInvariant}
+use Rattle.overlay_core.specs.Settled.{WaveIsSettled}
 use Rattle.overlay_core.specs.History.{of_wave, ByKind, MissesOnlyLost, IsHistory}
 use Rattle.overlay_core.specs.Whole.{IsSound}
 use Rattle.overlay_core.specs.declared.release.Kind.{Kind}
@@ -26,11 +26,11 @@ use Rattle.stat_desk.specs.declared.event.Event.TheVariants.{Sample, Recv, Tick,
 use Rattle.overlay_core.proofs.Lists.{in_append, append_left, append_right, in_member, in_from_member, list_all_from, test_from_subset, no_rank, some_rank, same_true}
 use Rattle.overlay_core.proofs.Outcomes.{nearest_in}
 use Rattle.overlay_core.proofs.Steps.{step_sound, start_sound}
-use Rattle.overlay_core.proofs.Goes.{in_filter, filter_in, in_list_any, within_from_test, test_from_within, waves_above}
-use Rattle.overlay_core.proofs.Pairs.{step_pairs}
+use Rattle.overlay_core.proofs.ParentLinks.{in_filter, filter_in, in_list_any, within_from_test, test_from_within, waves_above}
+use Rattle.overlay_core.proofs.ParentChild.{step_pairs}
 use Rattle.overlay_core.proofs.Losses.{was_alive, now_dead}
 use Rattle.overlay_core.specs.Losses.{IsLost}
-use Rattle.overlay_core.proofs.Calm.{step_calm, start_calm}
+use Rattle.overlay_core.proofs.Settled.{step_calm, start_calm}
 use Rattle.overlay_core.proofs.History.{step_history, start_history}
 
 pub in_up_to : (n c : ℕ) → c < n → In c (up_to n)
@@ -41,7 +41,7 @@ in_up_to (suc n) c h = go (c == n) refl (in_up_to n c)
     go true e ih = append_right c (up_to n) (n ∷ []) (inl (eqb-true c n e))
     go false e ih = let ne : c ≡ n → ⊥ = eqb-false c n e in append_left c (up_to n) (n ∷ []) (ih (omega arith))
 
-start_pairs : (p : Plan) → HasGrounds p → PairsHold p (start p)
+start_pairs : (p : Plan) → HasPlanFacts p → ParentChildInvariant p (start p)
 unfolding start
 start_pairs p plan c q uc uq par = record {
   child = inl (in_filter (λ c. elim (nearest (ancestors p c) []) [ None ↦ false | Some m ↦ m == q ]) (up_to (nodes p)) c (in_up_to (nodes p) c (ltb-true c (nodes p) uc)) (named (nearest (ancestors p c) []) par));
@@ -53,10 +53,10 @@ start_pairs p plan c q uc uq par = record {
     named None e = absurd (cc)
     named (Some m) e = let k : m ≡ q = cc in eq-eqb m q k
 
-pub start_is_sound : (p : Plan) → HasGrounds p → IsSound p (start p)
+pub start_is_sound : (p : Plan) → HasPlanFacts p → IsSound p (start p)
 start_is_sound p plan = record { base = start_sound p plan; pairs = start_pairs p plan; calm = start_calm p plan; history = start_history p }
 
-pub step_is_sound : (p : Plan) (st : State) (e : Event) → HasGrounds p → IsSound p st → is_enabled p st e ≡ true → IsSound p (step p st e)
+pub step_is_sound : (p : Plan) (st : State) (e : Event) → HasPlanFacts p → IsSound p st → is_enabled p st e ≡ true → IsSound p (step p st e)
 step_is_sound p st e plan h en = record {
   base = step_sound p st e plan h.base en;
   pairs = step_pairs p st e plan h.base h.pairs en;
@@ -64,11 +64,11 @@ step_is_sound p st e plan h en = record {
   history = step_history p st e plan h.base h.history en;
 }
 
-run_is_sound : (p : Plan) (st : State) (es : List Event) → HasGrounds p → IsSound p st → IsLegalFrom p st es → IsSound p (run p st es)
+run_is_sound : (p : Plan) (st : State) (es : List Event) → HasPlanFacts p → IsSound p st → IsLegalFrom p st es → IsSound p (run p st es)
 run_is_sound p st [] plan h l = h
 run_is_sound p st (e ∷ es) plan h l = run_is_sound p (step p st e) es plan (step_is_sound p st e plan h l.0) l.1
 
-pub legal_is_sound : (p : Plan) (journal : List Event) → HasGrounds p → IsLegal p journal → IsSound p (after p journal)
+pub legal_is_sound : (p : Plan) (journal : List Event) → HasPlanFacts p → IsLegal p journal → IsSound p (after p journal)
 legal_is_sound p journal plan l = run_is_sound p (start p) journal plan (start_is_sound p plan) l
 
 -- what quiet says of a living node
@@ -136,7 +136,7 @@ dead_is_known p st n m h quiet up down rel = elim ((h.base.losses n m).told up d
   | inr i ↦ absurd (subst (λ l. In Down l) (quiet_links p st m n quiet up) i)
 ]
 
-parent_of : (p : Plan) (st : State) (d q : ℕ) → HasGrounds p → IsSound p st → IsQuiet p st → st.alive d ≡ true → (st.node d).kin.parent ≡ Some q → Parent p st d q
+parent_of : (p : Plan) (st : State) (d q : ℕ) → HasPlanFacts p → IsSound p st → IsQuiet p st → st.alive d ≡ true → (st.node d).kin.parent ≡ Some q → Parent p st d q
 parent_of p st d q plan h quiet up e =
     let en : nearest (ancestors p d) (st.node d).kin.lost ≡ Some q = sym (h.base.kin d).parent ∙ e in
     let r = nearest_split (ancestors p d) (st.node d).kin.lost q en in
@@ -154,7 +154,7 @@ parent_of p st d q plan h quiet up e =
     }
 
 -- a living node under a living n has a parent
-has_parent : (p : Plan) (st : State) (d n : ℕ) → HasGrounds p → IsSound p st → IsQuiet p st → st.alive d ≡ true → st.alive n ≡ true → IsUnder p d n → (q : ℕ) × Parent p st d q
+has_parent : (p : Plan) (st : State) (d n : ℕ) → HasPlanFacts p → IsSound p st → IsQuiet p st → st.alive d ≡ true → st.alive n ≡ true → IsUnder p d n → (q : ℕ) × Parent p st d q
 has_parent p st d n plan h quiet ud un u =
     let r = nearest_some (ancestors p d) (st.node d).kin.lost n u (elim (cases_Bool (member n (st.node d).kin.lost)) [ inl t ↦ absurd (true≢false (sym un ∙ (h.base.kin d).lost n (in_from_member n _ t))) | inr f ↦ f ]) in
     (r.0, parent_of p st d r.0 plan h quiet ud ((h.base.kin d).parent ∙ r.1))
@@ -165,7 +165,7 @@ record OnTheWay (p : Plan) (st : State) (d n x : ℕ) : Type 0 where
   parent : Parent p st x n
   within : (d ≡ x) ⊎ IsUnder p d x
 
-on_the_way : (p : Plan) (st : State) (fuel d n : ℕ) → HasGrounds p → IsSound p st → IsQuiet p st → st.alive d ≡ true → st.alive n ≡ true → IsUnder p d n → length (ancestors p d) ≤ fuel → (x : ℕ) × OnTheWay p st d n x
+on_the_way : (p : Plan) (st : State) (fuel d n : ℕ) → HasPlanFacts p → IsSound p st → IsQuiet p st → st.alive d ≡ true → st.alive n ≡ true → IsUnder p d n → length (ancestors p d) ≤ fuel → (x : ℕ) × OnTheWay p st d n x
 on_the_way p st zero d n plan h quiet ud un u le = let r = has_parent p st d n plan h quiet ud un u in absurd (let k = r.1.nearer in omega arith)
 on_the_way p st (suc fuel) d n plan h quiet ud un u le =
     let r = has_parent p st d n plan h quiet ud un u in
@@ -216,7 +216,7 @@ record IsOpenAs (p : Plan) (n s : ℕ) (lost : List ℕ) (v : Wave) : Type 0 whe
   sound : OpenIsSound p n s cov sent
   held : due_at p n lost s cov sent timer ≡ Hold
 
-open_as : (p : Plan) (n s : ℕ) (lost : List ℕ) (v : Wave) → is_open v ≡ true → WaveIsSound p n s v → WaveIsCalm p n lost s v → IsOpenAs p n s lost v
+open_as : (p : Plan) (n s : ℕ) (lost : List ℕ) (v : Wave) → is_open v ≡ true → WaveIsSound p n s v → WaveIsSettled p n lost s v → IsOpenAs p n s lost v
 open_as p n s lost (Open cov sent timer) e h c = record { cov = cov; sent = sent; timer = timer; is = refl; sound = h; held = c.0 }
 open_as p n s lost Closed e h c = absurd (true≢false (sym e))
 
@@ -226,7 +226,7 @@ open_at p st n s w h up i e = open_as p n s (st.node n).kin.lost ((st.node n).bo
 open_everywhere : (p : Plan) (st : State) (n s w : ℕ) → IsSound p st → is_open ((st.node (front p)).book s w) ≡ true → is_open ((st.node n).book s w) ≡ true
 open_everywhere p st n s w h e = elim (cases_Bool (is_open ((st.node n).book s w))) [ inl t ↦ t | inr f ↦ absurd (true≢false (sym e ∙ h.history.closed n s w f)) ]
 
-sampled_there : (p : Plan) (st : State) (n s w : ℕ) → HasGrounds p → IsSound p st → IsQuiet p st → st.alive n ≡ true → In n (daemons p s) → In (s, w) (waves_at p n) → is_open ((st.node n).book s w) ≡ true → IsSubset (ranks p n) (cov_of ((st.node n).book s w))
+sampled_there : (p : Plan) (st : State) (n s w : ℕ) → HasPlanFacts p → IsSound p st → IsQuiet p st → st.alive n ≡ true → In n (daemons p s) → In (s, w) (waves_at p n) → is_open ((st.node n).book s w) ≡ true → IsSubset (ranks p n) (cov_of ((st.node n).book s w))
 sampled_there p st n s w plan h quiet up hd hw e = go ((st.node n).book s w) refl (h.base.books n s w)
   where
     go : (v : Wave) → (st.node n).book s w ≡ v → WaveIsSound p n s v → IsSubset (ranks p n) (cov_of v)
@@ -243,7 +243,7 @@ sampled_there p st n s w plan h quiet up hd hw e = go ((st.node n).book s w) ref
     go Closed ev hv = absurd (true≢false (sym e ∙ ap is_open ev))
 
 -- coverage up the tree
-covers : (p : Plan) (st : State) (fuel n s w : ℕ) → HasGrounds p → IsSound p st → IsQuiet p st → is_open ((st.node (front p)).book s w) ≡ true → st.alive n ≡ true → In (s, w) (waves_at p n) → nodes p ≤ length (ancestors p n) + fuel → Covers p st n s w
+covers : (p : Plan) (st : State) (fuel n s w : ℕ) → HasPlanFacts p → IsSound p st → IsQuiet p st → is_open ((st.node (front p)).book s w) ≡ true → st.alive n ≡ true → In (s, w) (waves_at p n) → nodes p ≤ length (ancestors p n) + fuel → Covers p st n s w
 unfolding due_at is_front
 covers p st fuel n s w plan h quiet open' up hw le d hd ud (inl e) =
     subst (λ a. IsSubset (ranks p a) (cov_of ((st.node n).book s w))) (sym e)
@@ -281,7 +281,7 @@ final_due : (m : Mode) (grown : Bool) (t : Timer) → due_act m true grown true 
 final_due m grown t e = cc
 
 -- so the front end has closed every wave
-front_closed : (p : Plan) (st : State) (s w : ℕ) → HasGrounds p → IsSound p st → IsQuiet p st → In (s, w) (waves_at p (front p)) → is_open ((st.node (front p)).book s w) ≡ false
+front_closed : (p : Plan) (st : State) (s w : ℕ) → HasPlanFacts p → IsSound p st → IsQuiet p st → In (s, w) (waves_at p (front p)) → is_open ((st.node (front p)).book s w) ≡ false
 unfolding due_at is_front
 front_closed p st s w plan h quiet hw = elim (cases_Bool (is_open ((st.node (front p)).book s w))) [
   | inr f ↦ f
@@ -294,10 +294,10 @@ front_closed p st s w plan h quiet hw = elim (cases_Bool (is_open ((st.node (fro
 ]
 
 -- Done down the tree
-at_front : (p : Plan) (st : State) (n s w : ℕ) → HasGrounds p → IsSound p st → IsQuiet p st → In (s, w) (waves_at p n) → n ≡ front p → is_open ((st.node n).book s w) ≡ false
+at_front : (p : Plan) (st : State) (n s w : ℕ) → HasPlanFacts p → IsSound p st → IsQuiet p st → In (s, w) (waves_at p n) → n ≡ front p → is_open ((st.node n).book s w) ≡ false
 at_front p st n s w plan h quiet hw e = subst (λ a. is_open ((st.node a).book s w) ≡ false) (sym e) (front_closed p st s w plan h quiet (subst (λ a. In (s, w) (waves_at p a)) e hw))
 
-closed_below : (p : Plan) (st : State) (fuel n s w : ℕ) → HasGrounds p → IsSound p st → IsQuiet p st → st.alive n ≡ true → In (s, w) (waves_at p n) → (n ≡ front p) ⊎ IsUnder p n (front p) → length (ancestors p n) ≤ fuel → is_open ((st.node n).book s w) ≡ false
+closed_below : (p : Plan) (st : State) (fuel n s w : ℕ) → HasPlanFacts p → IsSound p st → IsQuiet p st → st.alive n ≡ true → In (s, w) (waves_at p n) → (n ≡ front p) ⊎ IsUnder p n (front p) → length (ancestors p n) ≤ fuel → is_open ((st.node n).book s w) ≡ false
 closed_below p st fuel n s w plan h quiet up hw (inl e) le = at_front p st n s w plan h quiet hw e
 closed_below p st zero n s w plan h quiet up hw (inr u) le = let r = has_parent p st n (front p) plan h quiet up h.base.front u in absurd (let k = r.1.nearer in omega arith)
 closed_below p st (suc fuel) n s w plan h quiet up hw (inr u) le =
@@ -345,14 +345,14 @@ ends_finally p alive s last (r ∷ rs) v e h = go r.kind refl h.1 (ends_finally 
     }
     go FinalRelease ek x ih = record { before = []; final = r; all = ap (λ l. r ∷ l) x.1; partial = λ y i. absurd i; kind = ek; misses = x.0 }
 
-front_waves : (p : Plan) (s w : ℕ) → HasGrounds p → In (s, w) (waves_of p.streams) → In (s, w) (waves_at p (front p))
+front_waves : (p : Plan) (s w : ℕ) → HasPlanFacts p → In (s, w) (waves_of p.streams) → In (s, w) (waves_at p (front p))
 unfolding waves_at serves
 front_waves p s w plan i =
     let d = plan.stream_daemon s w i in
     in_filter (λ v. serves p (front p) v.0) (waves_of p.streams) (s, w) i (in_list_any (λ x. is_within p x (front p)) (daemons p s) d.0 d.1 (test_from_within p d.0 (front p) (plan.daemon_place d.0 s d.1)))
 
 -- a quiet state is over
-quiet_is_over : (p : Plan) (st : State) → HasGrounds p → IsSound p st → ((n : ℕ) → st.alive n ≡ true → n < nodes p) → IsQuiet p st → IsOver p st
+quiet_is_over : (p : Plan) (st : State) → HasPlanFacts p → IsSound p st → ((n : ℕ) → st.alive n ≡ true → n < nodes p) → IsQuiet p st → IsOver p st
 quiet_is_over p st plan h below quiet = record {
   final = λ s w i. ends_finally p st.alive s none (of_wave s w st.releases) ((st.node (front p)).book s w) (front_closed p st s w plan h quiet (front_waves p s w plan i)) (h.history.releases s w);
   closed = λ n s w up i. closed_below p st (length (ancestors p n)) n s w plan h quiet up i (plan.all_under n (below n up)) (le_refl _);
@@ -379,7 +379,7 @@ pub lives_below : (p : Plan) (st : State) (es : List Event) → ((n : ℕ) → s
 lives_below p st [] h = h
 lives_below p st (e ∷ es) h = lives_below p (step p st e) es (λ n u. h n (step_alive p st e n u))
 
-pub whole_is_over : (p : Plan) (journal : List Event) → HasGrounds p → IsWhole p journal → IsOver p (after p journal)
+pub whole_is_over : (p : Plan) (journal : List Event) → HasPlanFacts p → IsWhole p journal → IsOver p (after p journal)
 whole_is_over p journal plan l = quiet_is_over p (after p journal) plan (legal_is_sound p journal plan l.0) (lives_below p (start p) journal (start_below p)) l.1
 
 -- who dies at an event is the node that it loses

@@ -7,9 +7,9 @@ use Rattle.stat_plan.specs.Waves.{Wave, Open, Closed, is_open, cov_of, has_grown
 use Rattle.stat_desk.specs.declared.event.Event.{Event}
 use Rattle.overlay_core.specs.declared.release.Kind.{Kind}
 use Rattle.overlay_core.specs.declared.release.Kind.TheVariants.{Partial as PartialRelease, Final as FinalRelease}
-use Rattle.overlay_core.specs.Nodes.{Packet, Up, Done, Attach, Down, Release, Work}
+use Rattle.overlay_core.specs.Nodes.{Packet, Up, Done, Attach, Down, Release, Effects}
 use Rattle.overlay_core.specs.Machine.{State, step}
-use Rattle.overlay_core.specs.Apart.{node_of, outcome}
+use Rattle.overlay_core.specs.Independent.{node_of, outcome}
 
 -- 1 where a test holds, and 0 elsewhere
 abbrev pub one_if : Bool → ℕ
@@ -32,7 +32,7 @@ abbrev pub is_partial_of : ℕ → ℕ → Release → Bool
 is_partial_of s w r = is_partial r.kind && ((s == r.stream) && (w == r.wave))
 
 -- how often a wave went up, or was partially released
-abbrev pub sends_in : ℕ → ℕ → Work → ℕ
+abbrev pub sends_in : ℕ → ℕ → Effects → ℕ
 sends_in s w k = count_by (λ v. is_up_of s w v.1) k.sends + count_by (is_partial_of s w) k.releases
 
 -- whether a wave that stood so, and stands so after an event, is open and covers something else now

@@ -38,7 +38,7 @@ pub record Release : Type 0 where
   pub lost : List ℕ
 
 -- a node's waves in the middle of an event, with what it has sent and released in it so far
-pub record Work : Type 0 where
+pub record Effects : Type 0 where
   pub book : Book
   pub sends : List (ℕ × Packet)  -- each with its receiver
   pub releases : List Release
@@ -46,7 +46,7 @@ pub record Work : Type 0 where
 -- what an event leaves of its node
 pub record Outcome : Type 0 where
   pub kin : Kin
-  pub work : Work
+  pub work : Effects
 
 -- what is due for an open wave
 unfoldable pub due_at : Plan → ℕ → List ℕ → ℕ → Ranks → Ranks → Timer → Act
@@ -66,7 +66,7 @@ abbrev pub release : ℕ → ℕ → Ranks → Kind → List ℕ → Release
 release s w cov kind lost = record { stream = s; wave = w; cov = cov; kind = kind; lost = lost }
 
 -- one act on an open wave
-unfoldable pub acted : Plan → Kin → ℕ → ℕ → Ranks → Ranks → Timer → Work → Act → Work
+unfoldable pub acted : Plan → Kin → ℕ → ℕ → Ranks → Ranks → Timer → Effects → Act → Effects
 acted p kin s w cov sent timer k Hold = k
 acted p kin s w cov sent timer k Arm =
     record { book = set_wave k.book s w (Open cov sent (Running (ticks (mode p s)))); sends = k.sends; releases = k.releases }
@@ -86,21 +86,21 @@ acted p kin s w cov sent timer k Final =
     }
 
 -- what is due for a wave that stands so is done
-abbrev pub act_as : Plan → ℕ → Kin → ℕ → ℕ → Work → Wave → Work
+abbrev pub act_as : Plan → ℕ → Kin → ℕ → ℕ → Effects → Wave → Effects
 act_as p n kin s w k Closed = k
 act_as p n kin s w k (Open cov sent timer) = acted p kin s w cov sent timer k (due_at p n kin.lost s cov sent timer)
 
 -- what is due for a wave is done
-abbrev pub act : Plan → ℕ → Kin → ℕ → ℕ → Work → Work
+abbrev pub act : Plan → ℕ → Kin → ℕ → ℕ → Effects → Effects
 act p n kin s w k = act_as p n kin s w k (k.book s w)
 
 -- what is due for each of these waves is done
-abbrev pub act_each : Plan → ℕ → Kin → List (ℕ × ℕ) → Work → Work
+abbrev pub act_each : Plan → ℕ → Kin → List (ℕ × ℕ) → Effects → Effects
 act_each p n kin [] k = k
 act_each p n kin (v ∷ vs) k = act_each p n kin vs (act p n kin v.0 v.1 k)
 
 -- nothing was sent or released yet
-abbrev pub begin : Book → Work
+abbrev pub begin : Book → Effects
 begin book = record { book = book; sends = []; releases = [] }
 
 -- a daemon takes its samples of a wave: its ranks are covered
@@ -125,7 +125,7 @@ received_up p n x s w set = record {
 }
 
 -- a wave that stands so ends, and the children are told
-abbrev pub done_work : Plan → Kin → ℕ → ℕ → Book → Wave → Work
+abbrev pub done_work : Plan → Kin → ℕ → ℕ → Book → Wave → Effects
 done_work p kin s w book Closed = begin book
 done_work p kin s w book (Open cov sent timer) = record { book = set_wave book s w Closed; sends = dones p kin s w; releases = [] }
 

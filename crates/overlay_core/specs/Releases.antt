@@ -7,7 +7,7 @@ use Rattle.stat_plan.specs.declared.script.Mode.TheVariants.{WaitForAll}
 use Rattle.overlay_core.specs.declared.release.Kind.TheVariants.{Partial as PartialRelease}
 use Rattle.overlay_core.specs.Nodes.{Release}
 use Rattle.overlay_core.specs.Machine.{State}
-use Rattle.overlay_core.specs.Sound.{IsUnion}
+use Rattle.overlay_core.specs.LinkInvariant.{IsUnion}
 use Rattle.overlay_core.specs.History.{of_wave}
 
 -- a release is of a wave of the plan, covers all ranks of some daemons of the stream, and is final where the stream waits for all

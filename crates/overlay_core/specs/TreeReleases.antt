@@ -4,9 +4,9 @@ use Rattle.prefix_tree.specs.Tree.{Tree}
 use Rattle.overlay_core.specs.Nodes.{Release}
 use Rattle.overlay_core.specs.Releases.{next_release}
 use Rattle.overlay_core.specs.declared.release.Kind.{Kind}
-use Rattle.overlay_core.specs.declared.release.Release.{Release as Held}
+use Rattle.overlay_core.specs.declared.release.Release.{Release as CodeRelease}
 
--- the stream, the wave, the how-manieth release of the wave it is, whether more can come, what was merged, and which nodes
+-- the stream, the wave, the release's number within its wave, whether more can come, what was merged, and which nodes
 -- the front end knew to be lost
 pub record TreeRelease : Type 0 where
   pub stream : ℕ
@@ -17,12 +17,12 @@ pub record TreeRelease : Type 0 where
   pub lost : List ℕ
 
 -- a program's release, where `tree` says what its tree is
-abbrev pub release_in : {X : Type 0} → (X → Tree) → Held X → TreeRelease
-release_in tree r = record { stream = r.stream; wave = r.wave; number = r.number; kind = r.kind; tree = tree r.tree; lost = r.lost.items }
+abbrev pub release_view : {X : Type 0} → (X → Tree) → CodeRelease X → TreeRelease
+release_view tree r = record { stream = r.stream; wave = r.wave; number = r.number; kind = r.kind; tree = tree r.tree; lost = r.lost.items }
 
 -- a program's releases
-abbrev pub releases_in : {X : Type 0} → (X → Tree) → List (Held X) → List TreeRelease
-releases_in tree rs = map (release_in tree) rs
+abbrev pub releases_view : {X : Type 0} → (X → Tree) → List (CodeRelease X) → List TreeRelease
+releases_view tree rs = map (release_view tree) rs
 
 -- the machine's release: of the tree, the ranks that it covers
 abbrev pub bare_release : TreeRelease → Release
@@ -38,5 +38,5 @@ numbers_after earlier [] = []
 numbers_after earlier (r ∷ rs) = next_release r.stream r.wave earlier ∷ numbers_after (earlier ++ r ∷ []) rs
 
 -- each release that comes after the earlier ones has its number
-abbrev pub AreNumbered : List Release → List TreeRelease → Type 0
-AreNumbered earlier rs = map (λ r. r.number) rs ≡ numbers_after earlier (bare_releases rs)
+abbrev pub AreNumberedInOrder : List Release → List TreeRelease → Type 0
+AreNumberedInOrder earlier rs = map (λ r. r.number) rs ≡ numbers_after earlier (bare_releases rs)

@@ -10,17 +10,17 @@ use Rattle.overlay_core.specs.Nodes.{Release}
 use Rattle.overlay_core.specs.Machine.{State}
 use Rattle.overlay_core.specs.Runs.{after}
 use Rattle.overlay_core.specs.Losses.{IsLost}
-use Rattle.overlay_core.specs.Sound.{Sound}
-use Rattle.overlay_core.specs.Joined.{PairsHold}
-use Rattle.overlay_core.specs.Calm.{NodesAreCalm}
+use Rattle.overlay_core.specs.LinkInvariant.{LinkInvariant}
+use Rattle.overlay_core.specs.ParentChild.{ParentChildInvariant}
+use Rattle.overlay_core.specs.Settled.{NodesAreSettled}
 use Rattle.overlay_core.specs.History.{of_wave, HistoryIsSound}
 use Rattle.overlay_core.specs.Releases.{CoversAll}
 
 -- nodes and links, joined pairs, calm, and the history of each wave
 pub record IsSound (p : Plan) (st : State) : Type 0 where
-  pub base : Sound p st
-  pub pairs : PairsHold p st
-  pub calm : NodesAreCalm p st
+  pub base : LinkInvariant p st
+  pub pairs : ParentChildInvariant p st
+  pub calm : NodesAreSettled p st
   pub history : HistoryIsSound p st
 
 -- Of a wave's releases the last one is final, and no other is. It covers all ranks of each daemon that the journal doesn't

@@ -5,7 +5,7 @@
 //! are laws of it. Their bodies are empty; what each says is its contract, and who needs a law calls its function.
 #![tactic(auto)]
 
-ghost use Rattle.overlay_core.specs.Apart.{outcome, IsApart};
+ghost use Rattle.overlay_core.specs.Independent.{outcome, AreIndependent};
 ghost use Rattle.overlay_core.specs.Bound.{bound};
 ghost use Rattle.overlay_core.specs.Counts.{OnlyGrows, one_if, is_unsent, sends, growths, moves};
 ghost use Rattle.overlay_core.specs.History.{of_wave};
@@ -16,7 +16,7 @@ ghost use Rattle.overlay_core.specs.Releases.{ReleasesAreSound};
 ghost use Rattle.overlay_core.specs.Runs.{run, after, IsLegal, IsQuiet, IsWhole};
 ghost use Rattle.overlay_core.specs.Whole.{HasEnded, HasOneRelease, IsSound, LosesNoDaemon};
 ghost use Rattle.stat_desk.specs.declared.event.Event.{Event};
-ghost use Rattle.stat_plan.specs.Kept.{IsPlan};
+ghost use Rattle.stat_plan.specs.Invariants.{IsPlan};
 ghost use Rattle.stat_plan.specs.NodeSets.{In};
 ghost use Rattle.stat_plan.specs.Plans.{Plan, nodes, mode, waves_of};
 ghost use Rattle.stat_plan.specs.declared.script.Mode.TheVariants.{WaitForAll};
@@ -94,7 +94,7 @@ pub fn lost_nodes_are_dead()
 
 /// A law: a node sends a wave at most as often as what it covers of the wave grew or its parent changed, and once less where
 /// something isn't sent yet.
-pub fn sends_are_paid()
+pub fn sends_are_bounded()
     ensures paid { (p : Plan) (journal : List Event) (n s w : ℕ) → sends p (start p) journal n s w + one_if (is_unsent (((after p journal).node n).book s w)) ≤ growths p (start p) journal n s w + moves p (start p) journal n }
 {}
 
@@ -105,7 +105,7 @@ pub fn coverages_only_grow()
 
 /// A law: an event that may come may still come after events of other nodes, where none of them is the loss of the sender of
 /// its packet, and leaves of its node what it would have left before.
-pub fn events_apart_leave_each_other()
-    ensures one { (p : Plan) (st : State) (e f : Event) → IsApart e f → is_enabled p st e ≡ true → (is_enabled p (step p st f) e ≡ true) × (outcome p (step p st f) e ≡ outcome p st e) }
-    ensures each { (p : Plan) (st : State) (e : Event) (fs : List Event) → AllByRecursion (IsApart e) fs → is_enabled p st e ≡ true → (is_enabled p (run p st fs) e ≡ true) × (outcome p (run p st fs) e ≡ outcome p st e) }
+pub fn independent_events_commute()
+    ensures one { (p : Plan) (st : State) (e f : Event) → AreIndependent e f → is_enabled p st e ≡ true → (is_enabled p (step p st f) e ≡ true) × (outcome p (step p st f) e ≡ outcome p st e) }
+    ensures each { (p : Plan) (st : State) (e : Event) (fs : List Event) → AllByRecursion (AreIndependent e) fs → is_enabled p st e ≡ true → (is_enabled p (run p st fs) e ≡ true) × (outcome p (run p st fs) e ≡ outcome p st e) }
 {}

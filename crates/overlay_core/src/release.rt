@@ -16,7 +16,7 @@ pub struct Release<T> {
     pub stream: u8,
     /// The wave's number in its stream.
     pub wave: u8,
-    /// The how-manieth release of the wave it is, from 1 on.
+    /// The number of this release within its wave, from 1.
     pub number: u32,
     /// Whether it is the wave's last.
     pub kind: Kind,

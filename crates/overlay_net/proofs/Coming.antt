@@ -4,23 +4,23 @@ use Rattle.std.proofs.lemmas.Bool.{true≢false, and_parts}
 use Rattle.std.proofs.lemmas.Bool.Decides.{nat_tests}
 use Rattle.std.specs.List.{AllByRecursion}
 use Rattle.stat_plan.specs.NodeSets.{In}
-use Rattle.stat_plan.specs.Kept.{IsPlan}
+use Rattle.stat_plan.specs.Invariants.{IsPlan}
 use Rattle.stat_plan.specs.Waves.{Wave, Open, Closed, set_wave, covering, growing, ticked, is_fired}
 use Rattle.stat_plan.specs.Plans.{Plan, nodes, front, is_front, is_within, serves, daemons, ranks, waves_at, waves_of}
 use Rattle.stat_desk.specs.declared.event.Event.{Event}
 use Rattle.stat_desk.specs.declared.event.Event.TheVariants.{Sample, Recv, Tick, Lose}
-use Rattle.overlay_core.specs.Apart.{node_of as event_node}
+use Rattle.overlay_core.specs.Independent.{node_of as event_node}
 use Rattle.overlay_core.specs.Nodes.{Node, Packet, Up, Done, Attach, Down, Outcome, Release, handled, begin, sampled, after_tick, received_up, received_done, done_work}
 use Rattle.overlay_core.specs.Machine.{State, is_enabled, is_pending, is_wave, next_sample, commit, receive, step}
-use Rattle.overlay_core.specs.Sound.{Sound, PacketIsSound, SendIsSound}
+use Rattle.overlay_core.specs.LinkInvariant.{LinkInvariant, PacketIsSound, SendIsSound}
 use Rattle.overlay_core.specs.TreeReleases.{TreeRelease, bare_release, bare_releases}
-use Rattle.overlay_core.proofs.Grounds.{grounds}
+use Rattle.overlay_core.proofs.PlanFacts.{plan_facts}
 use Rattle.overlay_core.proofs.Lists.{in_from_member, some_rank}
 use Rattle.overlay_core.proofs.Acts.{SendsAreSound}
 use Rattle.overlay_core.proofs.Outcomes.{next_is_named, next_is_empty, sampled_sound, tick_sound, received_sound}
 use Rattle.overlay_core.proofs.Steps.{active_parts}
 use Rattle.overlay_core.proofs.History.{act_each_below}
-use Rattle.overlay_core.proofs.Goes.{waves_above, in_filter, in_list_any, test_from_within}
+use Rattle.overlay_core.proofs.ParentLinks.{waves_above, in_filter, in_list_any, test_from_within}
 use Rattle.overlay_node.specs.Packets.{TreePacket, TreeUp, TreeDone, PacketFits, bare_packet, bare_sends}
 use Rattle.overlay_node.specs.NodeViews.{NodeView, MayHandle, MayReceive, taken_with}
 use Rattle.overlay_net.specs.Inboxes.{Waiting, queue_of}
@@ -41,7 +41,7 @@ none_bare (r ∷ rs) e = absurd (not_none (bare_release r) (bare_releases rs) e)
 eqb-false-from : (a b : ℕ) → a ≢ b → (a == b) ≡ false
 eqb-false-from a b other = grind (arith, nat_tests)
 
-module _ (p : Plan) (plan : IsPlan p) (safe : p.faults ≡ []) (xs : List NodeView) (ib : List Waiting) (rs : List TreeRelease) (parts : AreParts p xs ib) (sound : Sound p (state_with p xs ib rs)) where
+module _ (p : Plan) (plan : IsPlan p) (safe : p.faults ≡ []) (xs : List NodeView) (ib : List Waiting) (rs : List TreeRelease) (parts : AreParts p xs ib) (sound : LinkInvariant p (state_with p xs ib rs)) where
   abbrev st : State
   st = state_with p xs ib rs
 
@@ -69,7 +69,7 @@ module _ (p : Plan) (plan : IsPlan p) (safe : p.faults ≡ []) (xs : List NodeVi
       let some = some_rank t.coverage is.2 in
       let whole = is.1 some.0 some.1 in
       let sends : serves p m s ≡ true = in_list_any (λ d. is_within p d m) (daemons p s) whole.daemon whole.place.listed (test_from_within p whole.daemon m whole.place.within) in
-      ((waves_above p m n s w (grounds p plan) is.0 (in_filter (λ v. serves p m v.0) (waves_of p.streams) (s, w) is.3 sends)).0, fits)
+      ((waves_above p m n s w (plan_facts p plan) is.0 (in_filter (λ v. serves p m v.0) (waves_of p.streams) (s, w) is.3 sends)).0, fits)
   may_receive n m (TreeDone s w) is fits = in_filter (λ v. serves p n v.0) (waves_of p.streams) (s, w) is.2 is.1
 
   may_sample : (n s w : ℕ) (x : NodeView) → is_enabled p st (Sample n s w) ≡ true → slice_get xs n ≡ Some x → MayHandle p x (Sample n s w) None
@@ -100,16 +100,16 @@ module _ (p : Plan) (plan : IsPlan p) (safe : p.faults ≡ []) (xs : List NodeVi
   sends_sound ic (Sample n s w) packet en taken =
       let t = and_parts _ _ en in
       let u = and_parts _ _ t.0 in
-      (sampled_sound p st.alive n (st.node n) s w (grounds p plan) (sound.kin n) (sound.books n) (in_from_member n (daemons p s) u.1) (next_is_named p (st.node n) s w t.1) (next_is_empty p (st.node n) s w t.1)).work.sends
+      (sampled_sound p st.alive n (st.node n) s w (plan_facts p plan) (sound.kin n) (sound.books n) (in_from_member n (daemons p s) u.1) (next_is_named p (st.node n) s w t.1) (next_is_empty p (st.node n) s w t.1)).work.sends
   sends_sound ic (Recv n m) None en taken = absurd taken
-  sends_sound ic (Recv n m) (Some q) en taken = (received_sound p st.alive n (st.node n) m (bare_packet q) (grounds p plan) (sound.kin n) (sound.books n) (packet_sound ic n m q taken)).work.sends
+  sends_sound ic (Recv n m) (Some q) en taken = (received_sound p st.alive n (st.node n) m (bare_packet q) (plan_facts p plan) (sound.kin n) (sound.books n) (packet_sound ic n m q taken)).work.sends
   sends_sound ic (Tick n) packet en taken = (tick_sound p st.alive n (st.node n) (sound.kin n) (sound.books n)).work.sends
   sends_sound ic (Lose n) packet en taken = absurd (no_loss n en)
 
   receiver_below : (n m : ℕ) (q : Packet) → SendIsSound p n m q → m < nodes p
-  receiver_below n m (Up s w set) is = ((grounds p plan).under_nodes n m is.0).1
-  receiver_below n m (Done s w) is = ((grounds p plan).under_nodes m n is.0).0
-  receiver_below n m Attach is = ((grounds p plan).under_nodes n m is).1
+  receiver_below n m (Up s w set) is = ((plan_facts p plan).under_nodes n m is.0).1
+  receiver_below n m (Done s w) is = ((plan_facts p plan).under_nodes m n is.0).0
+  receiver_below n m Attach is = ((plan_facts p plan).under_nodes n m is).1
   receiver_below n m Down is = absurd is
 
   all_below : (n : ℕ) (sends : List (ℕ × TreePacket)) → SendsAreSound p n (bare_sends sends) → GoBelow (nodes p) sends

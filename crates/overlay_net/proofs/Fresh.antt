@@ -12,7 +12,7 @@ use Rattle.overlay_core.specs.Machine.{State, start, start_node}
 use Rattle.overlay_core.specs.TreeReleases.{TreeRelease, bare_releases}
 use Rattle.overlay_node.specs.NodeViews.{Counts, IsNodeOf, NodeView, node_of}
 use Rattle.overlay_net.specs.Inboxes.{HaveSent, Waiting, is_waiting, queue_of, senders_of}
-use Rattle.overlay_net.specs.Nets.{IsLeftBy, inbox_at, net_view, node_events, state_with}
+use Rattle.overlay_net.specs.Nets.{IsReachedBy, inbox_at, net_view_of, node_events, state_with}
 use Rattle.overlay_net.specs.Events.{IsNet, has_some, is_listed}
 use Rattle.overlay_net.specs.Parts.{AreFresh}
 
@@ -133,15 +133,15 @@ module _ (p : Plan) where
         link_starts m n = ap (λ w. map bare_packet (queue_of w m)) (h.empty n)
 
     -- the empty journal leaves it
-    pub fresh_left : IsLeftBy (net_view p xs ib rs false) []
-    fresh_left = subst (λ l. IsLeftBy (net_view p xs ib l false) []) (sym none) (record { legal = tt; state = state_starts; numbered = refl; trees = tt })
+    pub fresh_left : IsReachedBy (net_view_of p xs ib rs false) []
+    fresh_left = subst (λ l. IsReachedBy (net_view_of p xs ib l false) []) (sym none) (record { legal = tt; state = state_starts; numbered = refl; trees = tt })
 
     -- all nodes that have done nothing yet are a net
-    pub fresh_net : IsNet (net_view p xs ib rs false) listed
+    pub fresh_net : IsNet (net_view_of p xs ib rs false) listed
     fresh_net = record {
       safe = safe;
       journal = [];
-      left = fresh_left;
+      reached = fresh_left;
       parts = record {
         all_nodes = h.all_nodes;
         all_inboxes = h.all_inboxes;

@@ -6,11 +6,11 @@ use Rattle.std.proofs.lemmas.Option.{slice_get-get_or}
 use Rattle.prefix_tree.specs.Tree.{Tree}
 use Rattle.stat_plan.specs.Plans.{Plan}
 use Rattle.stat_desk.specs.declared.event.Event.{Event}
-use Rattle.overlay_core.specs.Apart.{node_of as event_node}
+use Rattle.overlay_core.specs.Independent.{node_of as event_node}
 use Rattle.overlay_core.specs.Nodes.{Node, Outcome, Release}
-use Rattle.overlay_core.specs.TreeReleases.{AreNumbered, bare_releases, releases_in}
+use Rattle.overlay_core.specs.TreeReleases.{AreNumberedInOrder, bare_releases, releases_view}
 use Rattle.overlay_node.specs.declared.packet.Outgoing.{Outgoing}
-use Rattle.overlay_node.specs.Packets.{TreePacket, PacketFits, ReleaseFits, bare_sends, sends_in}
+use Rattle.overlay_node.specs.Packets.{TreePacket, PacketFits, ReleaseFits, bare_sends, sends_view}
 use Rattle.overlay_node.specs.NodeViews.{NodeView, Counts, IsNodeOf, node_of}
 use Rattle.overlay_net.specs.Inboxes.{Waiting}
 use Rattle.overlay_net.specs.Sends.{IsTaken}
@@ -26,14 +26,14 @@ pub handed : {X E : Type 0} (tree : X → Tree) (p : Plan) (e : Event) (xs : Lis
     → IsTaken old e packet new → k ≡ event_node e → slice_get xs (event_node e) ≡ Some x
     → IfOk r (λ out. y.number ≡ x.number)
     → IfOk r (λ out. (o : Outcome) → o ≡ outcome_at p x e packet → ◌≡◌ {A = Node} (node_of y) (record { kin = o.kin; book = o.work.book; count = suc x.count }))
-    → IfOk r (λ out. bare_sends (sends_in tree out.sends.items) ≡ (outcome_at p x e packet).work.sends)
-    → IfOk r (λ out. bare_releases (releases_in tree out.releases.items) ≡ (outcome_at p x e packet).work.releases)
+    → IfOk r (λ out. bare_sends (sends_view tree out.sends.items) ≡ (outcome_at p x e packet).work.sends)
+    → IfOk r (λ out. bare_releases (releases_view tree out.releases.items) ≡ (outcome_at p x e packet).work.releases)
     → IfOk r (λ out. IsNodeOf p y)
-    → IfOk r (λ out. AllByRecursion (λ v. PacketFits p v.1) (sends_in tree out.sends.items))
-    → IfOk r (λ out. AllByRecursion (ReleaseFits p) (releases_in tree out.releases.items))
-    → IfOk r (λ out. (earlier : List Release) → Counts x.entries earlier → AreNumbered earlier (releases_in tree out.releases.items))
-    → IfOk r (λ out. (earlier : List Release) → Counts x.entries earlier → Counts y.entries (earlier ++ bare_releases (releases_in tree out.releases.items)))
-    → IfOk r (λ out. IsHandedOver p e xs (slice_set xs k y) old new (sends_in tree out.sends.items) (releases_in tree out.releases.items))
+    → IfOk r (λ out. AllByRecursion (λ v. PacketFits p v.1) (sends_view tree out.sends.items))
+    → IfOk r (λ out. AllByRecursion (ReleaseFits p) (releases_view tree out.releases.items))
+    → IfOk r (λ out. (earlier : List Release) → Counts x.entries earlier → AreNumberedInOrder earlier (releases_view tree out.releases.items))
+    → IfOk r (λ out. (earlier : List Release) → Counts x.entries earlier → Counts y.entries (earlier ++ bare_releases (releases_view tree out.releases.items)))
+    → IfOk r (λ out. IsHandedOver p e xs (slice_set xs k y) old new (sends_view tree out.sends.items) (releases_view tree out.releases.items))
 handed tree p e xs old new packet k x y (Err error) taken same at number node sends releases fits packets trees numbers counts = tt
 handed tree p e xs old new packet k x y (Ok out) taken same at number node sends releases fits packets trees numbers counts = record {
   packet = packet;

@@ -5,26 +5,26 @@ use Rattle.std.specs.Prelude.{Result, Ok, Err, OnOk}
 use Rattle.std.proofs.lemmas.List.{get_or_default, get_or-set_same, length-set, map-append}
 use Rattle.std.proofs.lemmas.Option.{slice_get_within}
 use Rattle.prefix_tree.specs.Tree.{Tree}
-use Rattle.stat_plan.specs.Kept.{IsPlan}
+use Rattle.stat_plan.specs.Invariants.{IsPlan}
 use Rattle.stat_plan.specs.Plans.{Plan, nodes, front}
 use Rattle.stat_desk.specs.declared.event.Event.{Event}
-use Rattle.overlay_core.specs.Apart.{node_of as event_node}
+use Rattle.overlay_core.specs.Independent.{node_of as event_node}
 use Rattle.overlay_core.specs.declared.release.Release.{Release as Held}
 use Rattle.overlay_core.specs.Nodes.{Node}
 use Rattle.overlay_core.specs.Machine.{State, enabled_events, is_enabled, step}
 use Rattle.overlay_core.specs.Runs.{IsQuiet, after}
-use Rattle.overlay_core.specs.Sound.{Sound}
-use Rattle.overlay_core.specs.TreeReleases.{TreeRelease, release_in, releases_in}
-use Rattle.overlay_core.proofs.Grounds.{grounds}
+use Rattle.overlay_core.specs.LinkInvariant.{LinkInvariant}
+use Rattle.overlay_core.specs.TreeReleases.{TreeRelease, release_view, releases_view}
+use Rattle.overlay_core.proofs.PlanFacts.{plan_facts}
 use Rattle.overlay_core.proofs.Journals.{after_more, legal_more, quiet_where_empty}
 use Rattle.overlay_core.proofs.Steps.{legal_sound}
 use Rattle.overlay_node.specs.Packets.{TreePacket}
 use Rattle.overlay_node.specs.NodeViews.{NodeView, IsNodeOf, node_of}
 use Rattle.overlay_net.specs.Inboxes.{Waiting}
-use Rattle.overlay_net.specs.Nets.{NetView, IsLeftBy, state_of, inbox_at, net_view, node_events, state_with}
+use Rattle.overlay_net.specs.Nets.{NetView, IsReachedBy, state_of, inbox_at, net_view_of, node_events, state_with}
 use Rattle.overlay_net.specs.Events.{IsNet, has_some, is_listed}
 use Rattle.overlay_net.specs.Sends.{AreSent, GoBelow}
-use Rattle.overlay_net.specs.Handled.{GoesOn, IsMarked}
+use Rattle.overlay_net.specs.Handled.{ExtendsBy, IsMarked}
 use Rattle.overlay_net.specs.Parts.{IsHandedOver, MayHandOver}
 use Rattle.overlay_net.proofs.Coming.{can_take, event_below, go_below, may_handle, only_front, stepped}
 use Rattle.overlay_net.proofs.Keeping.{parts_kept, ready_kept, counts_kept, numbers_kept, trees_kept}
@@ -32,17 +32,17 @@ use Rattle.overlay_net.proofs.KeepingParts.{taken_all}
 use Rattle.overlay_net.proofs.Offers.{node_there}
 use Rattle.overlay_net.proofs.SmallCounts.{small_count}
 
-module _ (p : Plan) (plan : IsPlan p) (xs : List NodeView) (ib : List Waiting) (rs : List TreeRelease) (listed : List ℕ) (net : IsNet (net_view p xs ib rs false) listed) (e : Event) (en : is_enabled p (state_with p xs ib rs) e ≡ true) where
+module _ (p : Plan) (plan : IsPlan p) (xs : List NodeView) (ib : List Waiting) (rs : List TreeRelease) (listed : List ℕ) (net : IsNet (net_view_of p xs ib rs false) listed) (e : Event) (en : is_enabled p (state_with p xs ib rs) e ≡ true) where
   abbrev st : State
   st = state_with p xs ib rs
 
-  sound : Sound p st
-  sound = subst (Sound p) (sym net.left.state) (legal_sound p net.journal (grounds p plan) net.left.legal)
+  sound : LinkInvariant p st
+  sound = subst (LinkInvariant p) (sym net.reached.state) (legal_sound p net.journal (plan_facts p plan) net.reached.legal)
 
   few : (x : NodeView) → slice_get xs (event_node e) ≡ Some x → x.count < 2 ^ 62
   few x at =
-      let same : (after p net.journal).node (event_node e) ≡ node_of x = ap (λ (s : State). s.node (event_node e)) (sym net.left.state) ∙ node_there p xs (event_node e) x at in
-      subst (λ (y : Node). y.count < 2 ^ 62) same (small_count p net.journal e (event_node e) plan net.left.legal (subst (λ (s : State). is_enabled p s e ≡ true) net.left.state en))
+      let same : (after p net.journal).node (event_node e) ≡ node_of x = ap (λ (s : State). s.node (event_node e)) (sym net.reached.state) ∙ node_there p xs (event_node e) x at in
+      subst (λ (y : Node). y.count < 2 ^ 62) same (small_count p net.journal e (event_node e) plan net.reached.legal (subst (λ (s : State). is_enabled p s e ≡ true) net.reached.state en))
 
   -- it may be handed over to its node
   pub may_hand_over : MayHandOver p xs ib e
@@ -75,7 +75,7 @@ module _ (p : Plan) (plan : IsPlan p) (xs : List NodeView) (ib : List Waiting) (
 
     module _ (id : List Waiting) (lb : List ℕ) (sent : AreSent (event_node e) sends ic id listed lb) where
       -- each journal that left the net leaves it with the event now
-      pub goes_on : GoesOn e (net_view p xs ib rs false) (net_view p ys id (rs ++ more) false)
+      pub goes_on : ExtendsBy e (net_view_of p xs ib rs false) (net_view_of p ys id (rs ++ more) false)
       goes_on journal h =
           let here = subst (λ (s : State). is_enabled p s e ≡ true) h.state en in
           record {
@@ -86,11 +86,11 @@ module _ (p : Plan) (plan : IsPlan p) (xs : List NodeView) (ib : List Waiting) (
           }
 
       -- it is a net again
-      pub is_net : (lc : List ℕ) → IsMarked p (event_node e) over.after id lb lc → IsNet (net_view p ys id (rs ++ more) false) lc
-      is_net lc marked = subst (λ zs. IsNet (net_view p zs id (rs ++ more) false) lc) (sym over.now) (record {
+      pub is_net : (lc : List ℕ) → IsMarked p (event_node e) over.after id lb lc → IsNet (net_view_of p ys id (rs ++ more) false) lc
+      is_net lc marked = subst (λ zs. IsNet (net_view_of p zs id (rs ++ more) false) lc) (sym over.now) (record {
         safe = net.safe;
         journal = net.journal ++ e ∷ [];
-        left = subst (λ zs. IsLeftBy (net_view p zs id (rs ++ more) false) (net.journal ++ e ∷ [])) over.now (goes_on net.journal net.left);
+        reached = subst (λ zs. IsReachedBy (net_view_of p zs id (rs ++ more) false) (net.journal ++ e ∷ [])) over.now (goes_on net.journal net.reached);
         parts = parts_kept p e over.before over.after over.packet sends more over.done xs over.at ib ic id listed lb net.parts over.taken sent all_go_below;
         counts = counts_kept p e over.before over.after over.packet sends more over.done xs over.at rs front_alone net.counts;
         listed = ready_kept p e over.before over.after over.packet sends more over.done xs over.at ib ic id listed lb lc net.parts over.taken sent all_go_below marked net.listed;
@@ -121,13 +121,13 @@ ok_then (Ok x) a f = f a
 ok_then (Err e) a f = tt
 
 -- releases behind others
-pub releases_more : {X : Type 0} (tree : X → Tree) (xs ys zs : List (Held X)) → zs ≡ xs ++ ys → releases_in tree zs ≡ releases_in tree xs ++ releases_in tree ys
-releases_more tree xs ys zs is = ap (releases_in tree) is ∙ map-append (release_in tree) xs ys
+pub releases_more : {X : Type 0} (tree : X → Tree) (xs ys zs : List (Held X)) → zs ≡ xs ++ ys → releases_view tree zs ≡ releases_view tree xs ++ releases_view tree ys
+releases_more tree xs ys zs is = ap (releases_view tree) is ∙ map-append (release_view tree) xs ys
 
 -- no event may come next just where none is listed
 pub quiet_where_none : (v : NetView) (ready : List ℕ) (b : Bool) → IsPlan v.plan → IsNet v ready → (b ≡ true) ↔ (enabled_events v.plan (state_of v) ≡ []) → (b ≡ true) ↔ IsQuiet v.plan (state_of v)
 quiet_where_none v ready b plan net none =
-    let same = quiet_where_empty v.plan net.journal (grounds v.plan plan) net.left.legal in (
-      (λ t. subst (IsQuiet v.plan) (sym net.left.state) (same.1 (subst (λ (s : State). enabled_events v.plan s ≡ []) net.left.state (none.0 t)))),
-      (λ q. none.1 (subst (λ (s : State). enabled_events v.plan s ≡ []) (sym net.left.state) (same.0 (subst (IsQuiet v.plan) net.left.state q)))),
+    let same = quiet_where_empty v.plan net.journal (plan_facts v.plan plan) net.reached.legal in (
+      (λ t. subst (IsQuiet v.plan) (sym net.reached.state) (same.1 (subst (λ (s : State). enabled_events v.plan s ≡ []) net.reached.state (none.0 t)))),
+      (λ q. none.1 (subst (λ (s : State). enabled_events v.plan s ≡ []) (sym net.reached.state) (same.0 (subst (IsQuiet v.plan) net.reached.state q)))),
     )

@@ -7,9 +7,9 @@ use Rattle.std.specs.List.{AllByRecursion, flat_map}
 use Rattle.stat_plan.specs.Plans.{Plan, nodes, front}
 use Rattle.stat_desk.specs.declared.event.Event.{Event}
 use Rattle.stat_desk.specs.declared.event.Event.TheVariants.{Recv}
-use Rattle.overlay_core.specs.Apart.{node_of as event_node}
+use Rattle.overlay_core.specs.Independent.{node_of as event_node}
 use Rattle.overlay_core.specs.Nodes.{Release}
-use Rattle.overlay_core.specs.TreeReleases.{TreeRelease, AreNumbered, bare_release, bare_releases, numbers_after}
+use Rattle.overlay_core.specs.TreeReleases.{TreeRelease, AreNumberedInOrder, bare_release, bare_releases, numbers_after}
 use Rattle.overlay_node.specs.Packets.{TreePacket, PacketFits, ReleaseFits}
 use Rattle.overlay_node.specs.NodeViews.{NodeView, Counts, IsNodeOf}
 use Rattle.overlay_net.specs.Inboxes.{Waiting, IsInbox, is_waiting, queue_of, senders_of}
@@ -162,10 +162,10 @@ module _ (p : Plan) (e : Event) (x y : NodeView) (packet : Option TreePacket) (s
           subst (λ (l : List TreeRelease). Counts z.entries (bare_releases l)) (sym same) (counts z (else_is (front p) z t h))
 
   -- each release has its number
-  pub numbers_kept : (rs : List TreeRelease) → (event_node e ≢ front p → more ≡ []) → FrontCounts p xs rs → AreNumbered [] rs → AreNumbered [] (rs ++ more)
+  pub numbers_kept : (rs : List TreeRelease) → (event_node e ≢ front p → more ≡ []) → FrontCounts p xs rs → AreNumberedInOrder [] rs → AreNumberedInOrder [] (rs ++ more)
   numbers_kept rs none counts numbered = go (front p == event_node e) refl
     where
-      go : (t : Bool) → (front p == event_node e) ≡ t → AreNumbered [] (rs ++ more)
+      go : (t : Bool) → (front p == event_node e) ≡ t → AreNumberedInOrder [] (rs ++ more)
       go true t =
           let en : front p ≡ event_node e = eqb-true (front p) (event_node e) t in
           let old : Counts x.entries (bare_releases rs) = counts x (subst (λ k. slice_get xs k ≡ Some x) (sym en) at) in
@@ -177,7 +177,7 @@ module _ (p : Plan) (e : Event) (x y : NodeView) (packet : Option TreePacket) (s
       go false t =
           let rest : more ≡ [] = none (λ en. eqb-false (front p) (event_node e) t (sym en)) in
           let same : rs ++ more ≡ rs = ap (λ (l : List TreeRelease). rs ++ l) rest ∙ append-nil rs in
-          subst (λ (l : List TreeRelease). AreNumbered [] l) (sym same) numbered
+          subst (λ (l : List TreeRelease). AreNumberedInOrder [] l) (sym same) numbered
 
   -- each release's tree stands for the plan
   pub trees_kept : (rs : List TreeRelease) → AllByRecursion (ReleaseFits p) rs → AllByRecursion (ReleaseFits p) (rs ++ more)

@@ -9,7 +9,7 @@ use Rattle.std.proofs.lemmas.Bool.{true≢false, or_cases, or_left, or_right}
 use Rattle.std.proofs.lemmas.Bool.Decides.{nat_tests}
 use Rattle.std.proofs.lemmas.List.{length-append}
 use Rattle.std.proofs.lemmas.Option.{none-some}
-use Rattle.stat_plan.specs.NodeSets.{In, IsAscending}
+use Rattle.stat_plan.specs.NodeSets.{In, IsStrictlyIncreasing}
 use Rattle.stat_plan.specs.Plans.{up_to}
 use Rattle.stat_plan.proofs.FirstOver.{all_in}
 use Rattle.stat_plan.proofs.InLists.{in_filter, in_from_filter}
@@ -48,7 +48,7 @@ none_from_test (x ∷ xs) h = absurd (true≢false h)
 -- ---- ascending lists
 
 -- ascending lists of the same numbers are the same
-pub same_rising : (xs ys : List ℕ) → IsAscending xs → IsAscending ys → ((n : ℕ) → In n xs → In n ys) → ((n : ℕ) → In n ys → In n xs) → xs ≡ ys
+pub same_rising : (xs ys : List ℕ) → IsStrictlyIncreasing xs → IsStrictlyIncreasing ys → ((n : ℕ) → In n xs → In n ys) → ((n : ℕ) → In n ys → In n xs) → xs ≡ ys
 same_rising [] [] h k f g = refl
 same_rising [] (y ∷ ys) h k f g = absurd (g y (inl refl))
 same_rising (x ∷ xs) [] h k f g = absurd (f x (inl refl))
@@ -68,7 +68,7 @@ less_from_order : (x y : ℕ) → nat_cmp x y ≡ Less → x < y
 less_from_order x y h = grind (arith, nat_tests)
 
 -- std's word for an ascending list
-pub rising_from_sorted : (xs : List ℕ) → IsStrictlySortedBy nat_cmp xs → IsAscending xs
+pub rising_from_sorted : (xs : List ℕ) → IsStrictlySortedBy nat_cmp xs → IsStrictlyIncreasing xs
 unfolding IsStrictlySortedBy
 rising_from_sorted [] h = tt
 rising_from_sorted (x ∷ xs) h = (λ y i. less_from_order x y (all_in (λ y. nat_cmp x y ≡ Less) xs y h.0 i), rising_from_sorted xs h.1)
@@ -120,7 +120,7 @@ filter_mapped {X} {Y} test f (x ∷ xs) = ap (λ (ys : List Y). cond (test (f x)
     go false = refl
 
 -- of the numbers below n, a test keeps an ascending list of such numbers that pass it
-pub filter_up_to : (test : ℕ → Bool) (n : ℕ) (xs : List ℕ) → IsAscending xs → ((m : ℕ) → In m xs → (m < n) × (test m ≡ true)) → ((m : ℕ) → m < n → test m ≡ true → In m xs) → filter test (up_to n) ≡ xs
+pub filter_up_to : (test : ℕ → Bool) (n : ℕ) (xs : List ℕ) → IsStrictlyIncreasing xs → ((m : ℕ) → In m xs → (m < n) × (test m ≡ true)) → ((m : ℕ) → m < n → test m ≡ true → In m xs) → filter test (up_to n) ≡ xs
 filter_up_to test n xs rise each all =
     same_rising (filter test (up_to n)) xs (filter_rises test (up_to n) (up_to_rises n)) rise
     (λ m i. let r = in_from_filter test m (up_to n) i in all m (up_to_below n m r.0) r.1)
@@ -136,7 +136,7 @@ flat_kept g (x ∷ xs) = ap (λ (es : List Event). g x ++ es) (flat_kept g xs) �
     go false e = ap (λ (es : List Event). es ++ flat_map g (filter (λ n. has_some (g n)) xs)) (none_from_test (g x) e)
 
 -- what is put together of an ascending list of just those with some
-pub flat_ready : (g : ℕ → List Event) (n : ℕ) (ready : List ℕ) → IsAscending ready → ((m : ℕ) → In m ready → m < n) → ((m : ℕ) → m < n → is_listed ready m ≡ has_some (g m)) → flat_map g (up_to n) ≡ flat_map g ready
+pub flat_ready : (g : ℕ → List Event) (n : ℕ) (ready : List ℕ) → IsStrictlyIncreasing ready → ((m : ℕ) → In m ready → m < n) → ((m : ℕ) → m < n → is_listed ready m ≡ has_some (g m)) → flat_map g (up_to n) ≡ flat_map g ready
 flat_ready g n ready rise below just =
     flat_kept g (up_to n)
     ∙ ap (flat_map g)

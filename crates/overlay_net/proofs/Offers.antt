@@ -8,10 +8,10 @@ use Rattle.std.proofs.lemmas.List.{append-nil, drop_more, get_or_read}
 use Rattle.std.proofs.lemmas.List.Elements.{filter-append}
 use Rattle.std.proofs.lemmas.Grind.{flat_map-append}
 use Rattle.std.proofs.lemmas.Option.{slice_get_read}
-use Rattle.stat_plan.specs.NodeSets.{In, IsAscending, member}
+use Rattle.stat_plan.specs.NodeSets.{In, IsStrictlyIncreasing, member}
 use Rattle.stat_plan.specs.Plans.{Plan, Stream, nodes, nodes_of, ancestors, is_within, daemons, stream_of, serves, up_to, waves_of, waves_at, fault}
 use Rattle.stat_plan.specs.Trees.{climb, is_daemon, parent_of}
-use Rattle.stat_plan.specs.Kept.{IsPlan, IsDaemon}
+use Rattle.stat_plan.specs.Invariants.{IsPlan, IsDaemon}
 use Rattle.stat_plan.specs.Waves.{is_running}
 use Rattle.stat_plan.proofs.FirstOver.{all_in, found_in}
 use Rattle.stat_plan.proofs.InLists.{in_append, in_at, in_map, any_from_in, in_from_any}
@@ -20,7 +20,7 @@ use Rattle.overlay_core.specs.Machine.{State, events_below, events_of, enabled_e
 use Rattle.overlay_core.specs.TreeReleases.{TreeRelease}
 use Rattle.overlay_core.proofs.Lists.{in_member, in_from_member, up_to_below, eqb_self}
 use Rattle.overlay_core.proofs.Outcomes.{next_is_named, find_passes}
-use Rattle.overlay_core.proofs.Goes.{within_from_test, test_from_within}
+use Rattle.overlay_core.proofs.ParentLinks.{within_from_test, test_from_within}
 use Rattle.overlay_core.proofs.Whole.{in_up_to}
 use Rattle.overlay_node.specs.Packets.{TreePacket, bare_packet}
 use Rattle.overlay_node.specs.NodeViews.{NodeView, book_of, node_of}
@@ -39,7 +39,7 @@ number_in : (xs : List Stream) (x : Stream) → In x xs → In x.number (map (λ
 number_in xs x i = in_map (λ (y : Stream). y.number) x xs i
 
 -- each of ascending streams is the one that is found by its number
-found_by_number : (xs : List Stream) (x : Stream) → IsAscending (map (λ (y : Stream). y.number) xs) → In x xs → find (λ (y : Stream). y.number == x.number) xs ≡ Some x
+found_by_number : (xs : List Stream) (x : Stream) → IsStrictlyIncreasing (map (λ (y : Stream). y.number) xs) → In x xs → find (λ (y : Stream). y.number == x.number) xs ≡ Some x
 found_by_number [] x h i = absurd i
 found_by_number (y ∷ ys) x h (inl e) =
     ap (λ (b : Bool). cond b (Some y) (find (λ (z : Stream). z.number == x.number) ys)) (eq-eqb y.number x.number (ap (λ (z : Stream). z.number) (sym e))) ∙ ap Some (sym e)
@@ -177,7 +177,7 @@ wave_stream (x ∷ xs) v i =
     elim (in_append v (map (λ w. (x.number, w)) (up_to x.waves)) (waves_of xs) i) [ inl a ↦ inl (wave_is_of x.number (up_to x.waves) v a).0 | inr b ↦ inr (wave_stream xs v b) ]
 
 -- a wave with the number of one of ascending streams is one of that stream's
-own_wave : (xs : List Stream) (x : Stream) (w : ℕ) → IsAscending (map (λ (y : Stream). y.number) xs) → In x xs → In {X = ℕ × ℕ} (x.number, w) (waves_of xs) → In w (up_to x.waves)
+own_wave : (xs : List Stream) (x : Stream) (w : ℕ) → IsStrictlyIncreasing (map (λ (y : Stream). y.number) xs) → In x xs → In {X = ℕ × ℕ} (x.number, w) (waves_of xs) → In w (up_to x.waves)
 own_wave [] x w h i j = absurd i
 own_wave (y ∷ ys) x w h i j = elim (in_append {X = ℕ × ℕ} (x.number, w) (map (λ w. (y.number, w)) (up_to y.waves)) (waves_of ys) j) [
   | inl a ↦ here (wave_is_of y.number (up_to y.waves) (x.number, w) a) i
@@ -218,7 +218,7 @@ pub record Stands (p : Plan) (st : State) (x : NodeView) (box : Waiting) : Type 
   pub node : st.node x.number ≡ node_of x
   pub links : (m : ℕ) → is_pending (st.link m x.number) ≡ is_waiting box m
   pub stays : is_enabled p st (Lose x.number) ≡ false
-  pub rises : IsAscending (senders_of box)
+  pub rises : IsStrictlyIncreasing (senders_of box)
   pub senders : (m : ℕ) → is_waiting box m ≡ true → m < nodes p
 
 -- whether a sample may come next
@@ -471,7 +471,7 @@ none_is_ready p xs inboxes releases ready plan safe parts listed = (
     empty (n ∷ r) below h = let t : is_listed (n ∷ r) n ≡ true = listed_from_in (n ∷ r) n (inl refl) in absurd (true≢false (sym t ∙ h n (below n t)))
 
 -- where the nodes with an event are listed in order, the events that may come next are theirs, node by node
-pub all_ready : (p : Plan) (xs : List NodeView) (inboxes : List Waiting) (releases : List TreeRelease) (ready : List ℕ) → IsPlan p → p.faults ≡ [] → AreParts p xs inboxes → AreReady p xs inboxes ready → IsAscending ready → enabled_events p (state_with p xs inboxes releases) ≡ flat_map (events_at p xs inboxes) ready
+pub all_ready : (p : Plan) (xs : List NodeView) (inboxes : List Waiting) (releases : List TreeRelease) (ready : List ℕ) → IsPlan p → p.faults ≡ [] → AreParts p xs inboxes → AreReady p xs inboxes ready → IsStrictlyIncreasing ready → enabled_events p (state_with p xs inboxes releases) ≡ flat_map (events_at p xs inboxes) ready
 all_ready p xs inboxes releases ready plan safe parts listed rise =
     all_offers p xs inboxes releases plan safe parts
     ∙ flat_ready (events_at p xs inboxes) (nodes p) ready rise (λ m i. listed.below m (listed_from_in ready m i)) (λ m lt. ready_at p xs inboxes ready m parts listed lt)

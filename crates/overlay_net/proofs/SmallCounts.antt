@@ -6,8 +6,8 @@ use Rattle.std.specs.List.{AllByRecursion}
 use Rattle.stat_plan.specs.declared.topology.TheConstants.{NODE_LIMIT}
 use Rattle.stat_plan.specs.declared.script.Mode.{Mode}
 use Rattle.stat_plan.specs.declared.script.Mode.TheVariants.{WaitForAll, TimeOut, DontWait}
-use Rattle.stat_plan.specs.Kept.{IsMode, IsPlan, IsStream}
-use Rattle.stat_plan.specs.NodeSets.{In, IsAscending}
+use Rattle.stat_plan.specs.Invariants.{IsMode, IsPlan, IsStream}
+use Rattle.stat_plan.specs.NodeSets.{In, IsStrictlyIncreasing}
 use Rattle.stat_plan.specs.Plans.{Plan, Stream, nodes, up_to, waves_of}
 use Rattle.stat_plan.specs.Waves.{ticks}
 use Rattle.stat_plan.proofs.TableLemmas.{length-up_to}
@@ -17,7 +17,7 @@ use Rattle.overlay_core.specs.Bound.{bound, bound_of, longest}
 use Rattle.overlay_core.specs.Nodes.{Node, Outcome, Packet, handled}
 use Rattle.overlay_core.specs.Machine.{State, commit, is_enabled, lose, receive, start, step, with_link}
 use Rattle.overlay_core.specs.Runs.{IsLegal, after, run}
-use Rattle.overlay_core.proofs.Grounds.{grounds}
+use Rattle.overlay_core.proofs.PlanFacts.{plan_facts}
 use Rattle.overlay_core.proofs.Journals.{legal_has_room}
 
 -- ---- a journal's events, node by node
@@ -72,7 +72,7 @@ journal_counts p journal n = let a = run_raises p (start p) journal n in let b =
 -- ---- the bound of a plan
 
 -- ascending numbers of a range are no more than it has
-ascending_few : (xs : List ℕ) (low high : ℕ) → low ≤ high → IsAscending xs → ((x : ℕ) → In x xs → (low ≤ x) × (x < high)) → low + length xs ≤ high
+ascending_few : (xs : List ℕ) (low high : ℕ) → low ≤ high → IsStrictlyIncreasing xs → ((x : ℕ) → In x xs → (low ≤ x) × (x < high)) → low + length xs ≤ high
 ascending_few [] low high le rise within = omega arith
 ascending_few (x ∷ xs) low high le rise within =
     let here : (low ≤ x) × (x < high) = within x (inl refl) in
@@ -88,7 +88,7 @@ numbers_below (x ∷ xs) all n (inl e) = subst (λ k. k < 8) (sym e) all.0.numbe
 numbers_below (x ∷ xs) all n (inr i) = numbers_below xs all.1 n i
 
 -- there are at most 8 streams
-streams_few : (xs : List Stream) → AllByRecursion IsStream xs → IsAscending (map (λ (x : Stream). x.number) xs) → length xs ≤ 8
+streams_few : (xs : List Stream) → AllByRecursion IsStream xs → IsStrictlyIncreasing (map (λ (x : Stream). x.number) xs) → length xs ≤ 8
 streams_few xs all rise =
     let some : 0 ≤ 8 = omega arith in
     let a : 0 + length (map (λ (x : Stream). x.number) xs) ≤ 8 = ascending_few (map (λ (x : Stream). x.number) xs) 0 8 some rise (λ n i. (omega arith, numbers_below xs all n i)) in
@@ -153,6 +153,6 @@ small_bound p plan =
 pub small_count : (p : Plan) (journal : List Event) (e : Event) (n : ℕ) → IsPlan p → IsLegal p journal → is_enabled p (after p journal) e ≡ true → ((after p journal).node n).count < 2 ^ 62
 small_count p journal e n plan legal may =
     let a : ((after p journal).node n).count ≤ length journal = journal_counts p journal n in
-    let b : length journal < bound p = legal_has_room p journal e (grounds p plan) legal may in
+    let b : length journal < bound p = legal_has_room p journal e (plan_facts p plan) legal may in
     let c : bound p < 2 ^ 62 = small_bound p plan in
     omega arith

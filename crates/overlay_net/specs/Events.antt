@@ -11,7 +11,7 @@ use Rattle.overlay_core.specs.TreeReleases.{TreeRelease, bare_releases}
 use Rattle.overlay_node.specs.Packets.{PacketFits}
 use Rattle.overlay_node.specs.NodeViews.{NodeView, Counts, IsNodeOf}
 use Rattle.overlay_net.specs.Inboxes.{HaveSent, Waiting, is_waiting, queue_of, senders_of}
-use Rattle.overlay_net.specs.Nets.{NetView, IsLeftBy, inbox_at, node_events}
+use Rattle.overlay_net.specs.Nets.{NetView, IsReachedBy, inbox_at, node_events}
 use Rattle.overlay_net.specs.declared.events.Nth.{Nth}
 use Rattle.overlay_net.specs.declared.events.Nth.TheVariants.{Found, Beyond}
 
@@ -58,7 +58,7 @@ FrontCounts p xs releases = (x : NodeView) → slice_get xs (front p) ≡ Some x
 pub record IsNet (v : NetView) (ready : List ℕ) : Type 0 where
   pub safe : v.plan.faults ≡ []
   pub journal : List Event
-  pub left : IsLeftBy v journal
+  pub reached : IsReachedBy v journal
   pub parts : AreParts v.plan v.nodes v.inboxes
   pub counts : FrontCounts v.plan v.nodes v.releases
   pub listed : AreReady v.plan v.nodes v.inboxes ready

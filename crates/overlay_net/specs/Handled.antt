@@ -4,11 +4,11 @@ use Rattle.std.specs.List.{AllByRecursion}
 use Rattle.stat_plan.specs.Plans.{Plan}
 use Rattle.stat_desk.specs.declared.event.Event.{Event}
 use Rattle.overlay_core.specs.Nodes.{Node, Outcome, Release, handled}
-use Rattle.overlay_core.specs.TreeReleases.{TreeRelease, AreNumbered, bare_releases}
+use Rattle.overlay_core.specs.TreeReleases.{TreeRelease, AreNumberedInOrder, bare_releases}
 use Rattle.overlay_node.specs.Packets.{TreePacket, PacketFits, ReleaseFits, bare_sends}
 use Rattle.overlay_node.specs.NodeViews.{NodeView, Counts, IsNodeOf, node_of, taken_with}
 use Rattle.overlay_net.specs.Inboxes.{Waiting}
-use Rattle.overlay_net.specs.Nets.{NetView, IsLeftBy, inbox_at, node_events}
+use Rattle.overlay_net.specs.Nets.{NetView, IsReachedBy, inbox_at, node_events}
 use Rattle.overlay_net.specs.Events.{has_some, is_listed}
 
 -- the outcome of an event of a node, with the packet that it received
@@ -24,7 +24,7 @@ pub record HasHandled (p : Plan) (x y : NodeView) (e : Event) (packet : Option T
   pub fits : IsNodeOf p y
   pub packets : AllByRecursion (λ v. PacketFits p v.1) sends
   pub trees : AllByRecursion (ReleaseFits p) more
-  pub numbers : (earlier : List Release) → Counts x.entries earlier → AreNumbered earlier more
+  pub numbers : (earlier : List Release) → Counts x.entries earlier → AreNumberedInOrder earlier more
   pub counts : (earlier : List Release) → Counts x.entries earlier → Counts y.entries (earlier ++ bare_releases more)
 
 -- the node n, which stands as y, is listed just where it has an event that may come next; each other one as before
@@ -32,5 +32,5 @@ abbrev pub IsMarked : Plan → ℕ → NodeView → List Waiting → List ℕ �
 IsMarked p n y inboxes listed listed_now = (b : ℕ) → is_listed listed_now b ≡ cond (b == n) (has_some (node_events p y (inbox_at inboxes n))) (is_listed listed b)
 
 -- each journal that leaves the one net leaves, with the event more, the other
-abbrev pub GoesOn : Event → NetView → NetView → Type 0
-GoesOn e old new = (journal : List Event) → IsLeftBy old journal → IsLeftBy new (journal ++ e ∷ [])
+abbrev pub ExtendsBy : Event → NetView → NetView → Type 0
+ExtendsBy e old new = (journal : List Event) → IsReachedBy old journal → IsReachedBy new (journal ++ e ∷ [])

@@ -7,15 +7,15 @@ use Rattle.std.specs.Ordering.{nat_cmp}
 use Rattle.std.specs.declared.collections.VecDeque.{VecDeque}
 use Rattle.prefix_tree.specs.Tree.{Tree}
 use Rattle.overlay_node.specs.declared.packet.Packet.{Packet}
-use Rattle.overlay_node.specs.Packets.{TreePacket, coded_packet, packet_in}
+use Rattle.overlay_node.specs.Packets.{TreePacket, coded_packet, packet_view}
 
 -- the senders of whom something waits, ascending, each with what waits, the first packet first
 abbrev pub Waiting : Type 0
 Waiting = List (ℕ × List TreePacket)
 
 -- the queues of a program, where `tree` says what a packet's tree is
-abbrev pub waiting_in : {X A : Type 0} → (X → Tree) → List (ℕ × VecDeque (Packet X) A) → Waiting
-waiting_in tree queues = map (λ e. (e.0, map (packet_in tree) e.1.items)) queues
+abbrev pub waiting_view : {X A : Type 0} → (X → Tree) → List (ℕ × VecDeque (Packet X) A) → Waiting
+waiting_view tree queues = map (λ e. (e.0, map (packet_view tree) e.1.items)) queues
 
 -- what waits from a sender
 abbrev pub queue_of : Waiting → ℕ → List TreePacket

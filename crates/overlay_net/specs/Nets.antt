@@ -15,7 +15,7 @@ use Rattle.overlay_core.specs.declared.release.Kind.TheVariants.{Partial, Final}
 use Rattle.overlay_core.specs.Nodes.{Node}
 use Rattle.overlay_core.specs.Machine.{State, start_node, next_sample}
 use Rattle.overlay_core.specs.Runs.{IsLegal, after}
-use Rattle.overlay_core.specs.TreeReleases.{TreeRelease, AreNumbered, bare_releases}
+use Rattle.overlay_core.specs.TreeReleases.{TreeRelease, AreNumberedInOrder, bare_releases}
 use Rattle.overlay_node.specs.Packets.{ReleaseFits, bare_packet}
 use Rattle.overlay_node.specs.NodeViews.{NodeView, book_of, coded_node, node_of}
 use Rattle.overlay_net.specs.Inboxes.{Waiting, coded_waiting, queue_of, senders_of}
@@ -29,8 +29,8 @@ pub record NetView : Type 0 where
   pub failed : Bool
 
 -- the net of these parts
-abbrev pub net_view : Plan → List NodeView → List Waiting → List TreeRelease → Bool → NetView
-net_view p xs inboxes releases failed = record { plan = p; nodes = xs; inboxes = inboxes; releases = releases; failed = failed }
+abbrev pub net_view_of : Plan → List NodeView → List Waiting → List TreeRelease → Bool → NetView
+net_view_of p xs inboxes releases failed = record { plan = p; nodes = xs; inboxes = inboxes; releases = releases; failed = failed }
 
 -- ---- as the machine's state
 
@@ -59,10 +59,10 @@ state_of v = state_with v.plan v.nodes v.inboxes v.releases
 
 -- The journal is legal and leaves the state of the net. Each release has its number, and its tree is that of the wave's
 -- samples over the ranks that it covers.
-pub record IsLeftBy (v : NetView) (journal : List Event) : Type 0 where
+pub record IsReachedBy (v : NetView) (journal : List Event) : Type 0 where
   pub legal : IsLegal v.plan journal
   pub state : ◌≡◌ {A = State} (state_of v) (after v.plan journal)
-  pub numbered : AreNumbered [] v.releases
+  pub numbered : AreNumberedInOrder [] v.releases
   pub trees : AllByRecursion (ReleaseFits v.plan) v.releases
 
 -- ---- the events of a node that may come next, by what it keeps and what waits for it

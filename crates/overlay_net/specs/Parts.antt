@@ -3,23 +3,23 @@ use Rattle.std.specs.Prelude.{◌≡◌, ◌<◌, ◌^◌, ℕ, Bool, true, List
 use Rattle.prefix_tree.specs.Tree.{Tree}
 use Rattle.stat_plan.specs.Plans.{Plan}
 use Rattle.stat_desk.specs.declared.event.Event.{Event}
-use Rattle.overlay_core.specs.Apart.{node_of}
-use Rattle.overlay_core.specs.TreeReleases.{TreeRelease, releases_in}
+use Rattle.overlay_core.specs.Independent.{node_of}
+use Rattle.overlay_core.specs.TreeReleases.{TreeRelease, releases_view}
 use Rattle.overlay_node.specs.Packets.{TreePacket}
 use Rattle.overlay_core.specs.Nodes.{Node}
 use Rattle.overlay_core.specs.Machine.{start_node}
 use Rattle.overlay_node.specs.NodeViews as Views
 use Rattle.overlay_node.specs.NodeViews.{Counts, IsNodeOf, MayHandle, NodeView}
 use Rattle.overlay_net.specs.Inboxes.{Waiting}
-use Rattle.overlay_net.specs.Nets.{NetView, inbox_at, net_view, node_events}
+use Rattle.overlay_net.specs.Nets.{NetView, inbox_at, net_view_of, node_events}
 use Rattle.overlay_net.specs.Events.{has_some, is_listed}
 use Rattle.overlay_net.specs.Sends.{CanTake, IsTaken}
 use Rattle.overlay_net.specs.Handled.{HasHandled}
-use Rattle.overlay_net.specs.declared.parts.Parts.{Parts}
+use Rattle.overlay_net.specs.declared.state.Parts.{Parts}
 
 -- the net of a plan and these parts, where `tree` says what a release's tree is
-abbrev pub net_in : {X : Type 0} → (X → Tree) → Plan → Parts X → Bool → NetView
-net_in tree p parts failed = net_view p parts.nodes.items parts.inboxes.items (releases_in tree parts.releases.items) failed
+abbrev pub net_view : {X : Type 0} → (X → Tree) → Plan → Parts X → Bool → NetView
+net_view tree p parts failed = net_view_of p parts.nodes.items parts.inboxes.items (releases_view tree parts.releases.items) failed
 
 -- An event's packet was taken from the inboxes, and its node has handled it.
 pub record IsHandedOver (p : Plan) (e : Event) (xs ys : List NodeView) (old new : List Waiting) (sends : List (ℕ × TreePacket)) (more : List TreeRelease) : Type 0 where

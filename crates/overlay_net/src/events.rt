@@ -4,7 +4,7 @@ ghost use Rattle.std.specs.Prelude.{◌≡◌, ◌&&◌, ◌↔◌, [], map, sli
 ghost use Rattle.std.specs.List.{flat_map};
 ghost use Rattle.stat_desk.specs.declared.event.Event.{Event};
 ghost use Rattle.stat_desk.specs.declared.event.Event.TheVariants.{Recv};
-ghost use Rattle.stat_plan.specs.Kept.{IsPlan};
+ghost use Rattle.stat_plan.specs.Invariants.{IsPlan};
 ghost use Rattle.stat_plan.specs.NodeSets.{In, member};
 ghost use Rattle.stat_plan.specs.Plans.{Plan, daemons};
 ghost use Rattle.overlay_core.specs.Machine.{enabled_events, is_enabled, is_wave, next_sample};
@@ -35,7 +35,7 @@ fn next_wave<T: PrefixTree>(plan: &Plan, node: &Node<T>, stream: &StreamDef) -> 
     requires stream { In stream.now plan.now.streams }
     ensures { sample_of plan.now node.now stream.now ≡ sample_at node.now.number stream.now.number result }
 {
-    plan.is_plan();
+    plan.invariant();
     let n = node.number();
     if plan.is_daemon(n) && plan.serves(n, stream.number()) {
         node.next_sample(stream.number())
@@ -80,7 +80,7 @@ pub fn node_event<T: PrefixTree>(plan: &Plan, node: &Node<T>, inbox: &Inbox<T>, 
     requires { IsNodeOf plan.now node.now }
     ensures { IsNth (node_events plan.now node.now inbox.now) i result }
 {
-    plan.is_plan();
+    plan.invariant();
     let left = match sample_event(plan, node, i) {
         Nth::Found(event) => return Nth::Found(event),
         Nth::Beyond(left) => left,
@@ -122,7 +122,7 @@ pub fn is_enabled<T: PrefixTree>(
     requires parts { AreParts plan.now nodes.now inboxes.now }
     ensures { (releases : List TreeRelease) → result ≡ is_enabled plan.now (state_with plan.now nodes.now inboxes.now releases) event }
 {
-    plan.is_plan();
+    plan.invariant();
     match event {
         Event::Sample { node, stream, wave } => {
             node < plan.nodes() && is_next_wave(plan, &nodes[node as usize], stream, wave)
@@ -140,7 +140,7 @@ fn is_next_wave<T: PrefixTree>(plan: &Plan, node: &Node<T>, s: u8, wave: u8) -> 
     requires { IsNodeOf plan.now node.now }
     ensures { result ≡ (member node.now.number (daemons plan.now s) && is_wave (next_sample plan.now (node_of node.now) s) wave) }
 {
-    plan.is_plan();
+    plan.invariant();
     match plan.stream(s) {
         Some(stream) => next_wave(plan, node, stream) == Some(wave),
         None => false,
@@ -161,7 +161,7 @@ pub fn nth_enabled<T: PrefixTree>(
     requires ready { AreReady plan.now nodes.now inboxes.now ready.now.keys }
     ensures { (releases : List TreeRelease) → result ≡ slice_get (enabled_events plan.now (state_with plan.now nodes.now inboxes.now releases)) i }
 {
-    plan.is_plan();
+    plan.invariant();
     let mut left = i;
     for n in ready.iter() {
         match node_event(plan, &nodes[*n as usize], &inboxes[*n as usize], left) {

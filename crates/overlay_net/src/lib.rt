@@ -1,10 +1,10 @@
 //! The overlay as a whole: its nodes, what is on the way between them, and what the front end has released.
 #![tactic(auto)]
 
+mod delivery;
 mod events;
 mod inbox;
 mod net;
-mod parts;
-mod step;
+mod state;
 
 pub use net::{Net, NetError};

@@ -4,11 +4,11 @@ ghost use Rattle.std.specs.Prelude.{◌≡◌, ◌∷◌, ◌++◌, ◌↔◌, [
 ghost use Rattle.stat_desk.specs.declared.event.Event.{Event};
 ghost use Rattle.overlay_core.specs.Machine.{enabled_events, is_enabled};
 ghost use Rattle.overlay_core.specs.Runs.{IsQuiet};
-ghost use Rattle.overlay_core.specs.TreeReleases.{releases_in};
-ghost use Rattle.overlay_net.specs.Nets.{IsLeftBy, state_of};
+ghost use Rattle.overlay_core.specs.TreeReleases.{releases_view};
+ghost use Rattle.overlay_net.specs.Nets.{IsReachedBy, state_of};
 
 use crate::events::{is_enabled, nth_enabled};
-use crate::parts::{Parts, apply, has_no_event, start};
+use crate::state::{Parts, apply, has_no_event, start};
 use overlay_core::Release;
 use prefix_tree::PrefixTree;
 use stat_desk::Event;
@@ -38,15 +38,15 @@ impl<'p, T: PrefixTree> Model for Net<'p, T> {
     ghost use Rattle.std.specs.Prelude.{◌≡◌, false};
     ghost use Rattle.overlay_net.specs.Nets.{NetView, coded_net};
     ghost use Rattle.overlay_net.specs.Events.{IsNet};
-    ghost use Rattle.overlay_net.specs.Parts.{net_in};
+    ghost use Rattle.overlay_net.specs.Parts.{net_view};
 
     ghost Value = { NetView };
 
     ghost coded = { coded_net };
 
-    ghost view = { λ net. net_in T.tree net.plan.now net.parts net.failed };
+    ghost view = { λ net. net_view T.tree net.plan.now net.parts net.failed };
 
-    ghost invariant = { λ net. net.failed ≡ false → IsNet (net_in T.tree net.plan.now net.parts false) net.parts.ready.keys };
+    ghost invariant = { λ net. net.failed ≡ false → IsNet (net_view T.tree net.plan.now net.parts false) net.parts.ready.keys };
 }
 
 impl<'p, T: PrefixTree> Net<'p, T> {
@@ -54,7 +54,7 @@ impl<'p, T: PrefixTree> Net<'p, T> {
     pub fn new(alloc: Global, plan: &'p Plan) -> Result<Net<'p, T>, AllocError>
         requires { plan.now.faults ≡ [] }
         ensures plan { IfOk result (λ net. net.plan ≡ plan.now) }
-        ensures start { IfOk result (λ net. IsLeftBy net []) }
+        ensures start { IfOk result (λ net. IsReachedBy net []) }
         ensures usable { IfOk result (λ net. net.failed ≡ false) }
     {
         let parts = start(alloc, plan)?;
@@ -69,7 +69,7 @@ impl<'p, T: PrefixTree> Net<'p, T> {
     /// next changes nothing. Where memory runs out, each later call answers so too, and the net isn't read any more.
     pub fn apply(&mut self, event: Event) -> Result<(), NetError>
         ensures plan { self.new.plan ≡ self.old.plan }
-        ensures left { OnOk result ((journal : List Event) → IsLeftBy self.old journal → IsLeftBy self.new (journal ++ event ∷ [])) }
+        ensures reached { OnOk result ((journal : List Event) → IsReachedBy self.old journal → IsReachedBy self.new (journal ++ event ∷ [])) }
         ensures enabled { OnOk result (is_enabled self.old.plan (state_of self.old) event ≡ true) }
         ensures usable { OnOk result (self.new.failed ≡ false) }
         ensures not_enabled { self.old.failed ≡ false → (result ≡ Err NetError.NotEnabled) ↔ (is_enabled self.old.plan (state_of self.old) event ≡ false) }
@@ -115,14 +115,14 @@ impl<'p, T: PrefixTree> Net<'p, T> {
         ensures none { (result ≡ true) ↔ (enabled_events self.now.plan (state_of self.now) ≡ []) }
         ensures quiet { (result ≡ true) ↔ IsQuiet self.now.plan (state_of self.now) }
     {
-        self.plan.is_plan();
+        self.plan.invariant();
         has_no_event(self.plan, &self.parts)
     }
 
     /// What every net is, unless memory ran out: some journal leaves it.
-    pub fn is_left(&self)
+    pub fn invariant(&self)
         requires { self.now.failed ≡ false }
-        ensures { (journal : List Event) × IsLeftBy self.now journal }
+        ensures { (journal : List Event) × IsReachedBy self.now journal }
     {
         let _ = &self.parts;
     }
@@ -130,7 +130,7 @@ impl<'p, T: PrefixTree> Net<'p, T> {
     /// What was released, in the order in which it was.
     pub fn releases(&self) -> &[Release<T>]
         requires { self.now.failed ≡ false }
-        ensures { releases_in T.tree result.now ≡ self.now.releases }
+        ensures { releases_view T.tree result.now ≡ self.now.releases }
     {
         self.parts.releases.as_slice()
     }

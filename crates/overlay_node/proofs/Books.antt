@@ -3,8 +3,8 @@ use Rattle.std.proofs.Common.{◌≡◌, ℕ, Bool, true, false, cond, ◌&&◌,
 use Rattle.std.proofs.lemmas.Bool.{and_parts, cases_Bool}
 use Rattle.stat_plan.specs.Waves.{Wave, Book, set_wave}
 use Rattle.overlay_core.proofs.Acts.{each_wave_set}
-use Rattle.overlay_core.proofs.Goes.{set_wave_here}
-use Rattle.overlay_core.proofs.Calm.{set_wave_else}
+use Rattle.overlay_core.proofs.ParentLinks.{set_wave_here}
+use Rattle.overlay_core.proofs.Settled.{set_wave_else}
 
 -- to set a wave to what it is changes nothing
 pub same_book : (b : Book) (s w : ℕ) (v : Wave) → b s w ≡ v → set_wave b s w v ≡ b

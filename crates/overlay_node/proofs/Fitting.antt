@@ -3,7 +3,7 @@ use Rattle.std.proofs.Common.{◌≡◌, ◌≢◌, ◌≤◌, ℕ, zero, suc, i
 use Rattle.rank_set.specs.Ranks.{Ranks, Has, IsSubset, size, union}
 use Rattle.prefix_tree.specs.Tree.{tree_of}
 use Rattle.prefix_tree.proofs.TreeLemmas.{coverage-tree_of}
-use Rattle.stat_plan.specs.Kept.{IsPlan}
+use Rattle.stat_plan.specs.Invariants.{IsPlan}
 use Rattle.stat_plan.specs.Plans.{Plan, is_front, mode, samples, stream_of, stream_ranks}
 use Rattle.stat_plan.specs.Kin.{complete}
 use Rattle.stat_plan.specs.Due.{due_act}
@@ -14,13 +14,13 @@ use Rattle.stat_plan.specs.declared.act.Timer.{Timer}
 use Rattle.stat_plan.specs.declared.act.Timer.TheVariants.{Off, Running, Fired}
 use Rattle.stat_plan.specs.declared.act.Act.{Act}
 use Rattle.stat_plan.specs.declared.act.Act.TheVariants.{Hold, Arm, Send, Partial, Final}
-use Rattle.merge_filter.specs.Contributions.{Contrib, StandsFor, contrib, cov_of}
+use Rattle.merge_filter.specs.Contributions.{Contrib, IsPartialMerge, contrib, cov_of}
 use Rattle.merge_filter.proofs.Daemons.{stream_some}
 use Rattle.merge_filter.proofs.Standing.{stands_from}
 use Rattle.overlay_core.specs.Nodes.{due_at}
 use Rattle.overlay_core.specs.Machine.{is_empty_open}
-use Rattle.overlay_core.proofs.Calm.{after_arm, ne_from_grown}
-use Rattle.overlay_core.proofs.Grounds.{grounds}
+use Rattle.overlay_core.proofs.Settled.{after_arm, ne_from_grown}
+use Rattle.overlay_core.proofs.PlanFacts.{plan_facts}
 use Rattle.overlay_core.proofs.Lists.{empty_true, in_union, no_rank, union_left}
 use Rattle.overlay_node.specs.NodeViews.{EntryFits, OpenFits, PartFits, TimerFits, wave_of}
 use Rattle.overlay_node.specs.Acting.{covered, entry_after, grown, standing}
@@ -41,14 +41,14 @@ given_few p s w sent timer given o c most e h le =
     omega (arith, a, b, le)
 
 -- a contribution that stands for the plan is known by its ranks
-pub stands_is : (p : Plan) (c : Contrib) (s w : ℕ) (set : Ranks) → StandsFor p c → c.stream ≡ s → c.wave ≡ w → cov_of c ≡ set → c ≡ standing p s w set
+pub stands_is : (p : Plan) (c : Contrib) (s w : ℕ) (set : Ranks) → IsPartialMerge p c → c.stream ≡ s → c.wave ≡ w → cov_of c ≡ set → c ≡ standing p s w set
 stands_is p c s w set h es ew ec = λ i. contrib (es i) (ew i) ((h.tree ∙ (λ j. tree_of (samples p (es j) (ew j)) (ec j))) i)
 
 pub cov-standing : (p : Plan) (s w : ℕ) (set : Ranks) → cov_of (standing p s w set) ≡ set
 cov-standing p s w set = coverage-tree_of (samples p s w) set
 
-pub stands_named : (p : Plan) (c : Contrib) (s w : ℕ) → StandsFor p c → c.stream ≡ s → c.wave ≡ w → StandsFor p (contrib s w c.tree)
-stands_named p c s w h es ew = subst (λ x. StandsFor p (contrib x w c.tree)) es (subst (λ y. StandsFor p (contrib c.stream y c.tree)) ew h)
+pub stands_named : (p : Plan) (c : Contrib) (s w : ℕ) → IsPartialMerge p c → c.stream ≡ s → c.wave ≡ w → IsPartialMerge p (contrib s w c.tree)
+stands_named p c s w h es ew = subst (λ x. IsPartialMerge p (contrib x w c.tree)) es (subst (λ y. IsPartialMerge p (contrib c.stream y c.tree)) ew h)
 
 -- what a partial release asks for
 partial_grown : (m : Mode) (done grown top : Bool) (t : Timer) → due_act m done grown top t ≡ Partial → grown ≡ true
@@ -69,7 +69,7 @@ arm_some : (p : Plan) (n s : ℕ) (cov sent : Ranks) (timer : Timer) → IsPlan 
 unfolding due_at
 arm_some p n s cov sent timer plan e =
     let r = (after_arm (mode p s) (complete p n [] s cov) (has_grown cov sent) (is_front p n) timer 0 e).2 in
-    subst (λ m. 1 ≤ ticks m) (sym r.1) ((grounds p plan).ticks_some s r.0 r.1)
+    subst (λ m. 1 ≤ ticks m) (sym r.1) ((plan_facts p plan).ticks_some s r.0 r.1)
 
 partial_new : (p : Plan) (n s : ℕ) (cov sent : Ranks) (timer : Timer) → due_at p n [] s cov sent timer ≡ Partial → cov ≢ sent
 unfolding due_at
@@ -106,7 +106,7 @@ after_fits p n Partial c s w sent timer given plan e h = record {
 after_fits p n Final c s w sent timer given plan e h = tt
 
 -- more ranks keep it
-pub grown_fits : (p : Plan) (x : Contrib) (s w : ℕ) (part : Option Contrib) (sent : Ranks) (timer : Timer) (given : ℕ) → StandsFor p x → x.stream ≡ s → x.wave ≡ w → PartFits p s w sent timer given part
+pub grown_fits : (p : Plan) (x : Contrib) (s w : ℕ) (part : Option Contrib) (sent : Ranks) (timer : Timer) (given : ℕ) → IsPartialMerge p x → x.stream ≡ s → x.wave ≡ w → PartFits p s w sent timer given part
     → EntryFits p (grown p (cov_of x) (record { stream = s; wave = w; part = part; sent = sent; timer = timer; given = given }))
 grown_fits p x s w None sent timer given hx es ew h = tt
 grown_fits p x s w (Some c) sent timer given hx es ew h =
@@ -129,7 +129,7 @@ grown_wave p set s w None sent timer given = refl
 grown_wave p set s w (Some c) sent timer given = ap (λ x. Open x sent timer) (cov-standing p s w (union (cov_of c) set))
 
 -- the first ranks of a wave keep it
-pub own_fits : (p : Plan) (x : Contrib) (s w : ℕ) (part : Option Contrib) (sent : Ranks) (timer : Timer) (given : ℕ) → StandsFor p x → x.stream ≡ s → x.wave ≡ w → PartFits p s w sent timer given part
+pub own_fits : (p : Plan) (x : Contrib) (s w : ℕ) (part : Option Contrib) (sent : Ranks) (timer : Timer) (given : ℕ) → IsPartialMerge p x → x.stream ≡ s → x.wave ≡ w → PartFits p s w sent timer given part
     → is_empty_open (wave_of (record { stream = s; wave = w; part = part; sent = sent; timer = timer; given = given })) ≡ true → OpenFits p s w sent timer given x
 own_fits p x s w None sent timer given hx es ew h e = absurd (cc)
 own_fits p x s w (Some c) sent timer given hx es ew h e = record {
@@ -141,7 +141,7 @@ own_fits p x s w (Some c) sent timer given hx es ew h e = record {
   timer_fits = h.timer_fits;
 }
 
-pub own_is : (p : Plan) (x : Contrib) (s w : ℕ) → StandsFor p x → x.stream ≡ s → x.wave ≡ w → x ≡ standing p s w (cov_of x)
+pub own_is : (p : Plan) (x : Contrib) (s w : ℕ) → IsPartialMerge p x → x.stream ≡ s → x.wave ≡ w → x ≡ standing p s w (cov_of x)
 own_is p x s w hx es ew = stands_is p x s w (cov_of x) hx es ew refl
 
 pub covered_wave : (p : Plan) (set : Ranks) (s w : ℕ) (part : Option Contrib) (sent : Ranks) (timer : Timer) (given : ℕ)

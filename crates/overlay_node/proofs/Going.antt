@@ -9,14 +9,14 @@ use Rattle.std.proofs.lemmas.List.{map-set}
 use Rattle.stat_plan.specs.NodeSets.{In}
 use Rattle.stat_plan.specs.Plans.{Plan}
 use Rattle.stat_plan.specs.Waves.{set_wave}
-use Rattle.overlay_core.specs.Nodes.{Release, Work}
+use Rattle.overlay_core.specs.Nodes.{Release, Effects}
 use Rattle.overlay_core.specs.History.{of_wave}
-use Rattle.overlay_core.specs.TreeReleases.{AreNumbered, bare_release, bare_releases}
-use Rattle.overlay_node.specs.declared.entry.Entry.{Entry}
+use Rattle.overlay_core.specs.TreeReleases.{AreNumberedInOrder, bare_release, bare_releases}
+use Rattle.overlay_node.specs.declared.entry.WaveEntry.{WaveEntry}
 use Rattle.overlay_node.specs.Packets.{bare_sends}
-use Rattle.overlay_node.specs.Entries.{entry_in, entries_in}
+use Rattle.overlay_node.specs.Entries.{entry_view, entries_view}
 use Rattle.overlay_node.specs.NodeViews.{EntryFits, EntryView, book_of, given_of, is_of, keys_of, wave_of}
-use Rattle.overlay_node.specs.Acting.{Goes, Output, Turns, place_of}
+use Rattle.overlay_node.specs.Acting.{StepsEntries, Output, StepsEntry, place_of}
 use Rattle.overlay_node.proofs.Books.{book_read, shadow}
 use Rattle.overlay_node.proofs.Numbering.{after_more, count_more, numbered_more}
 
@@ -122,14 +122,14 @@ more_given es e g a b n rs r here rs' rw' is h =
 -- ---- a step
 
 -- a step on the entry is a step on all
-pub goes_by : (p : Plan) (does : Work → Work) (es new : List EntryView) (e f : EntryView) (o q : Output) → AllByRecursion (EntryFits p) es → Replaces p es e f new → Turns p does e f o q → Goes p does es new o q
+pub goes_by : (p : Plan) (does : Effects → Effects) (es new : List EntryView) (e f : EntryView) (o q : Output) → AllByRecursion (EntryFits p) es → Replaces p es e f new → StepsEntry p does e f o q → StepsEntries p does es new o q
 goes_by p does es new e f o q all r h = record {
   keys = r.keys;
   fits = r.fits all h.fits;
   output = h.output;
   numbers = λ earlier c n. elim h.gives [
-    | inl k ↦ subst (AreNumbered earlier) (sym k.releases) n
-    | inr k ↦ subst (AreNumbered earlier) (sym k.releases) (numbered_more earlier o.releases k.next n (k.number ∙ ap suc (sym r.given_here ∙ c e.stream e.wave r.there ∙ (λ j. length (of_wave (sym k.stream j) (sym k.wave j) (earlier ++ bare_releases o.releases))))))
+    | inl k ↦ subst (AreNumberedInOrder earlier) (sym k.releases) n
+    | inr k ↦ subst (AreNumberedInOrder earlier) (sym k.releases) (numbered_more earlier o.releases k.next n (k.number ∙ ap suc (sym r.given_here ∙ c e.stream e.wave r.there ∙ (λ j. length (of_wave (sym k.stream j) (sym k.wave j) (earlier ++ bare_releases o.releases))))))
   ];
   counts = λ earlier c a b i.
       let old : given_of es a b ≡ length (of_wave a b (earlier ++ bare_releases o.releases)) = c a b (subst (In {X = ℕ × ℕ} (a, b)) r.keys i) in
@@ -168,48 +168,48 @@ named_at s w (x ∷ xs) e lt is = go (is_of s w x) refl (λ l k. named_at s w xs
     go true ec ih l k = let u = and_parts (x.stream == s) (x.wave == w) ec in (ap (λ (y : EntryView). y.stream) k ∙ eqb-true x.stream s u.0, ap (λ (y : EntryView). y.wave) k ∙ eqb-true x.wave w u.1)
     go false ec ih l k = ih (omega (arith, l)) k
 
-pub length_in : {X : Type 0} (es : List (Entry X)) → length (entries_in es) ≡ length es
+pub length_in : {X : Type 0} (es : List (WaveEntry X)) → length (entries_view es) ≡ length es
 length_in [] = refl
 length_in (e ∷ es) = ap suc (length_in es)
 
-pub item_in : {X : Type 0} (es : List (Entry X)) (i : ℕ) (e : Entry X) → e ≡ get_or es i e → entry_in e ≡ get_or (entries_in es) i (entry_in e)
-item_in es i e is = ap entry_in is ∙ sym (get_or-map entry_in es i e)
+pub item_in : {X : Type 0} (es : List (WaveEntry X)) (i : ℕ) (e : WaveEntry X) → e ≡ get_or es i e → entry_view e ≡ get_or (entries_view es) i (entry_view e)
+item_in es i e is = ap entry_view is ∙ sym (get_or-map entry_view es i e)
 
 -- what a look-up finds
 pub record Finds (p : Plan) (s w : ℕ) (es : List EntryView) (i : ℕ) (e : EntryView) : Type 0 where
-  pub place : place_of e.stream e.wave es ≡ i
+  pub context : place_of e.stream e.wave es ≡ i
   pub below : i < length es
   pub item : e ≡ get_or es i e
   pub stream : e.stream ≡ s
   pub wave : e.wave ≡ w
 
-pub finds : {X : Type 0} (p : Plan) (s w : ℕ) (es : List (Entry X)) (i : ℕ) (e : Entry X) → In {X = ℕ × ℕ} (s, w) (keys_of (entries_in es)) → i ≡ place_of s w (entries_in es) → e ≡ get_or es i e → Finds p s w (entries_in es) i (entry_in e)
+pub finds : {X : Type 0} (p : Plan) (s w : ℕ) (es : List (WaveEntry X)) (i : ℕ) (e : WaveEntry X) → In {X = ℕ × ℕ} (s, w) (keys_of (entries_view es)) → i ≡ place_of s w (entries_view es) → e ≡ get_or es i e → Finds p s w (entries_view es) i (entry_view e)
 finds p s w es i e there at is =
-    let lt : place_of s w (entries_in es) < length (entries_in es) = place_there s w (entries_in es) there in
-    let it : entry_in e ≡ get_or (entries_in es) i (entry_in e) = item_in es i e is in
-    let names = named_at s w (entries_in es) (entry_in e) lt (subst (λ k. entry_in e ≡ get_or (entries_in es) k (entry_in e)) at it) in
+    let lt : place_of s w (entries_view es) < length (entries_view es) = place_there s w (entries_view es) there in
+    let it : entry_view e ≡ get_or (entries_view es) i (entry_view e) = item_in es i e is in
+    let names = named_at s w (entries_view es) (entry_view e) lt (subst (λ k. entry_view e ≡ get_or (entries_view es) k (entry_view e)) at it) in
     record {
-      place = (λ j. place_of (names.0 j) (names.1 j) (entries_in es)) ∙ sym at;
-      below = subst (λ k. k < length (entries_in es)) (sym at) lt;
+      context = (λ j. place_of (names.0 j) (names.1 j) (entries_view es)) ∙ sym at;
+      below = subst (λ k. k < length (entries_view es)) (sym at) lt;
       item = it;
       stream = names.0;
       wave = names.1;
     }
 
 -- a step on the entry that was found
-pub goes_found : {X : Type 0} (p : Plan) (does : ℕ → ℕ → Work → Work) (s w : ℕ) (es : List (Entry X)) (i : ℕ) (e f : Entry X) (o q : Output) → AllByRecursion (EntryFits p) (entries_in es) → Finds p s w (entries_in es) i (entry_in e) → Turns p (does e.stream e.wave) (entry_in e) (entry_in f) o q → Goes p (does s w) (entries_in es) (entries_in (slice_set es i f)) o q
+pub goes_found : {X : Type 0} (p : Plan) (does : ℕ → ℕ → Effects → Effects) (s w : ℕ) (es : List (WaveEntry X)) (i : ℕ) (e f : WaveEntry X) (o q : Output) → AllByRecursion (EntryFits p) (entries_view es) → Finds p s w (entries_view es) i (entry_view e) → StepsEntry p (does e.stream e.wave) (entry_view e) (entry_view f) o q → StepsEntries p (does s w) (entries_view es) (entries_view (slice_set es i f)) o q
 goes_found p does s w es i e f o q all found h =
-    let named : Turns p (does s w) (entry_in e) (entry_in f) o q = subst (λ x. Turns p (does x w) (entry_in e) (entry_in f) o q) found.stream (subst (λ y. Turns p (does e.stream y) (entry_in e) (entry_in f) o q) found.wave h) in
-    subst (λ l. Goes p (does s w) (entries_in es) l o q) (sym (map-set entry_in es i f))
-    (goes_by p (does s w) (entries_in es) (set (entries_in es) i (entry_in f)) (entry_in e) (entry_in f) o q all (replaced p (entries_in es) i (entry_in e) (entry_in f) found.place found.below found.item h.stream h.wave) named)
+    let named : StepsEntry p (does s w) (entry_view e) (entry_view f) o q = subst (λ x. StepsEntry p (does x w) (entry_view e) (entry_view f) o q) found.stream (subst (λ y. StepsEntry p (does e.stream y) (entry_view e) (entry_view f) o q) found.wave h) in
+    subst (λ l. StepsEntries p (does s w) (entries_view es) l o q) (sym (map-set entry_view es i f))
+    (goes_by p (does s w) (entries_view es) (set (entries_view es) i (entry_view f)) (entry_view e) (entry_view f) o q all (replaced p (entries_view es) i (entry_view e) (entry_view f) found.context found.below found.item h.stream h.wave) named)
 
 -- what holds of the entry that was found
 pub fits_found : (p : Plan) (s w : ℕ) (es : List EntryView) (i : ℕ) (e : EntryView) → AllByRecursion (EntryFits p) es → Finds p s w es i e → EntryFits p e
-fits_found p s w es i e all found = (replaced p es i e e found.place found.below found.item refl refl).fits_here all
+fits_found p s w es i e all found = (replaced p es i e e found.context found.below found.item refl refl).fits_here all
 
 pub wave_found : (p : Plan) (s w : ℕ) (es : List EntryView) (i : ℕ) (e : EntryView) → Finds p s w es i e → book_of es s w ≡ wave_of e
-wave_found p s w es i e found = (λ j. book_of es (sym found.stream j) (sym found.wave j)) ∙ (replaced p es i e e found.place found.below found.item refl refl).here
+wave_found p s w es i e found = (λ j. book_of es (sym found.stream j) (sym found.wave j)) ∙ (replaced p es i e e found.context found.below found.item refl refl).here
 
 -- a step that is the same
-pub goes_as : (p : Plan) (does did : Work → Work) (es new : List EntryView) (o q : Output) → did ≡ does → Goes p did es new o q → Goes p does es new o q
-goes_as p does did es new o q is h = subst (λ d. Goes p d es new o q) is h
+pub goes_as : (p : Plan) (does did : Effects → Effects) (es new : List EntryView) (o q : Output) → did ≡ does → StepsEntries p did es new o q → StepsEntries p does es new o q
+goes_as p does did es new o q is h = subst (λ d. StepsEntries p d es new o q) is h

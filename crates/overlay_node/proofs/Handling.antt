@@ -6,20 +6,20 @@ use Rattle.std.proofs.lemmas.List.{append-nil}
 use Rattle.prefix_tree.specs.Tree.{Tree}
 use Rattle.stat_plan.specs.NodeSets.{In}
 use Rattle.stat_plan.specs.Kin.{Kin}
-use Rattle.stat_plan.specs.Kept.{IsPlan}
+use Rattle.stat_plan.specs.Invariants.{IsPlan}
 use Rattle.stat_plan.specs.Plans.{Plan, daemons, nodes, waves_at}
 use Rattle.stat_plan.specs.Waves.{Wave, Open, Closed, Book, is_fired}
 use Rattle.stat_desk.specs.declared.event.Event.{Event}
 use Rattle.stat_desk.specs.declared.event.Event.TheVariants.{Sample, Recv, Tick, Lose}
-use Rattle.merge_filter.specs.Contributions.{HasWave, StandsFor, contrib}
-use Rattle.overlay_core.specs.Nodes.{Node, Outcome, Release, Work, act, act_each, after_tick, begin, done_work, handled, received_done, received_up, sampled}
+use Rattle.merge_filter.specs.Contributions.{HasWave, IsPartialMerge, contrib}
+use Rattle.overlay_core.specs.Nodes.{Node, Outcome, Release, Effects, act, act_each, after_tick, begin, done_work, handled, received_done, received_up, sampled}
 use Rattle.overlay_core.specs.Machine.{is_empty_open, start_node}
-use Rattle.overlay_core.specs.TreeReleases.{AreNumbered, bare_releases}
-use Rattle.overlay_core.proofs.Calm.{act_else}
+use Rattle.overlay_core.specs.TreeReleases.{AreNumberedInOrder, bare_releases}
+use Rattle.overlay_core.proofs.Settled.{act_else}
 use Rattle.overlay_core.proofs.Outcomes.{next_is_empty, next_is_named}
 use Rattle.overlay_node.specs.Packets.{PacketFits, ReleaseFits, TreePacket, TreeUp, TreeDone, bare_sends}
 use Rattle.overlay_node.specs.NodeViews.{Counts, EntryView, IsNodeOf, MayHandle, NodeView, book_of, keys_of, node_of, taken_with}
-use Rattle.overlay_node.specs.Acting.{AreApart, Goes, Output, PlaceFits, each_fired, end_as, no_output, step_of, tick_all, work_of}
+use Rattle.overlay_node.specs.Acting.{AreDistinct, StepsEntries, Output, ContextFits, each_fired, end_as, no_output, step_of, tick_all, work_of}
 use Rattle.overlay_node.proofs.Waves.{each_below, own_wave}
 use Rattle.overlay_node.proofs.Distinct.{waves_at_distinct}
 
@@ -36,7 +36,7 @@ abbrev fired_in : Book → ℕ × ℕ → Bool
 fired_in b v = is_fired (b v.0 v.1)
 
 -- an act on a wave leaves the others as they are
-others : (p : Plan) (n : ℕ) (kin : Kin) (v : ℕ × ℕ) (vs : List (ℕ × ℕ)) (k : Work) → (In v vs → ⊥) → (u : ℕ × ℕ) → In u vs → fired_in (act p n kin v.0 v.1 k).book u ≡ fired_in k.book u
+others : (p : Plan) (n : ℕ) (kin : Kin) (v : ℕ × ℕ) (vs : List (ℕ × ℕ)) (k : Effects) → (In v vs → ⊥) → (u : ℕ × ℕ) → In u vs → fired_in (act p n kin v.0 v.1 k).book u ≡ fired_in k.book u
 others p n kin v vs k h u i = ap is_fired (act_else p n kin v.0 v.1 k u.0 u.1 other)
   where
     other : ((u.0 == v.0) && (u.1 == v.1)) ≡ false
@@ -49,7 +49,7 @@ others p n kin v vs k h u i = ap is_fired (act_else p n kin v.0 v.1 k u.0 u.1 ot
     ]
 
 -- whether each wave's timer has run out can be seen at its turn, or before the first
-pub each_same : (p : Plan) (n : ℕ) (kin : Kin) (vs : List (ℕ × ℕ)) (k : Work) → AreApart vs → each_fired p n kin vs k ≡ act_each p n kin (filter (fired_in k.book) vs) k
+pub each_same : (p : Plan) (n : ℕ) (kin : Kin) (vs : List (ℕ × ℕ)) (k : Effects) → AreDistinct vs → each_fired p n kin vs k ≡ act_each p n kin (filter (fired_in k.book) vs) k
 each_same p n kin [] k apart = refl
 each_same p n kin (v ∷ vs) k apart = by (each_same p n kin vs (act p n kin v.0 v.1 k) apart.1) (each_same p n kin vs k apart.1) (fired_in k.book v)
   where
@@ -65,7 +65,7 @@ ends : (p : Plan) (kin : Kin) (s w : ℕ) (b : Book) (v : Wave) → done_work p 
 ends p kin s w b (Open cov sent timer) = refl
 ends p kin s w b Closed = refl
 
-abbrev left : Kin → Work → Outcome
+abbrev left : Kin → Effects → Outcome
 left kin k = record { kin = kin; work = k }
 
 pub handled_is : (p : Plan) (n : ℕ) (x : Node) (event : Event) (packet : Option TreePacket) → IsPlan p → ◌≡◌ {A = Outcome} (handled p n x event (taken_with event packet)) (left x.kin (step_of p n x.kin (waves_at p n) event packet (begin x.book)))
@@ -80,9 +80,9 @@ handled_is p n x (Lose m) packet plan = refl
 -- ---- what events may come
 
 -- where a node stands, by its parts
-pub place_fits : (p : Plan) (v : NodeView) (n : ℕ) (kin : Kin) → IsNodeOf p v → n ≡ v.number → kin ≡ v.kin → PlaceFits p n kin
+pub place_fits : (p : Plan) (v : NodeView) (n : ℕ) (kin : Kin) → IsNodeOf p v → n ≡ v.number → kin ≡ v.kin → ContextFits p n kin
 place_fits p v n kin h en ek =
-    subst (λ m. PlaceFits p m kin) (sym en) (subst (PlaceFits p v.number) (sym (ek ∙ h.kin)) (record { node = h.number; children = each_below (nodes p) _; lost = refl }))
+    subst (λ m. ContextFits p m kin) (sym en) (subst (ContextFits p v.number) (sym (ek ∙ h.kin)) (record { node = h.number; children = each_below (nodes p) _; lost = refl }))
 
 -- which events may come doesn't depend on how many came before
 any_count : (p : Plan) (v : NodeView) (k : ℕ) (event : Event) (packet : Option TreePacket) → MayHandle p v event packet → MayHandle p (record { number = v.number; kin = v.kin; entries = v.entries; count = k }) event packet
@@ -101,13 +101,13 @@ may_by p v n kin es event packet en ek ee h =
 
 -- an event was done, by the node's parts
 pub goes_by_parts : (p : Plan) (event : Event) (packet : Option TreePacket) (n m : ℕ) (kin kin' : Kin) (es es' new new' : List EntryView) (o o' q : Output) → n ≡ m → kin ≡ kin' → es ≡ es' → new ≡ new' → o ≡ o'
-    → Goes p (step_of p n kin (keys_of es) event packet) es new o q → Goes p (step_of p m kin' (keys_of es') event packet) es' new' o' q
+    → StepsEntries p (step_of p n kin (keys_of es) event packet) es new o q → StepsEntries p (step_of p m kin' (keys_of es') event packet) es' new' o' q
 goes_by_parts p event packet n m kin kin' es es' new new' o o' q en ek ee enew eo h =
-    subst (λ x. Goes p (step_of p x kin' (keys_of es') event packet) es' new' o' q) en
-    (subst (λ x. Goes p (step_of p n x (keys_of es') event packet) es' new' o' q) ek
-    (subst (λ x. Goes p (step_of p n kin (keys_of x) event packet) x new' o' q) ee
-    (subst (λ x. Goes p (step_of p n kin (keys_of es) event packet) es x o' q) enew
-    (subst (λ x. Goes p (step_of p n kin (keys_of es) event packet) es new x q) eo h))))
+    subst (λ x. StepsEntries p (step_of p x kin' (keys_of es') event packet) es' new' o' q) en
+    (subst (λ x. StepsEntries p (step_of p n x (keys_of es') event packet) es' new' o' q) ek
+    (subst (λ x. StepsEntries p (step_of p n kin (keys_of x) event packet) x new' o' q) ee
+    (subst (λ x. StepsEntries p (step_of p n kin (keys_of es) event packet) es x o' q) enew
+    (subst (λ x. StepsEntries p (step_of p n kin (keys_of es) event packet) es new x q) eo h))))
 
 pub record MaySample (p : Plan) (n s w : ℕ) (es : List EntryView) : Type 0 where
   pub there : In {X = ℕ × ℕ} (s, w) (keys_of es)
@@ -127,7 +127,7 @@ may_sample p v m s w None keys h =
       empty = next_is_empty p (node_of v) s w h.2;
     }
 
-pub may_up : (p : Plan) (v : NodeView) (m l s w : ℕ) (t : Tree) → keys_of v.entries ≡ waves_at p v.number → MayHandle p v (Recv m l) (Some (TreeUp s w t)) → In {X = ℕ × ℕ} (s, w) (keys_of v.entries) × StandsFor p (contrib s w t)
+pub may_up : (p : Plan) (v : NodeView) (m l s w : ℕ) (t : Tree) → keys_of v.entries ≡ waves_at p v.number → MayHandle p v (Recv m l) (Some (TreeUp s w t)) → In {X = ℕ × ℕ} (s, w) (keys_of v.entries) × IsPartialMerge p (contrib s w t)
 may_up p v m l s w t keys h = (subst (In {X = ℕ × ℕ} (s, w)) (sym keys) h.1.0, h.1.1)
 
 pub may_done : (p : Plan) (v : NodeView) (m l s w : ℕ) → keys_of v.entries ≡ waves_at p v.number → MayHandle p v (Recv m l) (Some (TreeDone s w)) → In {X = ℕ × ℕ} (s, w) (keys_of v.entries)
@@ -146,11 +146,11 @@ pub record Handles (p : Plan) (v w : NodeView) (event : Event) (packet : Option 
   pub fits : IsNodeOf p w
   pub packets : AllByRecursion (λ (x : ℕ × TreePacket). PacketFits p x.1) q.sends
   pub trees : AllByRecursion (ReleaseFits p) q.releases
-  pub numbers : (earlier : List Release) → Counts v.entries earlier → AreNumbered earlier q.releases
+  pub numbers : (earlier : List Release) → Counts v.entries earlier → AreNumberedInOrder earlier q.releases
   pub counts : (earlier : List Release) → Counts v.entries earlier → Counts w.entries (earlier ++ bare_releases q.releases)
 
 pub handles : (p : Plan) (v w : NodeView) (event : Event) (packet : Option TreePacket) (q : Output) → IsPlan p → IsNodeOf p v → w.number ≡ v.number → w.kin ≡ v.kin → w.count ≡ suc v.count
-    → Goes p (step_of p v.number v.kin (keys_of v.entries) event packet) v.entries w.entries no_output q → Handles p v w event packet q
+    → StepsEntries p (step_of p v.number v.kin (keys_of v.entries) event packet) v.entries w.entries no_output q → Handles p v w event packet q
 handles p v w event packet q plan h en ek ec g =
     let is : ◌≡◌ {A = Outcome} (handled p v.number (node_of v) event (taken_with event packet)) (left v.kin (work_of w.entries q)) =
     handled_is p v.number (node_of v) event packet plan
@@ -177,6 +177,6 @@ handles p v w event packet q plan h en ek ec g =
 -- the same, by the node's parts
 pub handles_by : (p : Plan) (v w : NodeView) (event : Event) (packet : Option TreePacket) (n : ℕ) (kin : Kin) (es new : List EntryView) (o q : Output) → IsPlan p → IsNodeOf p v
     → n ≡ v.number → kin ≡ v.kin → es ≡ v.entries → new ≡ w.entries → o ≡ no_output → w.number ≡ v.number → w.kin ≡ v.kin → w.count ≡ suc v.count
-    → Goes p (step_of p n kin (keys_of es) event packet) es new o q → Handles p v w event packet q
+    → StepsEntries p (step_of p n kin (keys_of es) event packet) es new o q → Handles p v w event packet q
 handles_by p v w event packet n kin es new o q plan h en ek ee enew eo wn wk wc g =
     handles p v w event packet q plan h wn wk wc (goes_by_parts p event packet n v.number kin v.kin es v.entries new w.entries o no_output q en ek ee enew eo g)

@@ -4,7 +4,7 @@ use Rattle.std.proofs.lemmas.List.{append-nil, map-append}
 use Rattle.overlay_core.specs.Nodes.{Release}
 use Rattle.overlay_core.specs.History.{of_wave}
 use Rattle.overlay_core.specs.Releases.{next_release}
-use Rattle.overlay_core.specs.TreeReleases.{AreNumbered, TreeRelease, bare_release, bare_releases, numbers_after}
+use Rattle.overlay_core.specs.TreeReleases.{AreNumberedInOrder, TreeRelease, bare_release, bare_releases, numbers_after}
 
 -- how many releases a wave has, with one more
 pub count_more : (s w : ℕ) (rs : List Release) (r : Release) → length (of_wave s w (rs ++ r ∷ [])) ≡ cond ((r.stream == s) && (r.wave == w)) (suc (length (of_wave s w rs))) (length (of_wave s w rs))
@@ -29,7 +29,7 @@ numbers_more earlier (x ∷ xs) r =
     ap (λ l. next_release x.stream x.wave earlier ∷ l) (numbers_more (earlier ++ x ∷ []) xs r ∙ ap (λ l. numbers_after (earlier ++ x ∷ []) xs ++ next_release r.stream r.wave l ∷ []) (append_assoc earlier (x ∷ []) xs))
 
 -- a release more has its number
-pub numbered_more : (earlier : List Release) (rs : List TreeRelease) (r : TreeRelease) → AreNumbered earlier rs → r.number ≡ next_release r.stream r.wave (earlier ++ bare_releases rs) → AreNumbered earlier (rs ++ r ∷ [])
+pub numbered_more : (earlier : List Release) (rs : List TreeRelease) (r : TreeRelease) → AreNumberedInOrder earlier rs → r.number ≡ next_release r.stream r.wave (earlier ++ bare_releases rs) → AreNumberedInOrder earlier (rs ++ r ∷ [])
 numbered_more earlier rs r h e =
     map-append (λ (x : TreeRelease). x.number) rs (r ∷ [])
     ∙ (λ i. h i ++ e i ∷ [])

@@ -3,13 +3,13 @@ use Rattle.std.proofs.Common.{◌≡◌, ℕ, ◌+◌, ◌<◌, Bool, true, fals
 use Rattle.std.specs.List.{list_any}
 use Rattle.std.proofs.lemmas.Bool.{and_parts, eqb-true}
 use Rattle.stat_plan.specs.NodeSets.{In}
-use Rattle.stat_plan.specs.Kept.{IsPlan}
+use Rattle.stat_plan.specs.Invariants.{IsPlan}
 use Rattle.stat_plan.specs.Plans.{Plan, serves, waves_at, waves_of}
 use Rattle.stat_plan.specs.Waves.{is_running}
 use Rattle.overlay_core.specs.Machine.{is_empty_open}
 use Rattle.overlay_node.specs.NodeViews.{EntryView, book_of, keys_of, wave_of}
-use Rattle.overlay_node.specs.Entries.{entries_in, entry_in}
-use Rattle.overlay_node.specs.declared.entry.Entry.{Entry}
+use Rattle.overlay_node.specs.Entries.{entries_view, entry_view}
+use Rattle.overlay_node.specs.declared.entry.WaveEntry.{WaveEntry}
 use Rattle.overlay_node.proofs.Distinct.{book_own, keys_once}
 
 -- from a place on, a list has what was read there and the rest
@@ -17,19 +17,19 @@ pub drop_read : {A : Type 0} (xs : List A) (i : ℕ) (x : A) → i < length xs �
 drop_read xs i x lt is = drop-cons xs i x lt ∙ (λ j. sym is j ∷ drop (sym (add-one i) j) xs)
 
 -- an entry that fails the test is passed over
-pub find_step : {X : Type 0} (test : EntryView → Bool) (es : List (Entry X)) (i : ℕ) (e : Entry X) → i < length es → e ≡ get_or es i e → test (entry_in e) ≡ false → find test (entries_in (drop i es)) ≡ find test (entries_in es) → find test (entries_in (drop (i + 1) es)) ≡ find test (entries_in es)
+pub find_step : {X : Type 0} (test : EntryView → Bool) (es : List (WaveEntry X)) (i : ℕ) (e : WaveEntry X) → i < length es → e ≡ get_or es i e → test (entry_view e) ≡ false → find test (entries_view (drop i es)) ≡ find test (entries_view es) → find test (entries_view (drop (i + 1) es)) ≡ find test (entries_view es)
 find_step {X} test es i e lt is f left =
-    sym (ap (λ b. cond b (Some (entry_in e)) (find test (entries_in (drop (i + 1) es)))) f) ∙ sym (ap (λ (l : List (Entry X)). find test (entries_in l)) (drop_read es i e lt is)) ∙ left
+    sym (ap (λ b. cond b (Some (entry_view e)) (find test (entries_view (drop (i + 1) es)))) f) ∙ sym (ap (λ (l : List (WaveEntry X)). find test (entries_view l)) (drop_read es i e lt is)) ∙ left
 
 -- the first that passes is found
-pub find_here : {X : Type 0} (test : EntryView → Bool) (es : List (Entry X)) (i : ℕ) (e : Entry X) → i < length es → e ≡ get_or es i e → test (entry_in e) ≡ true → find test (entries_in (drop i es)) ≡ find test (entries_in es) → find test (entries_in es) ≡ Some (entry_in e)
+pub find_here : {X : Type 0} (test : EntryView → Bool) (es : List (WaveEntry X)) (i : ℕ) (e : WaveEntry X) → i < length es → e ≡ get_or es i e → test (entry_view e) ≡ true → find test (entries_view (drop i es)) ≡ find test (entries_view es) → find test (entries_view es) ≡ Some (entry_view e)
 find_here {X} test es i e lt is t left =
-    sym left ∙ ap (λ (l : List (Entry X)). find test (entries_in l)) (drop_read es i e lt is) ∙ ap (λ b. cond b (Some (entry_in e)) (find test (entries_in (drop (i + 1) es)))) t
+    sym left ∙ ap (λ (l : List (WaveEntry X)). find test (entries_view l)) (drop_read es i e lt is) ∙ ap (λ b. cond b (Some (entry_view e)) (find test (entries_view (drop (i + 1) es)))) t
 
 -- a test of some entry, as a test of the values
-pub any-entries : {X : Type 0} (test : EntryView → Bool) (es : List (Entry X)) → list_any test (entries_in es) ≡ list_any (λ e. test (entry_in e)) es
+pub any-entries : {X : Type 0} (test : EntryView → Bool) (es : List (WaveEntry X)) → list_any test (entries_view es) ≡ list_any (λ e. test (entry_view e)) es
 any-entries test [] = refl
-any-entries test (e ∷ es) = ap (λ b. test (entry_in e) || b) (any-entries test es)
+any-entries test (e ∷ es) = ap (λ b. test (entry_view e) || b) (any-entries test es)
 
 -- ---- by keys and by entries
 

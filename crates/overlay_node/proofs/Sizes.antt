@@ -5,17 +5,17 @@ use Rattle.std.specs.Ordering.{nat_cmp, eq_by_cmp}
 use Rattle.std.specs.Cmp.{unsigned_tied, nat_cmp_total, tied_itself}
 use Rattle.std.specs.Ordering.{is_eq}
 use Rattle.std.proofs.lemmas.Bool.{true≢false, and_parts, or_cases, or_left, or_right, ltb-true}
-use Rattle.rank_set.specs.Ranks.{Ranks, IsSubset, in_order, is_rising, size, from_T, has-in_order, same_list}
-use Rattle.stat_plan.specs.NodeSets.{In, IsAscending}
+use Rattle.rank_set.specs.Ranks.{Ranks, IsSubset, in_order, is_strictly_increasing, size, from_T, has-in_order, same_list}
+use Rattle.stat_plan.specs.NodeSets.{In, IsStrictlyIncreasing}
 
 above : (x : ℕ) (ys : List ℕ) → list_all (λ y. nat_lt x y) ys ≡ true → (y : ℕ) → In y ys → x < y
 above x [] h y i = absurd i
 above x (z ∷ zs) h y (inl e) = subst (λ a. x < a) (sym e) (ltb-true x z (and_parts (nat_lt x z) (list_all (λ y. nat_lt x y) zs) h).0)
 above x (z ∷ zs) h y (inr i) = above x zs (and_parts (nat_lt x z) (list_all (λ y. nat_lt x y) zs) h).1 y i
 
-ascending : (xs : List ℕ) → is_rising xs ≡ true → IsAscending xs
+ascending : (xs : List ℕ) → is_strictly_increasing xs ≡ true → IsStrictlyIncreasing xs
 ascending [] h = tt
-ascending (x ∷ xs) h = let a = and_parts (list_all (λ y. nat_lt x y) xs) (is_rising xs) h in (above x xs a.0, ascending xs a.1)
+ascending (x ∷ xs) h = let a = and_parts (list_all (λ y. nat_lt x y) xs) (is_strictly_increasing xs) h in (above x xs a.0, ascending xs a.1)
 
 in_any : (x : ℕ) (xs : List ℕ) → In x xs → list_any (eq_by_cmp nat_cmp x) xs ≡ true
 in_any x [] i = absurd i
@@ -30,7 +30,7 @@ any_in x (y ∷ ys) e = elim (or_cases (eq_by_cmp nat_cmp x y) (list_any (eq_by_
 ]
 
 -- an ascending list of members of another is shorter, or the same
-lists_below : (ys xs : List ℕ) → IsAscending xs → IsAscending ys → ((x : ℕ) → In x xs → In x ys) → (suc (length xs) ≤ length ys) ⊎ (xs ≡ ys)
+lists_below : (ys xs : List ℕ) → IsStrictlyIncreasing xs → IsStrictlyIncreasing ys → ((x : ℕ) → In x xs → In x ys) → (suc (length xs) ≤ length ys) ⊎ (xs ≡ ys)
 lists_below [] [] hx hy h = inr refl
 lists_below [] (x ∷ xs) hx hy h = absurd (h x (inl refl))
 lists_below (y ∷ ys) [] hx hy h = inl (omega arith)

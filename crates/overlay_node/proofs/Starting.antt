@@ -11,9 +11,9 @@ use Rattle.stat_plan.specs.declared.act.Timer.TheVariants.{Off}
 use Rattle.stat_plan.proofs.InLists.{append_left, append_right, in_at, in_map}
 use Rattle.overlay_core.proofs.Whole.{in_up_to}
 use Rattle.overlay_node.specs.NodeViews.{EntryView, EntryFits, book_of, given_of, is_of, keys_of}
-use Rattle.overlay_node.specs.Entries.{entries_in, entry_in}
+use Rattle.overlay_node.specs.Entries.{entries_view, entry_view}
 use Rattle.overlay_node.specs.Starts.{HasWaves, IsFresh}
-use Rattle.overlay_node.specs.declared.entry.Entry.{Entry}
+use Rattle.overlay_node.specs.declared.entry.WaveEntry.{WaveEntry}
 use Rattle.overlay_node.proofs.Reading.{drop_read}
 
 -- the first waves of a stream
@@ -27,18 +27,18 @@ passing_waves test xs = filter (λ v. test v.0) (waves_of xs)
 -- ---- the waves of one stream
 
 -- an entry added at the end adds its key at the end
-pub keys-push : {X : Type 0} (es new : List (Entry X)) (e : Entry X) → new ≡ es ++ e ∷ [] → keys_of (entries_in new) ≡ keys_of (entries_in es) ++ (e.stream, e.wave) ∷ []
-keys-push {X} es new e is = ap (λ (l : List (Entry X)). keys_of (entries_in l)) is ∙ go es
+pub keys-push : {X : Type 0} (es new : List (WaveEntry X)) (e : WaveEntry X) → new ≡ es ++ e ∷ [] → keys_of (entries_view new) ≡ keys_of (entries_view es) ++ (e.stream, e.wave) ∷ []
+keys-push {X} es new e is = ap (λ (l : List (WaveEntry X)). keys_of (entries_view l)) is ∙ go es
   where
-    go : (es : List (Entry X)) → keys_of (entries_in (es ++ e ∷ [])) ≡ keys_of (entries_in es) ++ (e.stream, e.wave) ∷ []
+    go : (es : List (WaveEntry X)) → keys_of (entries_view (es ++ e ∷ [])) ≡ keys_of (entries_view es) ++ (e.stream, e.wave) ∷ []
     go [] = refl
     go (d ∷ ds) = ap (λ (l : List (ℕ × ℕ)). (d.stream, d.wave) ∷ l) (go ds)
 
 -- fresh entries stay so with a fresh one at the end
-pub fresh_push : {X : Type 0} (p : Plan) (es new : List (Entry X)) (e : Entry X) → new ≡ es ++ e ∷ [] → AllByRecursion (IsFresh p) (entries_in es) → IsFresh p (entry_in e) → AllByRecursion (IsFresh p) (entries_in new)
-fresh_push {X} p es new e is h k = subst (λ (l : List (Entry X)). AllByRecursion (IsFresh p) (entries_in l)) (sym is) (go es h)
+pub fresh_push : {X : Type 0} (p : Plan) (es new : List (WaveEntry X)) (e : WaveEntry X) → new ≡ es ++ e ∷ [] → AllByRecursion (IsFresh p) (entries_view es) → IsFresh p (entry_view e) → AllByRecursion (IsFresh p) (entries_view new)
+fresh_push {X} p es new e is h k = subst (λ (l : List (WaveEntry X)). AllByRecursion (IsFresh p) (entries_view l)) (sym is) (go es h)
   where
-    go : (es : List (Entry X)) → AllByRecursion (IsFresh p) (entries_in es) → AllByRecursion (IsFresh p) (entries_in (es ++ e ∷ []))
+    go : (es : List (WaveEntry X)) → AllByRecursion (IsFresh p) (entries_view es) → AllByRecursion (IsFresh p) (entries_view (es ++ e ∷ []))
     go [] h = (k, tt)
     go (d ∷ ds) h = (h.0, go ds h.1)
 
@@ -101,10 +101,10 @@ stream_passed test xs i x keys lt is f left =
     ∙ left
 
 -- entries to which the waves of a stream that passes were added have the keys of the streams so far
-pub entries_taken : {X : Type 0} (test : ℕ → Bool) (xs : List Stream) (i : ℕ) (x : Stream) (s waves : ℕ) (old new : List (Entry X)) → i < length xs → x ≡ get_or xs i x → s ≡ x.number → waves ≡ x.waves → test s ≡ true → keys_of (entries_in new) ≡ keys_of (entries_in old) ++ first_waves s waves → keys_of (entries_in old) ++ passing_waves test (drop i xs) ≡ passing_waves test xs → keys_of (entries_in new) ++ passing_waves test (drop (i + 1) xs) ≡ passing_waves test xs
+pub entries_taken : {X : Type 0} (test : ℕ → Bool) (xs : List Stream) (i : ℕ) (x : Stream) (s waves : ℕ) (old new : List (WaveEntry X)) → i < length xs → x ≡ get_or xs i x → s ≡ x.number → waves ≡ x.waves → test s ≡ true → keys_of (entries_view new) ≡ keys_of (entries_view old) ++ first_waves s waves → keys_of (entries_view old) ++ passing_waves test (drop i xs) ≡ passing_waves test xs → keys_of (entries_view new) ++ passing_waves test (drop (i + 1) xs) ≡ passing_waves test xs
 entries_taken test xs i x s waves old new lt is es ew t more left =
-    (λ j. (more ∙ (λ k. keys_of (entries_in old) ++ first_waves (es k) (ew k))) j ++ passing_waves test (drop (i + 1) xs))
-    ∙ stream_taken test xs i x (keys_of (entries_in old)) lt is (ap test (sym es) ∙ t) left
+    (λ j. (more ∙ (λ k. keys_of (entries_view old) ++ first_waves (es k) (ew k))) j ++ passing_waves test (drop (i + 1) xs))
+    ∙ stream_taken test xs i x (keys_of (entries_view old)) lt is (ap test (sym es) ∙ t) left
 
 -- past the last stream all are taken
 pub all_taken : (test : ℕ → Bool) (xs ys : List Stream) (i : ℕ) (keys : List (ℕ × ℕ)) → length xs ≤ i → xs ≡ ys → keys ++ passing_waves test (drop i xs) ≡ passing_waves test xs → keys ≡ passing_waves test ys

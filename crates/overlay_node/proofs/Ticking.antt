@@ -13,23 +13,23 @@ use Rattle.stat_plan.specs.Waves.{Wave, Closed, is_fired, ticked, ticked_timer}
 use Rattle.stat_plan.specs.declared.act.Timer.{Timer}
 use Rattle.stat_plan.specs.declared.act.Timer.TheVariants.{Off, Running, Fired}
 use Rattle.merge_filter.specs.Contributions.{Contrib}
-use Rattle.overlay_core.specs.Nodes.{Work, act, act_as}
+use Rattle.overlay_core.specs.Nodes.{Effects, act, act_as}
 use Rattle.overlay_core.specs.TreeReleases.{bare_releases}
-use Rattle.overlay_node.specs.declared.entry.Entry.{Entry}
+use Rattle.overlay_node.specs.declared.entry.WaveEntry.{WaveEntry}
 use Rattle.overlay_node.specs.Packets.{bare_sends}
-use Rattle.overlay_node.specs.Entries.{entry_in, entries_in}
+use Rattle.overlay_node.specs.Entries.{entry_view, entries_view}
 use Rattle.overlay_node.specs.NodeViews.{EntryFits, EntryView, PartFits, book_of, given_of, is_of, keys_of, state_of, wave_of}
-use Rattle.overlay_node.specs.Acting.{AreApart, Goes, Output, Turns, act_fired, each_fired, place_of, tick, tick_all, ticked_entry, work_of, work_with}
+use Rattle.overlay_node.specs.Acting.{AreDistinct, StepsEntries, Output, StepsEntry, act_fired, each_fired, place_of, tick, tick_all, ticked_entry, work_of, work_with}
 use Rattle.overlay_node.proofs.Books.{same_book}
 use Rattle.overlay_node.proofs.Fitting.{ticked_fits}
 use Rattle.overlay_node.proofs.Going.{goes_by, item_in, length_in, replaced}
 
 -- ---- steps one after another
 
-pub goes_none : (p : Plan) (es : List EntryView) (o : Output) → AllByRecursion (EntryFits p) es → Goes p (λ k. k) es es o o
+pub goes_none : (p : Plan) (es : List EntryView) (o : Output) → AllByRecursion (EntryFits p) es → StepsEntries p (λ k. k) es es o o
 goes_none p es o h = record { keys = refl; fits = h; output = λ x. x; numbers = λ earlier c n. n; counts = λ earlier c. c; work = refl }
 
-pub goes_then : (p : Plan) (first second : Work → Work) (es mid new : List EntryView) (o m q : Output) → Goes p first es mid o m → Goes p second mid new m q → Goes p (λ k. second (first k)) es new o q
+pub goes_then : (p : Plan) (first second : Effects → Effects) (es mid new : List EntryView) (o m q : Output) → StepsEntries p first es mid o m → StepsEntries p second mid new m q → StepsEntries p (λ k. second (first k)) es new o q
 goes_then p first second es mid new o m q a b = record {
   keys = b.keys ∙ a.keys;
   fits = b.fits;
@@ -67,13 +67,13 @@ all_ticked zero (e ∷ es) h = absurd (omega (arith, h))
 all_ticked (suc i) (e ∷ es) h = ap (λ l. ticked_entry e ∷ l) (all_ticked i es (omega (arith, h)))
 
 -- one timer more
-pub ticked_more : {X : Type 0} (start now : List (Entry X)) (i : ℕ) (e f : Entry X) → entries_in now ≡ ticked_to i (entries_in start) → i < length now → e ≡ get_or now i e → entry_in f ≡ ticked_entry (entry_in e) → entries_in (slice_set now i f) ≡ ticked_to (i + 1) (entries_in start)
+pub ticked_more : {X : Type 0} (start now : List (WaveEntry X)) (i : ℕ) (e f : WaveEntry X) → entries_view now ≡ ticked_to i (entries_view start) → i < length now → e ≡ get_or now i e → entry_view f ≡ ticked_entry (entry_view e) → entries_view (slice_set now i f) ≡ ticked_to (i + 1) (entries_view start)
 ticked_more start now i e f is lt at ef =
-    let l : length (entries_in start) ≡ length now = sym (length_ticked i (entries_in start)) ∙ ap length (sym is) ∙ length_in now in
-    map-set entry_in now i f
+    let l : length (entries_view start) ≡ length now = sym (length_ticked i (entries_view start)) ∙ ap length (sym is) ∙ length_in now in
+    map-set entry_view now i f
     ∙ (λ j. set (is j) i (ef j))
-    ∙ set_ticked i (entries_in start) (entry_in e) (omega (arith, l, lt)) (subst (λ es. entry_in e ≡ get_or es i (entry_in e)) is (item_in now i e at))
-    ∙ ap (λ k. ticked_to k (entries_in start)) (one_more i)
+    ∙ set_ticked i (entries_view start) (entry_view e) (omega (arith, l, lt)) (subst (λ es. entry_view e ≡ get_or es i (entry_view e)) is (item_in now i e at))
+    ∙ ap (λ k. ticked_to k (entries_view start)) (one_more i)
 
 -- all timers are the machine's
 ticked_state : (o : Option Contrib) (sent : Ranks) (t : Timer) → state_of o sent (ticked_timer t) ≡ ticked (state_of o sent t)
@@ -104,7 +104,7 @@ pub ticked_all : (p : Plan) (es : List EntryView) → AllByRecursion (EntryFits 
 ticked_all p [] h = tt
 ticked_all p (e ∷ es) h = (ticked_part p e.stream e.wave e.sent e.timer e.given e.part h.0, ticked_all p es h.1)
 
-pub goes_ticked : (p : Plan) (es : List EntryView) (o : Output) → AllByRecursion (EntryFits p) es → Goes p tick_all es (map ticked_entry es) o o
+pub goes_ticked : (p : Plan) (es : List EntryView) (o : Output) → AllByRecursion (EntryFits p) es → StepsEntries p tick_all es (map ticked_entry es) o o
 goes_ticked p es o h = record {
   keys = ticked_keys es;
   fits = ticked_all p es h;
@@ -118,10 +118,10 @@ goes_ticked p es o h = record {
 
 -- the step on such a wave
 module _ (p : Plan) (n : ℕ) (kin : Kin) where
-  pub calm_turns : (e f : EntryView) (o q : Output) → EntryFits p e → is_fired (wave_of e) ≡ false → f ≡ e → q ≡ o → Turns p (act_fired p n kin e.stream e.wave) e f o q
+  pub calm_turns : (e f : EntryView) (o q : Output) → EntryFits p e → is_fired (wave_of e) ≡ false → f ≡ e → q ≡ o → StepsEntry p (act_fired p n kin e.stream e.wave) e f o q
   calm_turns e f o q h calm ef eq =
-      subst (λ g. Turns p (act_fired p n kin e.stream e.wave) e g o q) (sym ef)
-      (subst (λ r. Turns p (act_fired p n kin e.stream e.wave) e e o r) (sym eq)
+      subst (λ g. StepsEntry p (act_fired p n kin e.stream e.wave) e g o q) (sym ef)
+      (subst (λ r. StepsEntry p (act_fired p n kin e.stream e.wave) e e o r) (sym eq)
       (record {
         stream = refl;
         wave = refl;
@@ -134,11 +134,11 @@ module _ (p : Plan) (n : ℕ) (kin : Kin) where
       }))
 
   -- where the timer has run out, or the wave has ended, the act is all
-  act_all_same : (v : Wave) (s w : ℕ) (k : Work) → (is_fired v ≡ true) ⊎ (v ≡ Closed) → act_as p n kin s w k v ≡ cond (is_fired v) (act_as p n kin s w k v) k
+  act_all_same : (v : Wave) (s w : ℕ) (k : Effects) → (is_fired v ≡ true) ⊎ (v ≡ Closed) → act_as p n kin s w k v ≡ cond (is_fired v) (act_as p n kin s w k v) k
   act_all_same v s w k (inl e) = ap (λ c. cond c (act_as p n kin s w k v) k) (sym e)
   act_all_same v s w k (inr e) = subst (λ u. act_as p n kin s w k u ≡ cond (is_fired u) (act_as p n kin s w k u) k) (sym e) refl
 
-  pub fired_turns : (e f : EntryView) (o q : Output) → (is_fired (wave_of e) ≡ true) ⊎ (wave_of e ≡ Closed) → Turns p (act p n kin e.stream e.wave) e f o q → Turns p (act_fired p n kin e.stream e.wave) e f o q
+  pub fired_turns : (e f : EntryView) (o q : Output) → (is_fired (wave_of e) ≡ true) ⊎ (wave_of e ≡ Closed) → StepsEntry p (act p n kin e.stream e.wave) e f o q → StepsEntry p (act_fired p n kin e.stream e.wave) e f o q
   fired_turns e f o q fired h = record {
     stream = h.stream;
     wave = h.wave;
@@ -149,7 +149,7 @@ module _ (p : Plan) (n : ℕ) (kin : Kin) where
   }
 
   -- these waves, and one more
-  pub each_more : (vs : List (ℕ × ℕ)) (v : ℕ × ℕ) (k : Work) → each_fired p n kin (vs ++ v ∷ []) k ≡ act_fired p n kin v.0 v.1 (each_fired p n kin vs k)
+  pub each_more : (vs : List (ℕ × ℕ)) (v : ℕ × ℕ) (k : Effects) → each_fired p n kin (vs ++ v ∷ []) k ≡ act_fired p n kin v.0 v.1 (each_fired p n kin vs k)
   each_more [] v k = refl
   each_more (u ∷ us) v k = each_more us v (act_fired p n kin u.0 u.1 k)
 
@@ -174,7 +174,7 @@ below_tail : {X : Type 0} (i : ℕ) (xs : List X) → suc i < suc (length xs) �
 below_tail i xs lt = omega (arith, lt)
 
 -- where the waves are all different, each entry is the first of its wave
-pub own_place : (es : List EntryView) (i : ℕ) (e : EntryView) → AreApart (keys_of es) → i < length es → e ≡ get_or es i e → place_of e.stream e.wave es ≡ i
+pub own_place : (es : List EntryView) (i : ℕ) (e : EntryView) → AreDistinct (keys_of es) → i < length es → e ≡ get_or es i e → place_of e.stream e.wave es ≡ i
 own_place [] i e apart lt is = absurd (omega (arith, lt))
 own_place (x ∷ xs) zero e apart lt is =
     ap (λ c. cond c zero (suc (place_of e.stream e.wave xs))) (and_from (x.stream == e.stream) (x.wave == e.wave) (eq-eqb x.stream e.stream (ap (λ (y : EntryView). y.stream) (sym is))) (eq-eqb x.wave e.wave (ap (λ (y : EntryView). y.wave) (sym is))))
@@ -200,44 +200,44 @@ key_at (x ∷ xs) zero e d lt is = ap (λ (y : EntryView). let v : ℕ × ℕ = 
 key_at (x ∷ xs) (suc i) e d lt is = key_at xs i e d (omega (arith, lt)) is
 
 -- one wave more
-pub fired_more : {X : Type 0} (p : Plan) (n : ℕ) (kin : Kin) (start now : List (Entry X)) (i : ℕ) (e f : Entry X) (o m q : Output)
-    → AreApart (keys_of (entries_in start)) → Goes p (each_fired p n kin (take i (keys_of (entries_in start)))) (entries_in start) (entries_in now) o m
-    → i < length now → e ≡ get_or now i e → Turns p (act_fired p n kin e.stream e.wave) (entry_in e) (entry_in f) m q
-    → Goes p (each_fired p n kin (take (i + 1) (keys_of (entries_in start)))) (entries_in start) (entries_in (slice_set now i f)) o q
+pub fired_more : {X : Type 0} (p : Plan) (n : ℕ) (kin : Kin) (start now : List (WaveEntry X)) (i : ℕ) (e f : WaveEntry X) (o m q : Output)
+    → AreDistinct (keys_of (entries_view start)) → StepsEntries p (each_fired p n kin (take i (keys_of (entries_view start)))) (entries_view start) (entries_view now) o m
+    → i < length now → e ≡ get_or now i e → StepsEntry p (act_fired p n kin e.stream e.wave) (entry_view e) (entry_view f) m q
+    → StepsEntries p (each_fired p n kin (take (i + 1) (keys_of (entries_view start)))) (entries_view start) (entries_view (slice_set now i f)) o q
 fired_more p n kin start now i e f o m q apart so_far lt at h =
     let it = item_in now i e at in
-    let below : i < length (entries_in now) = subst (λ k. i < k) (sym (length_in now)) lt in
-    let keys : List (ℕ × ℕ) = keys_of (entries_in start) in
-    let few : i < length keys = subst (λ l. i < length l) so_far.keys (subst (λ k. i < k) (sym (length_keys (entries_in now))) below) in
-    let here : get_or keys i (0, 0) ≡ (e.stream, e.wave) = ap (λ l. get_or l i (0, 0)) (sym so_far.keys) ∙ key_at (entries_in now) i (entry_in e) (0, 0) below it in
+    let below : i < length (entries_view now) = subst (λ k. i < k) (sym (length_in now)) lt in
+    let keys : List (ℕ × ℕ) = keys_of (entries_view start) in
+    let few : i < length keys = subst (λ l. i < length l) so_far.keys (subst (λ k. i < k) (sym (length_keys (entries_view now))) below) in
+    let here : get_or keys i (0, 0) ≡ (e.stream, e.wave) = ap (λ l. get_or l i (0, 0)) (sym so_far.keys) ∙ key_at (entries_view now) i (entry_view e) (0, 0) below it in
     let more : take (i + 1) keys ≡ take i keys ++ (e.stream, e.wave) ∷ [] = take_more keys i (0, 0) few ∙ ap (λ (v : ℕ × ℕ). take i keys ++ v ∷ []) here in
-    let r = replaced p (entries_in now) i (entry_in e) (entry_in f) (own_place (entries_in now) i (entry_in e) (subst AreApart (sym so_far.keys) apart) below it) below it h.stream h.wave in
-    let next : Goes p (act_fired p n kin e.stream e.wave) (entries_in now) (entries_in (slice_set now i f)) m q =
-    subst (λ l. Goes p (act_fired p n kin e.stream e.wave) (entries_in now) l m q) (sym (map-set entry_in now i f)) (goes_by p (act_fired p n kin e.stream e.wave) (entries_in now) (set (entries_in now) i (entry_in f)) (entry_in e) (entry_in f) m q so_far.fits r h) in
-    let both = goes_then p (each_fired p n kin (take i keys)) (act_fired p n kin e.stream e.wave) (entries_in start) (entries_in now) (entries_in (slice_set now i f)) o m q so_far next in
+    let r = replaced p (entries_view now) i (entry_view e) (entry_view f) (own_place (entries_view now) i (entry_view e) (subst AreDistinct (sym so_far.keys) apart) below it) below it h.stream h.wave in
+    let next : StepsEntries p (act_fired p n kin e.stream e.wave) (entries_view now) (entries_view (slice_set now i f)) m q =
+    subst (λ l. StepsEntries p (act_fired p n kin e.stream e.wave) (entries_view now) l m q) (sym (map-set entry_view now i f)) (goes_by p (act_fired p n kin e.stream e.wave) (entries_view now) (set (entries_view now) i (entry_view f)) (entry_view e) (entry_view f) m q so_far.fits r h) in
+    let both = goes_then p (each_fired p n kin (take i keys)) (act_fired p n kin e.stream e.wave) (entries_view start) (entries_view now) (entries_view (slice_set now i f)) o m q so_far next in
     record {
       keys = both.keys;
       fits = both.fits;
       output = both.output;
       numbers = both.numbers;
       counts = both.counts;
-      work = both.work ∙ sym (each_more p n kin (take i keys) (e.stream, e.wave) (work_of (entries_in start) o)) ∙ ap (λ l. each_fired p n kin l (work_of (entries_in start) o)) (sym more);
+      work = both.work ∙ sym (each_more p n kin (take i keys) (e.stream, e.wave) (work_of (entries_view start) o)) ∙ ap (λ l. each_fired p n kin l (work_of (entries_view start) o)) (sym more);
     }
 
 -- all waves
-pub fired_all : {X : Type 0} (p : Plan) (n : ℕ) (kin : Kin) (start now : List (Entry X)) (i : ℕ) (o q : Output) → Goes p (each_fired p n kin (take i (keys_of (entries_in start)))) (entries_in start) (entries_in now) o q → length now ≤ i → Goes p (each_fired p n kin (keys_of (entries_in start))) (entries_in start) (entries_in now) o q
+pub fired_all : {X : Type 0} (p : Plan) (n : ℕ) (kin : Kin) (start now : List (WaveEntry X)) (i : ℕ) (o q : Output) → StepsEntries p (each_fired p n kin (take i (keys_of (entries_view start)))) (entries_view start) (entries_view now) o q → length now ≤ i → StepsEntries p (each_fired p n kin (keys_of (entries_view start))) (entries_view start) (entries_view now) o q
 fired_all p n kin start now i o q h le =
-    let l : length (keys_of (entries_in start)) ≡ length now = ap length (sym h.keys) ∙ length_keys (entries_in now) ∙ length_in now in
-    subst (λ vs. Goes p (each_fired p n kin vs) (entries_in start) (entries_in now) o q) (take_all i (keys_of (entries_in start)) (omega (arith, l, le))) h
+    let l : length (keys_of (entries_view start)) ≡ length now = ap length (sym h.keys) ∙ length_keys (entries_view now) ∙ length_in now in
+    subst (λ vs. StepsEntries p (each_fired p n kin vs) (entries_view start) (entries_view now) o q) (take_all i (keys_of (entries_view start)) (omega (arith, l, le))) h
 
 -- no wave yet
-pub goes_begin : (p : Plan) (n : ℕ) (kin : Kin) (es : List EntryView) (o : Output) → AllByRecursion (EntryFits p) es → Goes p (each_fired p n kin (take 0 (keys_of es))) es es o o
+pub goes_begin : (p : Plan) (n : ℕ) (kin : Kin) (es : List EntryView) (o : Output) → AllByRecursion (EntryFits p) es → StepsEntries p (each_fired p n kin (take 0 (keys_of es))) es es o o
 goes_begin p n kin es o h = goes_none p es o h
 
 -- a whole tick
-pub goes_tick : (p : Plan) (n : ℕ) (kin : Kin) (es mid new : List EntryView) (o q : Output) → AllByRecursion (EntryFits p) es → mid ≡ map ticked_entry es → Goes p (each_fired p n kin (keys_of mid)) mid new o q → Goes p (tick p n kin (keys_of es)) es new o q
+pub goes_tick : (p : Plan) (n : ℕ) (kin : Kin) (es mid new : List EntryView) (o q : Output) → AllByRecursion (EntryFits p) es → mid ≡ map ticked_entry es → StepsEntries p (each_fired p n kin (keys_of mid)) mid new o q → StepsEntries p (tick p n kin (keys_of es)) es new o q
 goes_tick p n kin es mid new o q h is fired =
     let keys : keys_of mid ≡ keys_of es = ap keys_of is ∙ ticked_keys es in
-    let ticking : Goes p tick_all es mid o o = subst (λ l. Goes p tick_all es l o o) (sym is) (goes_ticked p es o h) in
-    let after : Goes p (each_fired p n kin (keys_of es)) mid new o q = subst (λ vs. Goes p (each_fired p n kin vs) mid new o q) keys fired in
+    let ticking : StepsEntries p tick_all es mid o o = subst (λ l. StepsEntries p tick_all es l o o) (sym is) (goes_ticked p es o h) in
+    let after : StepsEntries p (each_fired p n kin (keys_of es)) mid new o q = subst (λ vs. StepsEntries p (each_fired p n kin vs) mid new o q) keys fired in
     goes_then p tick_all (each_fired p n kin (keys_of es)) es mid new o o q ticking after

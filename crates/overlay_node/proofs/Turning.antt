@@ -3,7 +3,7 @@ use Rattle.std.proofs.Common.{◌≡◌, ◌⊎◌, ℕ, suc, inl, inr, Bool, tr
 use Rattle.std.specs.List.{AllByRecursion}
 use Rattle.std.proofs.lemmas.List.{append-nil, map-append}
 use Rattle.rank_set.specs.Ranks.{Ranks}
-use Rattle.stat_plan.specs.Kept.{IsPlan}
+use Rattle.stat_plan.specs.Invariants.{IsPlan}
 use Rattle.stat_plan.specs.Plans.{Plan, serves}
 use Rattle.stat_plan.specs.Kin.{Kin}
 use Rattle.stat_plan.specs.Waves.{Wave, Open, Closed, Book, set_wave, covering, growing}
@@ -15,12 +15,12 @@ use Rattle.merge_filter.specs.Contributions.{Contrib, cov_of}
 use Rattle.overlay_core.specs.declared.release.Kind.{Kind}
 use Rattle.overlay_core.specs.declared.release.Kind.TheVariants.{Partial as PartialRelease, Final as FinalRelease}
 use Rattle.overlay_core.specs.Machine.{is_empty_open}
-use Rattle.overlay_core.specs.Nodes.{Packet, Up, Done, Release, Work, act, act_as, acted, dones, due_at, to_parent}
+use Rattle.overlay_core.specs.Nodes.{Packet, Up, Done, Release, Effects, act, act_as, acted, dones, due_at, to_parent}
 use Rattle.overlay_core.specs.TreeReleases.{TreeRelease, bare_release, bare_releases}
-use Rattle.overlay_core.proofs.Goes.{set_wave_here}
+use Rattle.overlay_core.proofs.ParentLinks.{set_wave_here}
 use Rattle.overlay_node.specs.Packets.{PacketFits, ReleaseFits, TreePacket, TreeUp, TreeDone, bare_packet, bare_sends}
 use Rattle.overlay_node.specs.NodeViews.{EntryFits, EntryView, wave_of}
-use Rattle.overlay_node.specs.Acting.{GivesNothing, GivesNext, Output, OutputFits, PlaceFits, Turns, act_changed, acted_entry, acted_output, covered, done_to, dones_to, end, end_as, ended, ended_output, entry_after, grown, next_of, output_after, with_dones, with_up, work_with}
+use Rattle.overlay_node.specs.Acting.{GivesNothing, GivesNext, Output, OutputFits, ContextFits, StepsEntry, act_changed, acted_entry, acted_output, covered, done_to, dones_to, end, end_as, ended, ended_output, entry_after, grown, next_of, output_after, with_dones, with_up, work_with}
 use Rattle.overlay_node.proofs.Books.{same_book, set_twice}
 use Rattle.overlay_node.proofs.Fitting.{after_fits, covered_wave, grown_wave, stands_named}
 
@@ -33,7 +33,7 @@ entry s w part sent timer given = record { stream = s; wave = w; part = part; se
 
 -- ---- what is sent
 
-pub up_work : (b : Book) (parent : Option ℕ) (s w : ℕ) (c : Contrib) (o : Output) → ◌≡◌ {A = Work} (work_with b (with_up parent s w c o)) (record { book = b; sends = bare_sends o.sends ++ to_parent parent (Up s w (cov_of c)); releases = bare_releases o.releases })
+pub up_work : (b : Book) (parent : Option ℕ) (s w : ℕ) (c : Contrib) (o : Output) → ◌≡◌ {A = Effects} (work_with b (with_up parent s w c o)) (record { book = b; sends = bare_sends o.sends ++ to_parent parent (Up s w (cov_of c)); releases = bare_releases o.releases })
 up_work b None s w c o = λ i. record { book = b; sends = sym (append-nil (bare_sends o.sends)) i; releases = bare_releases o.releases }
 up_work b (Some m) s w c o = λ i. record { book = b; sends = map-append (λ (v : ℕ × TreePacket). let u : ℕ × Packet = (v.0, bare_packet v.1) in u) o.sends ((m, TreeUp s w c.tree) ∷ []) i; releases = bare_releases o.releases }
 
@@ -92,7 +92,7 @@ released e c kind kin rs lost = map-append bare_release rs (next_of e c kind ∷
 
 -- the work of an act on an open wave
 after_work : (p : Plan) (kin : Kin) (a : Act) (c : Contrib) (s w : ℕ) (sent : Ranks) (timer : Timer) (given : ℕ) (o : Output) (b : Book) → kin.lost ≡ [] → b s w ≡ Open (cov_of c) sent timer
-    → ◌≡◌ {A = Work} (work_with (set_wave b s w (wave_of (entry_after p a c (entry s w (Some c) sent timer given)))) (output_after p kin a c (entry s w (Some c) sent timer given) o)) (acted p kin s w (cov_of c) sent timer (work_with b o) a)
+    → ◌≡◌ {A = Effects} (work_with (set_wave b s w (wave_of (entry_after p a c (entry s w (Some c) sent timer given)))) (output_after p kin a c (entry s w (Some c) sent timer given) o)) (acted p kin s w (cov_of c) sent timer (work_with b o) a)
 unfolding acted
 after_work p kin Hold c s w sent timer given o b lost eb = λ i. work_with (same_book b s w (Open (cov_of c) sent timer) eb i) o
 after_work p kin Arm c s w sent timer given o b lost eb = refl
@@ -117,7 +117,7 @@ after_names p Final c s w sent timer given = (refl, refl)
 
 -- what is due is done
 turns_by : (p : Plan) (n : ℕ) (kin : Kin) (part : Option Contrib) (s w : ℕ) (sent : Ranks) (timer : Timer) (given : ℕ) (o : Output) → IsPlan p → kin.lost ≡ [] → EntryFits p (entry s w part sent timer given)
-    → Turns p (act p n kin s w) (entry s w part sent timer given) (acted_entry p n (entry s w part sent timer given)) o (acted_output p n kin (entry s w part sent timer given) o)
+    → StepsEntry p (act p n kin s w) (entry s w part sent timer given) (acted_entry p n (entry s w part sent timer given)) o (acted_output p n kin (entry s w part sent timer given) o)
 turns_by p n kin None s w sent timer given o plan lost h = record {
   stream = refl;
   wave = refl;
@@ -128,7 +128,7 @@ turns_by p n kin None s w sent timer given o plan lost h = record {
 }
 turns_by p n kin (Some c) s w sent timer given o plan lost h = by (due_at p n [] s (cov_of c) sent timer) refl
   where
-    by : (a : Act) → due_at p n [] s (cov_of c) sent timer ≡ a → Turns p (act p n kin s w) (entry s w (Some c) sent timer given) (entry_after p a c (entry s w (Some c) sent timer given)) o (output_after p kin a c (entry s w (Some c) sent timer given) o)
+    by : (a : Act) → due_at p n [] s (cov_of c) sent timer ≡ a → StepsEntry p (act p n kin s w) (entry s w (Some c) sent timer given) (entry_after p a c (entry s w (Some c) sent timer given)) o (output_after p kin a c (entry s w (Some c) sent timer given) o)
     by a ea = record {
       stream = (after_names p a c s w sent timer given).0;
       wave = (after_names p a c s w sent timer given).1;
@@ -142,17 +142,17 @@ turns_by p n kin (Some c) s w sent timer given o plan lost h = by (due_at p n []
           ∙ ap (act_as p n kin s w (work_with b o)) (sym eb);
     }
 
-pub act_turns : (p : Plan) (n : ℕ) (kin : Kin) (e f : EntryView) (o q : Output) → IsPlan p → PlaceFits p n kin → EntryFits p e → f ≡ acted_entry p n e → q ≡ acted_output p n kin e o → Turns p (act p n kin e.stream e.wave) e f o q
-act_turns p n kin e f o q plan place h ef eq =
-    subst (λ g. Turns p (act p n kin e.stream e.wave) e g o q) (sym ef)
-    (subst (λ r. Turns p (act p n kin e.stream e.wave) e (acted_entry p n e) o r) (sym eq)
-    (turns_by p n kin e.part e.stream e.wave e.sent e.timer e.given o plan place.lost h))
+pub act_turns : (p : Plan) (n : ℕ) (kin : Kin) (e f : EntryView) (o q : Output) → IsPlan p → ContextFits p n kin → EntryFits p e → f ≡ acted_entry p n e → q ≡ acted_output p n kin e o → StepsEntry p (act p n kin e.stream e.wave) e f o q
+act_turns p n kin e f o q plan context h ef eq =
+    subst (λ g. StepsEntry p (act p n kin e.stream e.wave) e g o q) (sym ef)
+    (subst (λ r. StepsEntry p (act p n kin e.stream e.wave) e (acted_entry p n e) o r) (sym eq)
+    (turns_by p n kin e.part e.stream e.wave e.sent e.timer e.given o plan context.lost h))
 
 abbrev DoesAt : Plan → ℕ → Kin → (g f : EntryView) → (o q : Output) → ℕ → ℕ → Type 0
-DoesAt p n kin g f o q s w = (b : Book) → b s w ≡ wave_of g → ◌≡◌ {A = Work} (work_with (set_wave b s w (wave_of f)) q) (act p n kin s w (work_with b o))
+DoesAt p n kin g f o q s w = (b : Book) → b s w ≡ wave_of g → ◌≡◌ {A = Effects} (work_with (set_wave b s w (wave_of f)) q) (act p n kin s w (work_with b o))
 
 -- a change of the wave comes first
-pub changed_turns : (p : Plan) (n : ℕ) (kin : Kin) (change : Wave → Wave) (e g f : EntryView) (o q : Output) → g.stream ≡ e.stream → g.wave ≡ e.wave → g.given ≡ e.given → wave_of g ≡ change (wave_of e) → Turns p (act p n kin g.stream g.wave) g f o q → Turns p (act_changed p n kin e.stream e.wave change) e f o q
+pub changed_turns : (p : Plan) (n : ℕ) (kin : Kin) (change : Wave → Wave) (e g f : EntryView) (o q : Output) → g.stream ≡ e.stream → g.wave ≡ e.wave → g.given ≡ e.given → wave_of g ≡ change (wave_of e) → StepsEntry p (act p n kin g.stream g.wave) g f o q → StepsEntry p (act_changed p n kin e.stream e.wave change) e f o q
 changed_turns p n kin change e g f o q es ew eg ev h = record {
   stream = h.stream ∙ es;
   wave = h.wave ∙ ew;
@@ -176,18 +176,18 @@ grown_names p set s w None sent timer given = (refl, refl, refl)
 grown_names p set s w (Some c) sent timer given = (refl, refl, refl)
 
 -- ranks come up
-pub up_turns : (p : Plan) (n : ℕ) (kin : Kin) (set : Ranks) (e g f : EntryView) (o q : Output) → g ≡ grown p set e → Turns p (act p n kin g.stream g.wave) g f o q → Turns p (act_changed p n kin e.stream e.wave (growing set)) e f o q
+pub up_turns : (p : Plan) (n : ℕ) (kin : Kin) (set : Ranks) (e g f : EntryView) (o q : Output) → g ≡ grown p set e → StepsEntry p (act p n kin g.stream g.wave) g f o q → StepsEntry p (act_changed p n kin e.stream e.wave (growing set)) e f o q
 up_turns p n kin set e g f o q is h =
     let k = grown_names p set e.stream e.wave e.part e.sent e.timer e.given in
     changed_turns p n kin (growing set) e g f o q (ap (λ (x : EntryView). x.stream) is ∙ k.0) (ap (λ (x : EntryView). x.wave) is ∙ k.1) (ap (λ (x : EntryView). x.given) is ∙ k.2) (ap wave_of is ∙ grown_wave p set e.stream e.wave e.part e.sent e.timer e.given) h
 
 -- a daemon's own ranks come in
-pub sample_turns : (p : Plan) (n : ℕ) (kin : Kin) (set : Ranks) (e g f : EntryView) (o q : Output) → is_empty_open (wave_of e) ≡ true → g ≡ covered p set e → Turns p (act p n kin g.stream g.wave) g f o q → Turns p (act_changed p n kin e.stream e.wave (covering set)) e f o q
+pub sample_turns : (p : Plan) (n : ℕ) (kin : Kin) (set : Ranks) (e g f : EntryView) (o q : Output) → is_empty_open (wave_of e) ≡ true → g ≡ covered p set e → StepsEntry p (act p n kin g.stream g.wave) g f o q → StepsEntry p (act_changed p n kin e.stream e.wave (covering set)) e f o q
 sample_turns p n kin set e g f o q empty is h =
     changed_turns p n kin (covering set) e g f o q (ap (λ (x : EntryView). x.stream) is) (ap (λ (x : EntryView). x.wave) is) (ap (λ (x : EntryView). x.given) is) (ap wave_of is ∙ covered_wave p set e.stream e.wave e.part e.sent e.timer e.given empty) h
 
 -- the word of an end comes
-end_by : (p : Plan) (kin : Kin) (part : Option Contrib) (s w : ℕ) (sent : Ranks) (timer : Timer) (given : ℕ) (o : Output) → Turns p (end p kin s w) (entry s w part sent timer given) (ended (entry s w part sent timer given)) o (ended_output p kin s w o part)
+end_by : (p : Plan) (kin : Kin) (part : Option Contrib) (s w : ℕ) (sent : Ranks) (timer : Timer) (given : ℕ) (o : Output) → StepsEntry p (end p kin s w) (entry s w part sent timer given) (ended (entry s w part sent timer given)) o (ended_output p kin s w o part)
 end_by p kin None s w sent timer given o = record {
   stream = refl;
   wave = refl;
@@ -205,8 +205,8 @@ end_by p kin (Some c) s w sent timer given o = record {
   work = λ b eb. (λ i. record { book = set_wave b s w Closed; sends = dones_sends p kin s w o i; releases = bare_releases o.releases }) ∙ ap (end_as p kin s w (work_with b o)) (sym eb);
 }
 
-pub end_turns : (p : Plan) (kin : Kin) (e f : EntryView) (o q : Output) → f ≡ ended e → q ≡ ended_output p kin e.stream e.wave o e.part → Turns p (end p kin e.stream e.wave) e f o q
+pub end_turns : (p : Plan) (kin : Kin) (e f : EntryView) (o q : Output) → f ≡ ended e → q ≡ ended_output p kin e.stream e.wave o e.part → StepsEntry p (end p kin e.stream e.wave) e f o q
 end_turns p kin e f o q ef eq =
-    subst (λ g. Turns p (end p kin e.stream e.wave) e g o q) (sym ef)
-    (subst (λ r. Turns p (end p kin e.stream e.wave) e (ended e) o r) (sym eq)
+    subst (λ g. StepsEntry p (end p kin e.stream e.wave) e g o q) (sym ef)
+    (subst (λ r. StepsEntry p (end p kin e.stream e.wave) e (ended e) o r) (sym eq)
     (end_by p kin e.part e.stream e.wave e.sent e.timer e.given o))

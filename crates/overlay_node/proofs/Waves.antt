@@ -4,7 +4,7 @@ use Rattle.std.specs.List.{AllByRecursion}
 use Rattle.stat_plan.specs.NodeSets.{In}
 use Rattle.stat_plan.specs.Plans.{Plan, daemons, is_within, serves, up_to, waves_at, waves_of}
 use Rattle.stat_plan.proofs.InLists.{any_from_in, in_filter, in_from_filter, up_to_below}
-use Rattle.overlay_core.proofs.Goes.{test_from_within}
+use Rattle.overlay_core.proofs.ParentLinks.{test_from_within}
 
 -- a daemon of a stream has its waves
 pub own_wave : (p : Plan) (n s w : ℕ) → In n (daemons p s) → In {X = ℕ × ℕ} (s, w) (waves_of p.streams) → In {X = ℕ × ℕ} (s, w) (waves_at p n)

@@ -15,10 +15,10 @@ use Rattle.stat_desk.specs.declared.event.Event.TheVariants.{Sample, Recv, Tick,
 use Rattle.merge_filter.specs.Contributions.{Contrib, contrib, cov_of}
 use Rattle.overlay_core.specs.declared.release.Kind.{Kind}
 use Rattle.overlay_core.specs.declared.release.Kind.TheVariants.{Partial as PartialRelease, Final as FinalRelease}
-use Rattle.overlay_core.specs.Nodes.{Release, Work, due_at, dones, act}
-use Rattle.overlay_core.specs.TreeReleases.{AreNumbered, TreeRelease, bare_releases, releases_in}
+use Rattle.overlay_core.specs.Nodes.{Release, Effects, due_at, dones, act}
+use Rattle.overlay_core.specs.TreeReleases.{AreNumberedInOrder, TreeRelease, bare_releases, releases_view}
 use Rattle.overlay_node.specs.declared.packet.Outgoing.{Outgoing}
-use Rattle.overlay_node.specs.Packets.{PacketFits, ReleaseFits, TreePacket, TreeUp, TreeDone, bare_sends, sends_in}
+use Rattle.overlay_node.specs.Packets.{PacketFits, ReleaseFits, TreePacket, TreeUp, TreeDone, bare_sends, sends_view}
 use Rattle.overlay_node.specs.NodeViews.{Counts, EntryFits, EntryView, book_of, is_of, keys_of, wave_of}
 
 -- what an event has sent and released so far
@@ -27,19 +27,19 @@ pub record Output : Type 0 where
   pub releases : List TreeRelease
 
 -- a program's output, where `tree` says what its trees are
-abbrev pub output_in : {X : Type 0} → (X → Tree) → Outgoing X → Output
-output_in tree out = record { sends = sends_in tree out.sends.items; releases = releases_in tree out.releases.items }
+abbrev pub output_view : {X : Type 0} → (X → Tree) → Outgoing X → Output
+output_view tree out = record { sends = sends_view tree out.sends.items; releases = releases_view tree out.releases.items }
 
 -- nothing was sent or released yet
 abbrev pub no_output : Output
 no_output = record { sends = []; releases = [] }
 
 -- the machine's work, where the waves stand so and this was sent and released so far
-abbrev pub work_with : Book → Output → Work
+abbrev pub work_with : Book → Output → Effects
 work_with b o = record { book = b; sends = bare_sends o.sends; releases = bare_releases o.releases }
 
 -- the same, where the waves stand as the entries say
-abbrev pub work_of : List EntryView → Output → Work
+abbrev pub work_of : List EntryView → Output → Effects
 work_of es o = work_with (book_of es) o
 
 -- the output with a packet more, for the parent if there is one
@@ -153,7 +153,7 @@ place_of s w (e ∷ es) = cond (is_of s w e) zero (suc (place_of s w es))
 -- ---- what holds of each step
 
 -- a node of the plan, with children that are nodes of the plan; no node is known to be lost
-pub record PlaceFits (p : Plan) (n : ℕ) (kin : Kin) : Type 0 where
+pub record ContextFits (p : Plan) (n : ℕ) (kin : Kin) : Type 0 where
   pub node : n < nodes p
   pub children : AllByRecursion (λ c. c < nodes p) kin.children
   pub lost : kin.lost ≡ []
@@ -179,7 +179,7 @@ pub record GivesNext (e f : EntryView) (rs qs : List TreeRelease) : Type 0 where
 
 -- What a step leaves of an entry, and of the output so far. `does` is the machine's step, and the step does the same whatever
 -- the other waves are.
-pub record Turns (p : Plan) (does : Work → Work) (e f : EntryView) (o q : Output) : Type 0 where
+pub record StepsEntry (p : Plan) (does : Effects → Effects) (e f : EntryView) (o q : Output) : Type 0 where
   pub stream : f.stream ≡ e.stream
   pub wave : f.wave ≡ e.wave
   pub fits : EntryFits p f
@@ -188,48 +188,48 @@ pub record Turns (p : Plan) (does : Work → Work) (e f : EntryView) (o q : Outp
   pub work : (b : Book) → b e.stream e.wave ≡ wave_of e → work_with (set_wave b e.stream e.wave (wave_of f)) q ≡ does (work_with b o)
 
 -- What a step leaves of the entries, and of the output so far. `does` is the machine's step.
-pub record Goes (p : Plan) (does : Work → Work) (es new : List EntryView) (o q : Output) : Type 0 where
+pub record StepsEntries (p : Plan) (does : Effects → Effects) (es new : List EntryView) (o q : Output) : Type 0 where
   pub keys : keys_of new ≡ keys_of es
   pub fits : AllByRecursion (EntryFits p) new
   pub output : OutputFits p o → OutputFits p q
-  pub numbers : (earlier : List Release) → Counts es (earlier ++ bare_releases o.releases) → AreNumbered earlier o.releases → AreNumbered earlier q.releases
+  pub numbers : (earlier : List Release) → Counts es (earlier ++ bare_releases o.releases) → AreNumberedInOrder earlier o.releases → AreNumberedInOrder earlier q.releases
   pub counts : (earlier : List Release) → Counts es (earlier ++ bare_releases o.releases) → Counts new (earlier ++ bare_releases q.releases)
   pub work : work_of new q ≡ does (work_of es o)
 
 -- ---- the machine's steps, in the middle of an event
 
 -- a wave is changed, and then acted on
-abbrev pub act_changed : Plan → ℕ → Kin → ℕ → ℕ → (Wave → Wave) → Work → Work
+abbrev pub act_changed : Plan → ℕ → Kin → ℕ → ℕ → (Wave → Wave) → Effects → Effects
 act_changed p n kin s w change k = act p n kin s w (record { book = set_wave k.book s w (change (k.book s w)); sends = k.sends; releases = k.releases })
 
 -- a wave that stands so ends, and the children are told
-abbrev pub end_as : Plan → Kin → ℕ → ℕ → Work → Wave → Work
+abbrev pub end_as : Plan → Kin → ℕ → ℕ → Effects → Wave → Effects
 end_as p kin s w k Closed = k
 end_as p kin s w k (Open cov sent timer) = record { book = set_wave k.book s w Closed; sends = k.sends ++ dones p kin s w; releases = k.releases }
 
 -- a wave ends, and the children are told
-abbrev pub end : Plan → Kin → ℕ → ℕ → Work → Work
+abbrev pub end : Plan → Kin → ℕ → ℕ → Effects → Effects
 end p kin s w k = end_as p kin s w k (k.book s w)
 
 -- a wave is acted on where its timer has run out
-abbrev pub act_fired : Plan → ℕ → Kin → ℕ → ℕ → Work → Work
+abbrev pub act_fired : Plan → ℕ → Kin → ℕ → ℕ → Effects → Effects
 act_fired p n kin s w k = cond (is_fired (k.book s w)) (act p n kin s w k) k
 
 -- these waves are acted on where their timers have run out, one after another
-abbrev pub each_fired : Plan → ℕ → Kin → List (ℕ × ℕ) → Work → Work
+abbrev pub each_fired : Plan → ℕ → Kin → List (ℕ × ℕ) → Effects → Effects
 each_fired p n kin [] k = k
 each_fired p n kin (v ∷ vs) k = each_fired p n kin vs (act_fired p n kin v.0 v.1 k)
 
 -- the timers go on by one
-abbrev pub tick_all : Work → Work
+abbrev pub tick_all : Effects → Effects
 tick_all k = record { book = λ s w. ticked (k.book s w); sends = k.sends; releases = k.releases }
 
 -- the timers go on by one, and the waves whose timers have run out are acted on
-abbrev pub tick : Plan → ℕ → Kin → List (ℕ × ℕ) → Work → Work
+abbrev pub tick : Plan → ℕ → Kin → List (ℕ × ℕ) → Effects → Effects
 tick p n kin vs k = each_fired p n kin vs (tick_all k)
 
 -- the machine's step for an event of a node of these waves, with what is received
-abbrev pub step_of : Plan → ℕ → Kin → List (ℕ × ℕ) → Event → Option TreePacket → Work → Work
+abbrev pub step_of : Plan → ℕ → Kin → List (ℕ × ℕ) → Event → Option TreePacket → Effects → Effects
 step_of p n kin vs (Sample m s w) packet k = act_changed p n kin s w (covering (ranks p n)) k
 step_of p n kin vs (Recv m l) None k = k
 step_of p n kin vs (Recv m l) (Some (TreeUp s w t)) k = act_changed p n kin s w (growing t.coverage) k
@@ -238,6 +238,6 @@ step_of p n kin vs (Tick m) packet k = tick p n kin vs k
 step_of p n kin vs (Lose m) packet k = k
 
 -- no pair stands twice in the list
-abbrev pub AreApart : List (ℕ × ℕ) → Type 0
-AreApart [] = ⊤
-AreApart (v ∷ vs) = (In v vs → ⊥) × AreApart vs
+abbrev pub AreDistinct : List (ℕ × ℕ) → Type 0
+AreDistinct [] = ⊤
+AreDistinct (v ∷ vs) = (In v vs → ⊥) × AreDistinct vs

@@ -2,5 +2,5 @@ pub mod Packets
 pub mod NodeViews
 pub mod Entries
 pub mod Acting
-pub mod Places
+pub mod Contexts
 pub mod Starts

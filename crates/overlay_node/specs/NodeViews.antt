@@ -11,7 +11,7 @@ use Rattle.stat_plan.specs.declared.act.Timer.{Timer}
 use Rattle.stat_plan.specs.declared.act.Timer.TheVariants.{Off, Running, Fired}
 use Rattle.stat_desk.specs.declared.event.Event.{Event}
 use Rattle.stat_desk.specs.declared.event.Event.TheVariants.{Sample, Recv, Tick, Lose}
-use Rattle.merge_filter.specs.Contributions.{Contrib, StandsFor, contrib, coded_contrib, cov_of}
+use Rattle.merge_filter.specs.Contributions.{Contrib, IsPartialMerge, contrib, coded_contrib, cov_of}
 use Rattle.overlay_core.specs.Nodes.{Node, Packet, Release}
 use Rattle.overlay_core.specs.Machine.{start_node, next_sample, is_wave}
 use Rattle.overlay_core.specs.History.{of_wave}
@@ -83,7 +83,7 @@ TimerFits p s Fired = 1 ≤ ticks (mode p s)
 pub record OpenFits (p : Plan) (s w : ℕ) (sent : Ranks) (timer : Timer) (given : ℕ) (c : Contrib) : Type 0 where
   pub stream : c.stream ≡ s
   pub wave : c.wave ≡ w
-  pub stands : StandsFor p c
+  pub stands : IsPartialMerge p c
   pub within : IsSubset sent (cov_of c)
   pub few : given ≤ size sent
   pub timer_fits : TimerFits p s timer
@@ -106,7 +106,7 @@ pub record IsNodeOf (p : Plan) (v : NodeView) : Type 0 where
 
 -- a packet is of a wave that the node has, and what it brings stands for the plan
 abbrev pub MayReceive : Plan → ℕ → TreePacket → Type 0
-MayReceive p n (TreeUp s w t) = In {X = ℕ × ℕ} (s, w) (waves_at p n) × StandsFor p (contrib s w t)
+MayReceive p n (TreeUp s w t) = In {X = ℕ × ℕ} (s, w) (waves_at p n) × IsPartialMerge p (contrib s w t)
 MayReceive p n (TreeDone s w) = In {X = ℕ × ℕ} (s, w) (waves_at p n)
 
 -- The event is the node's own and may come next there, and a packet is given exactly where one is received.

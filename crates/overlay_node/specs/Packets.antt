@@ -4,10 +4,10 @@ use Rattle.std.specs.Coded.{Coded, code_by, coded×, coded_option, coded_ℕ}
 use Rattle.prefix_tree.specs.Code.{coded_tree}
 use Rattle.prefix_tree.specs.Tree.{Tree}
 use Rattle.stat_plan.specs.Plans.{Plan}
-use Rattle.merge_filter.specs.Contributions.{StandsFor, contrib}
+use Rattle.merge_filter.specs.Contributions.{IsPartialMerge, contrib}
 use Rattle.overlay_core.specs.Nodes.{Packet, Up, Done}
 use Rattle.overlay_core.specs.TreeReleases.{TreeRelease}
-use Rattle.overlay_node.specs.declared.packet.Packet.{Packet as Held}
+use Rattle.overlay_node.specs.declared.packet.Packet.{Packet as CodePacket}
 use Rattle.overlay_node.specs.declared.packet.Packet.TheVariants.{Up as HeldUp, Done as HeldDone}
 
 -- What goes over a link. Up: what has come in of a wave at the sender. Done: the wave has ended.
@@ -16,13 +16,13 @@ pub data TreePacket : Type 0 where
   TreeDone : (stream wave : ℕ) → TreePacket
 
 -- a program's packet, where `tree` says what its tree is
-abbrev pub packet_in : {X : Type 0} → (X → Tree) → Held X → TreePacket
-packet_in tree (HeldUp s w t) = TreeUp s w (tree t)
-packet_in tree (HeldDone s w) = TreeDone s w
+abbrev pub packet_view : {X : Type 0} → (X → Tree) → CodePacket X → TreePacket
+packet_view tree (HeldUp s w t) = TreeUp s w (tree t)
+packet_view tree (HeldDone s w) = TreeDone s w
 
 -- a program's packets, each with its receiver
-abbrev pub sends_in : {X : Type 0} → (X → Tree) → List (ℕ × Held X) → List (ℕ × TreePacket)
-sends_in tree sends = map (λ v. (v.0, packet_in tree v.1)) sends
+abbrev pub sends_view : {X : Type 0} → (X → Tree) → List (ℕ × CodePacket X) → List (ℕ × TreePacket)
+sends_view tree sends = map (λ v. (v.0, packet_view tree v.1)) sends
 
 -- the machine's packet: of the tree, the ranks that it covers
 abbrev pub bare_packet : TreePacket → Packet
@@ -35,12 +35,12 @@ bare_sends sends = map (λ v. (v.0, bare_packet v.1)) sends
 
 -- what is sent up stands for the plan
 abbrev pub PacketFits : Plan → TreePacket → Type 0
-PacketFits p (TreeUp s w t) = StandsFor p (contrib s w t)
+PacketFits p (TreeUp s w t) = IsPartialMerge p (contrib s w t)
 PacketFits p (TreeDone s w) = ⊤
 
 -- what is released stands for the plan
 abbrev pub ReleaseFits : Plan → TreeRelease → Type 0
-ReleaseFits p r = StandsFor p (contrib r.stream r.wave r.tree)
+ReleaseFits p r = IsPartialMerge p (contrib r.stream r.wave r.tree)
 
 -- a packet is stored as its stream and its wave, with its tree if it goes up
 abbrev pub packet_to : TreePacket → ℕ × (ℕ × Option Tree)

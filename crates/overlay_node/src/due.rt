@@ -5,7 +5,7 @@ ghost use Rattle.stat_plan.specs.Kin.{complete};
 ghost use Rattle.stat_plan.specs.Plans.{mode, nodes, stream_of};
 ghost use Rattle.overlay_core.specs.Nodes.{due_at};
 
-use crate::place::Place;
+use crate::context::NodeContext;
 use rank_set::RankSet;
 use stat_plan::{Act, Mode, Plan, Timer};
 use sync_filter::due;
@@ -21,21 +21,21 @@ pub fn mode_of(plan: &Plan, s: u8) -> Mode
 }
 
 /// Whether all has come in of a wave that can, where these ranks have and no node is lost.
-fn is_complete(place: &Place<'_>, s: u8, cov: &RankSet) -> bool
-    requires node { place.now.node < nodes place.now.plan.now }
-    requires stream { IsSome (stream_of place.now.plan.now s) }
-    ensures { result ≡ complete place.now.plan.now place.now.node [] s cov.now }
+fn is_complete(context: &NodeContext<'_>, s: u8, cov: &RankSet) -> bool
+    requires node { context.now.node < nodes context.now.plan.now }
+    requires stream { IsSome (stream_of context.now.plan.now s) }
+    ensures { result ≡ complete context.now.plan.now context.now.node [] s cov.now }
 {
-    place.plan.expected(place.node, s).is_subset(cov)
+    context.plan.expected(context.node, s).is_subset(cov)
 }
 
 /// What is due for an open wave of the node.
-pub fn due_for(place: &Place<'_>, s: u8, cov: &RankSet, sent: &RankSet, timer: Timer) -> Act
-    requires node { place.now.node < nodes place.now.plan.now }
-    requires stream { IsSome (stream_of place.now.plan.now s) }
-    ensures { result ≡ due_at place.now.plan.now place.now.node [] s cov.now sent.now timer }
+pub fn due_for(context: &NodeContext<'_>, s: u8, cov: &RankSet, sent: &RankSet, timer: Timer) -> Act
+    requires node { context.now.node < nodes context.now.plan.now }
+    requires stream { IsSome (stream_of context.now.plan.now s) }
+    ensures { result ≡ due_at context.now.plan.now context.now.node [] s cov.now sent.now timer }
 {
-    let complete = is_complete(place, s, cov);
-    let front = place.node == place.plan.front();
-    due(mode_of(place.plan, s), complete, cov, sent, timer, front)
+    let complete = is_complete(context, s, cov);
+    let front = context.node == context.plan.front();
+    due(mode_of(context.plan, s), complete, cov, sent, timer, front)
 }

@@ -7,7 +7,7 @@ use stat_plan::Timer;
 
 /// A wave at a node.
 #[derive(Drop)]
-pub struct Entry<T: PrefixTree> {
+pub struct WaveEntry<T: PrefixTree> {
     /// The stream's number.
     pub stream: u8,
     /// The wave's number in its stream.

@@ -2,15 +2,15 @@
 //! releases it when that is due.
 #![tactic(auto)]
 
-mod act;
+mod actions;
+mod context;
 mod due;
 mod entry;
 mod events;
+mod init;
 mod node;
 mod packet;
-mod place;
-mod reads;
-mod start;
+mod queries;
 mod step;
 
 pub use node::Node;

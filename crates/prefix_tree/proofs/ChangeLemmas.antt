@@ -5,7 +5,7 @@ use Rattle.std.specs.Ordering.{eq_by_cmp, is_eq}
 use Rattle.std.specs.declared.cmp.Ordering.{Ordering}
 use Rattle.std.specs.declared.cmp.Ordering.TheVariants.{Less, Equal, Greater}
 use Rattle.prefix_tree.specs.declared.owned.TreeRow.{TreeRow}
-use Rattle.prefix_tree.specs.Owned.{by_order, entry_of, entries_in}
+use Rattle.prefix_tree.specs.Owned.{by_order, entry_of, entries_view}
 use Rattle.std.proofs.lemmas.List.{take_more, map-append}
 use Rattle.std.specs.Cmp.{eq_by_cmp_equiv, tied_itself}
 use Rattle.std.specs.Cmp.Lexicographic.{slice_cmp}
@@ -25,19 +25,19 @@ abbrev any_marks : Marks → Bool
 any_marks m = true
 
 -- no path stands twice
-abbrev pub AreApart : List (Path × Marks) → Type 0
-AreApart [] = Unit {0}
-AreApart (e ∷ es) = (in_rows any_marks es e.0 ≡ false) × AreApart es
+abbrev pub AreDistinct : List (Path × Marks) → Type 0
+AreDistinct [] = Unit {0}
+AreDistinct (e ∷ es) = (in_rows any_marks es e.0 ≡ false) × AreDistinct es
 
 -- rows in order are apart
-pub apart_from_order : (es : List (Path × Marks)) → T (finmap.is_sorted path_cmp es) → AreApart es
+pub apart_from_order : (es : List (Path × Marks)) → T (finmap.is_sorted path_cmp es) → AreDistinct es
 apart_from_order [] up = tt
 apart_from_order (e ∷ es) up = (none_after any_marks e.0 e es (tied_itself path_cmp_total e.0) up, apart_from_order es (second _ _ up))
 
 same_first : (f : List ℕ) → eq_by_cmp (slice_cmp Rattle.std.specs.Ordering.nat_cmp) f f ≡ true
 same_first f = ap is_eq (tied_itself Rattle.std.specs.Cmp.Lexicographic.nat_list_cmp_total f)
 
-apart_under : (f : List ℕ) (es : List (Path × Marks)) → AreApart es → AreApart (map (below_frame f) es)
+apart_under : (f : List ℕ) (es : List (Path × Marks)) → AreDistinct es → AreDistinct (map (below_frame f) es)
 apart_under f [] h = tt
 apart_under f (e ∷ es) h = (in_rows-under any_marks f f e.0 es ∙ (λ i. same_first f i && h.0 i), apart_under f es h.1)
 
@@ -46,7 +46,7 @@ rootless C [] = refl
 rootless C (f ∷ p) = no_root any_marks f (path_rows C p)
 
 -- the rows of a path are apart
-pub apart_path_rows : (C : Ranks) (p : Path) → AreApart (path_rows C p)
+pub apart_path_rows : (C : Ranks) (p : Path) → AreDistinct (path_rows C p)
 apart_path_rows C [] = tt
 apart_path_rows C (f ∷ p) = (
   in_rows-under any_marks f f [] (path_rows C p) ∙ (λ i. same_first f i && rootless C p i),
@@ -83,7 +83,7 @@ abbrev put_all : Below → List (Path × Marks) → Below
 put_all b [] = b
 put_all b (c ∷ cs) = put_all (finmap.insert b c.0 c.1) cs
 
-put_all_changed : (es : List (Path × Marks)) (b : Below) → AreApart es → put_all b (map (changed b) es) ≡ put_rows b es
+put_all_changed : (es : List (Path × Marks)) (b : Below) → AreDistinct es → put_all b (map (changed b) es) ≡ put_rows b es
 put_all_changed [] b h = refl
 put_all_changed (e ∷ es) b h =
     ap (put_all (put_row b e.0 e.1)) (sym (changed_later b e.0 (both_marks (finmap.get b e.0) e.1) es h.0))
@@ -99,11 +99,11 @@ puts_below es [] up = refl
 puts_below es (c ∷ cs) up = puts_below (finmap.put path_cmp c.0 c.1 es) cs (put_sorted c.0 c.1 es up) ∙ ap (λ b. put_all b cs) (from_sorted-put c.0 c.1 es up)
 
 -- rows put as they will stand are united into the rows
-pub puts_united : (es others : List (Path × Marks)) → T (finmap.is_sorted path_cmp es) → AreApart others → finmap.from_sorted {R = path_cmp} (puts es (map (changed (finmap.from_sorted es)) others)) ≡ put_rows (finmap.from_sorted es) others
+pub puts_united : (es others : List (Path × Marks)) → T (finmap.is_sorted path_cmp es) → AreDistinct others → finmap.from_sorted {R = path_cmp} (puts es (map (changed (finmap.from_sorted es)) others)) ≡ put_rows (finmap.from_sorted es) others
 puts_united es others up apart = puts_below es (map (changed (finmap.from_sorted es)) others) up ∙ put_all_changed others (finmap.from_sorted es) apart
 
 -- there are as many rows then as before, and the new ones
-pub len-put_rows : (others : List (Path × Marks)) (b : Below) → AreApart others → finmap.len (put_rows b others) ≡ finmap.len b + new_among b others
+pub len-put_rows : (others : List (Path × Marks)) (b : Below) → AreDistinct others → finmap.len (put_rows b others) ≡ finmap.len b + new_among b others
 len-put_rows [] b apart = omega arith
 len-put_rows (e ∷ es) b apart =
     let w = both_marks (finmap.get b e.0) e.1 in
@@ -139,5 +139,5 @@ new_among-append b [] ys = omega arith
 new_among-append b (x ∷ xs) ys = let e = new_among-append b xs ys in omega (arith, e)
 
 -- the entries of one more row
-pub entries_more : (rows : List TreeRow) (i : ℕ) (row : TreeRow) → i < length rows → row ≡ get_or rows i row → entries_in (take (i + 1) rows) ≡ entries_in (take i rows) ++ entry_of row ∷ []
-entries_more rows i row lt is = ap entries_in (take_more rows i row lt) ∙ map-append entry_of (take i rows) (get_or rows i row ∷ []) ∙ ap (λ r. entries_in (take i rows) ++ entry_of r ∷ []) (sym is)
+pub entries_more : (rows : List TreeRow) (i : ℕ) (row : TreeRow) → i < length rows → row ≡ get_or rows i row → entries_view (take (i + 1) rows) ≡ entries_view (take i rows) ++ entry_of row ∷ []
+entries_more rows i row lt is = ap entries_view (take_more rows i row lt) ∙ map-append entry_of (take i rows) (get_or rows i row ∷ []) ∙ ap (λ r. entries_view (take i rows) ++ entry_of r ∷ []) (sym is)

@@ -11,7 +11,7 @@ use Rattle.call_path.specs.Path.{Path, path_cmp, path_cmp_total, path_cmp_exact}
 use Rattle.prefix_tree.specs.Tree.{Marks}
 use Rattle.prefix_tree.specs.Joined.{path_rows, below_frame}
 use Rattle.prefix_tree.specs.declared.owned.TreeRow.{TreeRow}
-use Rattle.prefix_tree.specs.Owned.{by_order, next_place, place_of, entry_of, entries_in, below_in, IsInOrder}
+use Rattle.prefix_tree.specs.Owned.{by_order, next_place, place_of, entry_of, entries_view, below_in, IsInOrder}
 
 -- one more element that shows the same
 pub map_push_more : {A B : Type 0} (f : A → B) (done xs : List A) (i : ℕ) (x y : A) → i < length xs → y ≡ get_or xs i y → f x ≡ f y → map f done ≡ map f (take i xs) → map f (done ++ x ∷ []) ≡ map f (take (i + 1) xs)
@@ -119,16 +119,16 @@ path_rows_last C (f ∷ g ∷ p) (suc k) e = drop-map (below_frame f) k (path_ro
 -- the marks at the place of a path
 module _ (p : Path) (rows : List TreeRow) (up : IsInOrder rows) where
   -- those of its row, where it has one
-  pub present_marks : (i : ℕ) → place_of p (entries_in rows) ≡ Ok i → (row : TreeRow) → i < length rows → row ≡ get_or rows i row → finmap.get (below_in rows) p ≡ Some (row.label, row.ends)
+  pub present_marks : (i : ℕ) → place_of p (entries_view rows) ≡ Ok i → (row : TreeRow) → i < length rows → row ≡ get_or rows i row → finmap.get (below_in rows) p ≡ Some (row.label, row.ends)
   present_marks i at row lt is =
-      let es = entries_in rows in
+      let es = entries_view rows in
       let h : IsPresentAt p (row.label, row.ends) (entry_of row) es i = subst (IsPlace p (row.label, row.ends) (entry_of row) es) at (at_place p (row.label, row.ends) (entry_of row) es) in
       get-from_entries p es up ∙ h.found ∙ ap (λ (e : Path × Marks). Some e.1) (get_or-map entry_of rows i row (entry_of row) lt ∙ ap entry_of (sym is))
 
   -- there are none where it has no row
-  pub absent_marks : (i : ℕ) → place_of p (entries_in rows) ≡ Err i → finmap.get (below_in rows) p ≡ None
+  pub absent_marks : (i : ℕ) → place_of p (entries_view rows) ≡ Err i → finmap.get (below_in rows) p ≡ None
   absent_marks i at =
-      let es = entries_in rows in
+      let es = entries_view rows in
       let m : Marks = (none, none) in
       let h : IsAbsentAt p m (p, m) es i = subst (IsPlace p m (p, m) es) at (at_place p m (p, m) es) in
       get-from_entries p es up ∙ h.missing up
@@ -136,17 +136,17 @@ module _ (p : Path) (rows : List TreeRow) (up : IsInOrder rows) where
 -- rows with a row put at its place
 module _ (rows : List TreeRow) (row : TreeRow) (i : ℕ) where
   -- over the row of the same path
-  pub put_present : place_of row.path (entries_in rows) ≡ Ok i → i < length rows → entries_in (set rows i row) ≡ finmap.put path_cmp row.path (row.label, row.ends) (entries_in rows)
+  pub put_present : place_of row.path (entries_view rows) ≡ Ok i → i < length rows → entries_view (set rows i row) ≡ finmap.put path_cmp row.path (row.label, row.ends) (entries_view rows)
   put_present at lt =
-      let es = entries_in rows in
+      let es = entries_view rows in
       let w : Marks = (row.label, row.ends) in
       let h : IsPresentAt row.path w (entry_of row) es i = subst (IsPlace row.path w (entry_of row) es) at (at_place row.path w (entry_of row) es) in
       map-set entry_of rows i row ∙ (λ k. set es i (sym h.same k, w)) ∙ sym h.new
 
   -- where its path has none
-  pub put_absent : place_of row.path (entries_in rows) ≡ Err i → entries_in (insert rows i row) ≡ finmap.put path_cmp row.path (row.label, row.ends) (entries_in rows)
+  pub put_absent : place_of row.path (entries_view rows) ≡ Err i → entries_view (insert rows i row) ≡ finmap.put path_cmp row.path (row.label, row.ends) (entries_view rows)
   put_absent at =
-      let es = entries_in rows in
+      let es = entries_view rows in
       let w : Marks = (row.label, row.ends) in
       let h : IsAbsentAt row.path w (entry_of row) es i = subst (IsPlace row.path w (entry_of row) es) at (at_place row.path w (entry_of row) es) in
       map-insert entry_of rows i row ∙ sym h.new

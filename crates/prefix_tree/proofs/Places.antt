@@ -11,7 +11,7 @@ use Rattle.rank_set.specs.Ranks.{none}
 use Rattle.call_path.specs.Path.{Path, path_cmp, path_cmp_total}
 use Rattle.prefix_tree.specs.Tree.{Marks}
 use Rattle.prefix_tree.specs.declared.owned.TreeRow.{TreeRow}
-use Rattle.prefix_tree.specs.Owned.{by_order, next_place, place_of, entry_of, entries_in}
+use Rattle.prefix_tree.specs.Owned.{by_order, next_place, place_of, entry_of, entries_view}
 use Rattle.prefix_tree.proofs.Rows.{both, first, second, less, turned}
 
 -- rows in order without their second
@@ -110,9 +110,9 @@ module _ (p : Path) where
       sym (place_between es no_entry low (omega (arith, o, i)) h.below (λ k start lt. h.above k (omega (arith, start, le)) lt))
 
 -- the path of a row
-row_at : (rows : List TreeRow) (k : ℕ) (row : TreeRow) → k < length rows → row ≡ get_or rows k row → (get_or (entries_in rows) k no_entry).0 ≡ row.path
+row_at : (rows : List TreeRow) (k : ℕ) (row : TreeRow) → k < length rows → row ≡ get_or rows k row → (get_or (entries_view rows) k no_entry).0 ≡ row.path
 row_at rows k row lt is = ap (λ (e : Path × Marks). e.0) (get_or-map entry_of rows k row no_entry lt ∙ ap entry_of (sym is))
 
 -- how a path compares with a row
-pub row_compared : (p : Path) (rows : List TreeRow) (k : ℕ) (row : TreeRow) (o : Ordering) → k < length rows → row ≡ get_or rows k row → path_cmp p (get_or rows k row).path ≡ o → path_cmp p (get_or (entries_in rows) k no_entry).0 ≡ o
+pub row_compared : (p : Path) (rows : List TreeRow) (k : ℕ) (row : TreeRow) (o : Ordering) → k < length rows → row ≡ get_or rows k row → path_cmp p (get_or rows k row).path ≡ o → path_cmp p (get_or (entries_view rows) k no_entry).0 ≡ o
 row_compared p rows k row o lt is e = ap (path_cmp p) (row_at rows k row lt is) ∙ ap (λ (r : TreeRow). path_cmp p r.path) is ∙ e

@@ -6,7 +6,7 @@ use Rattle.std.proofs.lemmas.List.{length-map}
 use Rattle.std.proofs.lemmas.List.Edits.{length-insert}
 use Rattle.call_path.specs.Path.{path_cmp}
 use Rattle.prefix_tree.specs.declared.owned.TreeRow.{TreeRow}
-use Rattle.prefix_tree.specs.Owned.{place_of, entry_of, entries_in, IsInOrder}
+use Rattle.prefix_tree.specs.Owned.{place_of, entry_of, entries_view, IsInOrder}
 use Rattle.prefix_tree.specs.Changes.{puts}
 use Rattle.prefix_tree.proofs.Edits.{put_sorted, put_present, put_absent}
 use Rattle.prefix_tree.proofs.ChangeLemmas.{puts_longer}
@@ -14,27 +14,27 @@ use Rattle.prefix_tree.proofs.ChangeLemmas.{puts_longer}
 -- after a row is put, what is left to put makes the same rows
 pub record PutsOn (rows new left rest : List TreeRow) (capacity : ℕ) : Type 0 where
   pub in_order : IsInOrder new
-  pub room : length (puts (entries_in new) (entries_in rest)) ≤ capacity
-  pub put : puts (entries_in new) (entries_in rest) ≡ puts (entries_in rows) (entries_in left)
+  pub room : length (puts (entries_view new) (entries_view rest)) ≤ capacity
+  pub put : puts (entries_view new) (entries_view rest) ≡ puts (entries_view rows) (entries_view left)
 
-module _ (rows shown left rest : List TreeRow) (row : TreeRow) (capacity i : ℕ) (up : IsInOrder rows) (is : shown ≡ rows) (first : left ≡ row ∷ rest) (room : length (puts (entries_in rows) (entries_in left)) ≤ capacity) where
-  puts_on : (new : List TreeRow) → entries_in new ≡ finmap.put path_cmp row.path (row.label, row.ends) (entries_in rows) → PutsOn rows new left rest capacity
+module _ (rows shown left rest : List TreeRow) (row : TreeRow) (capacity i : ℕ) (up : IsInOrder rows) (is : shown ≡ rows) (first : left ≡ row ∷ rest) (room : length (puts (entries_view rows) (entries_view left)) ≤ capacity) where
+  puts_on : (new : List TreeRow) → entries_view new ≡ finmap.put path_cmp row.path (row.label, row.ends) (entries_view rows) → PutsOn rows new left rest capacity
   puts_on new put =
-      let same : puts (entries_in new) (entries_in rest) ≡ puts (entries_in rows) (entries_in left) = ap (λ es. puts es (entries_in rest)) put ∙ ap (λ rs. puts (entries_in rows) (entries_in rs)) (sym first) in
+      let same : puts (entries_view new) (entries_view rest) ≡ puts (entries_view rows) (entries_view left) = ap (λ es. puts es (entries_view rest)) put ∙ ap (λ rs. puts (entries_view rows) (entries_view rs)) (sym first) in
       record {
-        in_order = subst (λ es. T (finmap.is_sorted path_cmp es)) (sym put) (put_sorted row.path (row.label, row.ends) (entries_in rows) up);
+        in_order = subst (λ es. T (finmap.is_sorted path_cmp es)) (sym put) (put_sorted row.path (row.label, row.ends) (entries_view rows) up);
         room = let e = ap length same in omega (arith, e, room);
         put = same;
       }
 
   -- a row in the place of another
-  pub put_over : place_of row.path (entries_in shown) ≡ Ok i → i < length shown → PutsOn rows (set rows i row) left rest capacity
+  pub put_over : place_of row.path (entries_view shown) ≡ Ok i → i < length shown → PutsOn rows (set rows i row) left rest capacity
   put_over at lt =
-      puts_on (set rows i row) (put_present rows row i (ap (λ rs. place_of row.path (entries_in rs)) (sym is) ∙ at) (let e = ap length is in omega (arith, e, lt)))
+      puts_on (set rows i row) (put_present rows row i (ap (λ rs. place_of row.path (entries_view rs)) (sym is) ∙ at) (let e = ap length is in omega (arith, e, lt)))
 
-  module _ (at : place_of row.path (entries_in shown) ≡ Err i) (le : i ≤ length shown) where
-    put_there : entries_in (insert rows i row) ≡ finmap.put path_cmp row.path (row.label, row.ends) (entries_in rows)
-    put_there = put_absent rows row i (ap (λ rs. place_of row.path (entries_in rs)) (sym is) ∙ at)
+  module _ (at : place_of row.path (entries_view shown) ≡ Err i) (le : i ≤ length shown) where
+    put_there : entries_view (insert rows i row) ≡ finmap.put path_cmp row.path (row.label, row.ends) (entries_view rows)
+    put_there = put_absent rows row i (ap (λ rs. place_of row.path (entries_view rs)) (sym is) ∙ at)
 
     -- there is room for a new row
     pub put_fits : length rows < capacity
@@ -42,11 +42,11 @@ module _ (rows shown left rest : List TreeRow) (row : TreeRow) (capacity i : ℕ
         let grown = ap length put_there ∙ ap (λ es. length es) (sym put_there) in
         let new = length-map (insert rows i row) entry_of in
         let long = length-insert rows i row (let e = ap length is in omega (arith, e, le)) in
-        let all = puts_longer (finmap.put path_cmp row.path (row.label, row.ends) (entries_in rows)) (entries_in rest) in
-        let same = ap (λ rs. length (puts (entries_in rows) (entries_in rs))) first in
+        let all = puts_longer (finmap.put path_cmp row.path (row.label, row.ends) (entries_view rows)) (entries_view rest) in
+        let same = ap (λ rs. length (puts (entries_view rows) (entries_view rs))) first in
         let put = ap length put_there in
         omega (arith, new, long, all, same, put, room)
 
     -- a new row
     pub put_in : (new : List TreeRow) → new ≡ insert rows i row → PutsOn rows new left rest capacity
-    put_in new e = puts_on new (ap entries_in e ∙ put_there)
+    put_in new e = puts_on new (ap entries_view e ∙ put_there)

@@ -10,7 +10,7 @@ use Rattle.std.proofs.Math.Seq.{take-append_seam, drop-append_seam}
 use Rattle.call_path.specs.Path.{Path, path_cmp, path_cmp_total, path_cmp_exact}
 use Rattle.prefix_tree.specs.Tree.{Marks}
 use Rattle.prefix_tree.specs.declared.owned.TreeRow.{TreeRow}
-use Rattle.prefix_tree.specs.Owned.{by_order, next_place, place_of, entry_of, entries_in, IsInOrder}
+use Rattle.prefix_tree.specs.Owned.{by_order, next_place, place_of, entry_of, entries_view, IsInOrder}
 use Rattle.prefix_tree.specs.Changes.{puts}
 use Rattle.prefix_tree.proofs.Rows.{both, first, second, less, turned}
 
@@ -159,19 +159,19 @@ sorted_take (suc i) (e ∷ es) up = both (below_all path_cmp e.0 (take i es)) (f
 pub record GoesBetween (rows others : List TreeRow) (row : TreeRow) (new set_aside : List TreeRow) : Type 0 where
   pub from : ℕ
   pub to : ℕ
-  pub cut : IsCut row.path (row.label, row.ends) (entries_in rows) from to
+  pub cut : IsCut row.path (row.label, row.ends) (entries_view rows) from to
   pub order : from ≤ to
   pub inside : to ≤ length rows
   pub front : new ≡ take from rows
   pub back : reverse set_aside ≡ drop to rows ++ reverse others
 
 -- a row whose path has none
-pub goes_new : (rows others : List TreeRow) (row : TreeRow) (new set_aside : List TreeRow) (i : ℕ) → place_of row.path (entries_in rows) ≡ Err i → i ≤ length rows → new ≡ take i rows → reverse set_aside ≡ drop i rows ++ reverse others → GoesBetween rows others row new set_aside
+pub goes_new : (rows others : List TreeRow) (row : TreeRow) (new set_aside : List TreeRow) (i : ℕ) → place_of row.path (entries_view rows) ≡ Err i → i ≤ length rows → new ≡ take i rows → reverse set_aside ≡ drop i rows ++ reverse others → GoesBetween rows others row new set_aside
 goes_new rows others row new set_aside i at le front back =
     record {
       from = i;
       to = i;
-      cut = subst (CutsAt row.path (row.label, row.ends) (entries_in rows)) at (place_cuts row.path (row.label, row.ends) (entries_in rows));
+      cut = subst (CutsAt row.path (row.label, row.ends) (entries_view rows)) at (place_cuts row.path (row.label, row.ends) (entries_view rows));
       order = omega arith;
       inside = le;
       front = front;
@@ -179,13 +179,13 @@ goes_new rows others row new set_aside i at le front back =
     }
 
 -- a row in the place of another
-pub goes_over : (rows others : List TreeRow) (row : TreeRow) (cut_off new set_aside : List TreeRow) (i : ℕ) → place_of row.path (entries_in rows) ≡ Ok i → i < length rows → cut_off ≡ take (i + 1) rows → new ≡ take i cut_off → reverse set_aside ≡ drop (i + 1) rows ++ reverse others → GoesBetween rows others row new set_aside
+pub goes_over : (rows others : List TreeRow) (row : TreeRow) (cut_off new set_aside : List TreeRow) (i : ℕ) → place_of row.path (entries_view rows) ≡ Ok i → i < length rows → cut_off ≡ take (i + 1) rows → new ≡ take i cut_off → reverse set_aside ≡ drop (i + 1) rows ++ reverse others → GoesBetween rows others row new set_aside
 goes_over rows others row cut_off new set_aside i at lt fewer front back =
     let next : i + 1 ≡ suc i = omega arith in
     record {
       from = i;
       to = suc i;
-      cut = subst (CutsAt row.path (row.label, row.ends) (entries_in rows)) at (place_cuts row.path (row.label, row.ends) (entries_in rows));
+      cut = subst (CutsAt row.path (row.label, row.ends) (entries_view rows)) at (place_cuts row.path (row.label, row.ends) (entries_view rows));
       order = omega arith;
       inside = omega (arith, lt);
       front = front ∙ ap (take i) fewer ∙ take-take i (i + 1) rows (omega arith);
@@ -201,20 +201,20 @@ pub record WeavesOn (rows left others new rest set_aside : List TreeRow) : Type 
   pub in_order : IsInOrder new
   pub rising : IsInOrder rest
   pub room : length set_aside + (length new + length rest) ≤ length others + (length rows + length left)
-  pub woven : puts (entries_in new) (entries_in rest) ++ entries_in (reverse set_aside) ≡ puts (entries_in rows) (entries_in left) ++ entries_in (reverse others)
+  pub woven : puts (entries_view new) (entries_view rest) ++ entries_view (reverse set_aside) ≡ puts (entries_view rows) (entries_view left) ++ entries_view (reverse others)
 
 pub weaves_on : (rows left others new rest set_aside new_set_aside : List TreeRow) (row : TreeRow) → IsInOrder rows → IsInOrder left → left ≡ rest ++ row ∷ [] → GoesBetween rows others row new set_aside → new_set_aside ≡ set_aside ++ row ∷ [] → WeavesOn rows left others new rest new_set_aside
 weaves_on rows left others new rest set_aside new_set_aside row up rising last h more =
-    let es = entries_in rows in
-    let cs = entries_in rest in
+    let es = entries_view rows in
+    let cs = entries_view rest in
     let c = entry_of row in
-    let all : entries_in left ≡ cs ++ c ∷ [] = ap entries_in last ∙ map-append entry_of rest (row ∷ []) in
+    let all : entries_view left ≡ cs ++ c ∷ [] = ap entries_view last ∙ map-append entry_of rest (row ∷ []) in
     let parts = sorted_last cs c (subst (λ xs. T (finmap.is_sorted path_cmp xs)) all rising) in
-    let front : entries_in new ≡ take h.from es = ap entries_in h.front ∙ sym (take-map entry_of h.from rows) in
-    let back : entries_in (reverse new_set_aside) ≡ c ∷ (drop h.to es ++ entries_in (reverse others)) =
-    ap (λ r. entries_in (reverse r)) more ∙ ap entries_in (reverse-append set_aside (row ∷ []))
-    ∙ ap (λ r. c ∷ entries_in r) h.back ∙ ap (λ r. c ∷ r) (map-append entry_of (drop h.to rows) (reverse others))
-    ∙ ap (λ r. c ∷ (r ++ entries_in (reverse others))) (sym (drop-map entry_of h.to rows)) in
+    let front : entries_view new ≡ take h.from es = ap entries_view h.front ∙ sym (take-map entry_of h.from rows) in
+    let back : entries_view (reverse new_set_aside) ≡ c ∷ (drop h.to es ++ entries_view (reverse others)) =
+    ap (λ r. entries_view (reverse r)) more ∙ ap entries_view (reverse-append set_aside (row ∷ []))
+    ∙ ap (λ r. c ∷ entries_view r) h.back ∙ ap (λ r. c ∷ r) (map-append entry_of (drop h.to rows) (reverse others))
+    ∙ ap (λ r. c ∷ (r ++ entries_view (reverse others))) (sym (drop-map entry_of h.to rows)) in
     let fewer = ap length h.front ∙ length-take-le h.from rows (let o = h.order in let i = h.inside in omega (arith, o, i)) in
     let one_less = ap length last ∙ length-append rest (row ∷ []) in
     let moved : length set_aside ≡ (length rows - h.to) + length others =
@@ -226,7 +226,7 @@ weaves_on rows left others new rest set_aside new_set_aside row up rising last h
       room = let o = h.order in let i = h.inside in omega (arith, o, i, fewer, one_less, moved, one_more);
       woven =
           (λ k. puts (front k) cs ++ back k)
-          ∙ sym (append_assoc (puts (take h.from es) cs) (c ∷ drop h.to es) (entries_in (reverse others)))
-          ∙ ap (λ xs. xs ++ entries_in (reverse others)) (sym (put_last row.path (row.label, row.ends) es cs h.from h.to h.cut parts.1))
-          ∙ ap (λ xs. puts es xs ++ entries_in (reverse others)) (sym all);
+          ∙ sym (append_assoc (puts (take h.from es) cs) (c ∷ drop h.to es) (entries_view (reverse others)))
+          ∙ ap (λ xs. xs ++ entries_view (reverse others)) (sym (put_last row.path (row.label, row.ends) es cs h.from h.to h.cut parts.1))
+          ∙ ap (λ xs. puts es xs ++ entries_view (reverse others)) (sym all);
     }

@@ -16,16 +16,16 @@ abbrev pub entry_of : TreeRow → Path × Marks
 entry_of row = (row.path, (row.label, row.ends))
 
 -- what the rows show
-abbrev pub entries_in : List TreeRow → List (Path × Marks)
-entries_in rows = map entry_of rows
+abbrev pub entries_view : List TreeRow → List (Path × Marks)
+entries_view rows = map entry_of rows
 
 -- the paths rise
 abbrev pub IsInOrder : List TreeRow → Type 0
-IsInOrder rows = T (finmap.is_sorted path_cmp (entries_in rows))
+IsInOrder rows = T (finmap.is_sorted path_cmp (entries_view rows))
 
 -- the rows as a map
 abbrev pub below_in : List TreeRow → Below
-below_in rows = finmap.from_sorted (entries_in rows)
+below_in rows = finmap.from_sorted (entries_view rows)
 
 -- the rows as a tree over a coverage
 abbrev pub tree_in : Ranks → List TreeRow → Tree
@@ -36,7 +36,7 @@ pub record AreTreeRows (C : Ranks) (rows : List TreeRow) : Type 0 where
   pub in_order : IsInOrder rows
   pub tree : IsTree (tree_in C rows)
   pub few : length rows ≤ 2048
-  pub good : All (λ e. IsGoodPath e.0) (entries_in rows)
+  pub good : All (λ e. IsGoodPath e.0) (entries_view rows)
 
 -- one of three, by an order
 abbrev pub by_order : {A : Type 0} → Ordering → A → A → A → A

@@ -5,7 +5,7 @@ ghost use Rattle.rank_set.specs.Ranks.{none, union};
 ghost use Rattle.call_path.specs.Good.{IsGoodPath};
 ghost use Rattle.prefix_tree.specs.Joined.{path_rows};
 ghost use Rattle.prefix_tree.specs.Shown.{Shows, IsGoodRow};
-ghost use Rattle.prefix_tree.specs.Owned.{IsInOrder, entries_in, below_in, place_of};
+ghost use Rattle.prefix_tree.specs.Owned.{IsInOrder, entries_view, below_in, place_of};
 ghost use Rattle.prefix_tree.specs.Changes.{changed, is_new, new_among, puts};
 
 use crate::{PREFIX_LIMIT, PrefixTree, Row, TreeError};
@@ -118,7 +118,7 @@ impl PrefixTree for OwnedTree {
 
 fn shown(rows: &[TreeRow], i: usize) -> Row<'_>
     requires { i < length rows.now }
-    ensures shows { IfSome (slice_get (entries_in rows.now) i) (Shows result) }
+    ensures shows { IfSome (slice_get (entries_view rows.now) i) (Shows result) }
     ensures good { IsGoodRow result }
 {
     let row = &rows[i];
@@ -131,52 +131,52 @@ fn shown(rows: &[TreeRow], i: usize) -> Row<'_>
     }
 }
 
-// Where to look next between two bounds: at the guess, or halfway where it lies outside.
-fn next_look(low: usize, high: usize, guess: usize) -> usize
+// Where to probe next between two bounds: at the hint, or halfway where it lies outside.
+fn next_probe(low: usize, high: usize, hint: usize) -> usize
     requires { low < high }
     ensures from { low ≤ result }
     ensures to { result < high }
 {
-    if low <= guess && guess < high {
-        guess
+    if low <= hint && hint < high {
+        hint
     } else {
         low + (high - low) / 2
     }
 }
 
-// Where the row of a path is, or where it would go. It is looked for from the guess on, in steps
+// Where the row of a path is, or where it would go. It is looked for from the hint on, in strides
 // that double, and halfway between as soon as it lies between two rows that were looked at: so the
-// cost grows with the logarithm of how far the guess was off.
-fn place(rows: &[TreeRow], path: &CallPath, guess: usize) -> Result<usize, usize>
+// cost grows with the logarithm of how far the hint was off.
+fn place(rows: &[TreeRow], path: &CallPath, hint: usize) -> Result<usize, usize>
     requires { IsInOrder rows.now }
-    ensures place { result ≡ place_of path.now (entries_in rows.now) }
+    ensures place { result ≡ place_of path.now (entries_view rows.now) }
     ensures found { IfOk result (λ at. at < length rows.now) }
     ensures absent { IfErr result (λ at. at ≤ length rows.now) }
 {
     let mut low = 0;
     let mut high = rows.len();
-    let mut guess = guess.min(high.saturating_sub(1));
-    let mut step: usize = 1;
+    let mut hint = hint.min(high.saturating_sub(1));
+    let mut stride: usize = 1;
     while low < high {
-        let look = next_look(low, high, guess);
-        match path.cmp(&rows[look].path) {
+        let probe = next_probe(low, high, hint);
+        match path.cmp(&rows[probe].path) {
             Ordering::Less => {
-                high = look;
-                guess = look.saturating_sub(step);
+                high = probe;
+                hint = probe.saturating_sub(stride);
             }
-            Ordering::Equal => return Ok(look),
+            Ordering::Equal => return Ok(probe),
             Ordering::Greater => {
-                low = look + 1;
-                guess = look.saturating_add(step);
+                low = probe + 1;
+                hint = probe.saturating_add(stride);
             }
         }
-        step = step.saturating_mul(2);
+        stride = stride.saturating_mul(2);
     }
     Err(low)
 }
 
 fn copy_rows(alloc: Global, rows: &[TreeRow]) -> Result<Vec<TreeRow>, AllocError>
-    ensures { IfOk result (λ all. entries_in all.items ≡ entries_in rows.now) }
+    ensures { IfOk result (λ all. entries_view all.items ≡ entries_view rows.now) }
 {
     let mut all = Vec::with_capacity(alloc, rows.len())?;
     for row in rows {
@@ -198,10 +198,10 @@ fn united(set: &RankSet, more: &RankSet) -> Result<RankSet, AllocError>
 }
 
 // The marks of a path as they will be once these are united into them, and whether its row is new.
-// The guess is where its row may be, and then where that of the next path may be.
+// The hint is where its row may be, and then where that of the next path may be.
 fn united_marks(
     rows: &[TreeRow],
-    guess: &mut usize,
+    hint: &mut usize,
     path: &CallPath,
     label: &RankSet,
     ends: &RankSet,
@@ -210,14 +210,14 @@ fn united_marks(
     ensures marks { IfOk result (λ m. (path.now, (m.0, m.1)) ≡ changed (below_in rows.now) (path.now, (label.now, ends.now))) }
     ensures new { IfOk result (λ m. m.2 ≡ is_new (below_in rows.now) (path.now, (label.now, ends.now))) }
 {
-    match place(rows, path, *guess) {
+    match place(rows, path, *hint) {
         Ok(at) => {
-            *guess = at + 1;
+            *hint = at + 1;
             let row = &rows[at];
             Ok((united(&row.label, label)?, united(&row.ends, ends)?, false))
         }
         Err(at) => {
-            *guess = at;
+            *hint = at;
             Ok((label.copy()?, ends.copy()?, true))
         }
     }
@@ -229,7 +229,7 @@ struct Changes {
     rows: Vec<TreeRow>,
     added: usize,
     // Where the row of the next path may be.
-    guess: usize,
+    hint: usize,
 }
 
 impl Changes {
@@ -243,11 +243,11 @@ impl Changes {
     ) -> Result<(), AllocError>
         requires in_order { IsInOrder rows.now }
         requires few { self.old.added ≤ length self.old.rows.items }
-        ensures rows { OnOk result (entries_in self.new.rows.items ≡ entries_in self.old.rows.items ++ changed (below_in rows.now) (path, (label.now, ends.now)) ∷ []) }
+        ensures rows { OnOk result (entries_view self.new.rows.items ≡ entries_view self.old.rows.items ++ changed (below_in rows.now) (path, (label.now, ends.now)) ∷ []) }
         ensures added { OnOk result (self.new.added ≡ self.old.added + new_among (below_in rows.now) ((path, (label.now, ends.now)) ∷ [])) }
         ensures few { OnOk result (self.new.added ≤ length self.new.rows.items) }
     {
-        let (label, ends, is_new) = united_marks(rows, &mut self.guess, &path, label, ends)?;
+        let (label, ends, is_new) = united_marks(rows, &mut self.hint, &path, label, ends)?;
         self.rows.push(TreeRow { path, label, ends })?;
         if is_new {
             self.added += 1;
@@ -259,13 +259,13 @@ impl Changes {
 // The changes that other rows make, put to these.
 fn row_changes(alloc: Global, rows: &[TreeRow], others: &[TreeRow]) -> Result<Changes, AllocError>
     requires { IsInOrder rows.now }
-    ensures rows { IfOk result (λ all. entries_in all.rows.items ≡ map (changed (below_in rows.now)) (entries_in others.now)) }
-    ensures added { IfOk result (λ all. all.added ≡ new_among (below_in rows.now) (entries_in others.now)) }
+    ensures rows { IfOk result (λ all. entries_view all.rows.items ≡ map (changed (below_in rows.now)) (entries_view others.now)) }
+    ensures added { IfOk result (λ all. all.added ≡ new_among (below_in rows.now) (entries_view others.now)) }
 {
     let mut changes = Changes {
         rows: Vec::with_capacity(alloc, others.len())?,
         added: 0,
-        guess: 0,
+        hint: 0,
     };
     for row in others {
         changes.note(rows, row.path.copy()?, &row.label, &row.ends)?;
@@ -283,14 +283,14 @@ fn path_changes(
 ) -> Result<Changes, AllocError>
     requires in_order { IsInOrder rows.now }
     requires nobody { nobody.now ≡ none }
-    ensures rows { IfOk result (λ all. entries_in all.rows.items ≡ map (changed (below_in rows.now)) (path_rows ranks.now path.now)) }
+    ensures rows { IfOk result (λ all. entries_view all.rows.items ≡ map (changed (below_in rows.now)) (path_rows ranks.now path.now)) }
     ensures added { IfOk result (λ all. all.added ≡ new_among (below_in rows.now) (path_rows ranks.now path.now)) }
     ensures good { IfOk result (λ _. IsGoodPath path.now) }
 {
     let mut changes = Changes {
         rows: Vec::with_capacity(alloc, path.len())?,
         added: 0,
-        guess: 0,
+        hint: 0,
     };
     for depth in 1..path.len() {
         changes.note(rows, path.prefix(depth)?, ranks, nobody)?;
@@ -310,18 +310,18 @@ fn has_room(rows: &[TreeRow], added: usize) -> bool
 // Puts each row in its place, for which there is room.
 fn put_rows(rows: &mut Vec<TreeRow>, changes: Vec<TreeRow>)
     requires in_order { IsInOrder rows.old.items }
-    requires room { length (puts (entries_in rows.old.items) (entries_in changes.items)) ≤ vec_capacity rows.old }
-    ensures { entries_in rows.new.items ≡ puts (entries_in rows.old.items) (entries_in changes.items) }
+    requires room { length (puts (entries_view rows.old.items) (entries_view changes.items)) ≤ vec_capacity rows.old }
+    ensures { entries_view rows.new.items ≡ puts (entries_view rows.old.items) (entries_view changes.items) }
 {
-    let mut guess = 0;
+    let mut hint = 0;
     for row in changes {
-        match place(rows, &row.path, guess) {
+        match place(rows, &row.path, hint) {
             Ok(at) => {
-                guess = at + 1;
+                hint = at + 1;
                 rows[at] = row;
             }
             Err(at) => {
-                guess = at + 1;
+                hint = at + 1;
                 let _ = rows.insert(at, row);
             }
         }
@@ -359,8 +359,8 @@ fn move_behind(rows: &mut Vec<TreeRow>, place: usize, behind: &mut Vec<TreeRow>)
 fn weave_rows(rows: &mut Vec<TreeRow>, mut changes: Vec<TreeRow>) -> Result<(), AllocError>
     requires in_order { IsInOrder rows.old.items }
     requires rising { IsInOrder changes.items }
-    requires room { length (puts (entries_in rows.old.items) (entries_in changes.items)) ≤ vec_capacity rows.old }
-    ensures ok { OnOk result (entries_in rows.new.items ≡ puts (entries_in rows.old.items) (entries_in changes.items)) }
+    requires room { length (puts (entries_view rows.old.items) (entries_view changes.items)) ≤ vec_capacity rows.old }
+    ensures ok { OnOk result (entries_view rows.new.items ≡ puts (entries_view rows.old.items) (entries_view changes.items)) }
     ensures err { OnErr result (rows.new.items ≡ rows.old.items) }
 {
     let mut behind = Vec::with_capacity(*rows.allocator(), rows.len() + changes.len())?;
@@ -384,8 +384,8 @@ fn weave_rows(rows: &mut Vec<TreeRow>, mut changes: Vec<TreeRow>) -> Result<(), 
 fn put_changes(rows: &mut Vec<TreeRow>, changes: Changes) -> Result<(), AllocError>
     requires in_order { IsInOrder rows.old.items }
     requires rising { IsInOrder changes.rows.items }
-    requires added { length (puts (entries_in rows.old.items) (entries_in changes.rows.items)) ≤ length rows.old.items + changes.added }
-    ensures ok { OnOk result (entries_in rows.new.items ≡ puts (entries_in rows.old.items) (entries_in changes.rows.items)) }
+    requires added { length (puts (entries_view rows.old.items) (entries_view changes.rows.items)) ≤ length rows.old.items + changes.added }
+    ensures ok { OnOk result (entries_view rows.new.items ≡ puts (entries_view rows.old.items) (entries_view changes.rows.items)) }
     ensures err { OnErr result (rows.new.items ≡ rows.old.items) }
 {
     rows.reserve(changes.added)?;

@@ -6,7 +6,7 @@ use Rattle.std.specs.Ordering.{nat_cmp, eq_by_cmp, is_eq}
 use Rattle.std.specs.Cmp.{nat_cmp_total, unsigned_tied, tied_itself}
 use Rattle.std.specs.declared.cmp.Ordering.TheVariants.{Less, Equal, Greater}
 use Rattle.std.proofs.lemmas.Bool.{true≢false, and_parts, and_from, or_right, or_cases, lt-ltb, eqb-true}
-use Rattle.rank_set.specs.Ranks.{Ranks, none, in_order, those, is_rising, from_T}
+use Rattle.rank_set.specs.Ranks.{Ranks, none, in_order, those, is_strictly_increasing, from_T}
 
 -- all of a range is above what lies below its start
 range_above : (x a n : ℕ) → x < a → list_all (λ y. nat_lt x y) (range_with_len a n) ≡ true
@@ -14,9 +14,9 @@ range_above x a zero lt = refl
 range_above x a (suc n) lt = and_from (nat_lt x a) (list_all (λ y. nat_lt x y) (range_with_len (a + 1) n)) (lt-ltb x a lt) (range_above x (a + 1) n (omega arith))
 
 -- a range rises
-pub range_rises : (a n : ℕ) → is_rising (range_with_len a n) ≡ true
+pub range_rises : (a n : ℕ) → is_strictly_increasing (range_with_len a n) ≡ true
 range_rises a zero = refl
-range_rises a (suc n) = and_from (list_all (λ y. nat_lt a y) (range_with_len (a + 1) n)) (is_rising (range_with_len (a + 1) n)) (range_above a (a + 1) n (omega arith)) (range_rises (a + 1) n)
+range_rises a (suc n) = and_from (list_all (λ y. nat_lt a y) (range_with_len (a + 1) n)) (is_strictly_increasing (range_with_len (a + 1) n)) (range_above a (a + 1) n (omega arith)) (range_rises (a + 1) n)
 
 -- the members that pass a test, in order, are those of the members in order that pass it
 pub in_order-those : (t : ℕ → Bool) (s : Ranks) → in_order (those t s) ≡ filter t (in_order s)
@@ -33,11 +33,11 @@ all_less x (y ∷ ys) h =
     let a = and_parts (nat_lt x y) (list_all (λ y. nat_lt x y) ys) h in
     (ap (λ b. cond b Less (cond (x == y) Equal Greater)) a.0, all_less x ys a.1)
 
-sorted_from_rising : (xs : List ℕ) → is_rising xs ≡ true → IsStrictlySortedBy nat_cmp xs
+sorted_from_rising : (xs : List ℕ) → is_strictly_increasing xs ≡ true → IsStrictlySortedBy nat_cmp xs
 unfolding IsStrictlySortedBy
 sorted_from_rising [] h = tt
 sorted_from_rising (x ∷ xs) h =
-    let a = and_parts (list_all (λ y. nat_lt x y) xs) (is_rising xs) h in
+    let a = and_parts (list_all (λ y. nat_lt x y) xs) (is_strictly_increasing xs) h in
     (all_less x xs a.0, sorted_from_rising xs a.1)
 
 -- the members in order are sorted, with no repeats

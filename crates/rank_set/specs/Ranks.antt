@@ -1,6 +1,6 @@
 -- A set of ranks as a value: the list of its members in ascending order, with the proof that it rises. So two sets with the
 -- same members are equal, membership is a test, and a set of known ranks computes. The definitions stand among the lemmas
--- that they need: `is_rising`, `Ranks`, `none`, `has`, `in_order`, `size`, `with_rank`, `set_of`, `union`, `those`, `is_subset`,
+-- that they need: `is_strictly_increasing`, `Ranks`, `none`, `has`, `in_order`, `size`, `with_rank`, `set_of`, `union`, `those`, `is_subset`,
 -- and at the end `is_empty`, `Has`, `IsSubset`, `is_same`.
 use Rattle.std.specs.Prelude.{◌≡◌, ℕ, ◌<◌, Bool, true, false, T, cond, nat_lt, ◌==◌, ◌&&◌, ◌||◌, List, [], ◌∷◌, filter, length, refl}
 use Rattle.std.proofs.Common.{sym, ap, subst, ◌∙◌, inl, inr, arith, lt-ltb, lt_irrefl, lt_trans, eqb-true}
@@ -14,14 +14,14 @@ use Rattle.std.proofs.lemmas.Bool.{true≢false, and_parts, and_from, or_right, 
 use Rattle.std.proofs.lemmas.Map.Views.{any-filter_same}
 
 -- whether each number is below all that follow it
-abbrev pub is_rising : List ℕ → Bool
-is_rising [] = true
-is_rising (x ∷ xs) = list_all (λ y. nat_lt x y) xs && is_rising xs
+abbrev pub is_strictly_increasing : List ℕ → Bool
+is_strictly_increasing [] = true
+is_strictly_increasing (x ∷ xs) = list_all (λ y. nat_lt x y) xs && is_strictly_increasing xs
 
 -- a set of ranks
 pub record Ranks : Type 0 where
   pub list : List ℕ
-  pub rises : T (is_rising list)
+  pub rises : T (is_strictly_increasing list)
 
 -- a number in its place of a rising list
 abbrev pub put_rank : ℕ → List ℕ → List ℕ
@@ -65,23 +65,23 @@ put_above z x (y ∷ ys) lt h =
     go ih false false = and_from (nat_lt z y) _ (and_parts (nat_lt z y) (list_all (λ y. nat_lt z y) ys) h).0 ih
 
 -- a rising list with a number in its place rises
-pub put_rises : (x : ℕ) (ys : List ℕ) → is_rising ys ≡ true → is_rising (put_rank x ys) ≡ true
+pub put_rises : (x : ℕ) (ys : List ℕ) → is_strictly_increasing ys ≡ true → is_strictly_increasing (put_rank x ys) ≡ true
 put_rises x [] h = refl
 put_rises x (y ∷ ys) h =
-    go (put_rises x ys (and_parts (list_all (λ z. nat_lt y z) ys) (is_rising ys) h).1) (nat_lt x y) (x == y) refl refl
+    go (put_rises x ys (and_parts (list_all (λ z. nat_lt y z) ys) (is_strictly_increasing ys) h).1) (nat_lt x y) (x == y) refl refl
   where
-    go : is_rising (put_rank x ys) ≡ true → (a b : Bool) → nat_lt x y ≡ a → (x == y) ≡ b → is_rising (cond a (x ∷ y ∷ ys) (cond b (y ∷ ys) (y ∷ put_rank x ys))) ≡ true
+    go : is_strictly_increasing (put_rank x ys) ≡ true → (a b : Bool) → nat_lt x y ≡ a → (x == y) ≡ b → is_strictly_increasing (cond a (x ∷ y ∷ ys) (cond b (y ∷ ys) (y ∷ put_rank x ys))) ≡ true
     go ih true b ea eb =
-        let t = and_parts (list_all (λ z. nat_lt y z) ys) (is_rising ys) h in
+        let t = and_parts (list_all (λ z. nat_lt y z) ys) (is_strictly_increasing ys) h in
         let lt : x < y = ltb-true x y ea in
-        and_from (list_all (λ z. nat_lt x z) (y ∷ ys)) (is_rising (y ∷ ys)) (and_from (nat_lt x y) (list_all (λ z. nat_lt x z) ys) ea (all_above x y ys lt t.0)) h
+        and_from (list_all (λ z. nat_lt x z) (y ∷ ys)) (is_strictly_increasing (y ∷ ys)) (and_from (nat_lt x y) (list_all (λ z. nat_lt x z) ys) ea (all_above x y ys lt t.0)) h
     go ih false true ea eb = h
     go ih false false ea eb =
-        let t = and_parts (list_all (λ z. nat_lt y z) ys) (is_rising ys) h in
+        let t = and_parts (list_all (λ z. nat_lt y z) ys) (is_strictly_increasing ys) h in
         let ge = ltb-false x y ea in
         let ne : x ≡ y → ⊥ = eqb-false x y eb in
         let lt : y < x = omega (arith, ge, ne) in
-        and_from (list_all (λ z. nat_lt y z) (put_rank x ys)) (is_rising (put_rank x ys)) (put_above y x ys lt t.0) ih
+        and_from (list_all (λ z. nat_lt y z) (put_rank x ys)) (is_strictly_increasing (put_rank x ys)) (put_above y x ys lt t.0) ih
 
 filter_above : (x : ℕ) (test : ℕ → Bool) (ys : List ℕ) → list_all (λ y. nat_lt x y) ys ≡ true → list_all (λ y. nat_lt x y) (filter test ys) ≡ true
 filter_above x test [] h = refl
@@ -92,12 +92,12 @@ filter_above x test (y ∷ ys) h = go (filter_above x test ys (and_parts (nat_lt
     go ih false = ih
 
 -- what a test lets through of a rising list rises
-pub filter_rises : (test : ℕ → Bool) (ys : List ℕ) → is_rising ys ≡ true → is_rising (filter test ys) ≡ true
+pub filter_rises : (test : ℕ → Bool) (ys : List ℕ) → is_strictly_increasing ys ≡ true → is_strictly_increasing (filter test ys) ≡ true
 filter_rises test [] h = refl
-filter_rises test (y ∷ ys) h = go (filter_rises test ys (and_parts (list_all (λ z. nat_lt y z) ys) (is_rising ys) h).1) (test y)
+filter_rises test (y ∷ ys) h = go (filter_rises test ys (and_parts (list_all (λ z. nat_lt y z) ys) (is_strictly_increasing ys) h).1) (test y)
   where
-    go : is_rising (filter test ys) ≡ true → (b : Bool) → is_rising (cond b (y ∷ filter test ys) (filter test ys)) ≡ true
-    go ih true = and_from (list_all (λ z. nat_lt y z) (filter test ys)) (is_rising (filter test ys)) (filter_above y test ys (and_parts (list_all (λ z. nat_lt y z) ys) (is_rising ys) h).0) ih
+    go : is_strictly_increasing (filter test ys) ≡ true → (b : Bool) → is_strictly_increasing (cond b (y ∷ filter test ys) (filter test ys)) ≡ true
+    go ih true = and_from (list_all (λ z. nat_lt y z) (filter test ys)) (is_strictly_increasing (filter test ys)) (filter_above y test ys (and_parts (list_all (λ z. nat_lt y z) ys) (is_strictly_increasing ys) h).0) ih
     go ih false = ih
 
 -- the set with no members
@@ -150,8 +150,8 @@ T_alike false x y = absurd x
 pub same_list : (s t : Ranks) → in_order s ≡ in_order t → s ≡ t
 same_list s t e = go (in_order t) e t.rises
   where
-    go : (ys : List ℕ) → in_order s ≡ ys → (h : T (is_rising ys)) → s ≡ record { list = ys; rises = h }
-    go ys e = subst (λ zs. (h : T (is_rising zs)) → s ≡ record { list = zs; rises = h }) e (λ h. ap (λ k. record { list = s.list; rises = k }) (T_alike _ s.rises h))
+    go : (ys : List ℕ) → in_order s ≡ ys → (h : T (is_strictly_increasing ys)) → s ≡ record { list = ys; rises = h }
+    go ys e = subst (λ zs. (h : T (is_strictly_increasing zs)) → s ≡ record { list = zs; rises = h }) e (λ h. ap (λ k. record { list = s.list; rises = k }) (T_alike _ s.rises h))
 
 -- how a set is stored as a ghost value: as its list
 abbrev pub coded_ranks : Coded Ranks
@@ -201,13 +201,13 @@ tails x y xs ys e ax ay is r = elim (cases_Bool (eq_by_cmp nat_cmp r x)) [
       ap (λ b. b || mem r xs) (sym f) ∙ is r ∙ ap (λ b. b || mem r ys) g
 ]
 
-same_members : (xs ys : List ℕ) → is_rising xs ≡ true → is_rising ys ≡ true → ((r : ℕ) → mem r xs ≡ mem r ys) → xs ≡ ys
+same_members : (xs ys : List ℕ) → is_strictly_increasing xs ≡ true → is_strictly_increasing ys ≡ true → ((r : ℕ) → mem r xs ≡ mem r ys) → xs ≡ ys
 same_members [] [] hx hy is = refl
 same_members [] (y ∷ ys) hx hy is = absurd (true≢false (sym (mem_head y ys) ∙ sym (is y)))
 same_members (x ∷ xs) [] hx hy is = absurd (true≢false (sym (mem_head x xs) ∙ is x))
 same_members (x ∷ xs) (y ∷ ys) hx hy is =
-    let a = and_parts (list_all (λ z. nat_lt x z) xs) (is_rising xs) hx in
-    let b = and_parts (list_all (λ z. nat_lt y z) ys) (is_rising ys) hy in
+    let a = and_parts (list_all (λ z. nat_lt x z) xs) (is_strictly_increasing xs) hx in
+    let b = and_parts (list_all (λ z. nat_lt y z) ys) (is_strictly_increasing ys) hy in
     let e : x ≡ y = elim (cases_lt x y) [
       | inl lt ↦ absurd (apart x y xs ys lt b.0 (is x))
       | inr ge ↦ elim (cases_lt y x) [
@@ -268,11 +268,11 @@ below_first x [] h = refl
 below_first x (y ∷ ys) h = ap (λ b. cond b (x ∷ y ∷ ys) (cond (x == y) (y ∷ ys) (y ∷ put_rank x ys))) (and_parts (nat_lt x y) (list_all (λ z. nat_lt x z) ys) h).0
 
 -- a rising list is the ascending list of its set
-pub in_order-rising : (xs : List ℕ) → is_rising xs ≡ true → in_order (set_of xs) ≡ xs
+pub in_order-rising : (xs : List ℕ) → is_strictly_increasing xs ≡ true → in_order (set_of xs) ≡ xs
 unfolding with_rank
 in_order-rising [] h = refl
 in_order-rising (x ∷ xs) h =
-    let a = and_parts (list_all (λ z. nat_lt x z) xs) (is_rising xs) h in
+    let a = and_parts (list_all (λ z. nat_lt x z) xs) (is_strictly_increasing xs) h in
     ap (put_rank x) (in_order-rising xs a.1) ∙ below_first x xs a.0
 
 tied_present : (b h : Bool) → (b ≡ true → h ≡ true) → (b || h) ≡ h

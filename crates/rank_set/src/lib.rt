@@ -161,7 +161,7 @@ impl RankSet {
     }
 
     /// Leaves the ranks alone that the other set has too. It takes no memory.
-    pub fn keep(&mut self, other: &RankSet)
+    pub fn intersect_with(&mut self, other: &RankSet)
         ensures { self.new ≡ those (λ r. has other.now r) self.old }
     {
         words::keep_words(
@@ -174,7 +174,7 @@ impl RankSet {
     }
 
     /// Takes the ranks of the other set away. It takes no memory.
-    pub fn remove(&mut self, other: &RankSet)
+    pub fn subtract(&mut self, other: &RankSet)
         ensures { self.new ≡ those (λ r. not (has other.now r)) self.old }
     {
         words::clear_words(
@@ -191,7 +191,7 @@ impl RankSet {
         ensures { IfOk result (λ rest. rest ≡ those (λ r. not (has other.now r)) self.now) }
     {
         let mut rest = self.copy()?;
-        rest.remove(other);
+        rest.subtract(other);
         Ok(rest)
     }
 

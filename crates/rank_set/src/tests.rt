@@ -109,7 +109,7 @@ fn assert_difference(
     text: &str,
 ) -> Result<(), Fail> {
     let mut set = left.copy()?;
-    set.remove(right);
+    set.subtract(right);
     assert!(rt; left.difference(right)?.equals(&set));
     assert_text(rt, alloc, &set, text)
 }
@@ -122,7 +122,7 @@ fn assert_common(
     text: &str,
 ) -> Result<(), Fail> {
     let mut set = left.copy()?;
-    set.keep(right);
+    set.intersect_with(right);
     assert_eq!(rt; set.count() == left.count(), left.is_subset(right));
     assert_text(rt, alloc, &set, text)
 }

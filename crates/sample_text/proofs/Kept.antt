@@ -9,7 +9,7 @@ use Rattle.call_path.specs.Good.{IsGoodPath}
 use Rattle.call_path.specs.Reading.{path_of}
 use Rattle.call_path.specs.declared.read.PathError.{PathError}
 use Rattle.call_path.proofs.ReadBack.{read_good}
-use Rattle.stat_plan.specs.Kept.{IsSampleLine, AreSamples, SamplesFit}
+use Rattle.stat_plan.specs.Invariants.{IsSampleLine, AreSamples, SamplesFit}
 use Rattle.stat_plan.specs.Lines.{number_in}
 use Rattle.stat_plan.specs.Names.{number_of}
 use Rattle.stat_plan.specs.Plans.{Sampled}
@@ -22,9 +22,9 @@ use Rattle.stat_plan.specs.declared.text_error.Reason.TheVariants.{Unplaced}
 use Rattle.stat_plan.specs.declared.text_error.Quantity.TheVariants.{Lines}
 use Rattle.stat_plan.specs.declared.samples.TheConstants.{LINE_LIMIT}
 use Rattle.sample_text.specs.Said.{Said, Nothing, Daemon, Stack, line_said}
-use Rattle.sample_text.specs.Steps.{and_then, if_holds, daemon_at, daemon_named, ranks_on, time_at, time_on, path_or_fault, path_on, are_apart, add_at, sample, with_daemon, with_stack, with_said, with_line}
+use Rattle.sample_text.specs.Steps.{and_then, if_holds, daemon_at, daemon_named, ranks_on, time_at, time_on, path_or_fault, path_on, are_disjoint, add_at, sample, with_daemon, with_stack, with_said, with_line}
 use Rattle.sample_text.specs.Whole.{nothing_said, with_lines, lacks_rank}
-use Rattle.sample_text.specs.Kept.{IsKept}
+use Rattle.sample_text.specs.Invariants.{IsKept}
 use Rattle.sample_text.proofs.Sets.{length-add_at, other_set, all_ranks_grow, once_more, length-nones, nones_none}
 use Rattle.sample_text.proofs.SomeRank.{not_none}
 
@@ -94,7 +94,7 @@ all_append P [] y all here = (here, all)
 all_append P (x ∷ xs) y all here = (all.0, all_append P xs y all.1 here)
 
 module _ (t : Nodes) (s : Sampled) (number : ℕ) (h : IsKept t s) where
-  placed_kept : (n : ℕ) (ranks : Ranks) → is_daemon t.parents n ≡ true → are_apart ranks (all_ranks s.placed) ≡ true → IsKept t (record s { placed = add_at s.placed n ranks })
+  placed_kept : (n : ℕ) (ranks : Ranks) → is_daemon t.parents n ≡ true → are_disjoint ranks (all_ranks s.placed) ≡ true → IsKept t (record s { placed = add_at s.placed n ranks })
   placed_kept n ranks daemon apart = record {
     paired = length-add_at s.placed n ranks ∙ h.paired;
     nowhere_else = λ m lt other. other_set s.placed n m ranks (λ e. true≢false (sym daemon ∙ ap (is_daemon t.parents) (sym e) ∙ other)) ∙ h.nowhere_else m lt other;
@@ -108,7 +108,7 @@ module _ (t : Nodes) (s : Sampled) (number : ℕ) (h : IsKept t s) where
   daemon_kept name word =
       then_holds (IsKept t) (daemon_named t number name) _ (λ n named.
       then_holds (IsKept t) (ranks_on number word) _ (λ ranks read.
-      test_holds (IsKept t) (are_apart ranks (all_ranks s.placed)) _ _ (λ apart.
+      test_holds (IsKept t) (are_disjoint ranks (all_ranks s.placed)) _ _ (λ apart.
       placed_kept n ranks (at_ok (λ n. is_daemon t.parents n ≡ true) (daemon_named t number name) n (daemon_holds t number name) named) apart)))
 
   seen_kept : (time : ℕ) (ranks : Ranks) (path : Path) → length s.lines < 262144 → time ≤ 65535 → ranks ≢ none → is_subset ranks (all_ranks s.placed) ≡ true → IsGoodPath path → IsKept t (record s { lines = s.lines ++ sample time ranks path ∷ [] })

@@ -3,9 +3,9 @@ use Rattle.std.proofs.Common.{◌≡◌, ◌≢◌, ◌∙◌, ℕ, zero, suc, �
 use Rattle.std.specs.List.{list_any}
 use Rattle.std.proofs.lemmas.Bool.{true≢false}
 use Rattle.rank_set.specs.Ranks.{Ranks, none, has, Has, IsSubset, union, those, has-none, has-union, has-those, same_ranks, none_from_size}
-use Rattle.stat_plan.specs.Kept.{ArePlacedOnce}
+use Rattle.stat_plan.specs.Invariants.{ArePlacedOnce}
 use Rattle.stat_plan.specs.Samples.{ranks_with, all_ranks}
-use Rattle.sample_text.specs.Steps.{are_apart, add_at}
+use Rattle.sample_text.specs.Steps.{are_disjoint, add_at}
 use Rattle.sample_text.specs.Whole.{nones}
 
 or_false : (a : Bool) → a ≡ (a || false)
@@ -114,13 +114,13 @@ pub all_ranks_grow : (sets : List Ranks) (n : ℕ) (ranks : Ranks) → IsSubset 
 all_ranks_grow sets n ranks r there = has-all_ranks (add_at sets n ranks) r ∙ any_more sets n ranks r (sym (has-all_ranks sets r) ∙ there)
 
 -- of sets that are apart a rank is in one alone
-pub not_in_both : (ranks others : Ranks) (r : ℕ) → are_apart ranks others ≡ true → Has r ranks → Has r others → ⊥
-unfolding are_apart
+pub not_in_both : (ranks others : Ranks) (r : ℕ) → are_disjoint ranks others ≡ true → Has r ranks → Has r others → ⊥
+unfolding are_disjoint
 not_in_both ranks others r apart one other =
     true≢false (sym ((λ i. one i && other i)) ∙ sym (has-those (has others) ranks r) ∙ ap (λ s. has s r) (none_from_size (those (has others) ranks) (eqb-true _ _ apart)) ∙ has-none r)
 
 -- ranks that are placed nowhere are placed once more
-pub once_more : (sets : List Ranks) (n : ℕ) (ranks : Ranks) → ArePlacedOnce sets → are_apart ranks (all_ranks sets) ≡ true → ArePlacedOnce (add_at sets n ranks)
+pub once_more : (sets : List Ranks) (n : ℕ) (ranks : Ranks) → ArePlacedOnce sets → are_disjoint ranks (all_ranks sets) ≡ true → ArePlacedOnce (add_at sets n ranks)
 once_more sets n ranks once apart m k r at_m at_k = by (there_before sets n m ranks r at_m) (there_before sets n k ranks r at_k)
   where
     clash : (j : ℕ) → Has r (get_or sets j none) → Has r ranks → ⊥

@@ -14,7 +14,7 @@ use Rattle.stat_plan.specs.declared.text_error.TextError.TheVariants.{Bad, Over}
 use Rattle.stat_plan.specs.declared.text_error.Reason.TheVariants.{PlacedTwice, Unplaced}
 use Rattle.stat_plan.specs.declared.text_error.Quantity.TheVariants.{Lines}
 use Rattle.sample_text.specs.Said.{Said, line_said}
-use Rattle.sample_text.specs.Steps.{daemon_named, ranks_on, time_on, path_on, are_apart, add_at, sample, with_daemon, with_stack, with_said, with_line, and_then}
+use Rattle.sample_text.specs.Steps.{daemon_named, ranks_on, time_on, path_on, are_disjoint, add_at, sample, with_daemon, with_stack, with_said, with_line, and_then}
 
 -- a line `daemon NAME RANKS`
 module _ (t : Nodes) (s : Sampled) (number : ℕ) (name word : List ℕ) where
@@ -28,11 +28,11 @@ module _ (t : Nodes) (s : Sampled) (number : ℕ) (name word : List ℕ) where
     daemon_bad_ranks e read = rw (named, read, with_daemon) refl
 
     module _ (ranks : Ranks) (read : ranks_on number word ≡ Ok ranks) where
-      pub daemon_twice : are_apart ranks (all_ranks s.placed) ≡ false → with_daemon t s number name word ≡ Err (Bad number PlacedTwice)
+      pub daemon_twice : are_disjoint ranks (all_ranks s.placed) ≡ false → with_daemon t s number name word ≡ Err (Bad number PlacedTwice)
       unfolding with_daemon
       daemon_twice apart = rw (named, read, apart, with_daemon) refl
 
-      pub daemon_good : are_apart ranks (all_ranks s.placed) ≡ true → with_daemon t s number name word ≡ Ok (record s { placed = add_at s.placed n ranks })
+      pub daemon_good : are_disjoint ranks (all_ranks s.placed) ≡ true → with_daemon t s number name word ≡ Ok (record s { placed = add_at s.placed n ranks })
       unfolding with_daemon
       daemon_good apart = rw (named, read, apart, with_daemon) refl
 

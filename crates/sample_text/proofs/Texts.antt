@@ -8,10 +8,10 @@ use Rattle.std.proofs.lemmas.Slice.Eq.{bytes_eq-Decides}
 use Rattle.indexmap.specs.IndexSet.{insert_key}
 use Rattle.call_path.specs.Path.{Path}
 use Rattle.call_path.specs.Reading.{path_of}
-use Rattle.stat_plan.specs.StackLines.{line_of, lines_of, AreNumbered}
+use Rattle.stat_plan.specs.StackLines.{line_of, lines_of, PathIndicesInRange}
 use Rattle.stat_plan.specs.declared.samples.StackLine.{StackLine}
 use Rattle.sample_text.specs.Steps.{path_or_fault, path_on}
-use Rattle.sample_text.specs.Drafts.{AreRead}
+use Rattle.sample_text.specs.Parsers.{AreRead}
 
 read_at : (texts : List (String Global)) (paths : List Path) (i : ℕ) (d : String Global) → AreRead texts paths → i < length texts → (path_of (string_bytes (get_or texts i d)) ≡ Ok (get_or paths i [])) × (i < length paths)
 read_at [] paths i d read lt = absurd (omega arith)
@@ -48,7 +48,7 @@ at_last [] x d = refl
 at_last (y ∷ xs) x d = at_last xs x d
 
 -- lines whose paths stay where they are
-pub same_lines : (old new : List Path) (lines : List StackLine) → ((n : ℕ) → n < length old → get_or new n [] ≡ get_or old n []) → AreNumbered old lines → lines_of new lines ≡ lines_of old lines
+pub same_lines : (old new : List Path) (lines : List StackLine) → ((n : ℕ) → n < length old → get_or new n [] ≡ get_or old n []) → PathIndicesInRange old lines → lines_of new lines ≡ lines_of old lines
 same_lines old new [] same numbered = refl
 same_lines old new (line ∷ lines) same numbered = (λ i. record { time = line.time; ranks = line.ranks; path = same line.path numbered.0 i } ∷ same_lines old new lines same numbered.1 i)
 
@@ -62,7 +62,7 @@ length-lines_of paths [] = refl
 length-lines_of paths (l ∷ lines) = ap suc (length-lines_of paths lines)
 
 -- numbers of paths, with one line more and maybe more paths
-pub numbered_more : (old new : List Path) (lines : List StackLine) (line : StackLine) → length old ≤ length new → AreNumbered old lines → line.path < length new → AreNumbered new (lines ++ line ∷ [])
+pub numbered_more : (old new : List Path) (lines : List StackLine) (line : StackLine) → length old ≤ length new → PathIndicesInRange old lines → line.path < length new → PathIndicesInRange new (lines ++ line ∷ [])
 numbered_more old new [] line le all here = (here, tt)
 numbered_more old new (l ∷ lines) line le all here = let lt = all.0 in (omega arith, numbered_more old new lines line le all.1 here)
 

@@ -1,7 +1,7 @@
 pub mod Said
 pub mod Steps
 pub mod Whole
-pub mod Kept
-pub mod Meant
-pub mod Drafts
+pub mod Invariants
+pub mod LineViews
+pub mod Parsers
 pub mod Rows

@@ -15,7 +15,7 @@ use Rattle.rank_set.specs.RanksText.{items, item_at, ranks_at}
 use Rattle.call_path.specs.Reading.{first_fault, frame_fault, frames}
 use Rattle.std.specs.Str.{is_utf8, chars}
 use Rattle.sample_text.specs.Said.{line_said}
-use Rattle.sample_text.specs.Steps.{daemon_named, ranks_on, time_on, path_on, are_apart, sample, with_daemon, with_stack}
+use Rattle.sample_text.specs.Steps.{daemon_named, ranks_on, time_on, path_on, are_disjoint, sample, with_daemon, with_stack}
 use Rattle.sample_text.specs.Whole.{with_lines, samples_of_text}
 
 -- `fe:0 => a:0 b:0 ;`
@@ -30,7 +30,7 @@ abbrev said : List ℕ → Result Sampled TextError
 said text = samples_of_text job text
 
 two_daemons : said (line (codes "daemon a:0 1,0") ++ line (codes "# x") ++ line (codes "daemon b:0 2") ++ line (codes "stack 007 0-1  m ;a ")) ≡ Ok (sampled (none ∷ set_of (0 ∷ 1 ∷ []) ∷ set_of (2 ∷ []) ∷ []) (sample 7 (set_of (0 ∷ 1 ∷ [])) (codes "m " ∷ codes "a " ∷ []) ∷ []))
-unfolding pieces words number_of has those union with_rank ranks_between items item_at ranks_at first_fault frame_fault frames is_utf8 chars line_said daemon_named ranks_on time_on path_on are_apart with_daemon with_stack with_lines lib.Utf8.encode
+unfolding pieces words number_of has those union with_rank ranks_between items item_at ranks_at first_fault frame_fault frames is_utf8 chars line_said daemon_named ranks_on time_on path_on are_disjoint with_daemon with_stack with_lines lib.Utf8.encode
 two_daemons = refl
 
 no_text : said [] ≡ Err (Bad 0 DaemonWithoutRank)
@@ -38,7 +38,7 @@ unfolding pieces with_lines
 no_text = refl
 
 one_daemon : said (codes "daemon a:0 1") ≡ Err (Bad 0 DaemonWithoutRank)
-unfolding pieces words number_of has those union with_rank ranks_between items item_at ranks_at is_utf8 chars line_said daemon_named ranks_on are_apart with_daemon with_lines lib.Utf8.encode
+unfolding pieces words number_of has those union with_rank ranks_between items item_at ranks_at is_utf8 chars line_said daemon_named ranks_on are_disjoint with_daemon with_lines lib.Utf8.encode
 one_daemon = refl
 
 not_utf8 : said (line [] ++ 255 ∷ []) ≡ Err (Bad 2 NotUtf8)
@@ -70,7 +70,7 @@ unfolding pieces words number_of items item_at ranks_at is_utf8 chars line_said 
 over_ranks = refl
 
 placed_twice : said (line (codes "daemon a:0 1,1") ++ codes "daemon a:0 1") ≡ Err (Bad 2 PlacedTwice)
-unfolding pieces words number_of has those union with_rank ranks_between items item_at ranks_at is_utf8 chars line_said daemon_named ranks_on are_apart with_daemon with_lines lib.Utf8.encode
+unfolding pieces words number_of has those union with_rank ranks_between items item_at ranks_at is_utf8 chars line_said daemon_named ranks_on are_disjoint with_daemon with_lines lib.Utf8.encode
 placed_twice = refl
 
 bad_time : said (codes "stack 65536 x x") ≡ Err (Bad 1 BadTime)
@@ -82,5 +82,5 @@ unfolding pieces words has union with_rank ranks_between items item_at ranks_at 
 unplaced = refl
 
 bad_path : said (line (codes "daemon a:0 1") ++ codes "stack 0 1 ;") ≡ Err (Bad 2 BadPath)
-unfolding pieces words number_of has those union with_rank ranks_between items item_at ranks_at first_fault frame_fault frames is_utf8 chars line_said daemon_named ranks_on time_on path_on are_apart with_daemon with_stack with_lines lib.Utf8.encode
+unfolding pieces words number_of has those union with_rank ranks_between items item_at ranks_at first_fault frame_fault frames is_utf8 chars line_said daemon_named ranks_on time_on path_on are_disjoint with_daemon with_stack with_lines lib.Utf8.encode
 bad_path = refl

@@ -84,8 +84,8 @@ unfoldable pub path_on : ℕ → List ℕ → Result Path TextError
 path_on number text = path_or_fault number (path_of text)
 
 -- whether none of some ranks is one of others
-unfoldable pub are_apart : Ranks → Ranks → Bool
-are_apart ranks others = is_empty (those (has others) ranks)
+unfoldable pub are_disjoint : Ranks → Ranks → Bool
+are_disjoint ranks others = is_empty (those (has others) ranks)
 
 -- sets of which set n gets more ranks
 abbrev pub add_at : List Ranks → ℕ → Ranks → List Ranks
@@ -102,7 +102,7 @@ unfoldable pub with_daemon : Nodes → Sampled → ℕ → List ℕ → List ℕ
 with_daemon t s number name word =
     and_then (daemon_named t number name) (λ n.
     and_then (ranks_on number word) (λ ranks.
-    if_holds (are_apart ranks (all_ranks s.placed)) (Bad number PlacedTwice)
+    if_holds (are_disjoint ranks (all_ranks s.placed)) (Bad number PlacedTwice)
     (Ok (record s { placed = add_at s.placed n ranks }))))
 
 -- a line `stack TIME RANKS PATH`

@@ -7,34 +7,34 @@
 
 ghost use Rattle.std.specs.Prelude.{◌≡◌, ◌≢◌, length, IfErr, OnOk, IfOk, Ok, Err};
 ghost use Rattle.stat_plan.specs.Lines.{lines};
-ghost use Rattle.stat_plan.specs.Kept.{SamplesFit};
+ghost use Rattle.stat_plan.specs.Invariants.{SamplesFit};
 ghost use Rattle.stat_plan.specs.declared.text_error.TextError.TheVariants.{OutOfMemory};
-ghost use Rattle.sample_text.specs.Drafts.{seen, IsInStep};
+ghost use Rattle.sample_text.specs.Parsers.{parser_view, IsInStep};
 ghost use Rattle.sample_text.specs.Whole.{with_lines, samples_of_text};
 
-mod draft;
 mod line;
+mod parser;
 mod paths;
 #[cfg(test)]
 mod tests;
 
-use draft::Draft;
+use parser::Parser;
 use stat_plan::lines::next_line;
 use stat_plan::{Samples, TextError, Topology};
 use std::alloc::Global;
 
-// Takes the lines of a text into a draft.
-fn read_lines(text: &[u8], topology: &Topology, draft: &mut Draft) -> Result<(), TextError>
-    requires in_step { IsInStep draft.old }
-    requires paired { length draft.old.placed.items ≡ length topology.now.parents }
-    ensures ok { OnOk result (with_lines topology.now (seen draft.old) 1 (lines text.now) ≡ Ok (seen draft.new)) }
-    ensures in_step { OnOk result (IsInStep draft.new) }
-    ensures err { IfErr result (λ e. e ≢ OutOfMemory → with_lines topology.now (seen draft.old) 1 (lines text.now) ≡ Err e) }
+// Takes the lines of a text into a parser.
+fn read_lines(text: &[u8], topology: &Topology, parser: &mut Parser) -> Result<(), TextError>
+    requires in_step { IsInStep parser.old }
+    requires paired { length parser.old.placed.items ≡ length topology.now.parents }
+    ensures ok { OnOk result (with_lines topology.now (parser_view parser.old) 1 (lines text.now) ≡ Ok (parser_view parser.new)) }
+    ensures in_step { OnOk result (IsInStep parser.new) }
+    ensures err { IfErr result (λ e. e ≢ OutOfMemory → with_lines topology.now (parser_view parser.old) 1 (lines text.now) ≡ Err e) }
 {
     let mut number = 1;
     let mut rest = text;
     while let Some((line, after)) = next_line(rest) {
-        draft.take(topology, number, line)?;
+        parser.take(topology, number, line)?;
         number += 1;
         rest = after;
     }
@@ -48,7 +48,7 @@ pub fn read(alloc: Global, text: &[u8], topology: &Topology) -> Result<Samples, 
     ensures fits { IfOk result (λ s. SamplesFit topology.now s) }
     ensures err { IfErr result (λ e. e ≢ OutOfMemory → samples_of_text topology.now text.now ≡ Err e) }
 {
-    let mut draft = Draft::new(alloc, topology)?;
-    read_lines(text, topology, &mut draft)?;
-    draft.finished(topology)
+    let mut parser = Parser::new(alloc, topology)?;
+    read_lines(text, topology, &mut parser)?;
+    parser.finished(topology)
 }

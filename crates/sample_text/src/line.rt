@@ -6,7 +6,7 @@ ghost use Rattle.stat_plan.specs.Lines.{words};
 ghost use Rattle.stat_plan.specs.declared.text_error.TextError.TheVariants.{Bad};
 ghost use Rattle.stat_plan.specs.declared.text_error.Reason.TheVariants.{BadDirective};
 ghost use Rattle.sample_text.specs.Said.{daemon_said, stack_said, words_said, line_said};
-ghost use Rattle.sample_text.specs.Meant.{meant};
+ghost use Rattle.sample_text.specs.LineViews.{line_view};
 
 use stat_plan::lines::{after_blanks, next_word, says_nothing};
 use stat_plan::{Reason, TextError};
@@ -41,7 +41,7 @@ fn bad_directive(number: u64) -> TextError
 
 // What follows the word `daemon`.
 fn daemon_words(number: u64, rest: &[u8]) -> Result<Line<'_>, TextError>
-    ensures ok { IfOk result (λ line. daemon_said number (words rest.now) ≡ Ok (meant line)) }
+    ensures ok { IfOk result (λ line. daemon_said number (words rest.now) ≡ Ok (line_view line)) }
     ensures err { IfErr result (λ e. daemon_said number (words rest.now) ≡ Err e) }
 {
     let Some((name, rest)) = next_word(rest) else {
@@ -59,7 +59,7 @@ fn daemon_words(number: u64, rest: &[u8]) -> Result<Line<'_>, TextError>
 // What follows the word `stack`.
 fn stack_words(number: u64, rest: &[u8]) -> Result<Line<'_>, TextError>
     requires { IsUtf8 rest.now }
-    ensures ok { IfOk result (λ line. stack_said number rest.now (words rest.now) ≡ Ok (meant line)) }
+    ensures ok { IfOk result (λ line. stack_said number rest.now (words rest.now) ≡ Ok (line_view line)) }
     ensures err { IfErr result (λ e. stack_said number rest.now (words rest.now) ≡ Err e) }
 {
     let Some((time, rest)) = next_word(rest) else {
@@ -81,7 +81,7 @@ fn stack_words(number: u64, rest: &[u8]) -> Result<Line<'_>, TextError>
 // A line that says something, and is UTF-8.
 fn directive(number: u64, line: &[u8]) -> Result<Line<'_>, TextError>
     requires { IsUtf8 line.now }
-    ensures ok { IfOk result (λ said. words_said number line.now (words line.now) ≡ Ok (meant said)) }
+    ensures ok { IfOk result (λ said. words_said number line.now (words line.now) ≡ Ok (line_view said)) }
     ensures err { IfErr result (λ e. words_said number line.now (words line.now) ≡ Err e) }
 {
     let Some((word, rest)) = next_word(line) else {
@@ -98,7 +98,7 @@ fn directive(number: u64, line: &[u8]) -> Result<Line<'_>, TextError>
 
 /// What a line says, or why it is no line of samples.
 pub fn read_line(number: u64, line: &[u8]) -> Result<Line<'_>, TextError>
-    ensures ok { IfOk result (λ said. line_said number line.now ≡ Ok (meant said)) }
+    ensures ok { IfOk result (λ said. line_said number line.now ≡ Ok (line_view said)) }
     ensures err { IfErr result (λ e. line_said number line.now ≡ Err e) }
 {
     if says_nothing(line) {

@@ -36,7 +36,7 @@ fn path_on(alloc: Global, number: u64, text: &str) -> Result<CallPath, TextError
 }
 
 impl Paths {
-    ghost use Rattle.sample_text.specs.Drafts.{HoldsPaths, path_at};
+    ghost use Rattle.sample_text.specs.Parsers.{HoldsPaths, path_at};
 
     /// No paths.
     pub fn new(alloc: Global) -> Paths

@@ -4,10 +4,10 @@ use Rattle.std.specs.Result.{IfOk}
 use Rattle.std.specs.List.{AllByRecursion, list_any}
 use Rattle.std.specs.Str.{bytes_eq}
 use Rattle.std.proofs.lemmas.Bool.{ltb-false, eqb-false}
-use Rattle.stat_plan.specs.Kept.{IsMode, IsStream, IsScript, ScriptFits, IsDaemon}
+use Rattle.stat_plan.specs.Invariants.{IsMode, IsStream, IsScript, ScriptFits, IsDaemon}
 use Rattle.stat_plan.specs.Lines.{words, says_nothing}
 use Rattle.stat_plan.specs.Names.{number_of}
-use Rattle.stat_plan.specs.NodeSets.{IsAscending, with_number}
+use Rattle.stat_plan.specs.NodeSets.{IsStrictlyIncreasing, with_number}
 use Rattle.stat_plan.specs.Plans.{Stream, Scripted, scripted}
 use Rattle.stat_plan.specs.Topologies.{Nodes, IsTopology}
 use Rattle.stat_plan.specs.Trees.{is_daemon, root_of}
@@ -69,7 +69,7 @@ mode_kept line DontWait = tt
 -- some daemons, ascending
 record AreDaemons (t : Nodes) (daemons : List ℕ) : Type 0 where
   all : AllByRecursion (IsDaemon t) daemons
-  rise : IsAscending daemons
+  rise : IsStrictlyIncreasing daemons
   some : daemons ≢ []
 
 module _ (t : Nodes) (is : IsTopology t) (line : ℕ) where
@@ -85,7 +85,7 @@ module _ (t : Nodes) (is : IsTopology t) (line : ℕ) where
   unfolding daemon_of
   daemon_kept name = as_daemon_kept name (number_of name t.names) refl
 
-  one_daemon : (n : ℕ) (daemons : List ℕ) → IsDaemon t n → AllByRecursion (IsDaemon t) daemons → IsAscending daemons → AreDaemons t (with_number n daemons)
+  one_daemon : (n : ℕ) (daemons : List ℕ) → IsDaemon t n → AllByRecursion (IsDaemon t) daemons → IsStrictlyIncreasing daemons → AreDaemons t (with_number n daemons)
   one_daemon n daemons here all rise = record { all = number_all n (IsDaemon t) daemons here all; rise = number_rises n daemons rise; some = number_some n daemons }
 
   named_kept : (names : List (List ℕ)) (daemons : List ℕ) → AreDaemons t daemons → IfOk (with_named t line daemons names) (AreDaemons t)
@@ -177,8 +177,8 @@ module _ (t : Nodes) (is : IsTopology t) (faults : List Fault) (line : ℕ) wher
 -- what holds of whatever lines have said
 pub record IsKept (t : Nodes) (c : Scripted) : Type 0 where
   pub streams : AllByRecursion IsStream c.streams
-  pub streams_rise : IsAscending (map (λ x. x.number) c.streams)
-  pub faults_rise : IsAscending (map (λ f. f.node) c.faults)
+  pub streams_rise : IsStrictlyIncreasing (map (λ x. x.number) c.streams)
+  pub faults_rise : IsStrictlyIncreasing (map (λ f. f.node) c.faults)
   pub daemons : AllByRecursion (λ x. AllByRecursion (IsDaemon t) x.daemons) c.streams
   pub faults : AllByRecursion (λ f. (f.node < length t.parents) × (f.node ≢ root_of t.parents)) c.faults
 

@@ -3,7 +3,7 @@ use Rattle.std.proofs.Common.{◌≡◌, ◌≢◌, ℕ, zero, suc, ◌<◌, ◌
 use Rattle.std.specs.List.{AllByRecursion}
 use Rattle.std.proofs.lemmas.Bool.{ltb-true, ltb-false, eqb-false}
 use Rattle.std.proofs.lemmas.List.Elements.{filter-append}
-use Rattle.stat_plan.specs.NodeSets.{In, with_number, IsAscending}
+use Rattle.stat_plan.specs.NodeSets.{In, with_number, IsStrictlyIncreasing}
 use Rattle.stat_plan.specs.Plans.{up_to}
 
 -- a list that isn't empty
@@ -42,11 +42,11 @@ module _ (x : ℕ) where
       by false false (inl e) further = inr (inl e)
       by false false (inr h) further = elim (further h) [ (inl e) ↦ inl e | (inr i) ↦ inr (inr i) ]
 
-  pub number_rises : (ys : List ℕ) → IsAscending ys → IsAscending (with_number x ys)
+  pub number_rises : (ys : List ℕ) → IsStrictlyIncreasing ys → IsStrictlyIncreasing (with_number x ys)
   number_rises [] rises = (λ n h. absurd h, tt)
   number_rises (y ∷ ys) rises = by (nat_lt x y) refl (nat_eq x y) refl (number_rises ys rises.1)
     where
-      by : (a : Bool) → nat_lt x y ≡ a → (b : Bool) → nat_eq x y ≡ b → IsAscending (with_number x ys) → IsAscending (cond a (x ∷ y ∷ ys) (cond b (y ∷ ys) (y ∷ with_number x ys)))
+      by : (a : Bool) → nat_lt x y ≡ a → (b : Bool) → nat_eq x y ≡ b → IsStrictlyIncreasing (with_number x ys) → IsStrictlyIncreasing (cond a (x ∷ y ∷ ys) (cond b (y ∷ ys) (y ∷ with_number x ys)))
       by true e b f h = (λ n i. elim i [ (inl same) ↦ (let lt = ltb-true x y e in omega arith) | (inr later) ↦ (let lt = ltb-true x y e in let more = rises.0 n later in omega arith) ], rises)
       by false e true f h = rises
       by false e false f h = (
@@ -78,7 +78,7 @@ in_before [] x y h = absurd h
 in_before (z ∷ xs) x y (inl e) = inl e
 in_before (z ∷ xs) x y (inr h) = inr (in_before xs x y h)
 
-last_rises : (xs : List ℕ) (x : ℕ) → IsAscending xs → ((y : ℕ) → In y xs → y < x) → IsAscending (xs ++ x ∷ [])
+last_rises : (xs : List ℕ) (x : ℕ) → IsStrictlyIncreasing xs → ((y : ℕ) → In y xs → y < x) → IsStrictlyIncreasing (xs ++ x ∷ [])
 last_rises [] x rises below = (λ n h. absurd h, tt)
 last_rises (z ∷ xs) x rises below = (
   λ n h. elim (in_last xs x n h) [ (inl i) ↦ rises.0 n i | (inr e) ↦ (let lt = below z (inl refl) in omega arith) ],
@@ -109,13 +109,13 @@ module _ (p : ℕ → Bool) where
       by true e h further = elim (in_last (filter p (up_to n)) n y (subst (In y) (one_up n e) h)) [ (inl i) ↦ (let k = further i in let lt = k.0 in (omega arith, k.1)) | (inr same) ↦ (omega arith, ap p same ∙ e) ]
       by false e h further = let k = further (subst (In y) (none_up n e) h) in let lt = k.0 in (omega arith, k.1)
 
-  pub passed_rise : (n : ℕ) → IsAscending (filter p (up_to n))
+  pub passed_rise : (n : ℕ) → IsStrictlyIncreasing (filter p (up_to n))
   passed_rise zero = tt
   passed_rise (suc n) = by (p n) refl (passed_rise n)
     where
-      by : (b : Bool) → p n ≡ b → IsAscending (filter p (up_to n)) → IsAscending (filter p (up_to (suc n)))
-      by true e h = subst IsAscending (sym (one_up n e)) (last_rises (filter p (up_to n)) n h (λ y i. (passed n y i).0))
-      by false e h = subst IsAscending (sym (none_up n e)) h
+      by : (b : Bool) → p n ≡ b → IsStrictlyIncreasing (filter p (up_to n)) → IsStrictlyIncreasing (filter p (up_to (suc n)))
+      by true e h = subst IsStrictlyIncreasing (sym (one_up n e)) (last_rises (filter p (up_to n)) n h (λ y i. (passed n y i).0))
+      by false e h = subst IsStrictlyIncreasing (sym (none_up n e)) h
 
   pub passed_all : (P : ℕ → Type 0) (n : ℕ) → ((y : ℕ) → y < n → p y ≡ true → P y) → AllByRecursion P (filter p (up_to n))
   passed_all P n each = all_of P (filter p (up_to n)) (λ y h. let k = passed n y h in each y k.0 k.1)

@@ -2,7 +2,7 @@
 use Rattle.std.proofs.Common.{◌≡◌, ℕ, suc, ◌+◌, ◌⊎◌, inl, inr, Bool, true, false, ◌||◌, not, cond, nat_lt, nat_eq, List, [], ◌∷◌, map, refl, ap, ◌∙◌, arith}
 use Rattle.std.specs.List.{insert, prefix_len, list_any, AllByRecursion}
 use Rattle.std.proofs.lemmas.Bool.{ltb-true, ltb-false, eqb-false}
-use Rattle.stat_plan.specs.NodeSets.{In, IsAscending}
+use Rattle.stat_plan.specs.NodeSets.{In, IsStrictlyIncreasing}
 use Rattle.script_text.specs.Order.{with_item}
 
 module _ {X : Type 0} (number : X → ℕ) (x : X) where
@@ -43,14 +43,14 @@ module _ {X : Type 0} (number : X → ℕ) (x : X) where
   or_false false b e = (refl, e)
 
   -- it ascends again, where no item has this number yet
-  pub placed_rises : (xs : List X) → list_any (λ y. nat_eq (number y) (number x)) xs ≡ false → IsAscending (map number xs) → IsAscending (map number (with_item number x xs))
+  pub placed_rises : (xs : List X) → list_any (λ y. nat_eq (number y) (number x)) xs ≡ false → IsStrictlyIncreasing (map number xs) → IsStrictlyIncreasing (map number (with_item number x xs))
   placed_rises [] new rises = (λ n h. absurd h, tt)
   placed_rises (y ∷ ys) new rises = by (nat_lt (number x) (number y)) refl (placed_rises ys others.1 rises.1)
     where
       others : (nat_eq (number y) (number x) ≡ false) × (list_any (λ z. nat_eq (number z) (number x)) ys ≡ false)
       others = or_false _ _ new
 
-      by : (b : Bool) → nat_lt (number x) (number y) ≡ b → IsAscending (map number (with_item number x ys)) → IsAscending (map number (cond b (x ∷ y ∷ ys) (y ∷ with_item number x ys)))
+      by : (b : Bool) → nat_lt (number x) (number y) ≡ b → IsStrictlyIncreasing (map number (with_item number x ys)) → IsStrictlyIncreasing (map number (cond b (x ∷ y ∷ ys) (y ∷ with_item number x ys)))
       by true e h = (λ n i. elim i [ (inl same) ↦ (let lt = ltb-true (number x) (number y) e in omega arith) | (inr later) ↦ (let lt = ltb-true (number x) (number y) e in let more = rises.0 n later in omega arith) ], rises)
       by false e h = (
         λ n i. elim (in_placed ys n i) [

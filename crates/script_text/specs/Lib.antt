@@ -5,5 +5,5 @@ pub mod Streams
 pub mod Losses
 pub mod Script
 pub mod Marks
-pub mod Meant
+pub mod ParserViews
 pub mod Rows

@@ -6,38 +6,38 @@
 #![tactic(auto)]
 
 ghost use Rattle.std.specs.Prelude.{◌≡◌, ◌≢◌, IfErr, OnOk, IfOk, Ok, Err};
-ghost use Rattle.stat_plan.specs.Kept.{ScriptFits};
+ghost use Rattle.stat_plan.specs.Invariants.{ScriptFits};
 ghost use Rattle.stat_plan.specs.Lines.{lines};
 ghost use Rattle.stat_plan.specs.Topologies.{IsTopology};
 ghost use Rattle.stat_plan.specs.declared.text_error.TextError.TheVariants.{OutOfMemory};
-ghost use Rattle.script_text.specs.Meant.{said};
+ghost use Rattle.script_text.specs.ParserViews.{parser_view};
 ghost use Rattle.script_text.specs.Script.{after_lines, script_of};
 
-mod draft;
-mod faults;
+mod errors;
 mod lose_line;
 mod numbers;
+mod parser;
 mod stream_line;
 #[cfg(test)]
 mod tests;
 mod words;
 
-use draft::Draft;
-use faults::bad;
+use errors::bad;
+use parser::Parser;
 use stat_plan::lines::next_line;
 use stat_plan::{Reason, Script, TextError, Topology};
 use std::alloc::Global;
 
-// Takes the lines of a text into a draft.
-fn read_lines(text: &[u8], topology: &Topology, draft: &mut Draft) -> Result<(), TextError>
+// Takes the lines of a text into a parser.
+fn read_lines(text: &[u8], topology: &Topology, parser: &mut Parser) -> Result<(), TextError>
     requires { IsTopology topology.now }
-    ensures ok { OnOk result (after_lines topology.now (said draft.old) 1 (lines text.now) ≡ Ok (said draft.new)) }
-    ensures err { IfErr result (λ e. e ≢ OutOfMemory → after_lines topology.now (said draft.old) 1 (lines text.now) ≡ Err e) }
+    ensures ok { OnOk result (after_lines topology.now (parser_view parser.old) 1 (lines text.now) ≡ Ok (parser_view parser.new)) }
+    ensures err { IfErr result (λ e. e ≢ OutOfMemory → after_lines topology.now (parser_view parser.old) 1 (lines text.now) ≡ Err e) }
 {
     let mut rest = text;
     let mut line = 1;
     while let Some((next, after)) = next_line(rest) {
-        draft.take(line, next, topology)?;
+        parser.take(line, next, topology)?;
         rest = after;
         line += 1;
     }
@@ -55,11 +55,11 @@ pub fn read(alloc: Global, text: &[u8], topology: &Topology) -> Result<Script, T
     ensures fits { IfOk result (λ c. ScriptFits topology.now c) }
     ensures err { IfErr result (λ e. e ≢ OutOfMemory → script_of topology.now text.now ≡ Err e) }
 {
-    topology.is_topology();
-    let mut draft = Draft::new(alloc);
-    read_lines(text, topology, &mut draft)?;
-    if draft.streams.is_empty() {
+    topology.invariant();
+    let mut parser = Parser::new(alloc);
+    read_lines(text, topology, &mut parser)?;
+    if parser.streams.is_empty() {
         return Err(bad(0, Reason::NoStream));
     }
-    Ok(Script::new(draft.streams, draft.faults))
+    Ok(Script::new(parser.streams, parser.faults))
 }

@@ -2,10 +2,10 @@
 
 ghost use Rattle.std.specs.Prelude.{◌≡◌, IfErr, IfOk, Ok, Err, nat_eq};
 ghost use Rattle.std.specs.List.{list_any};
-ghost use Rattle.script_text.specs.Meant.{meant_lose};
+ghost use Rattle.script_text.specs.ParserViews.{meant_lose};
 ghost use Rattle.script_text.specs.Losses.{lost_node, fault_of};
 
-use crate::faults::{bad, over};
+use crate::errors::{bad, over};
 use crate::numbers::number_from;
 use crate::words::LoseLine;
 use stat_plan::{FAULT_LIMIT, Fault, Quantity, Reason, TextError, Topology};

@@ -3,7 +3,7 @@
 ghost use Rattle.std.specs.Prelude.{◌≡◌, ◌<◌, ◌≤◌, ◌^◌, IfErr, IfOk, Ok, Err};
 ghost use Rattle.script_text.specs.Numbers.{number_from};
 
-use crate::faults::bad;
+use crate::errors::bad;
 use stat_plan::lines::number_in;
 use stat_plan::{Reason, TextError};
 

@@ -2,15 +2,15 @@
 
 ghost use Rattle.std.specs.Prelude.{◌≡◌, ◌≢◌, ◌<◌, ◌++◌, [], ◌∷◌, IfErr, OnOk, IfOk, Ok, Err, length, ℕ, nat_eq, ◌^◌};
 ghost use Rattle.std.specs.List.{list_any};
-ghost use Rattle.stat_plan.specs.Kept.{IsMode, IsStream};
+ghost use Rattle.stat_plan.specs.Invariants.{IsMode, IsStream};
 ghost use Rattle.stat_plan.specs.Lines.{words};
 ghost use Rattle.stat_plan.specs.Topologies.{IsTopology};
 ghost use Rattle.stat_plan.specs.declared.text_error.TextError.TheVariants.{OutOfMemory};
-ghost use Rattle.script_text.specs.Meant.{mode_words, meant_stream};
+ghost use Rattle.script_text.specs.ParserViews.{mode_words, meant_stream};
 ghost use Rattle.script_text.specs.Marks.{marked_from};
 ghost use Rattle.script_text.specs.Streams.{new_number, stream_number, mode_of, daemon_of, with_named, all_daemons, daemons_of, stream_of};
 
-use crate::faults::{bad, over};
+use crate::errors::{bad, over};
 use crate::numbers::number_from;
 use crate::words::{ModeText, StreamLine, is_word};
 use stat_plan::lines::next_word;

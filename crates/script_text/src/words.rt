@@ -5,7 +5,7 @@ ghost use Rattle.std.specs.Prelude.{◌≡◌, ◌<◌, ◌∷◌, length, IfNon
 ghost use Rattle.std.specs.Str.{bytes_eq};
 ghost use Rattle.stat_plan.specs.Lines.{words};
 ghost use Rattle.script_text.specs.Words.{are_names, after_mode, stream_words, lose_words};
-ghost use Rattle.script_text.specs.Meant.{mode_words, meant_stream, meant_lose};
+ghost use Rattle.script_text.specs.ParserViews.{mode_words, meant_stream, meant_lose};
 
 use stat_plan::lines::next_word;
 

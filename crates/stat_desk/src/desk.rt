@@ -22,16 +22,16 @@ pub trait Desk {
     ghost last_fault: { Self → Option (List ℕ) };
 
     /// The bytes of the file of a name, where the desk tells them. `None` says nothing.
-    ghost told: { Self → List ℕ → Option (List ℕ) };
+    ghost contents: { Self → List ℕ → Option (List ℕ) };
 
     /// Gives all bytes of the file of that name, if they are at most `max`. Answers `Failed` only where
     /// the desk counted a fault at this name, and `TooLong` only where the file has more than `max`
     /// bytes. No read changes what the desk tells.
     fn read(&mut self, name: &str, max: u64) -> Result<Vec<u8>, DeskError>
-        ensures whole { IfOk result (λ bytes. IsWhole (told self.old name.now) max bytes.items) }
-        ensures too_long { IsErrOf result DeskError.TooLong → IsLonger (told self.old name.now) max }
+        ensures whole { IfOk result (λ bytes. IsWhole (contents self.old name.now) max bytes.items) }
+        ensures too_long { IsErrOf result DeskError.TooLong → IsLonger (contents self.old name.now) max }
         ensures failed { IsErrOf result DeskError.Failed → FailedAt (faults self.old) (faults self.new) (last_fault self.new) name.now }
         ensures counts { CountsAt (faults self.old) (faults self.new) (last_fault self.old) (last_fault self.new) name.now }
         ensures small { faults self.new < 2 ^ 64 }
-        ensures told { told self.new ≡ told self.old };
+        ensures contents { contents self.new ≡ contents self.old };
 }

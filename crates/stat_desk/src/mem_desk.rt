@@ -113,7 +113,7 @@ impl Desk for MemDesk {
 
     ghost last_fault = { λ d. d.last_fault };
 
-    ghost told = { λ d name. file_of d.files name };
+    ghost contents = { λ d name. file_of d.files name };
 
     // `exactly` says what each read gives, and `state` what it leaves behind. A read that ends in want of
     // memory leaves the desk as it was, and has no number.
@@ -123,7 +123,7 @@ impl Desk for MemDesk {
         ensures failed { IsErrOf result DeskError.Failed → FailedAt self.old.faults self.new.faults self.new.last_fault name.now }
         ensures counts { CountsAt self.old.faults self.new.faults self.old.last_fault self.new.last_fault name.now }
         ensures small { self.new.faults < 2 ^ 64 }
-        ensures told { self.new.files ≡ self.old.files }
+        ensures contents { self.new.files ≡ self.old.files }
         ensures state { self.new ≡ after_read self.old name.now result }
         ensures exactly { Gives (read_answer self.old name.now max) result }
     {

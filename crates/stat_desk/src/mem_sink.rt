@@ -82,7 +82,7 @@ impl MemSink {
 impl Sink for MemSink {
     ghost faults = { λ s. s.faults };
 
-    ghost held = { λ s. Some s.bytes };
+    ghost contents = { λ s. Some s.bytes };
 
     // `exactly` says what each write gives, and `state` what it leaves behind.
     fn write(&mut self, piece: &[u8]) -> Result<usize, SinkError>

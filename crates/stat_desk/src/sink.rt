@@ -16,13 +16,13 @@ pub trait Sink {
     ghost faults: { Self → ℕ };
 
     /// The bytes that the sink holds, where it tells them. `None` says nothing.
-    ghost held: { Self → Option (List ℕ) };
+    ghost contents: { Self → Option (List ℕ) };
 
     /// Takes bytes from the front of the piece, at least one where there is one, and says how many.
     /// Answers `Failed` only where the sink counted a fault, and then it took nothing.
     fn write(&mut self, piece: &[u8]) -> Result<usize, SinkError>
-        ensures taken { IfOk result (TakesFirst (held self.old) (held self.new) piece.now) }
-        ensures err { OnErr result (held self.new ≡ held self.old) }
+        ensures taken { IfOk result (TakesFirst (contents self.old) (contents self.new) piece.now) }
+        ensures err { OnErr result (contents self.new ≡ contents self.old) }
         ensures cause { HasCause (faults self.old) (faults self.new) result }
         ensures small { faults self.new < 2 ^ 64 };
 }
@@ -30,8 +30,8 @@ pub trait Sink {
 /// Offers what is left of the bytes until all is taken, or a write fails. Takes no memory, and offers
 /// nothing where there are no bytes.
 pub fn write_all_to<S: Sink>(sink: &mut S, bytes: &[u8]) -> Result<(), SinkError>
-    ensures ok { OnOk result (Appends (S.held sink.old) (S.held sink.new) bytes.now) }
-    ensures err { OnErr result (AppendsPrefix (S.held sink.old) (S.held sink.new) bytes.now) }
+    ensures ok { OnOk result (Appends (S.contents sink.old) (S.contents sink.new) bytes.now) }
+    ensures err { OnErr result (AppendsPrefix (S.contents sink.old) (S.contents sink.new) bytes.now) }
     ensures cause { HasCause (S.faults sink.old) (S.faults sink.new) result }
     ensures nothing { bytes.now ≡ [] → sink.new ≡ sink.old }
 {

@@ -71,7 +71,7 @@ impl<R: Files> Desk for FileDesk<'_, R> {
 
     ghost last_fault = { λ d. option_map string_bytes d.last_fault };
 
-    ghost told = { λ d name. None };
+    ghost contents = { λ d name. None };
 
     // The memory for the name is taken first, so that a fault can always be counted with its name.
     fn read(&mut self, name: &str, max: u64) -> Result<Vec<u8>, DeskError> {
@@ -109,7 +109,7 @@ impl<'a, R: Print> StdSink<'a, R> {
 impl<R: Print> Sink for StdSink<'_, R> {
     ghost faults = { λ s. s.faults };
 
-    ghost held = { λ s. None };
+    ghost contents = { λ s. None };
 
     fn write(&mut self, piece: &[u8]) -> Result<usize, SinkError> {
         match self.rt.write_some(piece) {

@@ -4,9 +4,9 @@ use Rattle.std.specs.Prelude.{find}
 use Rattle.std.specs.List.{AllByRecursion}
 use Rattle.std.proofs.lemmas.Bool.{cases_Bool, cases_lt}
 use Rattle.std.proofs.lemmas.List.{take_more, append_assoc, append-nil}
-use Rattle.stat_plan.specs.NodeSets.{In, IsAscending}
+use Rattle.stat_plan.specs.NodeSets.{In, IsStrictlyIncreasing}
 use Rattle.stat_plan.specs.Samples.{samples_of, wave_lines}
-use Rattle.stat_plan.specs.Kept.{IsJob, IsDaemon}
+use Rattle.stat_plan.specs.Invariants.{IsJob, IsDaemon}
 use Rattle.stat_plan.specs.Plans.{Plan, Stream, nodes, nodes_of, samples, sample_count, daemons, stream_of, stream_ranks, ranks_on, up_to, waves_of}
 use Rattle.stat_plan.specs.Limits.{RefusesAt, first_over, is_over, is_within_limit, stream_waves, wave_is_within}
 use Rattle.stat_plan.specs.declared.plan_error.PlanError.{PlanError}
@@ -109,7 +109,7 @@ in_numbers (x ∷ xs) zero d lt = inl refl
 in_numbers (x ∷ xs) (suc i) d lt = inr (in_numbers xs i d (omega arith))
 
 -- streams of rising numbers are found by their numbers
-found_by_number : (xs : List Stream) (i : ℕ) (d : Stream) → IsAscending (map (λ (x : Stream). x.number) xs) → i < length xs → find (λ x. x.number == (get_or xs i d).number) xs ≡ Some (get_or xs i d)
+found_by_number : (xs : List Stream) (i : ℕ) (d : Stream) → IsStrictlyIncreasing (map (λ (x : Stream). x.number) xs) → i < length xs → find (λ x. x.number == (get_or xs i d).number) xs ≡ Some (get_or xs i d)
 found_by_number [] i d up lt = absurd (omega arith)
 found_by_number (x ∷ xs) zero d up lt = ap (λ b. cond b (Some x) (find (λ y. y.number == x.number) xs)) (eqb_self x.number)
 found_by_number (x ∷ xs) (suc i) d up lt =

@@ -12,7 +12,7 @@ use Rattle.rank_set.specs.Ranks.{Ranks, none, has, Has, in_order, union, has-uni
 use Rattle.prefix_tree.proofs.TreeLemmas.{some_member}
 use Rattle.stat_plan.specs.NodeSets.{In, member}
 use Rattle.stat_plan.specs.Samples.{ranks_with, IsWithinLimit}
-use Rattle.stat_plan.specs.Kept.{IsJob, IsPlan, IsDaemon}
+use Rattle.stat_plan.specs.Invariants.{IsJob, IsPlan, IsDaemon}
 use Rattle.stat_plan.specs.Plans.{Plan, Stream, nodes, nodes_of, ranks, daemons, stream_of, serves, is_within, those_within, ranks_on, expected, stream_ranks, waves_of, samples as wave_samples}
 use Rattle.stat_plan.specs.Limits.{first_over, is_over, wave_is_within}
 use Rattle.prefix_tree.specs.Tree.{tree_of, count_below}

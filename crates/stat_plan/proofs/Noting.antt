@@ -4,10 +4,10 @@ use Rattle.std.proofs.lemmas.Bool.{true≢false, cases_Bool, or_cases, eqb-false
 use Rattle.std.proofs.lemmas.List.{length-set, get_or-set_same, get_or-set_other, get_or_default, get_or-map, map-set, length-map}
 use Rattle.rank_set.specs.Ranks.{Ranks, none, has, Has, union, has-union, has-none}
 use Rattle.stat_plan.specs.NodeSets.{In}
-use Rattle.stat_plan.specs.Kept.{ArePlacedOnce}
+use Rattle.stat_plan.specs.Invariants.{ArePlacedOnce}
 use Rattle.stat_plan.specs.Samples.{ranks_with, all_ranks}
 use Rattle.rank_set.specs.Runs.{IsRun}
-use Rattle.stat_plan.specs.Tables.{AreHomes, TakesNote, TakesRun, rows_in}
+use Rattle.stat_plan.specs.Tables.{AreHomes, IndexesLine, IndexesRun, rows_view}
 
 -- a node of the ranks of some sets
 pub record IsHome (placed : List Ranks) (r node : ℕ) : Type 0 where
@@ -30,8 +30,8 @@ pub home_of : (placed : List Ranks) (r : ℕ) → has (all_ranks placed) r ≡ t
 home_of placed r there = elim (in_some none placed r there) [ (inl first) ↦ absurd (true≢false (sym first ∙ has-none r)) | (inr home) ↦ home ]
 
 -- the node that stands at a rank is its node
-pub home_is : (placed : List Ranks) (homes : List ℕ) (r : ℕ) → AreHomes placed homes → has (all_ranks placed) r ≡ true → IsHome placed r (get_or homes r 0)
-home_is placed homes r are there =
+pub home_is : (placed : List Ranks) (rank_to_node : List ℕ) (r : ℕ) → AreHomes placed rank_to_node → has (all_ranks placed) r ≡ true → IsHome placed r (get_or rank_to_node r 0)
+home_is placed rank_to_node r are there =
     let home = home_of placed r there in
     subst (IsHome placed r) (sym (are.each home.0 r home.1.holds).1) home.1
 
@@ -62,8 +62,8 @@ past (D ∷ Ds) zero le = absurd (omega arith)
 past (D ∷ Ds) (suc n) le = past Ds n (omega arith)
 
 -- all nodes are noted
-pub homes_all : (placed : List Ranks) (homes : List ℕ) → length homes ≡ 16384 → ((n r : ℕ) → n < length placed → Has r (get_or placed n none) → (r < 16384) × (get_or homes r 0 ≡ n)) → AreHomes placed homes
-homes_all placed homes all each = record {
+pub rank_to_node_all : (placed : List Ranks) (rank_to_node : List ℕ) → length rank_to_node ≡ 16384 → ((n r : ℕ) → n < length placed → Has r (get_or placed n none) → (r < 16384) × (get_or rank_to_node r 0 ≡ n)) → AreHomes placed rank_to_node
+rank_to_node_all placed rank_to_node all each = record {
   all = all;
   each = λ n r there. elim (cases_lt n (length placed)) [
     | (inl inside) ↦ each n r inside there
@@ -72,7 +72,7 @@ homes_all placed homes all each = record {
 }
 
 -- nothing of a run is noted yet
-pub run_none : (placed : List Ranks) (first last number : ℕ) (old : List (List ℕ)) → TakesRun placed first last first number old old
+pub run_none : (placed : List Ranks) (first last number : ℕ) (old : List (List ℕ)) → IndexesRun placed first last first number old old
 run_none placed first last number old = record {
   paired = refl;
   kept = λ n i there. there;
@@ -97,12 +97,12 @@ module _ (rows : List (List ℕ)) (node : ℕ) (row : List ℕ) (inside : node <
   ]
 
 -- the number is noted at the node of a rank, and of those that follow it there
-pub run_more : (placed : List Ranks) (homes : List ℕ) (first last number : ℕ) (old new : List (List ℕ)) (node r next : ℕ) (row : List ℕ)
-    → AreHomes placed homes → length old ≡ length placed → IsHome placed r node → first ≤ r → r ≤ last
+pub run_more : (placed : List Ranks) (rank_to_node : List ℕ) (first last number : ℕ) (old new : List (List ℕ)) (node r next : ℕ) (row : List ℕ)
+    → AreHomes placed rank_to_node → length old ≡ length placed → IsHome placed r node → first ≤ r → r ≤ last
     → ((q : ℕ) → r ≤ q → q < next → Has q (get_or placed node none))
     → ((i : ℕ) → In i (get_or new node []) → In i row) → In number row → ((i : ℕ) → In i row → In i (get_or new node []) ⊎ (i ≡ number))
-    → TakesRun placed first last r number old new → TakesRun placed first last next number old (set new node row)
-run_more placed homes first last number old new node r next row are paired home begun within own kept here only so_far = record {
+    → IndexesRun placed first last r number old new → IndexesRun placed first last next number old (set new node row)
+run_more placed rank_to_node first last number old new node r next row are paired home begun within own kept here only so_far = record {
   paired = length-set new node row ∙ so_far.paired;
   kept = λ n i there. stays new node row inside kept n i (so_far.kept n i there);
   noted = λ n q below start before at. elim (cases_lt q r) [
@@ -126,7 +126,7 @@ run_more placed homes first last number old new node r next row are paired home 
     inside = let a = home.inside in let b = so_far.paired in omega (arith, a, b, paired)
 
 -- what is past the last is past the run
-pub run_all : (placed : List Ranks) (first last past number : ℕ) (old new : List (List ℕ)) → last < past → TakesRun placed first last past number old new → TakesRun placed first last (last + 1) number old new
+pub run_all : (placed : List Ranks) (first last past number : ℕ) (old new : List (List ℕ)) → last < past → IndexesRun placed first last past number old new → IndexesRun placed first last (last + 1) number old new
 run_all placed first last past number old new beyond so_far = record {
   paired = so_far.paired;
   kept = so_far.kept;
@@ -152,7 +152,7 @@ notes_none placed ranks number old = record {
 
 -- a run more of them is noted
 pub notes_more : (placed : List Ranks) (ranks : Ranks) (number : ℕ) (old mid new : List (List ℕ)) (from first last : ℕ)
-    → IsRun ranks from first last → Notes placed ranks number old mid from → TakesRun placed first last (last + 1) number mid new → Notes placed ranks number old new (last + 1)
+    → IsRun ranks from first last → Notes placed ranks number old mid from → IndexesRun placed first last (last + 1) number mid new → Notes placed ranks number old new (last + 1)
 notes_more placed ranks number old mid new from first last run so_far takes = record {
   paired = takes.paired ∙ so_far.paired;
   kept = λ n i there. takes.kept n i (so_far.kept n i there);
@@ -170,7 +170,7 @@ notes_more placed ranks number old mid new from first last run so_far takes = re
 }
 
 -- all is noted where no rank is left
-pub notes_all : (placed : List Ranks) (ranks : Ranks) (number : ℕ) (old new : List (List ℕ)) (from : ℕ) → ((q : ℕ) → from ≤ q → has ranks q ≡ false) → Notes placed ranks number old new from → TakesNote placed ranks number old new
+pub notes_all : (placed : List Ranks) (ranks : Ranks) (number : ℕ) (old new : List (List ℕ)) (from : ℕ) → ((q : ℕ) → from ≤ q → has ranks q ≡ false) → Notes placed ranks number old new from → IndexesLine placed ranks number old new
 notes_all placed ranks number old new from none_left so_far = record {
   paired = so_far.paired;
   kept = so_far.kept;
@@ -182,13 +182,13 @@ notes_all placed ranks number old new from none_left so_far = record {
 }
 
 -- the rows where one of them was changed
-pub rows_changed : (table : List (Vec ℕ Global)) (node : ℕ) (new : Vec ℕ Global) → rows_in (set table node new) ≡ set (rows_in table) node new.items
+pub rows_changed : (table : List (Vec ℕ Global)) (node : ℕ) (new : Vec ℕ Global) → rows_view (set table node new) ≡ set (rows_view table) node new.items
 rows_changed table node new = map-set (λ (r : Vec ℕ Global). r.items) table node new
 
 -- a row of a table, as it stands among the rows
-pub row_at : (table : List (Vec ℕ Global)) (node : ℕ) (d : Vec ℕ Global) → node < length table → (get_or table node d).items ≡ get_or (rows_in table) node []
+pub row_at : (table : List (Vec ℕ Global)) (node : ℕ) (d : Vec ℕ Global) → node < length table → (get_or table node d).items ≡ get_or (rows_view table) node []
 row_at table node d inside = sym (get_or-map (λ (r : Vec ℕ Global). r.items) table node d [] inside)
 
 -- a table with as many rows as another
-pub as_long : (table old : List (Vec ℕ Global)) (k : ℕ) → length (rows_in table) ≡ length (rows_in old) → length old ≡ k → length table ≡ k
+pub as_long : (table old : List (Vec ℕ Global)) (k : ℕ) → length (rows_view table) ≡ length (rows_view old) → length old ≡ k → length table ≡ k
 as_long table old k same paired = sym (length-map table (λ (r : Vec ℕ Global). r.items)) ∙ same ∙ length-map old (λ (r : Vec ℕ Global). r.items) ∙ paired

@@ -12,7 +12,7 @@ use Rattle.stat_plan.specs.Samples.{SampleLine}
 use Rattle.stat_plan.specs.StackLines.{line_of, lines_of}
 use Rattle.stat_plan.specs.declared.samples.StackLine.{StackLine}
 use Rattle.stat_plan.specs.Plans.{Plan, nodes, up_to, ranks}
-use Rattle.stat_plan.specs.Tables.{IsOwnLine, AreAllOwnLines, AreNoted, TakesNote, line_ranks}
+use Rattle.stat_plan.specs.Tables.{IsOwnLine, AreAllOwnLines, AreNoted, IndexesLine, line_ranks}
 use Rattle.stat_plan.proofs.InLists.{in_append, append_left, append_right}
 use Rattle.stat_plan.proofs.TableLemmas.{at_table, length-up_to}
 
@@ -28,10 +28,10 @@ line_ranks_at lines i line at =
     get_or-map (λ (l : SampleLine). l.ranks) lines i line none (slice_get_within lines i line at) ∙ ap (λ (l : SampleLine). l.ranks) (get_or_from_slice_get lines i line line at)
 
 -- one number more is noted
-pub noted_more : (p : Plan) (numbers : List ℕ) (k i : ℕ) (line : SampleLine) (old new : List (List ℕ)) → i ≡ get_or numbers k 0 → k < length numbers → slice_get p.lines i ≡ Some line → AreNoted p (take k numbers) old → TakesNote p.placed line.ranks i old new → AreNoted p (take (k + 1) numbers) new
-noted_more p numbers k i line old new is lt at so_far note = record {
-  paired = note.paired ∙ so_far.paired;
-  own = λ n j there. elim (note.only n j there) [
+pub noted_more : (p : Plan) (numbers : List ℕ) (k i : ℕ) (line : SampleLine) (old new : List (List ℕ)) → i ≡ get_or numbers k 0 → k < length numbers → slice_get p.lines i ≡ Some line → AreNoted p (take k numbers) old → IndexesLine p.placed line.ranks i old new → AreNoted p (take (k + 1) numbers) new
+noted_more p numbers k i line old new is lt at so_far index_line = record {
+  paired = index_line.paired ∙ so_far.paired;
+  own = λ n j there. elim (index_line.only n j there) [
     | (inl before) ↦ let was = so_far.own n j before in (more j (append_left j (take k numbers) (i ∷ []) was.0), was.1)
     | (inr now) ↦ (
       more j (append_right j (take k numbers) (i ∷ []) (inl now.0)),
@@ -44,11 +44,11 @@ noted_more p numbers k i line old new is lt at so_far note = record {
     )
   ];
   all = λ n j below there own. elim (in_append j (take k numbers) (i ∷ []) (less j there)) [
-    | (inl before) ↦ note.kept n j (so_far.all n j below before own)
+    | (inl before) ↦ index_line.kept n j (so_far.all n j below before own)
     | (inr last) ↦ elim last [
       | (inl e) ↦
           subst (λ m. In m (get_or new n [])) (sym e)
-          (note.noted n own.rank (subst (λ m. n < m) (sym so_far.paired) below) (sym (ap (λ s. has s own.rank) (ap (line_ranks p.lines) e ∙ line_ranks_at p.lines i line at)) ∙ own.seen) own.placed)
+          (index_line.noted n own.rank (subst (λ m. n < m) (sym so_far.paired) below) (sym (ap (λ s. has s own.rank) (ap (line_ranks p.lines) e ∙ line_ranks_at p.lines i line at)) ∙ own.seen) own.placed)
       | (inr nothing) ↦ absurd nothing
     ]
   ];

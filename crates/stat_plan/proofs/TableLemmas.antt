@@ -7,7 +7,7 @@ use Rattle.std.proofs.Common.{inl, inr}
 use Rattle.std.proofs.Common.{Vec, Global}
 use Rattle.std.proofs.lemmas.List.{get_or-map}
 use Rattle.stat_plan.specs.NodeSets.{In}
-use Rattle.stat_plan.specs.Tables.{rows_in, ancestors_table}
+use Rattle.stat_plan.specs.Tables.{rows_view, ancestors_table}
 use Rattle.stat_plan.specs.Plans.{Plan, nodes, ancestors, up_to}
 use Rattle.stat_plan.specs.Trees.{parent_of, climb}
 
@@ -59,7 +59,7 @@ climb_below parents inside (suc k) n a i = by (λ p. climb_below parents inside 
     by above (Some p) is (inr later) = above p later
 
 -- a row of the table of ancestors
-pub ancestors_row : (p : Plan) (above : List (Vec ℕ Global)) (d : ℕ) (row : Vec ℕ Global) → rows_in above ≡ ancestors_table p.parents → d < nodes p → d < length above → row ≡ get_or above d row → row.items ≡ ancestors p d
+pub ancestors_row : (p : Plan) (above : List (Vec ℕ Global)) (d : ℕ) (row : Vec ℕ Global) → rows_view above ≡ ancestors_table p.parents → d < nodes p → d < length above → row ≡ get_or above d row → row.items ≡ ancestors p d
 unfolding ancestors
 ancestors_row p above d row table below inside is =
     ap (λ r. r.items) is
@@ -68,7 +68,7 @@ ancestors_row p above d row table below inside is =
     ∙ at_table (climb p.parents (nodes p)) (nodes p) d [] below
 
 -- the table of ancestors has a row for each node
-pub length-ancestors : (parents : List (Option ℕ)) (above : List (Vec ℕ Global)) → rows_in above ≡ ancestors_table parents → length above ≡ length parents
+pub length-ancestors : (parents : List (Option ℕ)) (above : List (Vec ℕ Global)) → rows_view above ≡ ancestors_table parents → length above ≡ length parents
 length-ancestors parents above table = sym (length-map above (λ (r : Vec ℕ Global). r.items)) ∙ ap length table ∙ length-map (up_to (length parents)) (climb parents (length parents)) ∙ length-up_to (length parents)
 
 -- an ancestor is a node

@@ -22,6 +22,6 @@ without_number x [] = []
 without_number x (y ∷ ys) = cond (x == y) (without_number x ys) (y ∷ without_number x ys)
 
 -- each number is less than those after it
-abbrev pub IsAscending : List ℕ → Type 0
-IsAscending [] = ⊤
-IsAscending (x ∷ xs) = ((y : ℕ) → In y xs → x < y) × IsAscending xs
+abbrev pub IsStrictlyIncreasing : List ℕ → Type 0
+IsStrictlyIncreasing [] = ⊤
+IsStrictlyIncreasing (x ∷ xs) = ((y : ℕ) → In y xs → x < y) × IsStrictlyIncreasing xs

@@ -8,12 +8,12 @@ use Rattle.stat_plan.specs.declared.samples.Lines.{Lines}
 use Rattle.stat_plan.specs.declared.samples.Line.{Line}
 
 -- the line that is shown
-abbrev pub shown : Line → SampleLine
-shown line = record { time = line.time; ranks = line.ranks.now; path = line.path.now }
+abbrev pub sample_line_view : Line → SampleLine
+sample_line_view line = record { time = line.time; ranks = line.ranks.now; path = line.path.now }
 
 -- the lines that are shown
-abbrev pub lines_in : Lines → List SampleLine
-lines_in lines = lines_of lines.paths.now lines.lines.now
+abbrev pub lines_view : Lines → List SampleLine
+lines_view lines = lines_of lines.paths.now lines.lines.now
 
 -- the stream of this number, where the plan has one
 abbrev pub IsStreamOf : Plan → ℕ → Option (Bor Stream) → Type 0

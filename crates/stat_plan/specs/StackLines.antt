@@ -14,5 +14,5 @@ abbrev pub lines_of : List Path → List StackLine → List SampleLine
 lines_of paths lines = map (line_of paths) lines
 
 -- each line's path has a number that stands for a path
-abbrev pub AreNumbered : List Path → List StackLine → Type 0
-AreNumbered paths lines = AllByRecursion (λ line. line.path < length paths) lines
+abbrev pub PathIndicesInRange : List Path → List StackLine → Type 0
+PathIndicesInRange paths lines = AllByRecursion (λ line. line.path < length paths) lines

@@ -7,8 +7,8 @@ use Rattle.stat_plan.specs.Plans.{Plan, Stream, nodes, up_to, ranks as node_rank
 use Rattle.stat_plan.specs.Trees.{climb}
 
 -- the rows of a table
-abbrev pub rows_in : {X A : Type 0} → List (Vec X A) → List (List X)
-rows_in table = map (λ row. row.items) table
+abbrev pub rows_view : {X A : Type 0} → List (Vec X A) → List (List X)
+rows_view table = map (λ row. row.items) table
 
 -- each node's ancestors, nearest first, by node number
 abbrev pub ancestors_table : List (Option ℕ) → List (List ℕ)
@@ -46,12 +46,12 @@ pub record AreAllOwnLines (p : Plan) (table : List (List ℕ)) : Type 0 where
   pub each : (n : ℕ) → n < nodes p → AreOwnLines p.lines (node_ranks p n) (slice_index_or table n [])
 
 -- each placed rank has its node's number
-pub record AreHomes (placed : List Ranks) (homes : List ℕ) : Type 0 where
-  pub all : length homes ≡ 16384
-  pub each : (n r : ℕ) → Has r (slice_index_or placed n none) → (r < 16384) × (slice_index_or homes r 0 ≡ n)
+pub record AreHomes (placed : List Ranks) (rank_to_node : List ℕ) : Type 0 where
+  pub all : length rank_to_node ≡ 16384
+  pub each : (n r : ℕ) → Has r (slice_index_or placed n none) → (r < 16384) × (slice_index_or rank_to_node r 0 ≡ n)
 
 -- rows of a table took note of a number, where its line has a rank of the row's node
-pub record TakesNote (placed : List Ranks) (ranks : Ranks) (number : ℕ) (old new : List (List ℕ)) : Type 0 where
+pub record IndexesLine (placed : List Ranks) (ranks : Ranks) (number : ℕ) (old new : List (List ℕ)) : Type 0 where
   pub paired : length new ≡ length old
   pub kept : (n i : ℕ) → In i (slice_index_or old n []) → In i (slice_index_or new n [])
   pub noted : (n r : ℕ) → n < length old → Has r ranks → Has r (slice_index_or placed n none) → In number (slice_index_or new n [])
@@ -59,7 +59,7 @@ pub record TakesNote (placed : List Ranks) (ranks : Ranks) (number : ℕ) (old n
 
 -- rows of a table took note of a number at the nodes of the ranks from the first on and before one that is past, and at no
 -- other nodes than those of the ranks up to the last
-pub record TakesRun (placed : List Ranks) (first last past number : ℕ) (old new : List (List ℕ)) : Type 0 where
+pub record IndexesRun (placed : List Ranks) (first last past number : ℕ) (old new : List (List ℕ)) : Type 0 where
   pub paired : length new ≡ length old
   pub kept : (n i : ℕ) → In i (slice_index_or old n []) → In i (slice_index_or new n [])
   pub noted : (n r : ℕ) → n < length old → first ≤ r → r < past → Has r (slice_index_or placed n none) → In number (slice_index_or new n [])
@@ -81,7 +81,7 @@ pub record AreAllExpected (p : Plan) (streams : List Stream) (tables : List (Lis
   pub each : (i : ℕ) (x : Stream) → slice_get streams i ≡ Some x → AreExpected p x.daemons (slice_index_or tables i [])
 
 -- the tables of a plan: each node's ancestors, the numbers of the lines that have one of its ranks, and what it expects
-pub record AreTables (p : Plan) (ancestors own_lines : List (List ℕ)) (expected : List (List Ranks)) : Type 0 where
+pub record AreTables (p : Plan) (ancestors line_index : List (List ℕ)) (expected : List (List Ranks)) : Type 0 where
   pub above : ancestors ≡ ancestors_table p.parents
-  pub lines : AreAllOwnLines p own_lines
+  pub lines : AreAllOwnLines p line_index
   pub ranks : AreAllExpected p p.streams expected

@@ -1,7 +1,7 @@
 //! Each node's ancestors.
 
 ghost use Rattle.std.specs.Prelude.{◌≡◌, ◌<◌, IfOk, length};
-ghost use Rattle.stat_plan.specs.Tables.{ancestors_table, rows_in};
+ghost use Rattle.stat_plan.specs.Tables.{ancestors_table, rows_view};
 ghost use Rattle.stat_plan.specs.Trees.{climb};
 
 use crate::topology::Topology;
@@ -12,7 +12,7 @@ fn ancestors_of(alloc: Global, topology: &Topology, n: u32) -> Result<Vec<u32>, 
     requires { n < length topology.now.parents }
     ensures { IfOk result (λ above. above.items ≡ climb topology.now.parents (length topology.now.parents) n) }
 {
-    topology.is_topology();
+    topology.invariant();
     let mut above = Vec::new(alloc);
     let mut at = n;
     for _ in 0..topology.nodes() {
@@ -27,7 +27,7 @@ fn ancestors_of(alloc: Global, topology: &Topology, n: u32) -> Result<Vec<u32>, 
 
 /// Each node's ancestors, nearest first, by node number.
 pub fn ancestors_table(alloc: Global, topology: &Topology) -> Result<Vec<Vec<u32>>, AllocError>
-    ensures { IfOk result (λ table. rows_in table.items ≡ ancestors_table topology.now.parents) }
+    ensures { IfOk result (λ table. rows_view table.items ≡ ancestors_table topology.now.parents) }
 {
     let mut table = Vec::new(alloc);
     for n in 0..topology.nodes() {

@@ -4,7 +4,7 @@ ghost use Rattle.std.specs.Prelude.{◌≡◌, ◌<◌, ℕ, IfOk, OnOk, [], ◌
 ghost use Rattle.rank_set.specs.Ranks.{none};
 ghost use Rattle.stat_plan.specs.NodeSets.{In};
 ghost use Rattle.stat_plan.specs.Plans.{nodes, up_to};
-ghost use Rattle.stat_plan.specs.Tables.{AreExpected, GainRanks, ancestors_table, rows_in};
+ghost use Rattle.stat_plan.specs.Tables.{AreExpected, GainRanks, ancestors_table, rows_view};
 
 use crate::job::Job;
 use rank_set::RankSet;
@@ -34,12 +34,12 @@ fn add_daemons(
     above: &[Vec<u32>],
     daemons: &[u32],
 ) -> Result<(), AllocError>
-    requires above { rows_in above.now ≡ ancestors_table job.now.parents }
+    requires above { rows_view above.now ≡ ancestors_table job.now.parents }
     requires daemons { (d : ℕ) → In d daemons.now → d < nodes job.now }
     requires empty { AreExpected job.now [] sets.old }
     ensures { OnOk result (AreExpected job.now daemons.now sets.new) }
 {
-    job.is_job();
+    job.invariant();
     let placed = job.placed();
     for d in daemons {
         let row = &above[*d as usize];
@@ -68,7 +68,7 @@ pub fn expected_sets(
     above: &[Vec<u32>],
     daemons: &[u32],
 ) -> Result<Vec<RankSet>, AllocError>
-    requires above { rows_in above.now ≡ ancestors_table job.now.parents }
+    requires above { rows_view above.now ≡ ancestors_table job.now.parents }
     requires daemons { (d : ℕ) → In d daemons.now → d < nodes job.now }
     ensures { IfOk result (λ sets. AreExpected job.now daemons.now sets.items) }
 {

@@ -1,11 +1,11 @@
 //! A job: what its three files say together.
 
 ghost use Rattle.std.specs.Prelude.{◌≡◌, ◌<◌, Some, length, slice_get};
-ghost use Rattle.stat_plan.specs.Kept.{IsJob, SamplesFit, ScriptFits};
+ghost use Rattle.stat_plan.specs.Invariants.{IsJob, SamplesFit, ScriptFits};
 ghost use Rattle.stat_plan.specs.Plans.{plan_of, nodes, front, ranks};
 ghost use Rattle.stat_plan.specs.Names.{name_of};
-ghost use Rattle.stat_plan.specs.Shown.{lines_in, shown};
-ghost use Rattle.stat_plan.specs.StackLines.{AreNumbered};
+ghost use Rattle.stat_plan.specs.Shown.{lines_view, sample_line_view};
+ghost use Rattle.stat_plan.specs.StackLines.{PathIndicesInRange};
 ghost use Rattle.stat_plan.specs.Trees.{parent_of, is_daemon};
 
 use crate::samples::{Line, Lines, Samples};
@@ -30,7 +30,7 @@ impl Model for Job {
 
     ghost coded = { coded_plan };
 
-    ghost use Rattle.stat_plan.specs.Kept.{SamplesFit, ScriptFits};
+    ghost use Rattle.stat_plan.specs.Invariants.{SamplesFit, ScriptFits};
 
     ghost view = { λ a. plan_of a.topology a.samples a.script };
 
@@ -52,12 +52,12 @@ impl Job {
     }
 
     /// What every job is.
-    pub fn is_job(&self)
+    pub fn invariant(&self)
         ensures { IsJob self.now }
     {
-        self.topology.is_topology();
-        self.samples.are_samples();
-        self.script.is_script();
+        self.topology.invariant();
+        self.samples.invariant();
+        self.script.invariant();
     }
 
     /// The nodes.
@@ -71,15 +71,15 @@ impl Job {
     /// A line of samples, by its number.
     pub fn line(&self, i: usize) -> Line<'_>
         requires { i < length self.now.lines }
-        ensures { Some (shown result) ≡ slice_get self.now.lines i }
+        ensures { Some (sample_line_view result) ≡ slice_get self.now.lines i }
     {
         self.samples.line(i)
     }
 
     /// The lines of samples, with the numbers of their paths, and the paths.
     pub fn lines(&self) -> Lines<'_>
-        ensures lines { lines_in result ≡ self.now.lines }
-        ensures numbered { AreNumbered result.paths.now result.lines.now }
+        ensures lines { lines_view result ≡ self.now.lines }
+        ensures numbered { PathIndicesInRange result.paths.now result.lines.now }
     {
         self.samples.lines()
     }

@@ -8,7 +8,7 @@ ghost use Rattle.stat_plan.specs.Limits.{IsTooMuch, MarksLine, RefusesAt, first_
 ghost use Rattle.stat_plan.specs.NodeSets.{In};
 ghost use Rattle.stat_plan.specs.Plans.{nodes, ranks_on, stream_of};
 ghost use Rattle.stat_plan.specs.Samples.{samples_of, wave_lines};
-ghost use Rattle.stat_plan.specs.StackLines.{AreNumbered, line_of, lines_of};
+ghost use Rattle.stat_plan.specs.StackLines.{PathIndicesInRange, line_of, lines_of};
 ghost use Rattle.stat_plan.specs.Tables.{AreLineNumbers};
 
 use crate::job::Job;
@@ -38,7 +38,7 @@ fn mark(
         return Ok(last);
     }
     let mut here = line.ranks.copy()?;
-    here.keep(ranks);
+    here.intersect_with(ranks);
     if here.count() == 0 {
         return Ok(last);
     }
@@ -60,7 +60,7 @@ fn wave_is_within(
     wave: u8,
     ranks: &RankSet,
 ) -> Result<bool, AllocError>
-    requires numbered { AreNumbered paths.now lines.now }
+    requires numbered { PathIndicesInRange paths.now lines.now }
     requires numbers { AreLineNumbers (length lines.now) numbers.now }
     ensures { IfOk result (λ within. within ≡ is_within_limit (samples_of (wave_lines samples wave (lines_of paths.now lines.now))) ranks.now) }
 {
@@ -85,7 +85,7 @@ fn ranks_of(alloc: Global, job: &Job, daemons: &[u32]) -> Result<RankSet, AllocE
     requires { (d : ℕ) → In d daemons.now → d < nodes job.now }
     ensures { IfOk result (λ ranks. ranks ≡ ranks_on job.now daemons.now) }
 {
-    job.is_job();
+    job.invariant();
     let placed = job.placed();
     let mut ranks = RankSet::new(alloc);
     for d in daemons {
@@ -134,7 +134,7 @@ pub fn check_limit(alloc: Global, job: &Job, numbers: &[u32]) -> Result<(), Plan
     ensures ok { OnOk result (first_over job.now ≡ None) }
     ensures err { IfErr result (RefusesAt (first_over job.now)) }
 {
-    job.is_job();
+    job.invariant();
     for stream in job.streams() {
         match check_stream(alloc, job, numbers, stream) {
             Ok(()) => {}

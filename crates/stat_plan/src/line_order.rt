@@ -3,7 +3,7 @@
 
 ghost use Rattle.std.specs.Prelude.{◌≡◌, ◌≤◌, IfOk, length};
 ghost use Rattle.stat_plan.specs.declared.samples.TheConstants.{LINE_LIMIT};
-ghost use Rattle.stat_plan.specs.StackLines.{AreNumbered};
+ghost use Rattle.stat_plan.specs.StackLines.{PathIndicesInRange};
 ghost use Rattle.stat_plan.specs.Tables.{AreLineNumbers};
 
 use crate::samples::StackLine;
@@ -32,7 +32,7 @@ pub fn by_path(
     paths: &[CallPath],
     lines: &[StackLine],
 ) -> Result<Vec<u32>, AllocError>
-    requires numbered { AreNumbered paths.now lines.now }
+    requires numbered { PathIndicesInRange paths.now lines.now }
     requires few { length lines.now ≤ LINE_LIMIT }
     ensures { IfOk result (λ numbers. AreLineNumbers (length lines.now) numbers.items) }
 {

@@ -2,22 +2,22 @@
 
 ghost use Rattle.std.specs.Prelude.{◌≡◌, ◌<◌, ℕ, IfErr, IfOk, IsSome, None, [], length, slice_index_or};
 ghost use Rattle.rank_set.specs.Ranks.{none};
-ghost use Rattle.stat_plan.specs.Kept.{IsPlan, SamplesFit, ScriptFits};
+ghost use Rattle.stat_plan.specs.Invariants.{IsPlan, SamplesFit, ScriptFits};
 ghost use Rattle.stat_plan.specs.Limits.{RefusesAt, first_over};
 ghost use Rattle.stat_plan.specs.Names.{name_of};
 ghost use Rattle.stat_plan.specs.Plans.{ancestors, expected, fault, front, is_under, nodes, plan_of, ranks, serves, stream_of};
-ghost use Rattle.stat_plan.specs.Shown.{IsStreamOf, lines_in};
-ghost use Rattle.stat_plan.specs.StackLines.{AreNumbered};
-ghost use Rattle.stat_plan.specs.Tables.{AreAllExpected, AreOwnLines, ancestors_table, rows_in};
+ghost use Rattle.stat_plan.specs.Shown.{IsStreamOf, lines_view};
+ghost use Rattle.stat_plan.specs.StackLines.{PathIndicesInRange};
+ghost use Rattle.stat_plan.specs.Tables.{AreAllExpected, AreOwnLines, ancestors_table, rows_view};
 ghost use Rattle.stat_plan.specs.Trees.{is_daemon};
 
 use crate::ancestors::ancestors_table;
 use crate::expected::expected_sets;
+use crate::find::{fault_of, is_among, stream_place};
 use crate::job::Job;
 use crate::limit::check_limit;
+use crate::line_index::line_index;
 use crate::line_order::by_path;
-use crate::lookup::{fault_of, is_among, stream_place};
-use crate::own_lines::own_lines;
 use crate::plan_error::PlanError;
 use crate::samples::{Lines, Samples};
 use crate::script::{Fault, Script, StreamDef};
@@ -33,7 +33,7 @@ pub struct Plan {
     // By node number, nearest first.
     ancestors: Vec<Vec<u32>>,
     // By node number: the numbers of the lines that have a rank of the node, in the order of their paths.
-    own_lines: Vec<Vec<u32>>,
+    line_index: Vec<Vec<u32>>,
     // By place of the stream, then by node number.
     expected: Vec<Vec<RankSet>>,
 }
@@ -46,12 +46,12 @@ impl Model for Plan {
 
     ghost coded = { coded_plan };
 
-    ghost use Rattle.stat_plan.specs.Kept.{IsPlan};
-    ghost use Rattle.stat_plan.specs.Tables.{AreTables, rows_in};
+    ghost use Rattle.stat_plan.specs.Invariants.{IsPlan};
+    ghost use Rattle.stat_plan.specs.Tables.{AreTables, rows_view};
 
     ghost view = { λ a. a.job };
 
-    ghost invariant = { λ a. IsPlan a.job × AreTables a.job (rows_in a.ancestors.items) (rows_in a.own_lines.items) (rows_in a.expected.items) };
+    ghost invariant = { λ a. IsPlan a.job × AreTables a.job (rows_view a.ancestors.items) (rows_view a.line_index.items) (rows_view a.expected.items) };
 }
 
 // By place of the stream, the ranks that each node expects of it.
@@ -60,10 +60,10 @@ fn expected_tables(
     job: &Job,
     above: &[Vec<u32>],
 ) -> Result<Vec<Vec<RankSet>>, AllocError>
-    requires { rows_in above.now ≡ ancestors_table job.now.parents }
-    ensures { IfOk result (λ tables. AreAllExpected job.now job.now.streams (rows_in tables.items)) }
+    requires { rows_view above.now ≡ ancestors_table job.now.parents }
+    ensures { IfOk result (λ tables. AreAllExpected job.now job.now.streams (rows_view tables.items)) }
 {
-    job.is_job();
+    job.invariant();
     let mut tables = Vec::new(alloc);
     for stream in job.streams() {
         tables.push(expected_sets(alloc, job, above, stream.daemons())?)?;
@@ -74,7 +74,7 @@ fn expected_tables(
 // A row of a table of numbers.
 fn row_at(table: &[Vec<u32>], n: u32) -> &[u32]
     requires { n < length table.now }
-    ensures { result.now ≡ slice_index_or (rows_in table.now) n [] }
+    ensures { result.now ≡ slice_index_or (rows_view table.now) n [] }
 {
     table[n as usize].as_slice()
 }
@@ -82,8 +82,8 @@ fn row_at(table: &[Vec<u32>], n: u32) -> &[u32]
 // A set of a table of sets.
 fn set_at(tables: &[Vec<RankSet>], i: usize, n: u32) -> &RankSet
     requires table { i < length tables.now }
-    requires set { n < length (slice_index_or (rows_in tables.now) i []) }
-    ensures { result.now ≡ slice_index_or (slice_index_or (rows_in tables.now) i []) n none }
+    requires set { n < length (slice_index_or (rows_view tables.now) i []) }
+    ensures { result.now ≡ slice_index_or (slice_index_or (rows_view tables.now) i []) n none }
 {
     let table = &tables[i];
     &table[n as usize]
@@ -105,7 +105,7 @@ impl Plan {
         ensures err { IfErr result (RefusesAt (first_over (plan_of topology samples script))) }
     {
         let job = Job::new(topology, samples, script);
-        job.is_job();
+        job.invariant();
         let all = job.lines();
         let numbers = by_path(alloc, all.paths, all.lines)?;
         match check_limit(alloc, &job, &numbers) {
@@ -113,18 +113,18 @@ impl Plan {
             Err(e) => return Err(e),
         }
         let ancestors = ancestors_table(alloc, job.topology())?;
-        let own_lines = own_lines(alloc, &job, &numbers)?;
+        let line_index = line_index(alloc, &job, &numbers)?;
         let expected = expected_tables(alloc, &job, &ancestors)?;
         Ok(Plan {
             job,
             ancestors,
-            own_lines,
+            line_index,
             expected,
         })
     }
 
     /// What every plan is.
-    pub fn is_plan(&self)
+    pub fn invariant(&self)
         ensures { IsPlan self.now }
     {
         let _ = &self.job;
@@ -182,7 +182,7 @@ impl Plan {
         requires { n < nodes self.now }
         ensures { result.now ≡ ranks self.now n }
     {
-        self.job.is_job();
+        self.job.invariant();
         &self.job.placed()[n as usize]
     }
 
@@ -220,7 +220,7 @@ impl Plan {
         requires { n < nodes self.now }
         ensures { result ≡ serves self.now n s }
     {
-        self.is_plan();
+        self.invariant();
         match self.stream(s) {
             Some(_) => self.expected(n, s).first().is_some(),
             None => false,
@@ -243,17 +243,17 @@ impl Plan {
 
     /// The lines of samples in the order of their text, with the numbers of their paths, and the paths.
     pub fn lines(&self) -> Lines<'_>
-        ensures lines { lines_in result ≡ self.now.lines }
-        ensures numbered { AreNumbered result.paths.now result.lines.now }
+        ensures lines { lines_view result ≡ self.now.lines }
+        ensures numbered { PathIndicesInRange result.paths.now result.lines.now }
     {
         self.job.lines()
     }
 
     /// The numbers of the lines that have a rank of a node, in the order of their paths.
-    pub fn own_lines(&self, n: u32) -> &[u32]
+    pub fn line_index(&self, n: u32) -> &[u32]
         requires { n < nodes self.now }
         ensures { AreOwnLines self.now.lines (ranks self.now n) result.now }
     {
-        row_at(&self.own_lines, n)
+        row_at(&self.line_index, n)
     }
 }

@@ -2,8 +2,8 @@
 
 ghost use Rattle.std.specs.Prelude.{◌≡◌, ◌<◌, Some, length, slice_get};
 ghost use Rattle.stat_plan.specs.Samples.{is_in_wave};
-ghost use Rattle.stat_plan.specs.Shown.{lines_in, shown};
-ghost use Rattle.stat_plan.specs.Kept.{AreSamples};
+ghost use Rattle.stat_plan.specs.Shown.{lines_view, sample_line_view};
+ghost use Rattle.stat_plan.specs.Invariants.{AreSamples};
 ghost use Rattle.stat_plan.specs.Plans.{sampled};
 
 use call_path::CallPath;
@@ -69,20 +69,20 @@ impl Model for Samples {
 
     ghost coded = { coded_sampled };
 
-    ghost use Rattle.stat_plan.specs.StackLines.{lines_of, AreNumbered};
-    ghost use Rattle.stat_plan.specs.Kept.{AreSamples};
+    ghost use Rattle.stat_plan.specs.StackLines.{lines_of, PathIndicesInRange};
+    ghost use Rattle.stat_plan.specs.Invariants.{AreSamples};
 
     ghost view = { λ a. sampled a.placed.items (lines_of a.paths.items a.lines.items) };
 
-    ghost invariant = { λ a. AreNumbered a.paths.items a.lines.items × AreSamples (sampled a.placed.items (lines_of a.paths.items a.lines.items)) };
+    ghost invariant = { λ a. PathIndicesInRange a.paths.items a.lines.items × AreSamples (sampled a.placed.items (lines_of a.paths.items a.lines.items)) };
 }
 
 impl Samples {
-    ghost use Rattle.stat_plan.specs.StackLines.{lines_of, AreNumbered, line_of};
+    ghost use Rattle.stat_plan.specs.StackLines.{lines_of, PathIndicesInRange, line_of};
 
     /// The samples of these ranks by node number, and these lines, whose paths stand by their numbers. It takes no memory.
     pub fn new(placed: Vec<RankSet>, paths: Vec<CallPath>, lines: Vec<StackLine>) -> Samples
-        requires numbered { AreNumbered paths.items lines.items }
+        requires numbered { PathIndicesInRange paths.items lines.items }
         requires samples { AreSamples (sampled placed.items (lines_of paths.items lines.items)) }
         ensures { result ≡ sampled placed.items (lines_of paths.items lines.items) }
     {
@@ -94,7 +94,7 @@ impl Samples {
     }
 
     /// What all samples are.
-    pub fn are_samples(&self)
+    pub fn invariant(&self)
         ensures { AreSamples self.now }
     {
         let _ = &self.placed;
@@ -117,7 +117,7 @@ impl Samples {
     /// A line, by its number from 0 in the order of the text.
     pub fn line(&self, i: usize) -> Line<'_>
         requires { i < length self.now.lines }
-        ensures { Some (shown result) ≡ slice_get self.now.lines i }
+        ensures { Some (sample_line_view result) ≡ slice_get self.now.lines i }
     {
         let line = &self.lines[i];
         Line {
@@ -129,8 +129,8 @@ impl Samples {
 
     /// The lines, with the numbers of their paths, and the paths.
     pub fn lines(&self) -> Lines<'_>
-        ensures lines { lines_in result ≡ self.now.lines }
-        ensures numbered { AreNumbered result.paths.now result.lines.now }
+        ensures lines { lines_view result ≡ self.now.lines }
+        ensures numbered { PathIndicesInRange result.paths.now result.lines.now }
     {
         Lines {
             lines: self.lines.as_slice(),

@@ -2,7 +2,7 @@
 
 ghost use Rattle.std.specs.Prelude.{◌≡◌, []};
 ghost use Rattle.stat_plan.specs.Plans.{Scripted, Stream};
-ghost use Rattle.stat_plan.specs.Kept.{IsScript, IsStream};
+ghost use Rattle.stat_plan.specs.Invariants.{IsScript, IsStream};
 
 use std::marker::Model;
 
@@ -55,7 +55,7 @@ pub struct StreamDef {
 
 impl Model for StreamDef {
     ghost use Rattle.stat_plan.specs.Plans.{Stream, stream};
-    ghost use Rattle.stat_plan.specs.Kept.{IsStream};
+    ghost use Rattle.stat_plan.specs.Invariants.{IsStream};
 
     ghost Value = { Stream };
 
@@ -83,7 +83,7 @@ impl StreamDef {
     }
 
     /// What every stream is.
-    pub fn is_stream(&self)
+    pub fn invariant(&self)
         ensures { IsStream self.now }
     {
         let _ = &self.daemons;
@@ -134,7 +134,7 @@ pub struct Script {
 
 impl Model for Script {
     ghost use Rattle.stat_plan.specs.Plans.{Scripted, scripted};
-    ghost use Rattle.stat_plan.specs.Kept.{IsScript};
+    ghost use Rattle.stat_plan.specs.Invariants.{IsScript};
 
     ghost Value = { Scripted };
 
@@ -155,7 +155,7 @@ impl Script {
     }
 
     /// What every script is.
-    pub fn is_script(&self)
+    pub fn invariant(&self)
         ensures { IsScript self.now }
     {
         let _ = &self.streams;

@@ -27,7 +27,7 @@ pub enum Reason {
     NotUtf8,
     /// A line does not have the words that such a line must have.
     BadDirective,
-    /// A name is none of a daemon.
+    /// The name isn't a daemon's.
     NotADaemon,
     /// A word is no set of ranks.
     BadRanks,

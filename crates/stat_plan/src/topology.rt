@@ -55,7 +55,7 @@ impl Topology {
     }
 
     /// What every topology is.
-    pub fn is_topology(&self)
+    pub fn invariant(&self)
         ensures { IsTopology self.now }
     {
         let _ = &self.parents;

@@ -7,7 +7,7 @@ use Rattle.rank_set.specs.Ranks.{Ranks, Has}
 use Rattle.prefix_tree.specs.Pairs.{HasNoEmptyPath}
 use Rattle.prefix_tree.specs.Tree.{tree_of}
 use Rattle.equiv_class.proofs.SamePairs.{classes_of_tree}
-use Rattle.stat_plan.specs.Kept.{IsPlan, IsSampleLine}
+use Rattle.stat_plan.specs.Invariants.{IsPlan, IsSampleLine}
 use Rattle.stat_plan.specs.NodeSets.{In}
 use Rattle.stat_plan.specs.Plans.{Plan, daemons, fault, front, samples, sample_count, ranks, stream_ranks, waves_of}
 use Rattle.stat_plan.specs.Samples.{AreNoDeeper, SampleLine, is_in_wave}
@@ -24,14 +24,14 @@ use Rattle.overlay_core.specs.Runs.{IsLegalFrom, IsWhole, after}
 use Rattle.overlay_core.specs.TreeReleases.{TreeRelease, bare_releases}
 use Rattle.overlay_core.specs.Whole.{EndsFinally}
 use Rattle.overlay_core.proofs.Ended.{all_of_stream, whole_has_ended}
-use Rattle.overlay_core.proofs.Grounds.{grounds}
+use Rattle.overlay_core.proofs.PlanFacts.{plan_facts}
 use Rattle.overlay_core.proofs.Lists.{append_right, filter_from}
 use Rattle.overlay_core.proofs.Releases.{legal_log}
 use Rattle.overlay_node.specs.Packets.{ReleaseFits}
 use Rattle.stat_tool.specs.Call.{Answered, DeskSeen, Ended, EndsByPlan, Finishes, SinkSeen}
-use Rattle.stat_tool.specs.Course.{Does, Gave, Got, course}
+use Rattle.stat_tool.specs.NextStep.{Does, AreReadResults, ReadResult, next_step}
 use Rattle.stat_tool.specs.Words.{Names, in_order}
-use Rattle.stat_tool.specs.Work.{ComesTo, EndsWhole, EndsWithAll, HasRun, IsDirect, Job, RunJob, Work}
+use Rattle.stat_tool.specs.RunOutput.{HasOutput, EndsWhole, EndsWithAll, HasRun, IsDirect, Job, RunJob, RunOutput}
 use Rattle.stat_tool.specs.declared.status.Status.{Status}
 use Rattle.stat_tool.specs.declared.status.Status.TheVariants.{Done, BadWords, DeskFault, BadInput, OverLimit, SinkFault, OutOfMemory, NotYet}
 
@@ -57,11 +57,11 @@ none_lost_from p safe st (e ∷ es) legal n (inr lost) = none_lost_from p safe (
 
 ends_with_all : (p : Plan) (journal : List Event) → IsPlan p → p.faults ≡ [] → IsWhole p journal → (s w : ℕ) → In (s, w) (waves_of p.streams) → EndsWithAll p s (of_wave s w (after p journal).releases)
 ends_with_all p journal plan safe whole s w wave =
-    let ended : EndsFinally p journal s (of_wave s w (after p journal).releases) = (whole_has_ended p journal (grounds p plan) whole).final s w wave in
+    let ended : EndsFinally p journal s (of_wave s w (after p journal).releases) = (whole_has_ended p journal (plan_facts p plan) whole).final s w wave in
     let among : In ended.final (of_wave s w (after p journal).releases) = subst (λ (rs : List Release). In ended.final rs) (sym ended.all) (append_right ended.final ended.before (ended.final ∷ []) (inl refl)) in
     let found = filter_from (λ (r : Release). (r.stream == s) && (r.wave == w)) (after p journal).releases ended.final among in
     let own : ended.final.stream ≡ s = eqb-true ended.final.stream s (and_parts (ended.final.stream == s) (ended.final.wave == w) found.1).0 in
-    let sound = legal_log p journal (grounds p plan) whole.0 ended.final found.0 in
+    let sound = legal_log p journal (plan_facts p plan) whole.0 ended.final found.0 in
     record {
       before = ended.before;
       last = ended.final;
@@ -102,16 +102,16 @@ ends_whole : (p : Plan) (journal : List Event) (report : List ℕ) → HasRun p 
 ends_whole p journal report run = record {
   whole = run.whole;
   releases = run.releases;
-  left = run.left;
+  reached = run.reached;
   text = run.text;
-  waves = λ s w wave. subst (λ (rs : List Release). EndsWithAll p s (of_wave s w rs)) (sym run.left) (ends_with_all p journal run.plan run.safe run.whole s w wave);
+  waves = λ s w wave. subst (λ (rs : List Release). EndsWithAll p s (of_wave s w rs)) (sym run.reached) (ends_with_all p journal run.plan run.safe run.whole s w wave);
   direct = all_direct p run.plan run.releases run.trees;
 }
 
-by_plan : (names : Names) (desk : DeskSeen) (out : SinkSeen) (journal : List Event) (status : Status) (got : List Got) → Gave desk.told (in_order names) got → Finishes (course got) out journal status → EndsByPlan names desk out journal status
+by_plan : (names : Names) (desk : DeskSeen) (out : SinkSeen) (journal : List Event) (status : Status) (got : List ReadResult) → AreReadResults desk.contents (in_order names) got → Finishes (next_step got) out journal status → EndsByPlan names desk out journal status
 by_plan names desk out journal status got gave done = go done.job done.stands done.came
   where
-    go : (job : Job) → course got ≡ Does job → ComesTo job done.work → EndsByPlan names desk out journal status
+    go : (job : Job) → next_step got ≡ Does job → HasOutput job done.work → EndsByPlan names desk out journal status
     go (RunJob p) stands came = record {
       plan = p;
       report = done.work.report;

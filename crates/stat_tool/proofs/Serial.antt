@@ -3,7 +3,7 @@ use Rattle.std.proofs.Common.{◌≡◌, ◌<◌, ◌↔◌, inl, ℕ, Bool, tru
 use Rattle.std.specs.Prelude.{slice_get}
 use Rattle.std.specs.List.{AllByRecursion}
 use Rattle.std.proofs.lemmas.Bool.{true≢false}
-use Rattle.stat_plan.specs.Kept.{IsPlan}
+use Rattle.stat_plan.specs.Invariants.{IsPlan}
 use Rattle.stat_plan.specs.NodeSets.{In}
 use Rattle.stat_plan.specs.Plans.{Plan}
 use Rattle.stat_desk.specs.declared.event.Event.{Event}
@@ -12,12 +12,12 @@ use Rattle.overlay_core.specs.Machine.{State, start, step, is_enabled, enabled_e
 use Rattle.overlay_core.specs.Runs.{run, after, IsLegal, IsQuiet, IsWhole}
 use Rattle.overlay_core.specs.TreeReleases.{TreeRelease}
 use Rattle.overlay_core.proofs.Enabled.{listed_enabled}
-use Rattle.overlay_core.proofs.Grounds.{grounds}
+use Rattle.overlay_core.proofs.PlanFacts.{plan_facts}
 use Rattle.overlay_core.proofs.Journals.{legal_has_room, quiet_where_empty}
 use Rattle.overlay_node.specs.Packets.{ReleaseFits}
-use Rattle.overlay_net.specs.Nets.{NetView, IsLeftBy, state_of}
+use Rattle.overlay_net.specs.Nets.{NetView, IsReachedBy, state_of}
 use Rattle.front_end.specs.Report.{IsReport}
-use Rattle.stat_tool.specs.Work.{HasRun, TakesFirst}
+use Rattle.stat_tool.specs.RunOutput.{HasRun, TakesFirst}
 
 first_in : (es : List Event) (e : Event) → Some e ≡ slice_get es 0 → In e es
 first_in [] e is = absurd (cc)
@@ -36,41 +36,41 @@ pub not_refused : (p : Plan) (st : State) (e : Event) → Some e ≡ slice_get (
 not_refused p st e is refused = true≢false (sym (found_is_enabled p st e is) ∙ refused)
 
 -- there is room for one event more
-pub room_for : (v : NetView) (p : Plan) (journal : List Event) (e : Event) → IsPlan p → v.plan ≡ p → IsLeftBy v journal → is_enabled v.plan (state_of v) e ≡ true → length journal < bound p
-room_for v p journal e is same left can =
+pub room_for : (v : NetView) (p : Plan) (journal : List Event) (e : Event) → IsPlan p → v.plan ≡ p → IsReachedBy v journal → is_enabled v.plan (state_of v) e ≡ true → length journal < bound p
+room_for v p journal e is same reached can =
     subst (λ (p : Plan). length journal < bound p) same
-    (legal_has_room v.plan journal e (grounds v.plan (subst IsPlan (sym same) is)) left.legal (subst (λ (st : State). is_enabled v.plan st e ≡ true) left.state can))
+    (legal_has_room v.plan journal e (plan_facts v.plan (subst IsPlan (sym same) is)) reached.legal (subst (λ (st : State). is_enabled v.plan st e ≡ true) reached.state can))
 
 takes_more : (p : Plan) (st : State) (es : List Event) (e : Event) → TakesFirst p st es → slice_get (enabled_events p (run p st es)) 0 ≡ Some e → TakesFirst p st (es ++ e ∷ [])
 takes_more p st [] e takes first = (first, tt)
 takes_more p st (f ∷ es) e takes first = (takes.0, takes_more p (step p st f) es e takes.1 first)
 
 -- the first of the events that may come after a journal goes on with it
-pub goes_on : (v : NetView) (p : Plan) (journal : List Event) (e : Event) → v.plan ≡ p → IsLeftBy v journal → Some e ≡ slice_get (enabled_events v.plan (state_of v)) 0 → TakesFirst p (start p) journal → TakesFirst p (start p) (journal ++ e ∷ [])
-goes_on v p journal e same left found takes =
+pub goes_on : (v : NetView) (p : Plan) (journal : List Event) (e : Event) → v.plan ≡ p → IsReachedBy v journal → Some e ≡ slice_get (enabled_events v.plan (state_of v)) 0 → TakesFirst p (start p) journal → TakesFirst p (start p) (journal ++ e ∷ [])
+goes_on v p journal e same reached found takes =
     takes_more p (start p) journal e takes
     (subst (λ (p : Plan). slice_get (enabled_events p (after p journal)) 0 ≡ Some e) same
-    (subst (λ (st : State). slice_get (enabled_events v.plan st) 0 ≡ Some e) left.state (sym found)))
+    (subst (λ (st : State). slice_get (enabled_events v.plan st) 0 ≡ Some e) reached.state (sym found)))
 
 -- where none is found, none may come
-pub is_quiet : (v : NetView) (p : Plan) (journal : List Event) → IsPlan p → v.plan ≡ p → IsLeftBy v journal → None ≡ slice_get (enabled_events v.plan (state_of v)) 0 → IsQuiet p (after p journal)
-is_quiet v p journal is same left found =
+pub is_quiet : (v : NetView) (p : Plan) (journal : List Event) → IsPlan p → v.plan ≡ p → IsReachedBy v journal → None ≡ slice_get (enabled_events v.plan (state_of v)) 0 → IsQuiet p (after p journal)
+is_quiet v p journal is same reached found =
     subst (λ (p : Plan). IsQuiet p (after p journal)) same
-    ((quiet_where_empty v.plan journal (grounds v.plan (subst IsPlan (sym same) is)) left.legal).1 (none_there (enabled_events v.plan (after v.plan journal)) (subst (λ (st : State). None ≡ slice_get (enabled_events v.plan st) 0) left.state found)))
+    ((quiet_where_empty v.plan journal (plan_facts v.plan (subst IsPlan (sym same) is)) reached.legal).1 (none_there (enabled_events v.plan (after v.plan journal)) (subst (λ (st : State). None ≡ slice_get (enabled_events v.plan st) 0) reached.state found)))
 
 -- a run that has ended, whose releases are reported, is what a run of its plan comes to
-pub has_run : (v : NetView) (q p : Plan) (journal : List Event) (releases : List TreeRelease) (report : List ℕ) → IsPlan p → p.faults ≡ [] → v.plan ≡ q → q ≡ p → IsLeftBy v journal → TakesFirst q (start q) journal → IsQuiet q (after q journal)
+pub has_run : (v : NetView) (q p : Plan) (journal : List Event) (releases : List TreeRelease) (report : List ℕ) → IsPlan p → p.faults ≡ [] → v.plan ≡ q → q ≡ p → IsReachedBy v journal → TakesFirst q (start q) journal → IsQuiet q (after q journal)
     → releases ≡ v.releases → IsReport p releases [] report → HasRun p journal report
-has_run v q p journal releases report is safe same as_given left serial quiet given text =
+has_run v q p journal releases report is safe same as_given reached serial quiet given text =
     let all : v.plan ≡ p = same ∙ as_given in
     record {
       plan = is;
       safe = safe;
-      whole = (subst (λ (p : Plan). IsLegal p journal) all left.legal, subst (λ (p : Plan). IsQuiet p (after p journal)) as_given quiet);
+      whole = (subst (λ (p : Plan). IsLegal p journal) all reached.legal, subst (λ (p : Plan). IsQuiet p (after p journal)) as_given quiet);
       serial = subst (λ (p : Plan). TakesFirst p (start p) journal) as_given serial;
       releases = v.releases;
-      left = ap (λ (st : State). st.releases) left.state ∙ ap (λ (p : Plan). (after p journal).releases) all;
-      numbered = left.numbered;
-      trees = subst (λ (p : Plan). AllByRecursion (ReleaseFits p) v.releases) all left.trees;
+      reached = ap (λ (st : State). st.releases) reached.state ∙ ap (λ (p : Plan). (after p journal).releases) all;
+      numbered = reached.numbered;
+      trees = subst (λ (p : Plan). AllByRecursion (ReleaseFits p) v.releases) all reached.trees;
       text = subst (λ (rs : List TreeRelease). IsReport p rs [] report) given text;
     }

@@ -12,8 +12,8 @@ use Rattle.sample_text.specs.Whole.{samples_of_text}
 use Rattle.script_text.specs.Script.{script_of}
 use Rattle.stat_tool.specs.Status.{refusal_of}
 use Rattle.stat_tool.specs.Call.{DeskSeen, IsPlanRefusal, IsPlanned, IsRefused, Prevented, Refuses, StopsAt, Tells}
-use Rattle.stat_tool.specs.Course.{Agrees, Answers, Bytes, Does, Gave, Got, TooLong, Wants, at_samples, at_script, by_limit, by_samples, by_script, by_topology, course, limit, too_long}
-use Rattle.stat_tool.specs.Work.{RunJob}
+use Rattle.stat_tool.specs.NextStep.{Agrees, Answers, Bytes, Does, AreReadResults, ReadResult, TooLong, Wants, at_samples, at_script, by_limit, by_samples, by_script, by_topology, next_step, limit, too_long}
+use Rattle.stat_tool.specs.RunOutput.{RunJob}
 use Rattle.stat_tool.specs.Words.{Names, in_order, name_of}
 use Rattle.stat_tool.specs.declared.status.FileRole.{FileRole}
 use Rattle.stat_tool.specs.declared.status.FileRole.TheVariants.{Topology, Samples, Script}
@@ -33,39 +33,39 @@ stops_unread read role name desk (NotYet at) r = absurd r
 
 -- a text that was refused
 pub stops_refused : {A : Type 0} (read : List ℕ → Result A TextError) (role : FileRole) (name : List ℕ) (desk : DeskSeen) (error : TextError) (bytes text : List ℕ) (status : Status)
-    → status ≡ refusal_of role error → IsWhole (desk.told name) limit bytes → text ≡ bytes → (error ≢ NoMemory → read text ≡ Err error) → StopsAt read role name desk status
+    → status ≡ refusal_of role error → IsWhole (desk.contents name) limit bytes → text ≡ bytes → (error ≢ NoMemory → read text ≡ Err error) → StopsAt read role name desk status
 stops_refused read role name desk (Bad line reason) bytes text status is whole same says =
     subst (StopsAt read role name desk) (sym is) (bytes, (whole, (Bad line reason, (ap read (sym same) ∙ says (λ e. cc), refl))))
 stops_refused read role name desk (Over line what most) bytes text status is whole same says =
     subst (StopsAt read role name desk) (sym is) (inr (bytes, (whole, (Over line what most, (ap read (sym same) ∙ says (λ e. cc), refl)))))
 stops_refused read role name desk NoMemory bytes text status is whole same says = subst (StopsAt read role name desk) (sym is) tt
 
-refused_earlier : {A : Type 0} (read : List ℕ → Result A TextError) (role : FileRole) (name : List ℕ) (old mid : DeskSeen) (status : Status) → mid.told ≡ old.told → IsRefused (mid.told name) read role status → IsRefused (old.told name) read role status
-refused_earlier read role name old mid status told r = (r.0, (subst (λ (t : List ℕ → Option (List ℕ)). IsWhole (t name) limit r.0) told r.1.0, r.1.1))
+refused_earlier : {A : Type 0} (read : List ℕ → Result A TextError) (role : FileRole) (name : List ℕ) (old mid : DeskSeen) (status : Status) → mid.contents ≡ old.contents → IsRefused (mid.contents name) read role status → IsRefused (old.contents name) read role status
+refused_earlier read role name old mid status contents r = (r.0, (subst (λ (t : List ℕ → Option (List ℕ)). IsWhole (t name) limit r.0) contents r.1.0, r.1.1))
 
 -- the same, seen from an earlier moment of the same desk
 pub stops_earlier : {A : Type 0} (read : List ℕ → Result A TextError) (role : FileRole) (name : List ℕ) (old mid : DeskSeen) (status : Status)
-    → old.before ≤ mid.before → old.now ≡ mid.now → old.last_fault ≡ mid.last_fault → mid.told ≡ old.told
+    → old.before ≤ mid.before → old.now ≡ mid.now → old.last_fault ≡ mid.last_fault → mid.contents ≡ old.contents
     → StopsAt read role name mid status → StopsAt read role name old status
-stops_earlier read role name old mid OutOfMemory le now last told r = tt
-stops_earlier read role name old mid (DeskFault at) le now last told r = (r.0, record { rose = omega (arith, r.1.rose, le, now); last = last ∙ r.1.last })
-stops_earlier read role name old mid (BadInput file line reason) le now last told r = refused_earlier read role name old mid (BadInput file line reason) told r
-stops_earlier read role name old mid (OverLimit file line what most) le now last told (inl r) =
-    inl (r.0, subst (λ (t : List ℕ → Option (List ℕ)). IsLonger (t name) limit) told r.1)
-stops_earlier read role name old mid (OverLimit file line what most) le now last told (inr r) = inr (refused_earlier read role name old mid (OverLimit file line what most) told r)
-stops_earlier read role name old mid Done le now last told r = absurd r
-stops_earlier read role name old mid (BadWords fault) le now last told r = absurd r
-stops_earlier read role name old mid (SinkFault target) le now last told r = absurd r
-stops_earlier read role name old mid (NotYet at) le now last told r = absurd r
+stops_earlier read role name old mid OutOfMemory le now last contents r = tt
+stops_earlier read role name old mid (DeskFault at) le now last contents r = (r.0, record { rose = omega (arith, r.1.rose, le, now); last = last ∙ r.1.last })
+stops_earlier read role name old mid (BadInput file line reason) le now last contents r = refused_earlier read role name old mid (BadInput file line reason) contents r
+stops_earlier read role name old mid (OverLimit file line what most) le now last contents (inl r) =
+    inl (r.0, subst (λ (t : List ℕ → Option (List ℕ)). IsLonger (t name) limit) contents r.1)
+stops_earlier read role name old mid (OverLimit file line what most) le now last contents (inr r) = inr (refused_earlier read role name old mid (OverLimit file line what most) contents r)
+stops_earlier read role name old mid Done le now last contents r = absurd r
+stops_earlier read role name old mid (BadWords fault) le now last contents r = absurd r
+stops_earlier read role name old mid (SinkFault target) le now last contents r = absurd r
+stops_earlier read role name old mid (NotYet at) le now last contents r = absurd r
 
 -- the call stops at a file whose text was not read, where it got all before it
-module _ {A : Type 0} (names : Names) (desk : DeskSeen) (role : FileRole) (read : List ℕ → Result A TextError) (before : List Got)
-    (wants : course before ≡ Wants role)
-    (long : course (before ++ TooLong ∷ []) ≡ Answers (too_long role))
-    (bad : (bytes : List ℕ) (e : TextError) → read bytes ≡ Err e → course (before ++ Bytes bytes ∷ []) ≡ Answers (refusal_of role e))
-    (gave : Gave desk.told (in_order names) before)
-    (more : (g : Got) → Agrees (desk.told (name_of names role)) g → Gave desk.told (in_order names) (before ++ g ∷ [])) where
-  refused : (status : Status) → IsRefused (desk.told (name_of names role)) read role status → (got : List Got) × (Gave desk.told (in_order names) got × (course got ≡ Answers status))
+module _ {A : Type 0} (names : Names) (desk : DeskSeen) (role : FileRole) (read : List ℕ → Result A TextError) (before : List ReadResult)
+    (wants : next_step before ≡ Wants role)
+    (long : next_step (before ++ TooLong ∷ []) ≡ Answers (too_long role))
+    (bad : (bytes : List ℕ) (e : TextError) → read bytes ≡ Err e → next_step (before ++ Bytes bytes ∷ []) ≡ Answers (refusal_of role e))
+    (gave : AreReadResults desk.contents (in_order names) before)
+    (more : (g : ReadResult) → Agrees (desk.contents (name_of names role)) g → AreReadResults desk.contents (in_order names) (before ++ g ∷ [])) where
+  refused : (status : Status) → IsRefused (desk.contents (name_of names role)) read role status → (got : List ReadResult) × (AreReadResults desk.contents (in_order names) got × (next_step got ≡ Answers status))
   refused status r = (before ++ Bytes r.0 ∷ [], (more (Bytes r.0) r.1.0, bad r.0 r.1.1.0 r.1.1.1.0 ∙ ap Answers r.1.1.1.1))
 
   pub stops : (status : Status) → StopsAt read role (name_of names role) desk status → Prevented names desk status
@@ -84,15 +84,15 @@ module _ {A : Type 0} (names : Names) (desk : DeskSeen) (role : FileRole) (read 
 
 -- a file that was read, as the desk told it at the start
 pub tells_earlier : {A : Type 0} (old mid : List ℕ → Option (List ℕ)) (name : List ℕ) (read : List ℕ → Result A TextError) (x : A) → mid ≡ old → Tells (mid name) read x → Tells (old name) read x
-tells_earlier old mid name read x told t = (t.0, (subst (λ (u : List ℕ → Option (List ℕ)). IsWhole (u name) limit t.0) told t.1.0, t.1.1))
+tells_earlier old mid name read x contents t = (t.0, (subst (λ (u : List ℕ → Option (List ℕ)). IsWhole (u name) limit t.0) contents t.1.0, t.1.1))
 
 -- where the topology was not read
 pub stops_topology : (names : Names) (desk : DeskSeen) (status : Status) → StopsAt topology_of Topology names.topology desk status → Prevented names desk status
 stops_topology names desk status r = stops names desk Topology topology_of [] refl refl (λ bytes e is. ap (λ o. by_topology o []) is) tt (λ g agrees. (agrees, tt)) status r
 
-module _ (names : Names) (desk : DeskSeen) (t : Nodes) (topology : Tells (desk.told names.topology) topology_of t) where
+module _ (names : Names) (desk : DeskSeen) (t : Nodes) (topology : Tells (desk.contents names.topology) topology_of t) where
   -- the course from the samples on
-  with_nodes : (rest : List Got) → course (Bytes topology.0 ∷ rest) ≡ at_samples t rest
+  with_nodes : (rest : List ReadResult) → next_step (Bytes topology.0 ∷ rest) ≡ at_samples t rest
   with_nodes rest = ap (λ o. by_topology o rest) topology.1.1
 
   -- where the samples were not read
@@ -101,9 +101,9 @@ module _ (names : Names) (desk : DeskSeen) (t : Nodes) (topology : Tells (desk.t
       stops names desk Samples (samples_of_text t) (Bytes topology.0 ∷ []) (with_nodes []) (with_nodes (TooLong ∷ []))
       (λ bytes e is. with_nodes (Bytes bytes ∷ []) ∙ ap (λ o. by_samples t o []) is) (topology.1.0, tt) (λ g agrees. (topology.1.0, (agrees, tt))) status r
 
-  module _ (s : Sampled) (samples : Tells (desk.told names.samples) (samples_of_text t) s) where
+  module _ (s : Sampled) (samples : Tells (desk.contents names.samples) (samples_of_text t) s) where
     -- the course from the script on
-    with_samples : (rest : List Got) → course (Bytes topology.0 ∷ Bytes samples.0 ∷ rest) ≡ at_script t s rest
+    with_samples : (rest : List ReadResult) → next_step (Bytes topology.0 ∷ Bytes samples.0 ∷ rest) ≡ at_script t s rest
     with_samples rest = with_nodes (Bytes samples.0 ∷ rest) ∙ ap (λ o. by_samples t o rest) samples.1.1
 
     -- where the script was not read
@@ -112,17 +112,17 @@ module _ (names : Names) (desk : DeskSeen) (t : Nodes) (topology : Tells (desk.t
         stops names desk Script (script_of t) (Bytes topology.0 ∷ Bytes samples.0 ∷ []) (with_samples []) (with_samples (TooLong ∷ []))
         (λ bytes e is. with_samples (Bytes bytes ∷ []) ∙ ap (by_script t s) is) (topology.1.0, (samples.1.0, tt)) (λ g agrees. (topology.1.0, (samples.1.0, (agrees, tt)))) status r
 
-    module _ (c : Scripted) (script : Tells (desk.told names.script) (script_of t) c) where
+    module _ (c : Scripted) (script : Tells (desk.contents names.script) (script_of t) c) where
       -- what the three files gave
-      pub all_got : List Got
+      pub all_got : List ReadResult
       all_got = Bytes topology.0 ∷ Bytes samples.0 ∷ Bytes script.0 ∷ []
 
-      pub all_gave : Gave desk.told (in_order names) all_got
+      pub all_gave : AreReadResults desk.contents (in_order names) all_got
       unfolding all_got
       all_gave = (topology.1.0, (samples.1.0, (script.1.0, tt)))
 
       -- where they lead
-      pub with_script : course all_got ≡ by_limit (plan_of t s c) (first_over (plan_of t s c))
+      pub with_script : next_step all_got ≡ by_limit (plan_of t s c) (first_over (plan_of t s c))
       unfolding all_got
       with_script = with_samples (Bytes script.0 ∷ []) ∙ ap (by_script t s) script.1.1
 
@@ -138,7 +138,7 @@ module _ (names : Names) (desk : DeskSeen) (t : Nodes) (topology : Tells (desk.t
       stops_plan (SinkFault target) r = absurd r
 
       -- the plan that is run
-      pub planned : (plan : Plan) → by_limit (plan_of t s c) (first_over (plan_of t s c)) ≡ Does (RunJob plan) → IsPlanned names desk.told (RunJob plan)
+      pub planned : (plan : Plan) → by_limit (plan_of t s c) (first_over (plan_of t s c)) ≡ Does (RunJob plan) → IsPlanned names desk.contents (RunJob plan)
       planned plan is = (all_got, (all_gave, with_script ∙ is))
 
 -- what follows from an error

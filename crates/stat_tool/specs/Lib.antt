@@ -1,5 +1,5 @@
 pub mod Words
 pub mod Status
-pub mod Work
-pub mod Course
+pub mod RunOutput
+pub mod NextStep
 pub mod Call

@@ -2,7 +2,7 @@
 ghost use Rattle.std.specs.Prelude.{◌≡◌, ◌≢◌, ◌↔◌, [], IfSome, IfErr, IfOk, map, string_bytes};
 ghost use Rattle.stat_tool.specs.Call.{Answered, Ended, IsDetermined, Prepared, Prevented, Written};
 ghost use Rattle.stat_tool.specs.Words.{asked, names_of};
-ghost use Rattle.stat_tool.specs.Work.{work_of};
+ghost use Rattle.stat_tool.specs.RunOutput.{work_of};
 
 use crate::read::read_plan;
 use crate::run::{Ran, run_plan};
@@ -18,19 +18,19 @@ use std::alloc::Global;
 /// first byte is written.
 pub fn stat<D: Desk, O: Sink>(alloc: Global, words: &[String], desk: &mut D, out: &mut O) -> Outcome
     ensures answered { Answered (asked (map string_bytes words.now))
-        (record { before = D.faults desk.old; now = D.faults desk.new; last_fault = D.last_fault desk.new; told = D.told desk.old })
-        (record { before = O.faults out.old; now = O.faults out.new; held_before = O.held out.old; held_now = O.held out.new })
+        (record { before = D.faults desk.old; now = D.faults desk.new; last_fault = D.last_fault desk.new; contents = D.contents desk.old })
+        (record { before = O.faults out.old; now = O.faults out.new; contents_before = O.contents out.old; contents_now = O.contents out.new })
         result.journal result.status }
     ensures ends { IfSome (asked (map string_bytes words.now)) (λ names. Ended names
-        (record { before = D.faults desk.old; now = D.faults desk.new; last_fault = D.last_fault desk.new; told = D.told desk.old })
-        (record { before = O.faults out.old; now = O.faults out.new; held_before = O.held out.old; held_now = O.held out.new })
+        (record { before = D.faults desk.old; now = D.faults desk.new; last_fault = D.last_fault desk.new; contents = D.contents desk.old })
+        (record { before = O.faults out.old; now = O.faults out.new; contents_before = O.contents out.old; contents_now = O.contents out.new })
         result.journal result.status) }
     ensures determined { IfSome (asked (map string_bytes words.now)) (λ names. IsDetermined names
-        (record { before = D.faults desk.old; now = D.faults desk.new; last_fault = D.last_fault desk.new; told = D.told desk.old })
-        (record { before = O.faults out.old; now = O.faults out.new; held_before = O.held out.old; held_now = O.held out.new })
+        (record { before = D.faults desk.old; now = D.faults desk.new; last_fault = D.last_fault desk.new; contents = D.contents desk.old })
+        (record { before = O.faults out.old; now = O.faults out.new; contents_before = O.contents out.old; contents_now = O.contents out.new })
         result.status) }
     ensures bad_words { (result.status ≡ Status.BadWords WordFault.Options) ↔ (asked (map string_bytes words.now) ≡ None) }
-    ensures as_before { result.status ≢ Status.Done → result.status ≢ Status.SinkFault Target.Report → O.held out.new ≡ O.held out.old }
+    ensures as_before { result.status ≢ Status.Done → result.status ≢ Status.SinkFault Target.Report → O.contents out.new ≡ O.contents out.old }
     ensures journal { result.status ≢ Status.Done → result.status ≢ Status.SinkFault Target.Report → result.journal ≡ [] }
 {
     run(alloc, words, desk, out)
@@ -39,11 +39,11 @@ pub fn stat<D: Desk, O: Sink>(alloc: Global, words: &[String], desk: &mut D, out
 /// What the call leaves.
 fn run<D: Desk, O: Sink>(alloc: Global, words: &[String], desk: &mut D, out: &mut O) -> Outcome
     ensures answered { Answered (asked (map string_bytes words.now))
-        (record { before = D.faults desk.old; now = D.faults desk.new; last_fault = D.last_fault desk.new; told = D.told desk.old })
-        (record { before = O.faults out.old; now = O.faults out.new; held_before = O.held out.old; held_now = O.held out.new })
+        (record { before = D.faults desk.old; now = D.faults desk.new; last_fault = D.last_fault desk.new; contents = D.contents desk.old })
+        (record { before = O.faults out.old; now = O.faults out.new; contents_before = O.contents out.old; contents_now = O.contents out.new })
         result.journal result.status }
     ensures bad_words { (result.status ≡ Status.BadWords WordFault.Options) ↔ (asked (map string_bytes words.now) ≡ None) }
-    ensures as_before { result.status ≢ Status.Done → result.status ≢ Status.SinkFault Target.Report → O.held out.new ≡ O.held out.old }
+    ensures as_before { result.status ≢ Status.Done → result.status ≢ Status.SinkFault Target.Report → O.contents out.new ≡ O.contents out.old }
     ensures journal { result.status ≢ Status.Done → result.status ≢ Status.SinkFault Target.Report → result.journal ≡ [] }
 {
     let Some(files) = read_words(words) else {
@@ -71,8 +71,8 @@ fn stopped(alloc: Global, status: Status) -> Outcome
 
 /// The run of what the files say, before anything is written.
 fn prepare<D: Desk>(alloc: Global, files: Files<'_>, desk: &mut D) -> Result<Ran, Status>
-    ensures ok { IfOk result (λ ran. Prepared (names_of files.entry) (D.told desk.old) (work_of ran)) }
-    ensures err { IfErr result (Prevented (names_of files.entry) (record { before = D.faults desk.old; now = D.faults desk.new; last_fault = D.last_fault desk.new; told = D.told desk.old })) }
+    ensures ok { IfOk result (λ ran. Prepared (names_of files.entry) (D.contents desk.old) (work_of ran)) }
+    ensures err { IfErr result (Prevented (names_of files.entry) (record { before = D.faults desk.old; now = D.faults desk.new; last_fault = D.last_fault desk.new; contents = D.contents desk.old })) }
 {
     let plan = match read_plan(alloc, files, desk) {
         Ok(plan) => plan,
@@ -87,7 +87,7 @@ fn prepare<D: Desk>(alloc: Global, files: Files<'_>, desk: &mut D) -> Result<Ran
 /// Writes the report.
 fn deliver<O: Sink>(report: &[u8], out: &mut O) -> Status
     ensures { Written report.now
-        (record { before = O.faults out.old; now = O.faults out.new; held_before = O.held out.old; held_now = O.held out.new })
+        (record { before = O.faults out.old; now = O.faults out.new; contents_before = O.contents out.old; contents_now = O.contents out.new })
         result }
 {
     match write_all_to(out, report) {

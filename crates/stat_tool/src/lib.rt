@@ -11,8 +11,8 @@ pub use call::stat;
 pub use status::{FileRole, Outcome, Status, Target, WordFault};
 
 #[cfg(test)]
+mod fixtures;
+#[cfg(test)]
 mod net_tests;
 #[cfg(test)]
 mod tests;
-#[cfg(test)]
-mod worked;

@@ -2,11 +2,11 @@
 
 ghost use Rattle.std.specs.Prelude.{◌≡◌, [], false, IfOk, OnOk};
 
+use crate::fixtures::{FOUR_SMP, TWO_TOP, desk_of};
 use crate::read::read_plan;
 use crate::run::report_of;
 use crate::status::Status;
 use crate::words::Files;
-use crate::worked::{FOUR_SMP, TWO_TOP, desk_of};
 use overlay_net::{Net, NetError};
 use prefix_tree::OwnedTree;
 use stat_desk::Event;
@@ -175,5 +175,5 @@ stack 0 1 main;b
 fn goes_through_lines_in_the_order_of_their_paths(rt: HostRuntime) {
     let plan = plan(rt.alloc(), UNORDERED_SMP).expect(&rt, "a plan");
     assert!(rt; plan.nodes() > 1);
-    assert_eq!(rt; plan.own_lines(1), [3u32, 2, 0, 4].as_slice());
+    assert_eq!(rt; plan.line_index(1), [3u32, 2, 0, 4].as_slice());
 }

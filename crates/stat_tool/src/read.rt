@@ -1,17 +1,17 @@
 //! Reads the files that the words name, each whole, and tests each before the next.
 ghost use Rattle.std.specs.Prelude.{◌≡◌, ◌≤◌, [], IfErr, IfOk};
 ghost use Rattle.stat_desk.specs.Desk.{IsWhole};
-ghost use Rattle.stat_plan.specs.Kept.{SamplesFit, ScriptFits};
+ghost use Rattle.stat_plan.specs.Invariants.{SamplesFit, ScriptFits};
 ghost use Rattle.stat_plan.specs.Limits.{first_over};
 ghost use Rattle.stat_plan.specs.Plans.{plan_of};
 ghost use Rattle.topology_text.specs.Whole.{topology_of};
 ghost use Rattle.sample_text.specs.Whole.{samples_of_text};
 ghost use Rattle.script_text.specs.Script.{script_of};
 ghost use Rattle.stat_tool.specs.Call.{IsPlanRefusal, IsPlanned, Prevented, Refuses, StopsAt, Tells};
-ghost use Rattle.stat_tool.specs.Course.{Does, by_limit, limit as limit_of};
+ghost use Rattle.stat_tool.specs.NextStep.{Does, by_limit, limit as limit_of};
 ghost use Rattle.stat_tool.specs.Status.{refusal_of};
 ghost use Rattle.stat_tool.specs.Words.{names_of};
-ghost use Rattle.stat_tool.specs.Work.{RunJob};
+ghost use Rattle.stat_tool.specs.RunOutput.{RunJob};
 
 use crate::status::{FileRole, Status};
 use crate::words::Files;
@@ -25,10 +25,10 @@ const FILE_LIMIT: u64 = 33_554_432;
 
 /// All bytes of one file.
 fn read_file<D: Desk>(desk: &mut D, name: &str, role: FileRole) -> Result<Vec<u8>, Status>
-    ensures ok { IfOk result (λ bytes. IsWhole (D.told desk.old name.now) limit_of bytes.items) }
-    ensures err { IfErr result (Refuses role name.now (record { before = D.faults desk.old; now = D.faults desk.new; last_fault = D.last_fault desk.new; told = D.told desk.old })) }
+    ensures ok { IfOk result (λ bytes. IsWhole (D.contents desk.old name.now) limit_of bytes.items) }
+    ensures err { IfErr result (Refuses role name.now (record { before = D.faults desk.old; now = D.faults desk.new; last_fault = D.last_fault desk.new; contents = D.contents desk.old })) }
     ensures later { D.faults desk.old ≤ D.faults desk.new }
-    ensures told { D.told desk.new ≡ D.told desk.old }
+    ensures contents { D.contents desk.new ≡ D.contents desk.old }
 {
     match desk.read(name, FILE_LIMIT) {
         Ok(bytes) => Ok(bytes),
@@ -65,10 +65,10 @@ fn refusal(role: FileRole, error: TextError) -> Status
 
 /// The nodes, by the topology's file.
 fn read_topology<D: Desk>(alloc: Global, desk: &mut D, name: &str) -> Result<Topology, Status>
-    ensures ok { IfOk result (λ t. Tells (D.told desk.old name.now) topology_of t) }
-    ensures err { IfErr result (StopsAt topology_of FileRole.Topology name.now (record { before = D.faults desk.old; now = D.faults desk.new; last_fault = D.last_fault desk.new; told = D.told desk.old })) }
+    ensures ok { IfOk result (λ t. Tells (D.contents desk.old name.now) topology_of t) }
+    ensures err { IfErr result (StopsAt topology_of FileRole.Topology name.now (record { before = D.faults desk.old; now = D.faults desk.new; last_fault = D.last_fault desk.new; contents = D.contents desk.old })) }
     ensures later { D.faults desk.old ≤ D.faults desk.new }
-    ensures told { D.told desk.new ≡ D.told desk.old }
+    ensures contents { D.contents desk.new ≡ D.contents desk.old }
 {
     let bytes = match read_file(desk, name, FileRole::Topology) {
         Ok(bytes) => bytes,
@@ -87,11 +87,11 @@ fn read_samples<D: Desk>(
     name: &str,
     topology: &Topology,
 ) -> Result<Samples, Status>
-    ensures ok { IfOk result (λ s. Tells (D.told desk.old name.now) (samples_of_text topology.now) s) }
+    ensures ok { IfOk result (λ s. Tells (D.contents desk.old name.now) (samples_of_text topology.now) s) }
     ensures fits { IfOk result (λ s. SamplesFit topology.now s) }
-    ensures err { IfErr result (StopsAt (samples_of_text topology.now) FileRole.Samples name.now (record { before = D.faults desk.old; now = D.faults desk.new; last_fault = D.last_fault desk.new; told = D.told desk.old })) }
+    ensures err { IfErr result (StopsAt (samples_of_text topology.now) FileRole.Samples name.now (record { before = D.faults desk.old; now = D.faults desk.new; last_fault = D.last_fault desk.new; contents = D.contents desk.old })) }
     ensures later { D.faults desk.old ≤ D.faults desk.new }
-    ensures told { D.told desk.new ≡ D.told desk.old }
+    ensures contents { D.contents desk.new ≡ D.contents desk.old }
 {
     let bytes = match read_file(desk, name, FileRole::Samples) {
         Ok(bytes) => bytes,
@@ -110,11 +110,11 @@ fn read_script<D: Desk>(
     name: &str,
     topology: &Topology,
 ) -> Result<Script, Status>
-    ensures ok { IfOk result (λ c. Tells (D.told desk.old name.now) (script_of topology.now) c) }
+    ensures ok { IfOk result (λ c. Tells (D.contents desk.old name.now) (script_of topology.now) c) }
     ensures fits { IfOk result (λ c. ScriptFits topology.now c) }
-    ensures err { IfErr result (StopsAt (script_of topology.now) FileRole.Script name.now (record { before = D.faults desk.old; now = D.faults desk.new; last_fault = D.last_fault desk.new; told = D.told desk.old })) }
+    ensures err { IfErr result (StopsAt (script_of topology.now) FileRole.Script name.now (record { before = D.faults desk.old; now = D.faults desk.new; last_fault = D.last_fault desk.new; contents = D.contents desk.old })) }
     ensures later { D.faults desk.old ≤ D.faults desk.new }
-    ensures told { D.told desk.new ≡ D.told desk.old }
+    ensures contents { D.contents desk.new ≡ D.contents desk.old }
 {
     let bytes = match read_file(desk, name, FileRole::Script) {
         Ok(bytes) => bytes,
@@ -159,9 +159,9 @@ fn runnable_plan(
 
 /// The plan of the three files.
 pub fn read_plan<D: Desk>(alloc: Global, files: Files<'_>, desk: &mut D) -> Result<Plan, Status>
-    ensures ok { IfOk result (λ plan. IsPlanned (names_of files.entry) (D.told desk.old) (RunJob plan)) }
+    ensures ok { IfOk result (λ plan. IsPlanned (names_of files.entry) (D.contents desk.old) (RunJob plan)) }
     ensures safe { IfOk result (λ plan. plan.faults ≡ []) }
-    ensures err { IfErr result (Prevented (names_of files.entry) (record { before = D.faults desk.old; now = D.faults desk.new; last_fault = D.last_fault desk.new; told = D.told desk.old })) }
+    ensures err { IfErr result (Prevented (names_of files.entry) (record { before = D.faults desk.old; now = D.faults desk.new; last_fault = D.last_fault desk.new; contents = D.contents desk.old })) }
 {
     let topology = match read_topology(alloc, desk, files.topology) {
         Ok(topology) => topology,

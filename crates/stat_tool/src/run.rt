@@ -1,13 +1,13 @@
 //! The run of a plan: the overlay does one event after another, and what it releases is told in a report.
 ghost use Rattle.std.specs.Prelude.{◌≡◌, [], false, IfOk, OnOk};
-ghost use Rattle.stat_plan.specs.Kept.{IsPlan};
+ghost use Rattle.stat_plan.specs.Invariants.{IsPlan};
 ghost use Rattle.overlay_core.specs.Machine.{start};
 ghost use Rattle.overlay_core.specs.Runs.{IsQuiet, after};
 ghost use Rattle.front_end.specs.Report.{IsReport};
-ghost use Rattle.overlay_net.specs.Nets.{IsLeftBy};
-ghost use Rattle.stat_tool.specs.Work.{HasRun, TakesFirst};
+ghost use Rattle.overlay_net.specs.Nets.{IsReachedBy};
+ghost use Rattle.stat_tool.specs.RunOutput.{HasRun, TakesFirst};
 
-use front_end::{numbered_releases_are_apart, report_text};
+use front_end::{numbered_releases_are_distinct, report_text};
 use overlay_net::{Net, NetError};
 use prefix_tree::PrefixTree;
 use stat_desk::Journal;
@@ -28,7 +28,7 @@ pub fn run_plan<T: PrefixTree>(alloc: Global, plan: &Plan) -> Result<Ran, AllocE
     requires { plan.now.faults ≡ [] }
     ensures { IfOk result (λ ran. HasRun plan.now ran.journal ran.report.items) }
 {
-    plan.is_plan();
+    plan.invariant();
     let mut net: Net<'_, T> = Net::new(alloc, plan)?;
     let mut journal = Journal::new(alloc);
     run_to_end(&mut net, &mut journal)?;
@@ -45,8 +45,8 @@ pub fn report_of<T: PrefixTree>(
     requires { net.now.failed ≡ false }
     ensures { IfOk result (λ report. IsReport plan.now net.now.releases [] report.items) }
 {
-    net.is_left();
-    numbered_releases_are_apart();
+    net.invariant();
+    numbered_releases_are_distinct();
     report_text(alloc, plan, net.releases(), &[])
 }
 
@@ -54,11 +54,11 @@ pub fn report_of<T: PrefixTree>(
 fn run_to_end<T: PrefixTree>(net: &mut Net<'_, T>, journal: &mut Journal) -> Result<(), AllocError>
     requires plan { IsPlan net.old.plan }
     requires usable { net.old.failed ≡ false }
-    requires left { IsLeftBy net.old journal.old }
+    requires reached { IsReachedBy net.old journal.old }
     requires serial { TakesFirst net.old.plan (start net.old.plan) journal.old }
     ensures plan { net.new.plan ≡ net.old.plan }
     ensures usable { OnOk result (net.new.failed ≡ false) }
-    ensures left { OnOk result (IsLeftBy net.new journal.new) }
+    ensures reached { OnOk result (IsReachedBy net.new journal.new) }
     ensures serial { OnOk result (TakesFirst net.old.plan (start net.old.plan) journal.new) }
     ensures quiet { OnOk result (IsQuiet net.old.plan (after net.old.plan journal.new)) }
 {

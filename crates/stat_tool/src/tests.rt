@@ -1,5 +1,5 @@
 //! Whole calls over a desk and a sink in memory, with worked jobs, and one over the real files.
-use crate::worked::{
+use crate::fixtures::{
     ALL_SCR, DONT_WAIT_SCR, FOUR_SMP, INNER_TOP, ONE_TOP, TWO_TOP, WORKED, desk_of, desk_of_bytes,
     put,
 };

@@ -3,8 +3,8 @@ use Rattle.std.proofs.Common.{◌≡◌, ℕ, zero, suc, ◌+◌, ◌-◌, Bool,
 use Rattle.std.specs.Result.{IfOk}
 use Rattle.stat_plan.specs.Names.{number_of, begins}
 use Rattle.stat_plan.specs.declared.text_error.TextError.{TextError}
-use Rattle.topology_text.specs.declared.draft.Place.{Place}
-use Rattle.topology_text.specs.declared.draft.Place.TheVariants.{Outside, AfterParent, AfterArrow, AfterChild}
+use Rattle.topology_text.specs.declared.parser.ParserState.{ParserState}
+use Rattle.topology_text.specs.declared.parser.ParserState.TheVariants.{Outside, AfterParent, AfterArrow, AfterChild}
 use Rattle.topology_text.specs.Tokens.{Piece, Arrow, Semicolon, Name, End, NoToken, host_len, digits_len, is_space, is_name, name_after, name_at, piece_at, piece_len, line_left, pieces}
 use Rattle.topology_text.specs.Statements.{Seen, nothing_seen, appear, number_or_0, begin, adopt, is_begun, is_child, name_stands, arrow_stands, semicolon_stands, end_stands, with_piece, with_pieces}
 use Rattle.topology_text.specs.Grammar.{Statement, written, IsWritten}
@@ -12,24 +12,24 @@ use Rattle.topology_text.proofs.Numbers.{appear_known, appear_over, appear_new}
 use Rattle.topology_text.proofs.Nodes.{begin_bad, begin_good, adopt_bad, adopt_good, piece_bad, piece_good, none_left}
 
 -- what may be left of a text, by where the next token stands
-abbrev Goes : Place → List Piece → Type 0
+abbrev Goes : ParserState → List Piece → Type 0
 Goes Outside ps = (statements : List Statement) × (ps ≡ written statements)
 Goes (AfterParent n) ps = (c : List ℕ) × (cs : List (List ℕ)) × (statements : List Statement) × (ps ≡ Arrow ∷ Name c ∷ map Name cs ++ Semicolon ∷ written statements)
 Goes (AfterArrow n) ps = (c : List ℕ) × (cs : List (List ℕ)) × (statements : List Statement) × (ps ≡ Name c ∷ map Name cs ++ Semicolon ∷ written statements)
 Goes (AfterChild n) ps = (cs : List (List ℕ)) × (statements : List Statement) × (ps ≡ map Name cs ++ Semicolon ∷ written statements)
 
 -- a token may stand before a rest that may follow it
-abbrev Steps : Place → Piece → List Piece → Result Seen TextError → Type 0
+abbrev Steps : ParserState → Piece → List Piece → Result Seen TextError → Type 0
 Steps place p rest (Err e) = Unit {0}
 Steps place p rest (Ok t) = Goes t.place rest → Goes place (p ∷ rest)
 
-arrow_steps : (s : Seen) (line : ℕ) (rest : List Piece) (place : Place) → Steps place Arrow rest (arrow_stands s line place)
+arrow_steps : (s : Seen) (line : ℕ) (rest : List Piece) (place : ParserState) → Steps place Arrow rest (arrow_stands s line place)
 arrow_steps s line rest Outside = tt
 arrow_steps s line rest (AfterParent p) = λ h. (h.0, h.1, h.2, ap (λ t. Arrow ∷ t) h.3)
 arrow_steps s line rest (AfterArrow p) = tt
 arrow_steps s line rest (AfterChild p) = tt
 
-semicolon_steps : (s : Seen) (line : ℕ) (rest : List Piece) (place : Place) → Steps place Semicolon rest (semicolon_stands s line place)
+semicolon_steps : (s : Seen) (line : ℕ) (rest : List Piece) (place : ParserState) → Steps place Semicolon rest (semicolon_stands s line place)
 semicolon_steps s line rest Outside = tt
 semicolon_steps s line rest (AfterParent p) = tt
 semicolon_steps s line rest (AfterArrow p) = tt
@@ -48,14 +48,14 @@ module _ (s : Seen) (line n : ℕ) (name : List ℕ) (rest : List Piece) where
   other_by p true e = subst (Steps (AfterChild p) (Name name) rest) (sym (adopt_bad s line n p e)) tt
   other_by p false e = subst (Steps (AfterChild p) (Name name) rest) (sym (adopt_good s line n p e)) (λ h. (name ∷ h.0, h.1, ap (λ t. Name name ∷ t) h.2))
 
-  stands_steps : (place : Place) → Steps place (Name name) rest (name_stands s line place n)
+  stands_steps : (place : ParserState) → Steps place (Name name) rest (name_stands s line place n)
   stands_steps Outside = begin_by (is_begun (slice_get s.nodes n)) refl
   stands_steps (AfterParent p) = tt
   stands_steps (AfterArrow p) = first_by p (is_child (slice_get s.nodes n)) refl
   stands_steps (AfterChild p) = other_by p (is_child (slice_get s.nodes n)) refl
 
 -- a name that appears moves no place
-abbrev Stays : Place → Result Seen TextError → Type 0
+abbrev Stays : ParserState → Result Seen TextError → Type 0
 Stays place (Err e) = Unit {0}
 Stays place (Ok t) = t.place ≡ place
 
@@ -71,16 +71,16 @@ module _ (s : Seen) (line : ℕ) (name : List ℕ) where
   appear_stays (Some n) e = subst (Stays s.place) (sym (appear_known s line n name e)) refl
   appear_stays None e = new_stays e (either (length s.names) 512)
 
-name_steps : (line : ℕ) (name : List ℕ) (rest : List Piece) (place : Place) (r : Result Seen TextError) → Stays place r → Steps place (Name name) rest (elim r as (λ _. Result Seen TextError) [ (Err e) ↦ Err e | (Ok t) ↦ name_stands t line t.place (number_or_0 (number_of name t.names)) ])
+name_steps : (line : ℕ) (name : List ℕ) (rest : List Piece) (place : ParserState) (r : Result Seen TextError) → Stays place r → Steps place (Name name) rest (elim r as (λ _. Result Seen TextError) [ (Err e) ↦ Err e | (Ok t) ↦ name_stands t line t.place (number_or_0 (number_of name t.names)) ])
 name_steps line name rest place (Err e) same = tt
 name_steps line name rest place (Ok t) same = subst (λ p. Steps p (Name name) rest (name_stands t line t.place (number_or_0 (number_of name t.names)))) same (stands_steps t line (number_or_0 (number_of name t.names)) name rest t.place)
 
 -- the end of a text stands last, and where a statement may begin
-abbrev Ends : Place → List Piece → Result Seen TextError → Type 0
+abbrev Ends : ParserState → List Piece → Result Seen TextError → Type 0
 Ends place rest (Err e) = Unit {0}
 Ends place rest (Ok t) = Goes place (End ∷ rest)
 
-end_ends : (s : Seen) (line : ℕ) (rest : List Piece) (place : Place) → rest ≡ [] → Ends place rest (end_stands s line place)
+end_ends : (s : Seen) (line : ℕ) (rest : List Piece) (place : ParserState) → rest ≡ [] → Ends place rest (end_stands s line place)
 end_ends s line rest Outside none = ([], ap (λ t. End ∷ t) none)
 end_ends s line rest (AfterParent p) none = tt
 end_ends s line rest (AfterArrow p) none = tt
@@ -92,7 +92,7 @@ EndsOnce [] = ⊥
 EndsOnce (p ∷ rest) = elim p.1 [ Arrow ↦ EndsOnce rest | Semicolon ↦ EndsOnce rest | (Name name) ↦ EndsOnce rest | End ↦ rest ≡ [] | NoToken ↦ EndsOnce rest ]
 
 -- what is left of a text without a fault
-abbrev pub GoesOn : Place → List (ℕ × Piece) → Result Seen TextError → Type 0
+abbrev pub GoesOn : ParserState → List (ℕ × Piece) → Result Seen TextError → Type 0
 GoesOn place ps (Err e) = Unit {0}
 GoesOn place ps (Ok t) = Goes place (map (λ p. p.1) ps)
 

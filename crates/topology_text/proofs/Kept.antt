@@ -6,12 +6,12 @@ use Rattle.stat_plan.specs.declared.text_error.TextError.{TextError}
 use Rattle.stat_plan.specs.Names.{IsName, number_of}
 use Rattle.stat_plan.specs.Topologies.{IsTopology, topology}
 use Rattle.stat_plan.proofs.NameNumbers.{length-map}
-use Rattle.topology_text.specs.declared.draft.Node.{Node}
-use Rattle.topology_text.specs.declared.draft.Place.{Place}
-use Rattle.topology_text.specs.declared.draft.Place.TheVariants.{Outside, AfterParent, AfterArrow, AfterChild}
+use Rattle.topology_text.specs.declared.parser.Node.{Node}
+use Rattle.topology_text.specs.declared.parser.ParserState.{ParserState}
+use Rattle.topology_text.specs.declared.parser.ParserState.TheVariants.{Outside, AfterParent, AfterArrow, AfterChild}
 use Rattle.topology_text.specs.Tokens.{Piece, Arrow, Semicolon, Name, End, NoToken}
 use Rattle.topology_text.specs.Statements.{Seen, appear, number_or_0, begin, adopt, at_node, is_begun, is_child, begun_now, child_of, name_stands, arrow_stands, semicolon_stands, end_stands, with_piece, with_pieces, nothing_seen}
-use Rattle.topology_text.specs.Kept.{IsBelow, has_child, PlaceFits, IsKept}
+use Rattle.topology_text.specs.Invariants.{IsBelow, has_child, PlaceFits, IsKept}
 use Rattle.topology_text.specs.Whole.{is_within, roots_from, parents_of, first_beyond, depth_fault, reach_fault, roots_fault, whole_fault}
 use Rattle.topology_text.proofs.NameParts.{IsGoodPiece}
 use Rattle.topology_text.proofs.Numbers.{appear_known, appear_over, appear_new, number_below, number_of_last}
@@ -30,13 +30,13 @@ record HasNodes (s : Seen) : Type 0 where
   parents : AllByRecursion (λ x. IsBelow (length s.nodes) x.parent) s.nodes
 
 -- in a statement its parent is a node
-abbrev ParentFits : List Node → Place → Type 0
+abbrev ParentFits : List Node → ParserState → Type 0
 ParentFits nodes Outside = Unit {0}
 ParentFits nodes (AfterParent p) = p < length nodes
 ParentFits nodes (AfterArrow p) = p < length nodes
 ParentFits nodes (AfterChild p) = p < length nodes
 
-parent_fits : (nodes : List Node) (place : Place) → PlaceFits nodes place → ParentFits nodes place
+parent_fits : (nodes : List Node) (place : ParserState) → PlaceFits nodes place → ParentFits nodes place
 parent_fits nodes Outside h = tt
 parent_fits nodes (AfterParent p) h = h
 parent_fits nodes (AfterArrow p) h = h
@@ -88,7 +88,7 @@ abbrev Appeared : List ℕ → Result Seen TextError → Type 0
 Appeared name (Err e) = Unit {0}
 Appeared name (Ok s) = HasAppeared name s
 
-fits_more : (nodes more : List Node) (place : Place) → length nodes ≤ length more → ParentFits nodes place → ParentFits more place
+fits_more : (nodes more : List Node) (place : ParserState) → length nodes ≤ length more → ParentFits nodes place → ParentFits more place
 fits_more nodes more Outside le h = tt
 fits_more nodes more (AfterParent p) le h = omega arith
 fits_more nodes more (AfterArrow p) le h = omega arith
@@ -154,7 +154,7 @@ module _ (s : Seen) (line n : ℕ) (h : HasNodes s) (lt : n < length s.nodes) wh
         place = (omega (arith, len), child_now s.nodes n p lt);
       })
 
-  stands_kept : (place : Place) → ParentFits s.nodes place → Keeps (name_stands s line place n)
+  stands_kept : (place : ParserState) → ParentFits s.nodes place → Keeps (name_stands s line place n)
   stands_kept Outside fits = begin_by (is_begun (slice_get s.nodes n)) refl
   stands_kept (AfterParent p) fits = tt
   stands_kept (AfterArrow p) fits = adopt_by p (is_child (slice_get s.nodes n)) fits refl
@@ -164,19 +164,19 @@ name_kept : (line : ℕ) (name : List ℕ) (r : Result Seen TextError) → Appea
 name_kept line name (Err e) h = tt
 name_kept line name (Ok t) h = stands_kept t line (number_or_0 (number_of name t.names)) h.nodes h.number t.place h.place
 
-arrow_kept : (s : Seen) (line : ℕ) (place : Place) → HasNodes s → PlaceFits s.nodes place → Keeps (arrow_stands s line place)
+arrow_kept : (s : Seen) (line : ℕ) (place : ParserState) → HasNodes s → PlaceFits s.nodes place → Keeps (arrow_stands s line place)
 arrow_kept s line Outside h fits = tt
 arrow_kept s line (AfterParent p) h fits = record { paired = h.paired; named = h.named; parents = h.parents; place = fits }
 arrow_kept s line (AfterArrow p) h fits = tt
 arrow_kept s line (AfterChild p) h fits = tt
 
-semicolon_kept : (s : Seen) (line : ℕ) (place : Place) → HasNodes s → PlaceFits s.nodes place → Keeps (semicolon_stands s line place)
+semicolon_kept : (s : Seen) (line : ℕ) (place : ParserState) → HasNodes s → PlaceFits s.nodes place → Keeps (semicolon_stands s line place)
 semicolon_kept s line Outside h fits = tt
 semicolon_kept s line (AfterParent p) h fits = tt
 semicolon_kept s line (AfterArrow p) h fits = tt
 semicolon_kept s line (AfterChild p) h fits = record { paired = h.paired; named = h.named; parents = h.parents; place = inr fits.1 }
 
-end_kept : (s : Seen) (line : ℕ) (place : Place) → IsKept s → Keeps (end_stands s line place)
+end_kept : (s : Seen) (line : ℕ) (place : ParserState) → IsKept s → Keeps (end_stands s line place)
 end_kept s line Outside h = h
 end_kept s line (AfterParent p) h = tt
 end_kept s line (AfterArrow p) h = tt
@@ -246,7 +246,7 @@ module _ (nodes : List Node) where
       by (x ∷ xs) e one = absurd (omega arith)
 
 -- after a whole text without a fault some node has a parent
-child_left : (nodes : List Node) (place : Place) → place ≡ Outside → PlaceFits nodes place → length (roots_from 0 (parents_of nodes)) ≡ 1 → has_child nodes ≡ true
+child_left : (nodes : List Node) (place : ParserState) → place ≡ Outside → PlaceFits nodes place → length (roots_from 0 (parents_of nodes)) ≡ 1 → has_child nodes ≡ true
 child_left nodes place outside fits one = by (subst (PlaceFits nodes) outside fits)
   where
     by : (length nodes ≡ 0) ⊎ (has_child nodes ≡ true) → has_child nodes ≡ true

@@ -4,8 +4,8 @@ use Rattle.std.specs.Result.{IfErr}
 use Rattle.stat_plan.specs.declared.text_error.TextError.{TextError}
 use Rattle.stat_plan.specs.declared.text_error.TextError.TheVariants.{Bad}
 use Rattle.stat_plan.specs.declared.text_error.Reason.TheVariants.{SecondLine, SecondParent}
-use Rattle.topology_text.specs.declared.draft.Node.{Node}
-use Rattle.topology_text.specs.declared.draft.Place.TheVariants.{AfterParent, AfterChild}
+use Rattle.topology_text.specs.declared.parser.Node.{Node}
+use Rattle.topology_text.specs.declared.parser.ParserState.TheVariants.{AfterParent, AfterChild}
 use Rattle.topology_text.specs.Tokens.{Piece}
 use Rattle.topology_text.specs.Statements.{Seen, at_node, is_begun, is_child, begun_now, child_of, begin, adopt, with_piece, with_pieces}
 

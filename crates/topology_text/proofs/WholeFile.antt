@@ -3,7 +3,7 @@ use Rattle.std.proofs.Common.{◌≡◌, ℕ, ◌+◌, ◌-◌, List, [], ◌∷
 use Rattle.stat_plan.specs.declared.text_error.TextError.TheVariants.{Bad}
 use Rattle.stat_plan.specs.declared.text_error.Reason.TheVariants.{NoRoot, TwoRoots, Unreached}
 use Rattle.stat_plan.specs.declared.topology.TheConstants.{DEPTH_LIMIT}
-use Rattle.topology_text.specs.declared.draft.Node.{Node}
+use Rattle.topology_text.specs.declared.parser.Node.{Node}
 use Rattle.topology_text.specs.Whole.{roots_from, parents_of, line_of, first_beyond, depth_fault, reach_fault, roots_fault, whole_fault}
 use Rattle.stat_plan.proofs.NameNumbers.{length-map}
 

@@ -1,8 +1,8 @@
 pub mod Tokens
-pub mod Meant
+pub mod TokenViews
 pub mod Statements
-pub mod Seen
-pub mod Kept
+pub mod ParserViews
+pub mod Invariants
 pub mod Grammar
 pub mod Whole
 pub mod Rows

@@ -6,7 +6,7 @@ use Rattle.topology_text.specs.Tokens.{pieces, Arrow, Semicolon, Name, End, NoTo
 use Rattle.stat_plan.specs.Names.{number_of}
 use Rattle.stat_plan.specs.Topologies.{topology}
 use Rattle.topology_text.specs.Statements.{appear, begin, adopt, with_pieces}
-use Rattle.topology_text.specs.Whole.{said, told, whole_fault, first_beyond, is_within}
+use Rattle.topology_text.specs.Whole.{said, parsed, whole_fault, first_beyond, is_within}
 
 abbrev line : List ℕ → List ℕ
 line text = text ++ 10 ∷ []
@@ -15,7 +15,7 @@ tokens : pieces 1 0 (line (codes "fe:0 => a:0;") ++ codes "# x" ++ line (codes "
 unfolding pieces
 tokens = refl
 
-numbered : told (said (line (codes "c0:0 => n0:0") ++ line (codes "  n1:0 ;") ++ line (codes "fe:0 => c0:0 n2:0;"))) ≡ Ok (topology (codes "c0:0" ∷ codes "n0:0" ∷ codes "n1:0" ∷ codes "fe:0" ∷ codes "n2:0" ∷ []) (Some 3 ∷ Some 0 ∷ Some 0 ∷ None ∷ Some 3 ∷ []))
+numbered : parsed (said (line (codes "c0:0 => n0:0") ++ line (codes "  n1:0 ;") ++ line (codes "fe:0 => c0:0 n2:0;"))) ≡ Ok (topology (codes "c0:0" ∷ codes "n0:0" ∷ codes "n1:0" ∷ codes "fe:0" ∷ codes "n2:0" ∷ []) (Some 3 ∷ Some 0 ∷ Some 0 ∷ None ∷ Some 3 ∷ []))
 unfolding pieces with_pieces first_beyond is_within whole_fault number_of appear begin adopt
 numbered = refl
 

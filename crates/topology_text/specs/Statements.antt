@@ -7,16 +7,16 @@ use Rattle.stat_plan.specs.declared.text_error.TextError.TheVariants.{Bad, Over}
 use Rattle.stat_plan.specs.declared.text_error.Reason.{Reason}
 use Rattle.stat_plan.specs.declared.text_error.Reason.TheVariants.{BadToken, SecondLine, NoArrow, NoChild, SecondParent, NoSemicolon}
 use Rattle.stat_plan.specs.declared.text_error.Quantity.TheVariants.{Nodes}
-use Rattle.topology_text.specs.declared.draft.Node.{Node}
-use Rattle.topology_text.specs.declared.draft.Place.{Place}
-use Rattle.topology_text.specs.declared.draft.Place.TheVariants.{Outside, AfterParent, AfterArrow, AfterChild}
+use Rattle.topology_text.specs.declared.parser.Node.{Node}
+use Rattle.topology_text.specs.declared.parser.ParserState.{ParserState}
+use Rattle.topology_text.specs.declared.parser.ParserState.TheVariants.{Outside, AfterParent, AfterArrow, AfterChild}
 use Rattle.topology_text.specs.Tokens.{Piece, Arrow, Semicolon, Name, End, NoToken}
 
 -- what tokens have said so far: names and nodes by number, and where the next token stands in its statement
 pub record Seen : Type 0 where
   pub names : List (List ℕ)
   pub nodes : List Node
-  pub place : Place
+  pub place : ParserState
 
 -- before the first token
 abbrev pub nothing_seen : Seen
@@ -75,28 +75,28 @@ adopt s line p n = elim (is_child (slice_get s.nodes n)) [
 ]
 
 -- a name with its number, by where it stands
-abbrev pub name_stands : Seen → ℕ → Place → ℕ → Result Seen TextError
+abbrev pub name_stands : Seen → ℕ → ParserState → ℕ → Result Seen TextError
 name_stands s line Outside n = begin s line n
 name_stands s line (AfterParent p) n = bad line NoArrow
 name_stands s line (AfterArrow p) n = adopt s line p n
 name_stands s line (AfterChild p) n = adopt s line p n
 
 -- `=>`, by where it stands
-abbrev pub arrow_stands : Seen → ℕ → Place → Result Seen TextError
+abbrev pub arrow_stands : Seen → ℕ → ParserState → Result Seen TextError
 arrow_stands s line Outside = bad line BadToken
 arrow_stands s line (AfterParent p) = Ok (record s { place = AfterArrow p })
 arrow_stands s line (AfterArrow p) = bad line NoChild
 arrow_stands s line (AfterChild p) = bad line NoSemicolon
 
 -- `;`, by where it stands
-abbrev pub semicolon_stands : Seen → ℕ → Place → Result Seen TextError
+abbrev pub semicolon_stands : Seen → ℕ → ParserState → Result Seen TextError
 semicolon_stands s line Outside = bad line BadToken
 semicolon_stands s line (AfterParent p) = bad line NoArrow
 semicolon_stands s line (AfterArrow p) = bad line NoChild
 semicolon_stands s line (AfterChild p) = Ok (record s { place = Outside })
 
 -- the end of the text, by where it stands
-abbrev pub end_stands : Seen → ℕ → Place → Result Seen TextError
+abbrev pub end_stands : Seen → ℕ → ParserState → Result Seen TextError
 end_stands s line Outside = Ok s
 end_stands s line (AfterParent p) = bad line NoArrow
 end_stands s line (AfterArrow p) = bad line NoChild

@@ -7,7 +7,7 @@ use Rattle.stat_plan.specs.declared.text_error.Quantity.TheVariants.{Depth}
 use Rattle.stat_plan.specs.Trees.{parent_of}
 use Rattle.stat_plan.specs.Topologies.{Nodes, topology}
 use Rattle.stat_plan.specs.declared.topology.TheConstants.{DEPTH_LIMIT}
-use Rattle.topology_text.specs.declared.draft.Node.{Node}
+use Rattle.topology_text.specs.declared.parser.Node.{Node}
 use Rattle.topology_text.specs.Tokens.{pieces}
 use Rattle.topology_text.specs.Statements.{Seen, nothing_seen, with_pieces}
 
@@ -80,10 +80,10 @@ abbrev pub said : List ℕ → Result Seen TextError
 said text = and_then (with_pieces nothing_seen (pieces 1 0 text)) whole
 
 -- the names in order of number, and each node's parent
-abbrev pub told : Result Seen TextError → Result Nodes TextError
-told (Err e) = Err e
-told (Ok s) = Ok (topology s.names (parents_of s.nodes))
+abbrev pub parsed : Result Seen TextError → Result Nodes TextError
+parsed (Err e) = Err e
+parsed (Ok s) = Ok (topology s.names (parents_of s.nodes))
 
 -- the nodes that a text stands for, or its first fault
 abbrev pub topology_of : List ℕ → Result Nodes TextError
-topology_of text = told (said text)
+topology_of text = parsed (said text)

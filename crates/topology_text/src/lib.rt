@@ -6,31 +6,31 @@
 
 ghost use Rattle.std.specs.Prelude.{◌≡◌, ◌≢◌, IfErr, OnOk, IfOk, Ok, Err};
 ghost use Rattle.topology_text.specs.Tokens.{pieces};
-ghost use Rattle.topology_text.specs.Seen.{seen};
+ghost use Rattle.topology_text.specs.ParserViews.{parser_view};
 ghost use Rattle.topology_text.specs.Statements.{with_pieces};
 ghost use Rattle.topology_text.specs.Grammar.{IsWritten};
-ghost use Rattle.topology_text.specs.Kept.{IsKept};
-ghost use Rattle.topology_text.specs.Whole.{whole, told, topology_of};
-ghost use Rattle.topology_text.specs.declared.draft.Place.TheVariants.{Outside};
+ghost use Rattle.topology_text.specs.Invariants.{IsKept};
+ghost use Rattle.topology_text.specs.Whole.{whole, parsed, topology_of};
+ghost use Rattle.topology_text.specs.declared.parser.ParserState.TheVariants.{Outside};
 ghost use Rattle.stat_plan.specs.declared.text_error.TextError.TheVariants.{OutOfMemory};
 
-mod draft;
+mod parser;
 #[cfg(test)]
 mod tests;
 mod tokens;
 mod whole;
 
-use draft::Draft;
+use parser::Parser;
 use stat_plan::{Reason, TextError, Topology};
 use std::alloc::Global;
 use tokens::{skipped, token_at, token_len};
 use whole::{parents_of, whole_fault};
 
-// Takes the tokens of a text into a draft, and its end.
-fn read_tokens(text: &[u8], draft: &mut Draft) -> Result<(), TextError>
-    ensures ok { OnOk result (with_pieces (seen draft.old) (pieces 1 0 text.now) ≡ Ok (seen draft.new)) }
-    ensures outside { OnOk result ((seen draft.new).place ≡ Outside) }
-    ensures err { IfErr result (λ e. e ≢ OutOfMemory → with_pieces (seen draft.old) (pieces 1 0 text.now) ≡ Err e) }
+// Takes the tokens of a text into a parser, and its end.
+fn read_tokens(text: &[u8], parser: &mut Parser) -> Result<(), TextError>
+    ensures ok { OnOk result (with_pieces (parser_view parser.old) (pieces 1 0 text.now) ≡ Ok (parser_view parser.new)) }
+    ensures outside { OnOk result ((parser_view parser.new).place ≡ Outside) }
+    ensures err { IfErr result (λ e. e ≢ OutOfMemory → with_pieces (parser_view parser.old) (pieces 1 0 text.now) ≡ Err e) }
 {
     let (mut rest, mut line) = skipped(text, 1);
     while !rest.is_empty() {
@@ -40,25 +40,25 @@ fn read_tokens(text: &[u8], draft: &mut Draft) -> Result<(), TextError>
                 reason: Reason::BadToken,
             });
         };
-        draft.take(line, &token)?;
+        parser.take(line, &token)?;
         let (_, after) = rest.split_at(token_len(&token));
         (rest, line) = skipped(after, line);
     }
-    draft.end(line)
+    parser.end(line)
 }
 
-// The topology that a draft says, after the checks of the whole text.
-fn finished(alloc: Global, draft: Draft) -> Result<Topology, TextError>
-    requires kept { IsKept (seen draft) }
-    requires outside { (seen draft).place ≡ Outside }
-    ensures ok { IfOk result (λ t. told (whole (seen draft)) ≡ Ok t) }
-    ensures err { IfErr result (λ e. e ≢ OutOfMemory → told (whole (seen draft)) ≡ Err e) }
+// The topology that a parser says, after the checks of the whole text.
+fn finished(alloc: Global, parser: Parser) -> Result<Topology, TextError>
+    requires kept { IsKept (parser_view parser) }
+    requires outside { (parser_view parser).place ≡ Outside }
+    ensures ok { IfOk result (λ t. parsed (whole (parser_view parser)) ≡ Ok t) }
+    ensures err { IfErr result (λ e. e ≢ OutOfMemory → parsed (whole (parser_view parser)) ≡ Err e) }
 {
-    let parents = parents_of(alloc, &draft.nodes)?;
-    if let Some(fault) = whole_fault(&draft.nodes, &parents) {
+    let parents = parents_of(alloc, &parser.nodes)?;
+    if let Some(fault) = whole_fault(&parser.nodes, &parents) {
         return Err(fault);
     }
-    Ok(Topology::new(draft.names, parents)?)
+    Ok(Topology::new(parser.names, parents)?)
 }
 
 /// Reads a topology. The bytes of comments may be any; elsewhere the text is refused by its first fault, read from the
@@ -68,7 +68,7 @@ pub fn read(alloc: Global, text: &[u8]) -> Result<Topology, TextError>
     ensures grammar { IfOk result (λ t. IsWritten text.now) }
     ensures err { IfErr result (λ e. e ≢ OutOfMemory → topology_of text.now ≡ Err e) }
 {
-    let mut draft = Draft::new(alloc);
-    read_tokens(text, &mut draft)?;
-    finished(alloc, draft)
+    let mut parser = Parser::new(alloc);
+    read_tokens(text, &mut parser)?;
+    finished(alloc, parser)
 }

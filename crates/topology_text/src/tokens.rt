@@ -3,7 +3,7 @@
 ghost use Rattle.std.specs.Prelude.{◌≡◌, ◌<◌, ◌≤◌, ◌+◌, ◌^◌, length, IfSome};
 ghost use Rattle.stat_plan.specs.Names.{is_host_byte, begins};
 ghost use Rattle.topology_text.specs.Tokens.{host_len, digits_len, is_space, line_left, pieces, StopsAt, piece_at, is_name, name_at};
-ghost use Rattle.topology_text.specs.Meant.{meant_at, token_bytes, named};
+ghost use Rattle.topology_text.specs.TokenViews.{token_view_at, token_bytes, named};
 
 /// A token.
 #[derive(Debug, Clone, Copy)]
@@ -98,7 +98,7 @@ fn name_at(text: &[u8]) -> Option<&str>
 
 /// The token that a text begins with; none where the bytes there are no token.
 pub fn token_at(text: &[u8]) -> Option<Token<'_>>
-    ensures value { meant_at result ≡ piece_at text.now }
+    ensures value { token_view_at result ≡ piece_at text.now }
     ensures within { IfSome result (λ token. token_bytes token ≤ length text.now) }
     ensures some { IfSome result (λ token. 1 ≤ token_bytes token) }
 {

@@ -5,7 +5,7 @@ ghost use Rattle.stat_plan.specs.Trees.{parent_of};
 ghost use Rattle.topology_text.specs.Whole.{is_within, roots_from, parents_of, line_of, first_beyond, whole_fault};
 ghost use Rattle.stat_plan.specs.declared.text_error.TextError.TheVariants.{Bad};
 
-use crate::draft::Node;
+use crate::parser::Node;
 use stat_plan::{DEPTH_LIMIT, Quantity, Reason, TextError};
 use std::alloc::{AllocError, Global};
 

@@ -7,7 +7,7 @@ use Rattle.prefix_tree.specs.Pairs.{HasNoEmptyPath, Pairs}
 use Rattle.prefix_tree.specs.Tree.{Tree, pairs_of, tree_of}
 use Rattle.equiv_class.specs.Classes.{classes_of}
 use Rattle.equiv_class.specs.ClassList.{class_views}
-use Rattle.equiv_class.specs.SeenPaths.{Lists, entries_in, seen_in}
+use Rattle.equiv_class.specs.SeenPaths.{Lists, entries_view, seen_in}
 use Rattle.equiv_class.specs.declared.Class.{Class}
 use Rattle.equiv_class.proofs.SamePairs.{classes_of_tree}
 use Rattle.equiv_class.proofs.TreePaths.{Lists-tree}
@@ -25,8 +25,8 @@ told_pairs t (Err x) h = tt
 
 pub returns-clause-own : goal.returns-clause-own
 returns-clause-own g c =
-    told_own (g.T.PrefixTree.tree c.args.tree.now) c.in_ok-left.left (entries_in c.deref-2.result.now) c.take_classes.result (c.in_ok-left.ensures ∙ c.row.ensures.shows.label)
-    (ap entries_in c.deref-2.ensures.value ∙ c.in_ok-seen.ensures) c.take_classes.ensures
+    told_own (g.T.PrefixTree.tree c.args.tree.now) c.in_ok-left.left (entries_view c.deref-2.result.now) c.take_classes.result (c.in_ok-left.ensures ∙ c.row.ensures.shows.label)
+    (ap entries_view c.deref-2.ensures.value ∙ c.in_ok-seen.ensures) c.take_classes.ensures
 
 pub returns-clause-pairs : goal.returns-clause-pairs
 returns-clause-pairs g c = told_pairs (g.T.PrefixTree.tree c.args.tree.now) c.take_classes.result (returns-clause-own g c)

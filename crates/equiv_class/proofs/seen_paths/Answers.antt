@@ -3,7 +3,7 @@ use Rattle.std.proofs.lemmas.List.{append-nil, map-append}
 use Rattle.rank_set.specs.Ranks.{Ranks, size}
 use Rattle.call_path.specs.Path.{Path}
 use Rattle.prefix_tree.specs.Tree.{rows_of}
-use Rattle.equiv_class.specs.SeenPaths.{entries_in, entry_of}
+use Rattle.equiv_class.specs.SeenPaths.{entries_view, entry_of}
 use Rattle.equiv_class.proofs.Walk.{frames_step, has_ends-count, no_ends-count, seen_step}
 use Rattle.equiv_class.proofs.seen_paths.Goals.{then-count-gt0+in_ok-path+in_ok-push-2, else-count-gt0}
 use Rattle.equiv_class.proofs.seen_paths.Goals as goal
@@ -19,15 +19,15 @@ loop-i-preserved g c =
     let own : Path × Ranks = (c.push.new.self, row.ends.now) in
     record {
       frames = frames.0;
-      seen = seen_step t c.loop-i.i row c.push.new.self (entries_in c.loop-i.seen.items) (entries_in c.if-count-gt0.seen.items) c.loop-i.auto.i within c.row-row.ensures.shows frames.1
+      seen = seen_step t c.loop-i.i row c.push.new.self (entries_view c.loop-i.seen.items) (entries_view c.if-count-gt0.seen.items) c.loop-i.auto.i within c.row-row.ensures.shows frames.1
           (elim c.if-count-gt0.branch [
             | then-count-gt0+in_ok-path+in_ok-push-2 w ↦
-                ap entries_in ((λ k. (w.seen-is k).items) ∙ w.in_ok-push-2.ensures.items) ∙ map-append entry_of c.loop-i.seen.items _
-                ∙ ap (λ p. let e : Path × Ranks = (p, row.ends.now) in entries_in c.loop-i.seen.items ++ e ∷ []) w.in_ok-path.ensures
-                ∙ sym (ap (λ b. entries_in c.loop-i.seen.items ++ cond b (own ∷ []) []) (has_ends-count (size row.ends.now) (omega (arith, w.if-count-gt0.true, c.count.ensures))))
+                ap entries_view ((λ k. (w.seen-is k).items) ∙ w.in_ok-push-2.ensures.items) ∙ map-append entry_of c.loop-i.seen.items _
+                ∙ ap (λ p. let e : Path × Ranks = (p, row.ends.now) in entries_view c.loop-i.seen.items ++ e ∷ []) w.in_ok-path.ensures
+                ∙ sym (ap (λ b. entries_view c.loop-i.seen.items ++ cond b (own ∷ []) []) (has_ends-count (size row.ends.now) (omega (arith, w.if-count-gt0.true, c.count.ensures))))
             | else-count-gt0 w ↦
-                ap entries_in (λ k. (w.seen-is k).items) ∙ sym (append-nil (entries_in c.loop-i.seen.items))
-                ∙ sym (ap (λ b. entries_in c.loop-i.seen.items ++ cond b (own ∷ []) []) (no_ends-count (size row.ends.now) (omega (arith, w.if-count-gt0.false, c.count.ensures))))
+                ap entries_view (λ k. (w.seen-is k).items) ∙ sym (append-nil (entries_view c.loop-i.seen.items))
+                ∙ sym (ap (λ b. entries_view c.loop-i.seen.items ++ cond b (own ∷ []) []) (no_ends-count (size row.ends.now) (omega (arith, w.if-count-gt0.false, c.count.ensures))))
           ])
           c.loop-i.invariant.seen;
     }

@@ -3,11 +3,11 @@ use Rattle.std.specs.List.{filter}
 use Rattle.std.specs.FinMap as finmap
 use Rattle.rank_set.specs.Ranks.{none}
 use Rattle.prefix_tree.specs.Tree.{rows_of}
-use Rattle.equiv_class.specs.SeenPaths.{ends_at, entries_in, has_ends, seen_in}
+use Rattle.equiv_class.specs.SeenPaths.{ends_at, entries_view, has_ends, seen_in}
 use Rattle.equiv_class.proofs.seen_paths.Given as goal
 
 abbrev pub invariant-loop-i : goal.invariant-loop-i
 invariant-loop-i g l = record {
   frames : l.frames ≡ (get_or (rows_of (g.T.PrefixTree.tree l.tree)) (l.i - 1) ([], (none, none))).0;
-  seen : entries_in l.seen.items ++ map ends_at (filter has_ends (drop (l.i - 1) (finmap.entries (g.T.PrefixTree.tree l.tree).below))) ≡ seen_in (g.T.PrefixTree.tree l.tree);
+  seen : entries_view l.seen.items ++ map ends_at (filter has_ends (drop (l.i - 1) (finmap.entries (g.T.PrefixTree.tree l.tree).below))) ≡ seen_in (g.T.PrefixTree.tree l.tree);
 }

@@ -4,9 +4,9 @@ use Rattle.std.proofs.lemmas.List.{append-nil, map-append}
 use Rattle.rank_set.specs.Ranks.{Ranks, in_order, size, those}
 use Rattle.call_path.specs.Path.{Path}
 use Rattle.prefix_tree.specs.Pairs.{Pairs}
-use Rattle.equiv_class.specs.Classes.{alike, paths_of, classes_of}
+use Rattle.equiv_class.specs.Classes.{equivalent, paths_of, classes_of}
 use Rattle.equiv_class.specs.ClassList.{class_view, class_views}
-use Rattle.equiv_class.specs.SeenPaths.{Lists, entries_in, paths_to, same_in}
+use Rattle.equiv_class.specs.SeenPaths.{Lists, entries_view, paths_to, same_paths}
 use Rattle.equiv_class.specs.declared.Class.{Class}
 use Rattle.equiv_class.proofs.Blocks.{classes_none, fewer_without, has_first, next_class}
 use Rattle.equiv_class.proofs.Cuts.{same_own, those-on}
@@ -17,26 +17,26 @@ take_class-requires-clause-member c = has_first c.loop-r.left c.in-Some.r c.in-S
 
 pub loop-r-smaller : goal.loop-r-smaller
 loop-r-smaller c =
-    let es = entries_in c.args.seen.now in
+    let es = entries_view c.args.seen.now in
     let less : size c.take_class.new.left < size c.loop-r.left =
-    omega (arith, ap size c.in_ok-class.ensures.left, fewer_without (λ s. same_in c.in-Some.r s es) c.loop-r.left c.in-Some.r c.in-Some.ensures.least (same_own c.in-Some.r es)) in less
+    omega (arith, ap size c.in_ok-class.ensures.left, fewer_without (λ s. same_paths c.in-Some.r s es) c.loop-r.left c.in-Some.r c.in-Some.ensures.least (same_own c.in-Some.r es)) in less
 
 classes_step : (P : Pairs) (es : List (Path × Ranks)) (all new : List Class) (k : Class) (left left' start : Ranks) (r : ℕ) → Lists P es → new ≡ all ++ k ∷ []
-    → class_view k ≡ (those (λ s. same_in r s es) left, paths_to r es) → left' ≡ those (λ s. not (same_in r s es)) left → slice_get (in_order left) 0 ≡ Some r
+    → class_view k ≡ (those (λ s. same_paths r s es) left, paths_to r es) → left' ≡ those (λ s. not (same_paths r s es)) left → slice_get (in_order left) 0 ≡ Some r
     → class_views all ++ classes_of P left ≡ classes_of P start → class_views new ++ classes_of P left' ≡ classes_of P start
 classes_step P es all new k left left' start r lists is_new is_k is_left least so_far =
-    let rest : left' ≡ those (λ s. not (alike P r s)) left = is_left ∙ those-on left (λ s. not (same_in r s es)) (λ s. not (alike P r s)) (λ s _. ap not (sym (lists.same_ranks r s))) in
-    let block : those (λ s. same_in r s es) left ≡ those (alike P r) left = those-on left (λ s. same_in r s es) (alike P r) (λ s _. sym (lists.same_ranks r s)) in
-    let first : class_view k ≡ (those (alike P r) left, paths_of P r) = is_k ∙ (λ i. (block i, sym (lists.same_paths r) i)) in
+    let rest : left' ≡ those (λ s. not (equivalent P r s)) left = is_left ∙ those-on left (λ s. not (same_paths r s es)) (λ s. not (equivalent P r s)) (λ s _. ap not (sym (lists.same_ranks r s))) in
+    let block : those (λ s. same_paths r s es) left ≡ those (equivalent P r) left = those-on left (λ s. same_paths r s es) (equivalent P r) (λ s _. sym (lists.same_ranks r s)) in
+    let first : class_view k ≡ (those (equivalent P r) left, paths_of P r) = is_k ∙ (λ i. (block i, sym (lists.paths_agree r) i)) in
     (λ i. class_views (is_new i) ++ classes_of P (rest i))
-    ∙ ap (λ xs. xs ++ classes_of P (those (λ s. not (alike P r s)) left)) (map-append class_view all (k ∷ []))
-    ∙ append_assoc (class_views all) (class_view k ∷ []) (classes_of P (those (λ s. not (alike P r s)) left))
-    ∙ ap (λ b. class_views all ++ b ∷ classes_of P (those (λ s. not (alike P r s)) left)) first
+    ∙ ap (λ xs. xs ++ classes_of P (those (λ s. not (equivalent P r s)) left)) (map-append class_view all (k ∷ []))
+    ∙ append_assoc (class_views all) (class_view k ∷ []) (classes_of P (those (λ s. not (equivalent P r s)) left))
+    ∙ ap (λ b. class_views all ++ b ∷ classes_of P (those (λ s. not (equivalent P r s)) left)) first
     ∙ ap (λ xs. class_views all ++ xs) (sym (next_class P left r least)) ∙ so_far
 
 pub loop-r-preserved : goal.loop-r-preserved
 loop-r-preserved c P lists =
-    classes_step P (entries_in c.args.seen.now) c.loop-r.all.items c.push.new.self.items c.in_ok-class.class c.loop-r.left c.take_class.new.left c.args.left.now c.in-Some.r lists
+    classes_step P (entries_view c.args.seen.now) c.loop-r.all.items c.push.new.self.items c.in_ok-class.class c.loop-r.left c.take_class.new.left c.args.left.now c.in-Some.r lists
     c.in_ok-push.ensures.items c.in_ok-class.ensures.class c.in_ok-class.ensures.left c.in-Some.ensures.least (c.loop-r.invariant P lists)
 
 pub returns : goal.returns

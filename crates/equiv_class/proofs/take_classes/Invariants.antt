@@ -3,12 +3,12 @@ use Rattle.rank_set.specs.Ranks.{size}
 use Rattle.prefix_tree.specs.Pairs.{Pairs}
 use Rattle.equiv_class.specs.Classes.{classes_of}
 use Rattle.equiv_class.specs.ClassList.{class_views}
-use Rattle.equiv_class.specs.SeenPaths.{Lists, entries_in}
+use Rattle.equiv_class.specs.SeenPaths.{Lists, entries_view}
 use Rattle.equiv_class.proofs.take_classes.Given as goal
 
 abbrev pub invariant-loop-r : goal.invariant-loop-r
 invariant-loop-r l =
-    (P : Pairs) → Lists P (entries_in l.seen) → class_views l.all.items ++ classes_of P l.left ≡ classes_of P l.fn.left
+    (P : Pairs) → Lists P (entries_view l.seen) → class_views l.all.items ++ classes_of P l.left ≡ classes_of P l.fn.left
 
 abbrev pub decreases-loop-r : goal.decreases-loop-r
 decreases-loop-r l = size l.left

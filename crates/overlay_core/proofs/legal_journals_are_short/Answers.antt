@@ -1,7 +1,7 @@
-use Rattle.overlay_core.proofs.Grounds.{grounds}
-use Rattle.overlay_core.proofs.Weights.{legal_is_short}
+use Rattle.overlay_core.proofs.PlanFacts.{plan_facts}
+use Rattle.overlay_core.proofs.Potential.{legal_is_short}
 use Rattle.overlay_core.proofs.Journals.{legal_has_room}
 use Rattle.overlay_core.proofs.legal_journals_are_short.Goals as goal
 
 pub returns : goal.returns
-returns c = record { short = λ p journal plan. legal_is_short p journal (grounds p plan); room = λ p journal e plan. legal_has_room p journal e (grounds p plan) }
+returns c = record { short = λ p journal plan. legal_is_short p journal (plan_facts p plan); room = λ p journal e plan. legal_has_room p journal e (plan_facts p plan) }

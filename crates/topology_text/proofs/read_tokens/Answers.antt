@@ -5,8 +5,8 @@ use Rattle.stat_plan.specs.declared.text_error.TextError.{TextError}
 use Rattle.stat_plan.specs.declared.text_error.TextError.TheVariants.{OutOfMemory}
 use Rattle.topology_text.specs.Tokens.{End, pieces, piece_at, piece_len, StopsAt}
 use Rattle.topology_text.specs.Statements.{Seen, with_piece, with_pieces}
-use Rattle.topology_text.specs.Seen.{seen}
-use Rattle.topology_text.specs.Meant.{token_bytes}
+use Rattle.topology_text.specs.ParserViews.{parser_view}
+use Rattle.topology_text.specs.TokenViews.{token_bytes}
 use Rattle.topology_text.proofs.Nodes.{piece_bad, piece_good, none_left}
 use Rattle.topology_text.proofs.Bytes.{next_piece, no_pieces}
 use Rattle.topology_text.proofs.read_tokens.Goals as goal
@@ -44,14 +44,14 @@ end_err (Err e) s line text none is = λ _. at_end s line text (Err e) none is
 
 pub returns-in_default-clause-err : goal.returns-in_default-clause-err
 returns-in_default-clause-err c = λ _. sym c.loop-rest.invariant.said
-    ∙ next_bad (seen c.loop-rest.draft) c.loop-rest.line 1 c.loop-rest.rest.now c.loop-rest.invariant.stops (some_left c.loop-rest.rest.now (sym c.is_empty.ensures ∙ c.loop-rest-test.true)) (omega arith) (ap piece_len c.in_default.ensures.value) _ (ap (with_piece (seen c.loop-rest.draft) c.loop-rest.line) (sym c.in_default.ensures.value))
+    ∙ next_bad (parser_view c.loop-rest.parser) c.loop-rest.line 1 c.loop-rest.rest.now c.loop-rest.invariant.stops (some_left c.loop-rest.rest.now (sym c.is_empty.ensures ∙ c.loop-rest-test.true)) (omega arith) (ap piece_len c.in_default.ensures.value) _ (ap (with_piece (parser_view c.loop-rest.parser) c.loop-rest.line) (sym c.in_default.ensures.value))
 
 pub returns-in_err-take-clause-err : goal.returns-in_err-take-clause-err
 returns-in_err-take-clause-err c =
-    handed_on c.from_residual.result c.in_err-take.field-0.0 (λ e. e ≢ OutOfMemory → with_pieces (seen c.args.draft.now) (pieces 1 0 c.args.text.now) ≡ Err e) c.from_residual.ensures
+    handed_on c.from_residual.result c.in_err-take.field-0.0 (λ e. e ≢ OutOfMemory → with_pieces (parser_view c.args.parser.now) (pieces 1 0 c.args.text.now) ≡ Err e) c.from_residual.ensures
     (λ memory. sym c.loop-rest.invariant.said
-    ∙ next_bad (seen c.loop-rest.draft) c.loop-rest.line (token_bytes c.in-Some.token) c.loop-rest.rest.now c.loop-rest.invariant.stops (some_left c.loop-rest.rest.now (sym c.is_empty.ensures ∙ c.loop-rest-test.true)) c.in-Some.ensures.some (ap piece_len c.in-Some.ensures.value) c.in_err-take.field-0.0
-    (ap (with_piece (seen c.loop-rest.draft) c.loop-rest.line) (sym c.in-Some.ensures.value) ∙ c.in_err-take.ensures.err memory))
+    ∙ next_bad (parser_view c.loop-rest.parser) c.loop-rest.line (token_bytes c.in-Some.token) c.loop-rest.rest.now c.loop-rest.invariant.stops (some_left c.loop-rest.rest.now (sym c.is_empty.ensures ∙ c.loop-rest-test.true)) c.in-Some.ensures.some (ap piece_len c.in-Some.ensures.value) c.in_err-take.field-0.0
+    (ap (with_piece (parser_view c.loop-rest.parser) c.loop-rest.line) (sym c.in-Some.ensures.value) ∙ c.in_err-take.ensures.err memory))
 
 pub loop-rest-smaller : goal.loop-rest-smaller
 loop-rest-smaller c =
@@ -61,18 +61,18 @@ pub loop-rest-preserved : goal.loop-rest-preserved
 loop-rest-preserved c = record {
   room = omega (arith, c.skipped.ensures.room, c.split_at.ensures.back_len, c.loop-rest.invariant.room);
   stops = c.skipped.ensures.stops;
-  said = ap (with_pieces (seen c.take.new.self)) (c.skipped.ensures.pieces ∙ ap (pieces c.loop-rest.line 0) (c.split_at.ensures.back ∙ ap (λ n. drop n c.loop-rest.rest.now) c.token_len.ensures))
-      ∙ sym (next_good (seen c.loop-rest.draft) c.loop-rest.line (token_bytes c.in-Some.token) c.loop-rest.rest.now c.loop-rest.invariant.stops (some_left c.loop-rest.rest.now (sym c.is_empty.ensures ∙ c.loop-rest-test.true)) c.in-Some.ensures.some (ap piece_len c.in-Some.ensures.value) (seen c.take.new.self)
-      (ap (with_piece (seen c.loop-rest.draft) c.loop-rest.line) (sym c.in-Some.ensures.value) ∙ c.in_ok-take.ensures.ok))
+  said = ap (with_pieces (parser_view c.take.new.self)) (c.skipped.ensures.pieces ∙ ap (pieces c.loop-rest.line 0) (c.split_at.ensures.back ∙ ap (λ n. drop n c.loop-rest.rest.now) c.token_len.ensures))
+      ∙ sym (next_good (parser_view c.loop-rest.parser) c.loop-rest.line (token_bytes c.in-Some.token) c.loop-rest.rest.now c.loop-rest.invariant.stops (some_left c.loop-rest.rest.now (sym c.is_empty.ensures ∙ c.loop-rest-test.true)) c.in-Some.ensures.some (ap piece_len c.in-Some.ensures.value) (parser_view c.take.new.self)
+      (ap (with_piece (parser_view c.loop-rest.parser) c.loop-rest.line) (sym c.in-Some.ensures.value) ∙ c.in_ok-take.ensures.ok))
       ∙ c.loop-rest.invariant.said;
 }
 
 pub returns-clause-ok : goal.returns-clause-ok
 returns-clause-ok c =
-    subst (λ x. OnOk c.end.result (x ≡ Ok (seen c.end.new.self))) c.loop-rest.invariant.said
-    (end_ok c.end.result (seen c.loop-rest.draft) (seen c.end.new.self) c.loop-rest.line c.loop-rest.rest.now (nothing_left c.loop-rest.rest.now (sym c.is_empty.ensures ∙ c.loop-rest-test.false)) c.end.ensures.ok)
+    subst (λ x. OnOk c.end.result (x ≡ Ok (parser_view c.end.new.self))) c.loop-rest.invariant.said
+    (end_ok c.end.result (parser_view c.loop-rest.parser) (parser_view c.end.new.self) c.loop-rest.line c.loop-rest.rest.now (nothing_left c.loop-rest.rest.now (sym c.is_empty.ensures ∙ c.loop-rest-test.false)) c.end.ensures.ok)
 
 pub returns-clause-err : goal.returns-clause-err
 returns-clause-err c =
     subst (λ x. IfErr c.end.result (λ e. e ≢ OutOfMemory → x ≡ Err e)) c.loop-rest.invariant.said
-    (end_err c.end.result (seen c.loop-rest.draft) c.loop-rest.line c.loop-rest.rest.now (nothing_left c.loop-rest.rest.now (sym c.is_empty.ensures ∙ c.loop-rest-test.false)) c.end.ensures.err)
+    (end_err c.end.result (parser_view c.loop-rest.parser) c.loop-rest.line c.loop-rest.rest.now (nothing_left c.loop-rest.rest.now (sym c.is_empty.ensures ∙ c.loop-rest-test.false)) c.end.ensures.err)

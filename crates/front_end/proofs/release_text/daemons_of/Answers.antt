@@ -9,7 +9,7 @@ returns-in-Some-clause-value c = c.daemons.ensures ∙ daemons_at c.args.plan.no
 
 pub returns-in-Some-clause-nodes : goal.returns-in-Some-clause-nodes
 returns-in-Some-clause-nodes c =
-    subst (AllByRecursion (λ d. d < nodes c.args.plan.now)) (sym c.daemons.ensures) (daemons_are_nodes c.args.plan.now c.args.stream c.in-Some.stream.now c.is_plan.ensures c.in-Some.ensures)
+    subst (AllByRecursion (λ d. d < nodes c.args.plan.now)) (sym c.daemons.ensures) (daemons_are_nodes c.args.plan.now c.args.stream c.in-Some.stream.now c.invariant.ensures c.in-Some.ensures)
 
 pub returns-in-None-clause-value : goal.returns-in-None-clause-value
 returns-in-None-clause-value c = no_daemons c.args.plan.now c.args.stream c.in-None.ensures

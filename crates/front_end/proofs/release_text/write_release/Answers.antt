@@ -1,13 +1,13 @@
 use Rattle.std.proofs.Common.{◌≡◌, ◌∙◌, ap, subst}
 use Rattle.std.specs.Prelude.{OnOk}
 use Rattle.equiv_class.specs.ClassList.{class_views}
-use Rattle.overlay_core.specs.TreeReleases.{release_in}
+use Rattle.overlay_core.specs.TreeReleases.{release_view}
 use Rattle.front_end.proofs.Written.{release_written}
 use Rattle.front_end.proofs.release_text.write_release.Goals as goal
 
 pub returns : goal.returns
 returns g c =
-    let release = release_in g.T.PrefixTree.tree c.args.release.now in
+    let release = release_view g.T.PrefixTree.tree c.args.release.now in
     subst (λ ys. OnOk c.write_classes.result (c.write_classes.new.out.items ≡ ys))
     (release_written c.args.plan.now release c.row.result.label.now c.deref.result.now (class_views c.deref-2.result.now) c.args.out.now.items c.write_heading.new.out.items c.extend_from_slice.new.self.items c.write_text.new.out.items
     c.push.new.self.items c.write_missing.new.out.items c.extend_from_slice-2.new.self.items c.write_tree.new.out.items c.extend_from_slice-3.new.self.items

@@ -4,7 +4,7 @@ use Rattle.merge_filter.proofs.Contribution.absorb.Goals as goal
 
 pub unreachable-requires : goal.unreachable-requires
 unreachable-requires g c =
-    has_room c.args.plan.now c.args.self.now c.args.other.now _ _ c.self.view_is c.other.view_is c.requires.stands c.requires.other c.requires.stream c.requires.wave c.is_plan.ensures
+    has_room c.args.plan.now c.args.self.now c.args.other.now _ _ c.self.view_is c.other.view_is c.requires.stands c.requires.other c.requires.stream c.requires.wave c.invariant.ensures
     (c.in-Err-TooManyPrefixes.ensures.full (ap Err c.in-Err-TooManyPrefixes.field-0-is))
 
 pub returns-clause-stands : goal.returns-clause-stands

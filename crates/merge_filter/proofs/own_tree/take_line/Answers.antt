@@ -4,10 +4,10 @@ use Rattle.merge_filter.proofs.own_tree.take_line.Goals as goal
 
 pub returns-then-line-pending : goal.returns-then-line-pending
 returns-then-line-pending g c P tree =
-    joins P c.args.own.now c.in_ok-here.here c.keep.new.self c.args.paths.now c.args.line.now c.args.pending.now (record { path = c.args.pending.now.path; ranks = c.union_into.new.self }) c.in_ok-here.ensures c.keep.ensures
+    joins P c.args.own.now c.in_ok-here.here c.intersect_with.new.self c.args.paths.now c.args.line.now c.args.pending.now (record { path = c.args.pending.now.path; ranks = c.union_into.new.self }) c.in_ok-here.ensures c.intersect_with.ensures
     (g.T.PrefixTree.tree c.args.tree.now) tree c.if-line-pending.true refl c.in_ok-union_into.ensures.ok
 
 pub returns : goal.returns
 returns g c P tree =
-    comes_next P c.args.own.now c.in_ok-here.here c.keep.new.self c.args.paths.now c.args.line.now c.args.pending.now (record { path = c.args.line.now.path; ranks = c.keep.new.self }) c.in_ok-here.ensures c.keep.ensures
+    comes_next P c.args.own.now c.in_ok-here.here c.intersect_with.new.self c.args.paths.now c.args.line.now c.args.pending.now (record { path = c.args.line.now.path; ranks = c.intersect_with.new.self }) c.in_ok-here.ensures c.intersect_with.ensures
     (g.T.PrefixTree.tree c.add_pending.new.tree) (c.in_ok-add_pending.ensures P c.args.own.now tree) refl refl

@@ -48,7 +48,7 @@ returns-then-node-nodes-3 g c releases =
     let st = state_with p c.args.nodes.now c.args.inboxes.now releases in
     let lt : c.in-Tick.node < nodes p = subst (λ k. c.in-Tick.node < k) c.nodes-in-Tick.ensures c.if-node-nodes-3.true in
     let at : slice_get c.args.nodes.now c.in-Tick.node ≡ Some x = node_read p c.args.nodes.now c.args.inboxes.now c.in-Tick.node x c.requires.parts lt c.index-nodes-node-then-node-nodes-3.is in
-    c.has_running.ensures p c.is_plan.ensures (c.requires.parts.each c.in-Tick.node x at).1
+    c.has_running.ensures p c.invariant.ensures (c.requires.parts.each c.in-Tick.node x at).1
     ∙ sym (tick_enabled p c.args.nodes.now c.args.inboxes.now releases c.in-Tick.node x c.requires.safe c.requires.parts lt at)
     ∙ ap (is_enabled p st) (sym c.in-Tick.is)
 

@@ -14,8 +14,8 @@ returns-then-serves g c =
     let s = c.args.stream.now in
     let leaf : is_daemon p.parents x.number ≡ true = ap (is_daemon p.parents) (sym c.number-n.ensures) ∙ sym c.is_daemon.ensures ∙ c.if-is_daemon.true in
     let there : serves p x.number s.number ≡ true = ap (λ k. serves p k s.number) (sym c.number-n.ensures) ∙ ap (serves p c.number-n.result) (sym c.number.ensures) ∙ sym c.serves.ensures ∙ c.if-serves.true in
-    next_is_sample p x s c.next_sample.result (samples_it p s x.number c.is_plan.ensures c.requires.stream leaf there)
-    (c.next_sample.ensures p c.is_plan.ensures c.requires.node (ap (serves p x.number) c.number-then-serves.ensures ∙ there)
+    next_is_sample p x s c.next_sample.result (samples_it p s x.number c.invariant.ensures c.requires.stream leaf there)
+    (c.next_sample.ensures p c.invariant.ensures c.requires.node (ap (serves p x.number) c.number-then-serves.ensures ∙ there)
     ∙ ap (λ k. option_map (λ (v : ℕ × ℕ). v.1) (next_sample p (node_of x) k)) c.number-then-serves.ensures)
 
 pub returns-else-is_daemon : goal.returns-else-is_daemon
@@ -26,8 +26,8 @@ returns-else-is_daemon g c =
     elim c.else-is_daemon.branch [
       | else-is_daemon-via-then-is_daemon+else-serves w ↦
           let away : serves p x.number s.number ≡ false = ap (λ k. serves p k s.number) (sym c.number-n.ensures) ∙ ap (serves p c.number-n.result) (sym w.number.ensures) ∙ sym w.serves.ensures ∙ w.if-serves.false in
-          no_sample p x s (serves_not p s x.number c.is_plan.ensures c.requires.stream away)
+          no_sample p x s (serves_not p s x.number c.invariant.ensures c.requires.stream away)
       | else-is_daemon-via-else-is_daemon w ↦
           let inner : is_daemon p.parents x.number ≡ false = ap (is_daemon p.parents) (sym c.number-n.ensures) ∙ sym c.is_daemon.ensures ∙ w.if-is_daemon.false in
-          no_sample p x s (no_daemon p s x.number c.is_plan.ensures c.requires.stream inner)
+          no_sample p x s (no_daemon p s x.number c.invariant.ensures c.requires.stream inner)
     ]

@@ -1,5 +1,5 @@
 use Rattle.std.proofs.Common.{◌∙◌, ◌++◌, ◌∷◌, [], Some, sym, subst, ap}
-use Rattle.overlay_net.specs.Inboxes.{HaveSent, waiting_in}
+use Rattle.overlay_net.specs.Inboxes.{HaveSent, waiting_view}
 use Rattle.overlay_net.proofs.Queues.{put_queue, what_waits, nothing_waits, set_sent, inserted_sent, pushed_some, shown_more, some_is, changes_same, found_sent}
 use Rattle.overlay_net.proofs.inbox.put.Goals as goal
 
@@ -12,7 +12,7 @@ returns-in-Some-clause-put g c =
 pub returns-in-Some-clause-sent : goal.returns-in-Some-clause-sent
 returns-in-Some-clause-sent g c =
     let wrote = c.get_mut.follows.holds c.push_back.new.self in
-    subst (λ es. HaveSent (waiting_in g.T.PrefixTree.tree es)) (sym wrote.0)
+    subst (λ es. HaveSent (waiting_view g.T.PrefixTree.tree es)) (sym wrote.0)
     (set_sent g.T.PrefixTree.tree _ c.push_back.new.self c.args.queues.now.entries c.requires (pushed_some c.in-Some.queue.now.items _ _ c.in_ok-push_back.ensures.items))
 
 pub returns-clause-put : goal.returns-clause-put
@@ -23,11 +23,11 @@ returns-clause-put g c =
 
 pub returns-clause-sent : goal.returns-clause-sent
 returns-clause-sent g c =
-    subst (λ es. HaveSent (waiting_in g.T.PrefixTree.tree es)) (sym c.in_ok-insert.ensures.entries)
-    (inserted_sent g.T.PrefixTree.tree c.args.sender c.push_back-2.new.self _ (subst (λ m. HaveSent (waiting_in g.T.PrefixTree.tree m.entries)) (sym c.get_mut.follows.holds-at-none) c.requires) (pushed_some _ _ _ c.in_ok-push_back-2.ensures.items))
+    subst (λ es. HaveSent (waiting_view g.T.PrefixTree.tree es)) (sym c.in_ok-insert.ensures.entries)
+    (inserted_sent g.T.PrefixTree.tree c.args.sender c.push_back-2.new.self _ (subst (λ m. HaveSent (waiting_view g.T.PrefixTree.tree m.entries)) (sym c.get_mut.follows.holds-at-none) c.requires) (pushed_some _ _ _ c.in_ok-push_back-2.ensures.items))
 
 pub returns-in_err-push_back-clause-sent : goal.returns-in_err-push_back-clause-sent
 returns-in_err-push_back-clause-sent g c =
     let wrote = c.get_mut.follows.holds c.push_back.new.self in
-    subst (λ es. HaveSent (waiting_in g.T.PrefixTree.tree es)) (sym wrote.0)
+    subst (λ es. HaveSent (waiting_view g.T.PrefixTree.tree es)) (sym wrote.0)
     (set_sent g.T.PrefixTree.tree _ c.push_back.new.self c.args.queues.now.entries c.requires (λ none. found_sent g.T.PrefixTree.tree c.args.sender c.in-Some.queue.now c.args.queues.now.entries c.requires (sym c.in-Some.ensures.value) (sym c.in_err-push_back.ensures.items ∙ none)))

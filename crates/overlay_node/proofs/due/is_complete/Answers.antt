@@ -7,4 +7,4 @@ pub returns : goal.returns
 returns c =
     c.is_subset.ensures
     ∙ ap (λ set. is_subset set c.args.cov.now) c.expected.ensures
-    ∙ complete_is c.args.place.now.plan.now c.args.place.now.node c.args.s c.args.cov.now
+    ∙ complete_is c.args.context.now.plan.now c.args.context.now.node c.args.s c.args.cov.now

@@ -1,5 +1,5 @@
 use Rattle.std.proofs.Common.{◌<◌, ◌≤◌, ◌∙◌, ap, sym, subst, get_or}
-use Rattle.overlay_node.specs.Entries.{entries_in}
+use Rattle.overlay_node.specs.Entries.{entries_view}
 use Rattle.overlay_node.proofs.Going.{length_in}
 use Rattle.overlay_node.proofs.Ticking.{all_ticked, ticked_more}
 use Rattle.overlay_node.proofs.Turning.{entry}
@@ -18,4 +18,4 @@ loop-i-preserved g c =
 pub returns : goal.returns
 returns g c =
     c.loop-i.invariant
-    ∙ all_ticked c.loop-i.i (entries_in c.args.entries.now) (subst (λ k. k ≤ c.loop-i.i) (sym (length_in c.args.entries.now)) c.loop-i-test.false)
+    ∙ all_ticked c.loop-i.i (entries_view c.args.entries.now) (subst (λ k. k ≤ c.loop-i.i) (sym (length_in c.args.entries.now)) c.loop-i-test.false)

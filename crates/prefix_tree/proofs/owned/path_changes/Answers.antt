@@ -4,7 +4,7 @@ use Rattle.rank_set.specs.Ranks.{none}
 use Rattle.call_path.specs.Path.{Path}
 use Rattle.prefix_tree.specs.Tree.{Marks}
 use Rattle.prefix_tree.specs.Joined.{path_rows}
-use Rattle.prefix_tree.specs.Owned.{entries_in, below_in}
+use Rattle.prefix_tree.specs.Owned.{entries_view, below_in}
 use Rattle.prefix_tree.specs.Changes.{changed, new_among}
 use Rattle.prefix_tree.proofs.Edits.{path_step, path_last}
 use Rattle.prefix_tree.proofs.owned.path_changes.Goals as goal
@@ -19,9 +19,9 @@ loop-depth-preserved c =
     let here : Path × Marks = (take c.loop-depth.depth c.args.path.now, (c.args.ranks.now, none)) in
     record {
       rows =
-          ap (λ es. es ++ map (changed b) rest) (c.in_ok-note.ensures.rows ∙ (λ k. entries_in c.loop-depth.changes.rows.items ++ changed b (c.in_ok-prefix.ensures k, (c.args.ranks.now, c.requires.nobody k)) ∷ []))
-          ∙ append_assoc (entries_in c.loop-depth.changes.rows.items) (changed b here ∷ []) (map (changed b) rest)
-          ∙ ap (λ es. entries_in c.loop-depth.changes.rows.items ++ map (changed b) es) (sym step)
+          ap (λ es. es ++ map (changed b) rest) (c.in_ok-note.ensures.rows ∙ (λ k. entries_view c.loop-depth.changes.rows.items ++ changed b (c.in_ok-prefix.ensures k, (c.args.ranks.now, c.requires.nobody k)) ∷ []))
+          ∙ append_assoc (entries_view c.loop-depth.changes.rows.items) (changed b here ∷ []) (map (changed b) rest)
+          ∙ ap (λ es. entries_view c.loop-depth.changes.rows.items ++ map (changed b) es) (sym step)
           ∙ c.loop-depth.invariant.rows;
       added =
           let now = c.in_ok-note.ensures.added ∙ (λ k. c.loop-depth.changes.added + new_among b ((c.in_ok-prefix.ensures k, (c.args.ranks.now, c.requires.nobody k)) ∷ [])) in
@@ -37,8 +37,8 @@ returns-clause-rows c =
     let last : c.loop-depth.depth ≡ length c.args.path.now = omega (arith, c.loop-depth-test.false, c.len-depth-end.ensures.len, c.len-depth-end.ensures.some, c.loop-depth.auto.depth-end, c.loop-depth.auto.depth) in
     let end = path_last c.args.ranks.now c.args.path.now c.loop-depth.depth (omega arith) last in
     c.in_ok-note-2.ensures.rows
-    ∙ (λ k. entries_in c.loop-depth.changes.rows.items ++ changed b (c.in_ok-copy.ensures k, (c.args.ranks.now, c.args.ranks.now)) ∷ [])
-    ∙ ap (λ es. entries_in c.loop-depth.changes.rows.items ++ map (changed b) es) (sym end)
+    ∙ (λ k. entries_view c.loop-depth.changes.rows.items ++ changed b (c.in_ok-copy.ensures k, (c.args.ranks.now, c.args.ranks.now)) ∷ [])
+    ∙ ap (λ es. entries_view c.loop-depth.changes.rows.items ++ map (changed b) es) (sym end)
     ∙ c.loop-depth.invariant.rows
 
 pub returns-clause-added : goal.returns-clause-added

@@ -1,7 +1,7 @@
 use Rattle.std.proofs.Common.{◌≡◌, ◌≤◌, [], ◌∷◌, ◌∙◌, ap, sym, length, arith}
 use Rattle.std.specs.Vec.{vec_capacity}
 use Rattle.std.proofs.lemmas.List.{length-append}
-use Rattle.prefix_tree.specs.Owned.{place_of, entries_in}
+use Rattle.prefix_tree.specs.Owned.{place_of, entries_view}
 use Rattle.prefix_tree.proofs.Weaving.{GoesBetween, goes_new, goes_over, same_ends, weaves_on}
 use Rattle.prefix_tree.proofs.owned.weave_rows.Goals.{in-Ok, in-Err}
 use Rattle.prefix_tree.proofs.owned.weave_rows.Goals as goal
@@ -21,7 +21,7 @@ loop-change-preserved c =
     let row = c.in-Some.change in
     let rows = c.loop-change.rows.items in
     let behind = c.loop-change.behind.items in
-    let at = sym (c.place.ensures.place ∙ ap (λ r. place_of row.path (entries_in r)) c.deref.ensures.value) in
+    let at = sym (c.place.ensures.place ∙ ap (λ r. place_of row.path (entries_view r)) c.deref.ensures.value) in
     let between : GoesBetween rows behind row c.match-place.rows.items c.match-place.behind.items = elim c.match-place.branch [
       | in-Ok w ↦
           same_ends rows behind row w.truncate.new.self.items w.move_behind.new.behind.items c.match-place.rows.items c.match-place.behind.items (ap (λ v. v.items) w.rows-is) (ap (λ v. v.items) w.behind-is)

@@ -1,6 +1,6 @@
 use Rattle.std.proofs.Common.{◌≡◌, ◌≤◌, ◌+◌, ◌++◌, length, reverse}
 use Rattle.std.specs.Vec.{vec_capacity}
-use Rattle.prefix_tree.specs.Owned.{IsInOrder, entries_in}
+use Rattle.prefix_tree.specs.Owned.{IsInOrder, entries_view}
 use Rattle.prefix_tree.specs.Changes.{puts}
 use Rattle.prefix_tree.proofs.owned.weave_rows.Given as goal
 
@@ -10,7 +10,7 @@ invariant-loop-change l = record {
   rising : IsInOrder l.changes.items;
   room : vec_capacity l.rows ≡ vec_capacity l.fn.rows;
   room_behind : length l.behind.items + (length l.rows.items + length l.changes.items) ≤ vec_capacity l.behind;
-  woven : puts (entries_in l.rows.items) (entries_in l.changes.items) ++ entries_in (reverse l.behind.items) ≡ puts (entries_in l.fn.rows.items) (entries_in l.fn.changes.items);
+  woven : puts (entries_view l.rows.items) (entries_view l.changes.items) ++ entries_view (reverse l.behind.items) ≡ puts (entries_view l.fn.rows.items) (entries_view l.fn.changes.items);
 }
 
 abbrev pub decreases-loop-change : goal.decreases-loop-change

@@ -1,5 +1,5 @@
 use Rattle.std.proofs.Common.{◌≡◌, ◌∙◌, sym, ap, Err}
-use Rattle.script_text.specs.Meant.{meant_lose}
+use Rattle.script_text.specs.ParserViews.{meant_lose}
 use Rattle.script_text.specs.Numbers.{number_from}
 use Rattle.script_text.specs.Losses.{fault_of}
 use Rattle.script_text.proofs.Steps.{handed_on}

@@ -1,5 +1,5 @@
 use Rattle.std.proofs.Common.{◌≡◌, ◌∙◌, sym, ap, Err}
-use Rattle.script_text.specs.Meant.{mode_words}
+use Rattle.script_text.specs.ParserViews.{mode_words}
 use Rattle.script_text.specs.Numbers.{number_from}
 use Rattle.script_text.specs.Streams.{mode_of}
 use Rattle.script_text.proofs.Steps.{handed_on}

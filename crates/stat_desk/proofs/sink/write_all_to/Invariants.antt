@@ -5,7 +5,7 @@ use Rattle.stat_desk.proofs.sink.write_all_to.Given as goal
 abbrev pub invariant-loop-taken : goal.invariant-loop-taken
 invariant-loop-taken g l = record {
   within : l.taken ≤ length l.bytes;
-  appended : Appends (g.S.Sink.held l.fn.sink) (g.S.Sink.held l.sink) (take l.taken l.bytes);
+  appended : Appends (g.S.Sink.contents l.fn.sink) (g.S.Sink.contents l.sink) (take l.taken l.bytes);
   later : g.S.Sink.faults l.fn.sink ≤ g.S.Sink.faults l.sink;
   untouched : l.taken ≡ 0 → l.sink ≡ l.fn.sink;
 }

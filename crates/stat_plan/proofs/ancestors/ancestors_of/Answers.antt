@@ -10,7 +10,7 @@ loop-preserved c =
     let is : parent_of c.args.topology.now.parents c.loop.at ≡ Some c.in-Some.parent = sym c.parent.ensures ∙ c.in-Some.is in
     let lt : c.loop.counter < length c.args.topology.now.parents = omega (arith, c.loop-test.true, c.nodes-end.ensures) in
     record {
-      node = (c.is_topology.ensures.tree.parents_are_nodes c.loop.at c.in-Some.parent is).1;
+      node = (c.invariant.ensures.tree.parents_are_nodes c.loop.at c.in-Some.parent is).1;
       above =
           ap (λ xs. xs ++ climb c.args.topology.now.parents (length c.args.topology.now.parents - (c.loop.counter + 1)) c.in-Some.parent) (c.in_ok-push.ensures.items)
           ∙ climb-on c.args.topology.now.parents c.loop.above.items c.loop.counter c.loop.at c.in-Some.parent lt is

@@ -1,8 +1,8 @@
 use Rattle.std.proofs.Common.{◌≡◌, length, map}
 use Rattle.stat_plan.specs.Plans.{up_to}
-use Rattle.stat_plan.specs.Tables.{rows_in}
+use Rattle.stat_plan.specs.Tables.{rows_view}
 use Rattle.stat_plan.specs.Trees.{climb}
 use Rattle.stat_plan.proofs.ancestors.ancestors_table.Given as goal
 
 abbrev pub invariant-loop-n : goal.invariant-loop-n
-invariant-loop-n l = rows_in l.table.items ≡ map (climb l.topology.parents (length l.topology.parents)) (up_to l.n)
+invariant-loop-n l = rows_view l.table.items ≡ map (climb l.topology.parents (length l.topology.parents)) (up_to l.n)

@@ -10,13 +10,13 @@ pub check_stream-requires-clause-stream : goal.check_stream-requires-clause-stre
 check_stream-requires-clause-stream c =
     let lt : c.loop-stream.stream-index < length c.args.job.now.streams = subst (λ xs. c.loop-stream.stream-index < length xs) c.streams-stream-items.ensures c.loop-stream-test.true in
     let is = c.stream-item.is ∙ ap (λ xs. get_or xs c.loop-stream.stream-index c.stream-item.result) c.streams-stream-items.ensures in
-    subst (λ (x : Stream). stream_of c.args.job.now x.number ≡ Some x) (sym is) (stream_found c.args.job.now c.loop-stream.stream-index c.stream-item.result c.is_job.ensures lt)
+    subst (λ (x : Stream). stream_of c.args.job.now x.number ≡ Some x) (sym is) (stream_found c.args.job.now c.loop-stream.stream-index c.stream-item.result c.invariant.ensures lt)
 
 pub check_stream-requires-clause-daemons : goal.check_stream-requires-clause-daemons
 check_stream-requires-clause-daemons c =
     let lt : c.loop-stream.stream-index < length c.args.job.now.streams = subst (λ xs. c.loop-stream.stream-index < length xs) c.streams-stream-items.ensures c.loop-stream-test.true in
     let is = c.stream-item.is ∙ ap (λ xs. get_or xs c.loop-stream.stream-index c.stream-item.result) c.streams-stream-items.ensures in
-    subst (λ (x : Stream). (n : ℕ) → In n x.daemons → n < nodes c.args.job.now) (sym is) (daemons_are_nodes c.args.job.now c.loop-stream.stream-index c.stream-item.result c.is_job.ensures lt)
+    subst (λ (x : Stream). (n : ℕ) → In n x.daemons → n < nodes c.args.job.now) (sym is) (daemons_are_nodes c.args.job.now c.loop-stream.stream-index c.stream-item.result c.invariant.ensures lt)
 
 pub returns-in-Err-clause-err : goal.returns-in-Err-clause-err
 returns-in-Err-clause-err c =

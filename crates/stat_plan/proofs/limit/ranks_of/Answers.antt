@@ -8,13 +8,13 @@ use Rattle.stat_plan.proofs.limit.ranks_of.Goals as goal
 
 pub bounds-placed-d : goal.bounds-placed-d
 bounds-placed-d c =
-    subst (λ k. get_or c.args.daemons.now c.loop-d.d-index 0 < k) (sym (ap length c.placed-placed.ensures ∙ c.is_job.ensures.samples_fit.paired))
+    subst (λ k. get_or c.args.daemons.now c.loop-d.d-index 0 < k) (sym (ap length c.placed-placed.ensures ∙ c.invariant.ensures.samples_fit.paired))
     (c.requires (get_or c.args.daemons.now c.loop-d.d-index 0) (in_at c.args.daemons.now c.loop-d.d-index 0 c.loop-d-test.true))
 
 pub loop-d-preserved : goal.loop-d-preserved
 loop-d-preserved c =
     let d = get_or c.args.daemons.now c.loop-d.d-index 0 in
-    let below = subst (λ k. d < k) (sym (ap length c.placed-placed.ensures ∙ c.is_job.ensures.samples_fit.paired)) (c.requires d (in_at c.args.daemons.now c.loop-d.d-index 0 c.loop-d-test.true)) in
+    let below = subst (λ k. d < k) (sym (ap length c.placed-placed.ensures ∙ c.invariant.ensures.samples_fit.paired)) (c.requires d (in_at c.args.daemons.now c.loop-d.d-index 0 c.loop-d-test.true)) in
     let own = ranks_at c.args.job.now c.placed-placed.result.now d c.index-placed-d.result c.placed-placed.ensures below c.index-placed-d.is in
     c.in_ok-union_into.ensures.ok
     ∙ ap (λ s. union s c.index-placed-d.result) c.loop-d.invariant

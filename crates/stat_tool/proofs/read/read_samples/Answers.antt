@@ -7,7 +7,7 @@ use Rattle.stat_tool.proofs.read.read_samples.Goals as goal
 
 pub returns-in-Err-clause-err : goal.returns-in-Err-clause-err
 returns-in-Err-clause-err g c =
-    let seen : DeskSeen = record { before = g.D.Desk.faults c.args.desk.now; now = g.D.Desk.faults c.read_file.new.desk; last_fault = g.D.Desk.last_fault c.read_file.new.desk; told = g.D.Desk.told c.args.desk.now } in
+    let seen : DeskSeen = record { before = g.D.Desk.faults c.args.desk.now; now = g.D.Desk.faults c.read_file.new.desk; last_fault = g.D.Desk.last_fault c.read_file.new.desk; contents = g.D.Desk.contents c.args.desk.now } in
     stops_unread (samples_of_text c.args.topology.now) Samples c.args.name.now seen c.in-Err.status c.in-Err.ensures.err
 
 pub returns-in-Ok-read-clause-ok : goal.returns-in-Ok-read-clause-ok
@@ -15,5 +15,5 @@ returns-in-Ok-read-clause-ok g c = (c.in-Ok.bytes.items, (c.in-Ok.ensures.ok, ap
 
 pub returns-clause-err : goal.returns-clause-err
 returns-clause-err g c =
-    let seen : DeskSeen = record { before = g.D.Desk.faults c.args.desk.now; now = g.D.Desk.faults c.read_file.new.desk; last_fault = g.D.Desk.last_fault c.read_file.new.desk; told = g.D.Desk.told c.args.desk.now } in
+    let seen : DeskSeen = record { before = g.D.Desk.faults c.args.desk.now; now = g.D.Desk.faults c.read_file.new.desk; last_fault = g.D.Desk.last_fault c.read_file.new.desk; contents = g.D.Desk.contents c.args.desk.now } in
     stops_refused (samples_of_text c.args.topology.now) Samples c.args.name.now seen c.in-Err-read.error c.in-Ok.bytes.items c.as_slice.result.now c.refusal.result c.refusal.ensures c.in-Ok.ensures.ok c.as_slice.ensures.value c.in-Err-read.ensures.err

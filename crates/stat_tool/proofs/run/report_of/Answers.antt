@@ -1,7 +1,7 @@
 use Rattle.std.proofs.Common.{List, [], sym, subst}
 use Rattle.std.specs.Prelude.{IfOk}
-use Rattle.front_end.specs.Report.{AreApart, IsReport}
+use Rattle.front_end.specs.Report.{AreDistinct, IsReport}
 use Rattle.stat_tool.proofs.run.report_of.Goals as goal
 
 pub report_text-requires-clause-distinct : goal.report_text-requires-clause-distinct
-report_text-requires-clause-distinct g c κs within = subst AreApart (sym c.releases.ensures) (c.numbered_releases_are_apart.ensures c.args.net.now.releases c.is_left.ensures.1.numbered)
+report_text-requires-clause-distinct g c κs within = subst AreDistinct (sym c.releases.ensures) (c.numbered_releases_are_distinct.ensures c.args.net.now.releases c.invariant.ensures.1.numbered)

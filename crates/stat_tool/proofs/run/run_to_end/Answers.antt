@@ -2,8 +2,8 @@ use Rattle.std.proofs.Common.{◌≡◌, ◌+◌, ◌<◌, ◌++◌, Bool, true,
 use Rattle.stat_desk.specs.declared.event.Event.{Event}
 use Rattle.overlay_core.specs.Bound.{bound}
 use Rattle.overlay_core.specs.Machine.{start}
-use Rattle.overlay_net.specs.Nets.{IsLeftBy, state_of}
-use Rattle.stat_tool.specs.Work.{TakesFirst}
+use Rattle.overlay_net.specs.Nets.{IsReachedBy, state_of}
+use Rattle.stat_tool.specs.RunOutput.{TakesFirst}
 use Rattle.stat_tool.proofs.Serial.{goes_on, is_quiet, not_refused, room_for}
 use Rattle.stat_tool.proofs.run.run_to_end.Goals as goal
 
@@ -11,7 +11,7 @@ pub loop-event-smaller : goal.loop-event-smaller
 loop-event-smaller g c =
     let old = c.loop-event.invariant in
     let room : length c.loop-event.journal < bound c.args.net.now.plan =
-    room_for c.loop-event.net c.args.net.now.plan c.loop-event.journal c.in-Some.event c.requires.plan old.plan old.left c.in-Ok.ensures.enabled in
+    room_for c.loop-event.net c.args.net.now.plan c.loop-event.journal c.in-Some.event c.requires.plan old.plan old.reached c.in-Ok.ensures.enabled in
     let pushed : length c.push.new.self ≡ length c.loop-event.journal + 1 = ap (λ (es : List Event). length es) c.in_ok-push-in-Ok.ensures.ok ∙ length-append c.loop-event.journal (c.in-Some.event ∷ []) in
     omega arith
 
@@ -22,8 +22,8 @@ loop-event-preserved g c =
     record {
       plan = c.apply.ensures.plan ∙ old.plan;
       usable = c.in-Ok.ensures.usable;
-      left = subst (IsLeftBy c.apply.new.self) (sym c.in_ok-push-in-Ok.ensures.ok) (c.in-Ok.ensures.left c.loop-event.journal old.left);
-      serial = subst (TakesFirst p (start p)) (sym c.in_ok-push-in-Ok.ensures.ok) (goes_on c.loop-event.net p c.loop-event.journal c.in-Some.event old.plan old.left c.in-Some.ensures old.serial);
+      reached = subst (IsReachedBy c.apply.new.self) (sym c.in_ok-push-in-Ok.ensures.ok) (c.in-Ok.ensures.reached c.loop-event.journal old.reached);
+      serial = subst (TakesFirst p (start p)) (sym c.in_ok-push-in-Ok.ensures.ok) (goes_on c.loop-event.net p c.loop-event.journal c.in-Some.event old.plan old.reached c.in-Some.ensures old.serial);
     }
 
 pub unreachable-requires : goal.unreachable-requires
@@ -33,4 +33,4 @@ unreachable-requires g c =
 
 pub returns-clause-quiet : goal.returns-clause-quiet
 returns-clause-quiet g c =
-    is_quiet c.loop-event.net c.args.net.now.plan c.loop-event.journal c.requires.plan c.loop-event.invariant.plan c.loop-event.invariant.left c.in_default.ensures
+    is_quiet c.loop-event.net c.args.net.now.plan c.loop-event.journal c.requires.plan c.loop-event.invariant.plan c.loop-event.invariant.reached c.in_default.ensures

@@ -1,15 +1,15 @@
 use Rattle.std.proofs.Common.{◌≡◌, ◌-◌, false, length}
 use Rattle.overlay_core.specs.Bound.{bound}
 use Rattle.overlay_core.specs.Machine.{start}
-use Rattle.overlay_net.specs.Nets.{IsLeftBy}
-use Rattle.stat_tool.specs.Work.{TakesFirst}
+use Rattle.overlay_net.specs.Nets.{IsReachedBy}
+use Rattle.stat_tool.specs.RunOutput.{TakesFirst}
 use Rattle.stat_tool.proofs.run.run_to_end.Given as goal
 
 abbrev pub invariant-loop-event : goal.invariant-loop-event
 invariant-loop-event g l = record {
   plan : l.net.plan ≡ l.fn.net.plan;
   usable : l.net.failed ≡ false;
-  left : IsLeftBy l.net l.journal;
+  reached : IsReachedBy l.net l.journal;
   serial : TakesFirst l.fn.net.plan (start l.fn.net.plan) l.journal;
 }
 

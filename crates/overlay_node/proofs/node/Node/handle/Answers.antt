@@ -3,19 +3,19 @@ use Rattle.std.specs.Prelude.{option_map}
 use Rattle.std.specs.Vec.{with_items}
 use Rattle.std.proofs.lemmas.List.{with_items_is}
 use Rattle.stat_plan.specs.Kin.{Kin}
-use Rattle.overlay_core.specs.TreeReleases.{releases_in}
-use Rattle.overlay_node.specs.Entries.{entries_in}
+use Rattle.overlay_core.specs.TreeReleases.{releases_view}
+use Rattle.overlay_node.specs.Entries.{entries_view}
 use Rattle.overlay_node.specs.NodeViews.{NodeView}
-use Rattle.overlay_node.specs.Packets.{packet_in, sends_in}
-use Rattle.overlay_node.specs.Acting.{output_in}
+use Rattle.overlay_node.specs.Packets.{packet_view, sends_view}
+use Rattle.overlay_node.specs.Acting.{output_view}
 use Rattle.overlay_node.proofs.Handling.{Handles, handles_by, may_by, place_fits}
 use Rattle.overlay_node.proofs.Going.{length_in}
 use Rattle.overlay_node.proofs.Ticking.{length_keys}
 use Rattle.overlay_node.proofs.node.Node.handle.Given as given
 use Rattle.overlay_node.proofs.node.Node.handle.Goals as goal
 
-pub step-requires-clause-place : goal.step-requires-clause-place
-step-requires-clause-place g c κs within =
+pub step-requires-clause-context : goal.step-requires-clause-context
+step-requires-clause-context g c κs within =
     let kin : ◌≡◌ {A = Kin} (record { parent = c.self.inside.parent; children = c.as_slice.result.now; lost = [] }) c.args.self.now.kin =
     (λ i. record { parent = c.self.inside.parent; children = c.as_slice.ensures.value i; lost = [] }) ∙ ap (λ (v : NodeView). v.kin) c.self.view_is in
     place_fits c.args.plan.now c.args.self.now c.self.inside.number _ c.requires.node (ap (λ (v : NodeView). v.number) c.self.view_is) kin
@@ -24,8 +24,8 @@ pub step-requires-clause-event : goal.step-requires-clause-event
 step-requires-clause-event g c κs within =
     let kin : ◌≡◌ {A = Kin} (record { parent = c.self.inside.parent; children = c.as_slice.result.now; lost = [] }) c.args.self.now.kin =
     (λ i. record { parent = c.self.inside.parent; children = c.as_slice.ensures.value i; lost = [] }) ∙ ap (λ (v : NodeView). v.kin) c.self.view_is in
-    may_by c.args.plan.now c.args.self.now c.self.inside.number _ _ c.args.event (option_map (packet_in g.T.PrefixTree.tree) c.args.packet) (ap (λ (v : NodeView). v.number) c.self.view_is) kin
-    (ap (entries_in {X = g.row.T.Denot}) c.as_mut_slice.ensures.value ∙ ap (λ (v : NodeView). v.entries) c.self.view_is) c.requires.event
+    may_by c.args.plan.now c.args.self.now c.self.inside.number _ _ c.args.event (option_map (packet_view g.T.PrefixTree.tree) c.args.packet) (ap (λ (v : NodeView). v.number) c.self.view_is) kin
+    (ap (entries_view {X = g.row.T.Denot}) c.as_mut_slice.ensures.value ∙ ap (λ (v : NodeView). v.entries) c.self.view_is) c.requires.event
 
 -- what the event leaves
 left : (g : given.Over) (c : goal.After-self-2-1 g)
@@ -33,22 +33,22 @@ left : (g : given.Over) (c : goal.After-self-2-1 g)
     (record {
       number = c.self.inside.number;
       kin = record { parent = c.self.inside.parent; children = c.self.inside.children.items; lost = [] };
-      entries = entries_in {X = g.row.T.Denot} (with_items c.self.inside.entries c.step.new.entries).items;
+      entries = entries_view {X = g.row.T.Denot} (with_items c.self.inside.entries c.step.new.entries).items;
       count = c.self.inside.count + 1;
     })
-    c.args.event (option_map (packet_in g.T.PrefixTree.tree) c.args.packet) (output_in g.T.PrefixTree.tree c.step.new.out)
+    c.args.event (option_map (packet_view g.T.PrefixTree.tree) c.args.packet) (output_view g.T.PrefixTree.tree c.step.new.out)
 left g c =
     let number : c.self.inside.number ≡ c.args.self.now.number = ap (λ (v : NodeView). v.number) c.self.view_is in
     let kin : ◌≡◌ {A = Kin} (record { parent = c.self.inside.parent; children = c.self.inside.children.items; lost = [] }) c.args.self.now.kin = ap (λ (v : NodeView). v.kin) c.self.view_is in
     let count : c.self.inside.count ≡ c.args.self.now.count = ap (λ (v : NodeView). v.count) c.self.view_is in
     let length_new : length c.step.new.entries ≡ c.self.inside.entries.len =
-    sym (length_in {X = g.row.T.Denot} c.step.new.entries) ∙ sym (length_keys (entries_in {X = g.row.T.Denot} c.step.new.entries)) ∙ ap length c.in_ok-step.ensures.keys
-    ∙ length_keys (entries_in {X = g.row.T.Denot} c.as_mut_slice.result.now) ∙ length_in {X = g.row.T.Denot} c.as_mut_slice.result.now ∙ c.as_mut_slice.ensures.len in
-    handles_by c.args.plan.now c.args.self.now _ c.args.event _ c.self.inside.number _ _ _ _ _ c.is_plan.ensures c.requires.node number
+    sym (length_in {X = g.row.T.Denot} c.step.new.entries) ∙ sym (length_keys (entries_view {X = g.row.T.Denot} c.step.new.entries)) ∙ ap length c.in_ok-step.ensures.keys
+    ∙ length_keys (entries_view {X = g.row.T.Denot} c.as_mut_slice.result.now) ∙ length_in {X = g.row.T.Denot} c.as_mut_slice.result.now ∙ c.as_mut_slice.ensures.len in
+    handles_by c.args.plan.now c.args.self.now _ c.args.event _ c.self.inside.number _ _ _ _ _ c.invariant.ensures c.requires.node number
     ((λ i. record { parent = c.self.inside.parent; children = c.as_slice.ensures.value i; lost = [] }) ∙ kin)
-    (ap (entries_in {X = g.row.T.Denot}) c.as_mut_slice.ensures.value ∙ ap (λ (v : NodeView). v.entries) c.self.view_is)
-    (ap (entries_in {X = g.row.T.Denot}) (sym (with_items_is c.self.inside.entries c.step.new.entries length_new)))
-    (λ i. record { sends = sends_in {X = g.row.T.Denot} g.T.PrefixTree.tree (c.new.ensures.items i); releases = releases_in {X = g.row.T.Denot} g.T.PrefixTree.tree (c.new-2.ensures.items i) })
+    (ap (entries_view {X = g.row.T.Denot}) c.as_mut_slice.ensures.value ∙ ap (λ (v : NodeView). v.entries) c.self.view_is)
+    (ap (entries_view {X = g.row.T.Denot}) (sym (with_items_is c.self.inside.entries c.step.new.entries length_new)))
+    (λ i. record { sends = sends_view {X = g.row.T.Denot} g.T.PrefixTree.tree (c.new.ensures.items i); releases = releases_view {X = g.row.T.Denot} g.T.PrefixTree.tree (c.new-2.ensures.items i) })
     number kin (omega (arith, count)) c.in_ok-step.ensures
 
 pub returns-clause-node : goal.returns-clause-node

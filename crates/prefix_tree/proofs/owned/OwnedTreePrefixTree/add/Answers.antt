@@ -2,7 +2,7 @@ use Rattle.std.proofs.Common.{◌∙◌, ap, sym, subst, arith, length, map}
 use Rattle.std.proofs.lemmas.Bool.{leb-true, leb-false}
 use Rattle.prefix_tree.specs.Tree.{added, Adds}
 use Rattle.prefix_tree.specs.Joined.{path_rows}
-use Rattle.prefix_tree.specs.Owned.{below_in, entries_in}
+use Rattle.prefix_tree.specs.Owned.{below_in, entries_view}
 use Rattle.prefix_tree.specs.Changes.{changed, new_among, puts}
 use Rattle.prefix_tree.proofs.TreeLaws.{added_adds}
 use Rattle.prefix_tree.proofs.ChangeLemmas.{apart_path_rows}
@@ -18,7 +18,7 @@ returns-then-not-has_room-clause-full c _ =
 
 pub put_rows-requires-clause-room : goal.put_rows-requires-clause-room
 put_rows-requires-clause-room c =
-    let count = ap (λ rows. length (puts (entries_in rows) (entries_in c.in_ok-changes.changes.rows.items))) c.in_ok-reserve.ensures.items
+    let count = ap (λ rows. length (puts (entries_view rows) (entries_view c.in_ok-changes.changes.rows.items))) c.in_ok-reserve.ensures.items
     ∙ puts_count c.self.inside.rows.items c.self.inside.rows.items c.in_ok-changes.changes.rows.items (path_rows c.args.ranks.now c.args.path.now) c.self.invariant.tree.in_order (apart_path_rows c.args.ranks.now c.args.path.now) (c.in_ok-changes.ensures.rows ∙ ap (λ rows. map (changed (below_in rows)) (path_rows c.args.ranks.now c.args.path.now)) c.deref.ensures.value) in
     let new = c.in_ok-changes.ensures.added ∙ ap (λ rows. new_among (below_in rows) (path_rows c.args.ranks.now c.args.path.now)) c.deref.ensures.value in
     omega (arith, count, new, c.in_ok-reserve.ensures.ok, c.in_ok-reserve.ensures.len, ap length c.deref-2.ensures.value, c.deref-2.ensures.len)
@@ -26,8 +26,8 @@ put_rows-requires-clause-room c =
 makes : (c : goal.After-put_rows) → MakesTree c.self.inside.coverage c.put_rows.new.rows.items (added c.args.self.now c.args.ranks.now c.args.path.now)
 makes c =
     makes_added c.self.inside.coverage c.args.ranks.now c.args.path.now c.self.inside.rows.items c.put_rows.new.rows.items c.args.self.now c.self.view_is c.self.invariant.tree c.requires.some c.requires.lies c.in_ok-changes.ensures.good
-    (puts_in_order c.self.inside.rows.items c.put_rows.new.rows.items c.in_ok-changes.changes.rows.items (path_rows c.args.ranks.now c.args.path.now) c.self.invariant.tree.in_order (apart_path_rows c.args.ranks.now c.args.path.now) (c.in_ok-changes.ensures.rows ∙ ap (λ rows. map (changed (below_in rows)) (path_rows c.args.ranks.now c.args.path.now)) c.deref.ensures.value) (c.put_rows.ensures ∙ ap (λ rows. puts (entries_in rows) (entries_in c.in_ok-changes.changes.rows.items)) c.in_ok-reserve.ensures.items))
-    (puts_are_united c.self.inside.rows.items c.put_rows.new.rows.items c.in_ok-changes.changes.rows.items (path_rows c.args.ranks.now c.args.path.now) c.self.invariant.tree.in_order (apart_path_rows c.args.ranks.now c.args.path.now) (c.in_ok-changes.ensures.rows ∙ ap (λ rows. map (changed (below_in rows)) (path_rows c.args.ranks.now c.args.path.now)) c.deref.ensures.value) (c.put_rows.ensures ∙ ap (λ rows. puts (entries_in rows) (entries_in c.in_ok-changes.changes.rows.items)) c.in_ok-reserve.ensures.items))
+    (puts_in_order c.self.inside.rows.items c.put_rows.new.rows.items c.in_ok-changes.changes.rows.items (path_rows c.args.ranks.now c.args.path.now) c.self.invariant.tree.in_order (apart_path_rows c.args.ranks.now c.args.path.now) (c.in_ok-changes.ensures.rows ∙ ap (λ rows. map (changed (below_in rows)) (path_rows c.args.ranks.now c.args.path.now)) c.deref.ensures.value) (c.put_rows.ensures ∙ ap (λ rows. puts (entries_view rows) (entries_view c.in_ok-changes.changes.rows.items)) c.in_ok-reserve.ensures.items))
+    (puts_are_united c.self.inside.rows.items c.put_rows.new.rows.items c.in_ok-changes.changes.rows.items (path_rows c.args.ranks.now c.args.path.now) c.self.invariant.tree.in_order (apart_path_rows c.args.ranks.now c.args.path.now) (c.in_ok-changes.ensures.rows ∙ ap (λ rows. map (changed (below_in rows)) (path_rows c.args.ranks.now c.args.path.now)) c.deref.ensures.value) (c.put_rows.ensures ∙ ap (λ rows. puts (entries_view rows) (entries_view c.in_ok-changes.changes.rows.items)) c.in_ok-reserve.ensures.items))
 
 pub returns-clause-fits : goal.returns-clause-fits
 returns-clause-fits c =

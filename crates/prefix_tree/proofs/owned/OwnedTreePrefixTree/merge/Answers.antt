@@ -3,7 +3,7 @@ use Rattle.std.proofs.lemmas.Bool.{leb-true, leb-false}
 use Rattle.std.specs.FinMap as finmap
 use Rattle.call_path.specs.Path.{path_cmp}
 use Rattle.prefix_tree.specs.Tree.{merged, Unites}
-use Rattle.prefix_tree.specs.Owned.{below_in, entries_in}
+use Rattle.prefix_tree.specs.Owned.{below_in, entries_view}
 use Rattle.prefix_tree.specs.Changes.{changed, new_among}
 use Rattle.prefix_tree.proofs.TreeLemmas.{merged_unites}
 use Rattle.prefix_tree.proofs.ChangeLemmas.{apart_from_order}
@@ -16,31 +16,31 @@ use Rattle.prefix_tree.proofs.owned.OwnedTreePrefixTree.merge.Goals as goal
 pub returns-then-not-has_room-clause-full : goal.returns-then-not-has_room-clause-full
 returns-then-not-has_room-clause-full c _ =
     let count = count_merged c.self.inside.coverage c.other.inside.coverage c.self.inside.rows.items c.other.inside.rows.items c.args.self.now c.args.other.now c.self.view_is c.other.view_is c.self.invariant.tree c.other.invariant.tree in
-    let new = c.in_ok-changes.ensures.added ∙ (λ i. new_among (below_in (c.deref.ensures.value i)) (entries_in (c.deref-2.ensures.value i))) in
+    let new = c.in_ok-changes.ensures.added ∙ (λ i. new_among (below_in (c.deref.ensures.value i)) (entries_view (c.deref-2.ensures.value i))) in
     omega (arith, count, new, ap length c.deref-3.ensures.value, leb-false _ _ (sym c.has_room.ensures ∙ c.if-not-has_room.true))
 
 pub put_changes-requires-clause-rising : goal.put_changes-requires-clause-rising
 put_changes-requires-clause-rising c =
-    subst (λ es. T (finmap.is_sorted path_cmp es)) (sym (c.in_ok-changes.ensures.rows ∙ (λ i. map (changed (below_in (c.deref.ensures.value i))) (entries_in (c.deref-2.ensures.value i)))))
-    (changed_sorted (below_in c.self.inside.rows.items) (entries_in c.other.inside.rows.items) c.other.invariant.tree.in_order)
+    subst (λ es. T (finmap.is_sorted path_cmp es)) (sym (c.in_ok-changes.ensures.rows ∙ (λ i. map (changed (below_in (c.deref.ensures.value i))) (entries_view (c.deref-2.ensures.value i)))))
+    (changed_sorted (below_in c.self.inside.rows.items) (entries_view c.other.inside.rows.items) c.other.invariant.tree.in_order)
 
 pub put_changes-requires-clause-added : goal.put_changes-requires-clause-added
 put_changes-requires-clause-added c =
-    let count = puts_count c.self.inside.rows.items c.self.inside.rows.items c.in_ok-changes.changes.rows.items (entries_in c.other.inside.rows.items) c.self.invariant.tree.in_order (apart_from_order (entries_in c.other.inside.rows.items) c.other.invariant.tree.in_order) (c.in_ok-changes.ensures.rows ∙ (λ i. map (changed (below_in (c.deref.ensures.value i))) (entries_in (c.deref-2.ensures.value i)))) in
-    let new = c.in_ok-changes.ensures.added ∙ (λ i. new_among (below_in (c.deref.ensures.value i)) (entries_in (c.deref-2.ensures.value i))) in
+    let count = puts_count c.self.inside.rows.items c.self.inside.rows.items c.in_ok-changes.changes.rows.items (entries_view c.other.inside.rows.items) c.self.invariant.tree.in_order (apart_from_order (entries_view c.other.inside.rows.items) c.other.invariant.tree.in_order) (c.in_ok-changes.ensures.rows ∙ (λ i. map (changed (below_in (c.deref.ensures.value i))) (entries_view (c.deref-2.ensures.value i)))) in
+    let new = c.in_ok-changes.ensures.added ∙ (λ i. new_among (below_in (c.deref.ensures.value i)) (entries_view (c.deref-2.ensures.value i))) in
     omega (arith, count, new)
 
 makes : (c : Joined-self-coverage) → MakesTree c.in_ok-coverage.coverage c.put_changes.new.rows.items (merged c.args.self.now c.args.other.now)
 makes c =
     from_equal_ranks _ _ _ _ c.in_ok-coverage.ensures
     (makes_merged c.self.inside.coverage c.other.inside.coverage c.self.inside.rows.items c.other.inside.rows.items c.put_changes.new.rows.items c.args.self.now c.args.other.now c.self.view_is c.other.view_is c.self.invariant.tree c.other.invariant.tree
-    (puts_in_order c.self.inside.rows.items c.put_changes.new.rows.items c.in_ok-changes.changes.rows.items (entries_in c.other.inside.rows.items) c.self.invariant.tree.in_order (apart_from_order (entries_in c.other.inside.rows.items) c.other.invariant.tree.in_order) (c.in_ok-changes.ensures.rows ∙ (λ i. map (changed (below_in (c.deref.ensures.value i))) (entries_in (c.deref-2.ensures.value i)))) c.in_ok-put_changes.ensures.ok)
-    (puts_are_united c.self.inside.rows.items c.put_changes.new.rows.items c.in_ok-changes.changes.rows.items (entries_in c.other.inside.rows.items) c.self.invariant.tree.in_order (apart_from_order (entries_in c.other.inside.rows.items) c.other.invariant.tree.in_order) (c.in_ok-changes.ensures.rows ∙ (λ i. map (changed (below_in (c.deref.ensures.value i))) (entries_in (c.deref-2.ensures.value i)))) c.in_ok-put_changes.ensures.ok))
+    (puts_in_order c.self.inside.rows.items c.put_changes.new.rows.items c.in_ok-changes.changes.rows.items (entries_view c.other.inside.rows.items) c.self.invariant.tree.in_order (apart_from_order (entries_view c.other.inside.rows.items) c.other.invariant.tree.in_order) (c.in_ok-changes.ensures.rows ∙ (λ i. map (changed (below_in (c.deref.ensures.value i))) (entries_view (c.deref-2.ensures.value i)))) c.in_ok-put_changes.ensures.ok)
+    (puts_are_united c.self.inside.rows.items c.put_changes.new.rows.items c.in_ok-changes.changes.rows.items (entries_view c.other.inside.rows.items) c.self.invariant.tree.in_order (apart_from_order (entries_view c.other.inside.rows.items) c.other.invariant.tree.in_order) (c.in_ok-changes.ensures.rows ∙ (λ i. map (changed (below_in (c.deref.ensures.value i))) (entries_view (c.deref-2.ensures.value i)))) c.in_ok-put_changes.ensures.ok))
 
 pub returns-clause-fits : goal.returns-clause-fits
 returns-clause-fits c =
     let count = count_merged c.self.inside.coverage c.other.inside.coverage c.self.inside.rows.items c.other.inside.rows.items c.args.self.now c.args.other.now c.self.view_is c.other.view_is c.self.invariant.tree c.other.invariant.tree in
-    let new = c.in_ok-changes.ensures.added ∙ (λ i. new_among (below_in (c.deref.ensures.value i)) (entries_in (c.deref-2.ensures.value i))) in
+    let new = c.in_ok-changes.ensures.added ∙ (λ i. new_among (below_in (c.deref.ensures.value i)) (entries_view (c.deref-2.ensures.value i))) in
     let few = c.self.invariant.tree.few in
     omega (arith, count, new, few, ap length c.deref-3.ensures.value, leb-true _ _ (sym c.has_room.ensures ∙ c.if-not-has_room.false))
 
@@ -48,7 +48,7 @@ pub invariant_of-self-2 : goal.invariant_of-self-2
 invariant_of-self-2 c =
     let size = (makes c).size in
     let count = count_merged c.self.inside.coverage c.other.inside.coverage c.self.inside.rows.items c.other.inside.rows.items c.args.self.now c.args.other.now c.self.view_is c.other.view_is c.self.invariant.tree c.other.invariant.tree in
-    let new = c.in_ok-changes.ensures.added ∙ (λ i. new_among (below_in (c.deref.ensures.value i)) (entries_in (c.deref-2.ensures.value i))) in
+    let new = c.in_ok-changes.ensures.added ∙ (λ i. new_among (below_in (c.deref.ensures.value i)) (entries_view (c.deref-2.ensures.value i))) in
     let few = c.self.invariant.tree.few in
     record { tree = (makes c).tree (omega (arith, size, count, new, few, ap length c.deref-3.ensures.value, leb-true _ _ (sym c.has_room.ensures ∙ c.if-not-has_room.false))); nobody = c.self.invariant.nobody }
 

@@ -1,6 +1,6 @@
 use Rattle.std.proofs.Common.{◌∙◌, ◌++◌, ◌∷◌, [], sym, ap, subst, arith}
 use Rattle.call_path.specs.Reading.{path_of}
-use Rattle.sample_text.specs.Drafts.{AreRead}
+use Rattle.sample_text.specs.Parsers.{AreRead}
 use Rattle.sample_text.proofs.Texts.{found, path_good, read_more, inserted}
 use Rattle.sample_text.proofs.paths.Paths.number.Goals as goal
 

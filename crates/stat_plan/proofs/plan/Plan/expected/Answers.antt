@@ -3,7 +3,7 @@ use Rattle.std.specs.Prelude.{find, slice_get, IsSome}
 use Rattle.std.proofs.lemmas.Bool.{true≢false}
 use Rattle.rank_set.specs.Ranks.{none}
 use Rattle.stat_plan.specs.Plans.{Plan, Stream, stream_of, nodes, expected}
-use Rattle.stat_plan.specs.Tables.{rows_in}
+use Rattle.stat_plan.specs.Tables.{rows_view}
 use Rattle.stat_plan.proofs.LookupLemmas.{expected_at, element_at}
 use Rattle.stat_plan.proofs.plan.Plan.expected.Goals as goal
 
@@ -22,6 +22,6 @@ returns c =
     let is : stream_of p c.args.s ≡ Some x.0 =
     ap (find (λ (x : Stream). x.number == c.args.s)) (sym c.streams.ensures) ∙ c.in-Some.ensures.1 ∙ ap (λ xs. slice_get xs c.in-Some.i) c.streams.ensures ∙ x.1 in
     c.set_at.ensures
-    ∙ ap (λ xs. get_or (get_or (rows_in xs) c.in-Some.i []) c.args.n none) c.deref.ensures.value
-    ∙ expected_at p (rows_in c.self.inside.expected.items) c.in-Some.i x.0 c.args.n c.args.s c.self.invariant.1.ranks x.1 is within
+    ∙ ap (λ xs. get_or (get_or (rows_view xs) c.in-Some.i []) c.args.n none) c.deref.ensures.value
+    ∙ expected_at p (rows_view c.self.inside.expected.items) c.in-Some.i x.0 c.args.n c.args.s c.self.invariant.1.ranks x.1 is within
     ∙ ap (λ p. expected p c.args.n c.args.s) c.self.view_is

@@ -1,0 +1,30 @@
+-- Settled: between events nothing is due at a living node.
+use Rattle.rank_set.specs.Ranks.{Ranks}
+use Rattle.std.specs.Prelude.{ℕ, ◌≡◌, ◌≢◌, ◌≤◌, true, ⊤, List}
+use Rattle.stat_plan.specs.NodeSets.{In}
+use Rattle.stat_plan.specs.Plans.{Plan, mode, waves_at}
+use Rattle.overlay_core.specs.Nodes.{Node, due_at}
+use Rattle.stat_plan.specs.Waves.{Wave, Open, Closed, ticks}
+use Rattle.overlay_core.specs.Machine.{State}
+use Rattle.stat_plan.specs.declared.act.Timer.{Timer}
+use Rattle.stat_plan.specs.declared.act.Timer.TheVariants.{Off, Running, Fired}
+use Rattle.stat_plan.specs.declared.act.Act.TheVariants.{Hold}
+
+-- a timer runs for at least a tick and at most the timeout, and only where something was not sent yet; none has run out
+abbrev pub TimerIsSound : Plan → ℕ → Ranks → Ranks → Timer → Type 0
+TimerIsSound p s cov sent Off = ⊤
+TimerIsSound p s cov sent (Running t) = (1 ≤ t) × (t ≤ ticks (mode p s)) × (cov ≢ sent)
+TimerIsSound p s cov sent Fired = ⊥
+
+-- nothing is due for the wave
+abbrev pub WaveIsSettled : Plan → ℕ → List ℕ → ℕ → Wave → Type 0
+WaveIsSettled p n lost s (Open cov sent timer) = (due_at p n lost s cov sent timer ≡ Hold) × TimerIsSound p s cov sent timer
+WaveIsSettled p n lost s Closed = ⊤
+
+-- nothing is due for any wave that the node serves
+abbrev pub NodeIsSettled : Plan → ℕ → Node → Type 0
+NodeIsSettled p n x = (s w : ℕ) → In (s, w) (waves_at p n) → WaveIsSettled p n x.kin.lost s (x.book s w)
+
+-- each living node is calm
+abbrev pub NodesAreSettled : Plan → State → Type 0
+NodesAreSettled p st = (n : ℕ) → st.alive n ≡ true → NodeIsSettled p n (st.node n)

@@ -1,0 +1,9 @@
+use Rattle.std.proofs.Common.{◌≡◌, ◌∙◌, List, ap, subst}
+use Rattle.stat_desk.specs.declared.event.Event.{Event}
+use Rattle.overlay_net.specs.Nets.{NetView, IsReachedBy}
+use Rattle.overlay_net.proofs.net.Net.invariant.Goals as goal
+
+pub returns : goal.returns
+returns g c =
+    let net = c.self.invariant (ap (λ (v : NetView). v.failed) c.self.view_is ∙ c.requires) in
+    (net.journal, subst (λ (v : NetView). IsReachedBy v net.journal) c.self.view_is (record { legal = net.reached.legal; state = net.reached.state; numbered = net.reached.numbered; trees = net.reached.trees }))

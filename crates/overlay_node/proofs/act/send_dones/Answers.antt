@@ -1,8 +1,0 @@
-use Rattle.overlay_node.proofs.Telling.{told_more, all_told}
-use Rattle.overlay_node.proofs.act.send_dones.Goals as goal
-
-pub loop-child-preserved : goal.loop-child-preserved
-loop-child-preserved g c = told_more c.args.place.now.plan.now c.args.s c.args.w c.args.place.now.children.now c.loop-child.child-index _ _ _ c.loop-child-test.true c.in_ok-send_done.ensures c.loop-child.invariant
-
-pub returns : goal.returns
-returns g c = all_told c.args.place.now.plan.now c.args.s c.args.w c.args.place.now.children.now c.loop-child.child-index _ _ c.loop-child-test.false c.loop-child.invariant

@@ -1,0 +1,10 @@
+use Rattle.std.proofs.Common.{◌≤◌, subst, arith}
+use Rattle.rank_set.specs.Ranks.{size}
+use Rattle.rank_set.specs.declared.TheConstants.{RANK_LIMIT}
+use Rattle.overlay_node.proofs.Fitting.{given_few}
+use Rattle.overlay_node.proofs.actions.give_partial.Goals as goal
+
+pub next_release-requires-after_bounds : goal.next_release-requires-after_bounds
+next_release-requires-after_bounds g c lifetimes outlives =
+    let few = given_few _ _ _ _ _ _ _ _ RANK_LIMIT c.in-Some.is c.requires (subst (λ set. size set ≤ RANK_LIMIT) c.coverage.ensures c.has_few_ranks.ensures) in
+    omega (arith, few)

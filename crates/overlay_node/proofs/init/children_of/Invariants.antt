@@ -1,0 +1,7 @@
+use Rattle.std.proofs.Common.{◌≡◌, [], filter}
+use Rattle.stat_plan.specs.Kin.{is_parent, nearest}
+use Rattle.stat_plan.specs.Plans.{ancestors, up_to}
+use Rattle.overlay_node.proofs.init.children_of.Given as goal
+
+abbrev pub invariant-loop-c : goal.invariant-loop-c
+invariant-loop-c l = l.children.items ≡ filter (λ c. is_parent (nearest (ancestors l.plan c) []) l.n) (up_to l.c)

@@ -1,0 +1,7 @@
+use Rattle.std.proofs.Common.{◌≡◌, [], map}
+use Rattle.stat_plan.specs.Plans.{up_to}
+use Rattle.stat_plan.specs.Tables.{rows_view}
+use Rattle.stat_plan.proofs.line_index.empty_rows.Given as goal
+
+abbrev pub invariant-loop-i : goal.invariant-loop-i
+invariant-loop-i l = rows_view l.table.items ≡ map (λ _. []) (up_to l.i)

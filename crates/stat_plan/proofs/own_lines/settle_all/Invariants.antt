@@ -1,9 +1,0 @@
-use Rattle.std.proofs.Common.{◌≡◌, ◌<◌, ℕ, length, get_or}
-use Rattle.rank_set.specs.Ranks.{none, Has}
-use Rattle.stat_plan.proofs.own_lines.settle_all.Given as goal
-
-abbrev pub invariant-loop-n : goal.invariant-loop-n
-invariant-loop-n l = record {
-  all : length l.homes ≡ 16384;
-  each : (n r : ℕ) → n < l.n → Has r (get_or l.placed n none) → (r < 16384) × (get_or l.homes r 0 ≡ n);
-}

@@ -1,0 +1,91 @@
+-- How far a call comes by the files that it gets, one after another.
+use Rattle.std.specs.Prelude.{ℕ, List, [], ◌∷◌, Bool, true, false, Option, Some, None, Result, Ok, Err, if◌then◌else◌}
+use Rattle.stat_desk.specs.Desk.{IsLonger, IsWhole}
+use Rattle.stat_plan.specs.Limits.{first_over}
+use Rattle.stat_plan.specs.Plans.{Plan, Sampled, Scripted, plan_of}
+use Rattle.stat_plan.specs.Topologies.{Nodes}
+use Rattle.stat_plan.specs.declared.text_error.TextError.{TextError}
+use Rattle.stat_plan.specs.declared.text_error.Quantity.TheVariants.{Bytes as TheBytes, Prefixes}
+use Rattle.topology_text.specs.Whole.{topology_of}
+use Rattle.sample_text.specs.Whole.{samples_of_text}
+use Rattle.script_text.specs.Script.{script_of}
+use Rattle.stat_tool.specs.Status.{refusal_of}
+use Rattle.stat_tool.specs.RunOutput.{Job, RunJob}
+use Rattle.stat_tool.specs.declared.status.FileRole.{FileRole}
+use Rattle.stat_tool.specs.declared.status.FileRole.TheVariants.{Topology, Samples, Script}
+use Rattle.stat_tool.specs.declared.status.Status.{Status}
+use Rattle.stat_tool.specs.declared.status.Status.TheVariants.{OverLimit, NotYet}
+
+-- what a read gave: all bytes of a file, or more than its limit
+pub data ReadResult : Type 0 where
+  Bytes : List ℕ → ReadResult
+  TooLong : ReadResult
+
+-- where a call stands: it reads this file next, it answers this, or it does this job
+pub data Step : Type 0 where
+  Wants : FileRole → Step
+  Answers : Status → Step
+  Does : Job → Step
+
+-- the most bytes of a file
+abbrev pub limit : ℕ
+limit = 33554432
+
+-- a file of more bytes
+abbrev pub too_long : FileRole → Status
+too_long role = OverLimit role 0 TheBytes limit
+
+abbrev pub is_empty : {X : Type 0} → List X → Bool
+is_empty [] = true
+is_empty (x ∷ xs) = false
+
+-- what can be run: for now each plan whose script loses no node
+abbrev pub runnable : Plan → Step
+runnable p = if is_empty p.faults then Does (RunJob p) else Answers (NotYet Script)
+
+-- a plan whose first wave over the limit of prefixes is this one
+abbrev pub by_limit : Plan → Option (ℕ × ℕ) → Step
+by_limit p None = runnable p
+by_limit p (Some v) = Answers (OverLimit Samples 0 Prefixes 2048)
+
+-- with a script that is read
+abbrev pub by_script : Nodes → Sampled → Result Scripted TextError → Step
+by_script t s (Err e) = Answers (refusal_of Script e)
+by_script t s (Ok c) = by_limit (plan_of t s c) (first_over (plan_of t s c))
+
+abbrev pub at_script : Nodes → Sampled → List ReadResult → Step
+at_script t s [] = Wants Script
+at_script t s (TooLong ∷ rest) = Answers (too_long Script)
+at_script t s (Bytes script ∷ rest) = by_script t s (script_of t script)
+
+-- with samples that are read
+abbrev pub by_samples : Nodes → Result Sampled TextError → List ReadResult → Step
+by_samples t (Err e) rest = Answers (refusal_of Samples e)
+by_samples t (Ok s) rest = at_script t s rest
+
+abbrev pub at_samples : Nodes → List ReadResult → Step
+at_samples t [] = Wants Samples
+at_samples t (TooLong ∷ rest) = Answers (too_long Samples)
+at_samples t (Bytes samples ∷ rest) = by_samples t (samples_of_text t samples) rest
+
+-- with a topology that is read
+abbrev pub by_topology : Result Nodes TextError → List ReadResult → Step
+by_topology (Err e) rest = Answers (refusal_of Topology e)
+by_topology (Ok t) rest = at_samples t rest
+
+-- the topology, the samples, the script: each file is tested before the next one is read
+abbrev pub next_step : List ReadResult → Step
+next_step [] = Wants Topology
+next_step (TooLong ∷ rest) = Answers (too_long Topology)
+next_step (Bytes topology ∷ rest) = by_topology (topology_of topology) rest
+
+-- a file that the desk tells gave this
+abbrev pub Agrees : Option (List ℕ) → ReadResult → Type 0
+Agrees contents (Bytes bytes) = IsWhole contents limit bytes
+Agrees contents TooLong = IsLonger contents limit
+
+-- the first of these files gave these
+abbrev pub AreReadResults : (List ℕ → Option (List ℕ)) → List (List ℕ) → List ReadResult → Type 0
+AreReadResults contents names [] = Unit {0}
+AreReadResults contents [] (g ∷ gs) = ⊥
+AreReadResults contents (name ∷ names) (g ∷ gs) = Agrees (contents name) g × AreReadResults contents names gs
