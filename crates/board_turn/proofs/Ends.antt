@@ -6,7 +6,8 @@ use Rattle.atomic_table.specs.Table.{Me, rest}
 use Rattle.stat_desk.specs.declared.event.Event.{Event}
 use Rattle.board_turn.specs.declared.holding.Holding.{Holding}
 use Rattle.board_turn.specs.declared.view.View.{View}
-use Rattle.board_turn.specs.Entries.{node_of, holding, claim_of, commit_of, Kept, kept, IsUnmoved}
+use Rattle.board_turn.specs.Entries.{holding, claim_of, commit_of, Kept, kept, IsUnmoved}
+use Rattle.stat_desk.specs.Events.{event_node}
 use Rattle.board_turn.specs.Turns.{with_entry, with_none_due, after_claim, after_commit, with_lift, with_no_turn, saw, knows, Takes}
 use Rattle.board_turn.proofs.Logs.{kept-snoc, saw_grows}
 
@@ -31,16 +32,16 @@ module _ {X : Type 0} where
 
   -- what a seat knows and saw after a claim
   pub claim_saw : (m w : M X) (e : Event) (k : ℕ) → m.0.number ≡ k → w ≡ (after_claim m.0 e, m.1)
-      → ((knows w.0).journal ≡ (knows m.0).journal) × ((knows w.0).holders ≡ slice_set (knows m.0).holders (node_of e) (Some (holding k e (length (knows m.0).journal)))) × ((saw w.0).journal ≡ (knows m.0).journal)
+      → ((knows w.0).journal ≡ (knows m.0).journal) × ((knows w.0).holders ≡ slice_set (knows m.0).holders (event_node e) (Some (holding k e (length (knows m.0).journal)))) × ((saw w.0).journal ≡ (knows m.0).journal)
   claim_saw m w e k is at = let s : knows w.0 ≡ knows (after_claim m.0 e) = ap (λ (z : M X). knows z.0) at in let t = kept-snoc m.0.nodes m.0.known (claim_of m.0.number e) in (
     ap (λ (q : Kept). q.journal) (s ∙ t),
-    ap (λ (q : Kept). q.holders) (s ∙ t) ∙ ap (λ (j : ℕ). set (knows m.0).holders (node_of e) (Some (holding j e (length (knows m.0).journal)))) is,
+    ap (λ (q : Kept). q.holders) (s ∙ t) ∙ ap (λ (j : ℕ). set (knows m.0).holders (event_node e) (Some (holding j e (length (knows m.0).journal)))) is,
     ap (λ (z : M X). (saw z.0).journal) at ∙ ap (λ (q : Kept). q.journal) t,
   )
 
   -- and after a commit
   pub commit_saw : (m w : M X) (h : Holding) → w ≡ (after_commit m.0 h, m.1)
-      → ((knows w.0).journal ≡ (knows m.0).journal ++ h.event ∷ []) × ((knows w.0).holders ≡ slice_set (knows m.0).holders (node_of h.event) None) × ((saw w.0).journal ≡ (knows m.0).journal ++ h.event ∷ [])
+      → ((knows w.0).journal ≡ (knows m.0).journal ++ h.event ∷ []) × ((knows w.0).holders ≡ slice_set (knows m.0).holders (event_node h.event) None) × ((saw w.0).journal ≡ (knows m.0).journal ++ h.event ∷ [])
   commit_saw m w h at = let s : knows w.0 ≡ knows (after_commit m.0 h) = ap (λ (z : M X). knows z.0) at in let t = kept-snoc m.0.nodes m.0.known (commit_of m.0.number h.event) in
       (ap (λ (q : Kept). q.journal) (s ∙ t), ap (λ (q : Kept). q.holders) (s ∙ t), ap (λ (z : M X). (saw z.0).journal) at ∙ ap (λ (q : Kept). q.journal) t)
 
@@ -78,7 +79,7 @@ module _ {X Y : Type 0} (journal : X → List Event) (holders : X → List (Opti
     pub seen : w.seen ≡ v.seen
     pub keeps : (journal r ≡ (knows w).journal) × (holders r ≡ (knows w).holders) × (base r ≡ base x)
     pub later : IsPrefix (saw v).journal (journal r)
-    pub stays : (h : Holding) → v.out ≡ Some h → (slice_get (holders r) (node_of h.event) ≡ Some (Some h)) × IsUnmoved (journal r) h
+    pub stays : (h : Holding) → v.out ≡ Some h → (slice_get (holders r) (event_node h.event) ≡ Some (Some h)) × IsUnmoved (journal r) h
 
   -- each take gives them
   pub taken_facts : (x : X) (v w : View) (r : X) → Takes journal holders base (Some (base x)) v w r → Taken x v w r
@@ -93,7 +94,7 @@ module _ {X Y : Type 0} (journal : X → List Event) (holders : X → List (Opti
     seen = ap (λ (q : View). q.seen) is;
     keeps = (k.0, k.1, k.2 (base x) refl);
     later = subst (IsPrefix (saw v).journal) (ap (λ (n : ℕ). (kept n w.known).journal) (sym (ap (λ (q : View). q.nodes) is)) ∙ sym k.0) (saw_grows v.nodes v.seen w.known t.1);
-    stays = λ h o. let a = t.3 h o in (ap (λ (l : List (Option Holding)). slice_get l (node_of h.event)) k.1 ∙ a.0, subst (λ (l : List Event). IsUnmoved l h) (sym k.0) a.1);
+    stays = λ h o. let a = t.3 h o in (ap (λ (l : List (Option Holding)). slice_get l (event_node h.event)) k.1 ∙ a.0, subst (λ (l : List Event). IsUnmoved l h) (sym k.0) a.1);
   }
 
   -- the board that was fetched, with the slot laid down again
@@ -119,6 +120,6 @@ commit_badge {X} b b' r p q h a e out did e' = let v = badge_view b r p.0 a e in
 
 -- what a view knows and saw after a commit
 pub commit_view_saw : (v w : View) (h : Holding) → w ≡ after_commit v h
-    → ((knows w).journal ≡ (knows v).journal ++ h.event ∷ []) × ((knows w).holders ≡ slice_set (knows v).holders (node_of h.event) None) × ((saw w).journal ≡ (knows v).journal ++ h.event ∷ [])
+    → ((knows w).journal ≡ (knows v).journal ++ h.event ∷ []) × ((knows w).holders ≡ slice_set (knows v).holders (event_node h.event) None) × ((saw w).journal ≡ (knows v).journal ++ h.event ∷ [])
 commit_view_saw v w h at = let s : knows w ≡ knows (after_commit v h) = ap knows at in let t = kept-snoc v.nodes v.known (commit_of v.number h.event) in
     (ap (λ (q : Kept). q.journal) (s ∙ t), ap (λ (q : Kept). q.holders) (s ∙ t), ap (λ (z : View). (saw z).journal) at ∙ ap (λ (q : Kept). q.journal) t)

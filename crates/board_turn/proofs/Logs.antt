@@ -8,7 +8,8 @@ use native.Mathlib.Decide.{ℕ_discrete}
 use Rattle.stat_desk.specs.declared.event.Event.{Event}
 use Rattle.board_turn.specs.declared.holding.Holding.{Holding}
 use Rattle.board_turn.specs.declared.view.LogEntry.{LogEntry}
-use Rattle.board_turn.specs.Entries.{node_of, holding, Kept, set_out, claimed_in, committed_in, added, kept_after, kept, IsUnmoved, taken}
+use Rattle.board_turn.specs.Entries.{holding, Kept, set_out, claimed_in, committed_in, added, kept_after, kept, IsUnmoved, taken}
+use Rattle.stat_desk.specs.Events.{event_node}
 use Rattle.board_turn.specs.Turns.{Sound}
 
 -- a list begins with itself
@@ -113,49 +114,49 @@ sound_start n few = record {
 }
 
 -- a claim of a node at home, by a seat with nothing out, keeps soundness
-pub sound_claim : (n made c : ℕ) (x : Kept) (k : ℕ) (e : Event) → Sound n made c x → k ≤ made + 1 → x.outs k ≡ None → slice_get x.holders (node_of e) ≡ Some None → length x.journal < 2 ^ 62
+pub sound_claim : (n made c : ℕ) (x : Kept) (k : ℕ) (e : Event) → Sound n made c x → k ≤ made + 1 → x.outs k ≡ None → slice_get x.holders (event_node e) ≡ Some None → length x.journal < 2 ^ 62
     → Sound n made (c + 1) (claimed_in x k e)
 sound_claim n made c x k e s low free at_home under =
-    let h : Holding = holding k e (length x.journal) in let here : slice_get (set x.holders (node_of e) (Some h)) (node_of e) ≡ Some (Some h) = get_set_here x.holders (node_of e) (Some h) None at_home in record {
+    let h : Holding = holding k e (length x.journal) in let here : slice_get (set x.holders (event_node e) (Some h)) (event_node e) ≡ Some (Some h) = get_set_here x.holders (event_node e) (Some h) None at_home in record {
       held = λ j g o. ⊎_elim
-          (λ (t : (j ≡ k) × (Some h ≡ Some g)). let same : h ≡ g = (let a = t.1 in cc) in subst (λ (z : Holding). (z.seat ≡ j) × (slice_get (set x.holders (node_of e) (Some h)) (node_of z.event) ≡ Some (Some z))) same (sym t.0, here))
+          (λ (t : (j ≡ k) × (Some h ≡ Some g)). let same : h ≡ g = (let a = t.1 in cc) in subst (λ (z : Holding). (z.seat ≡ j) × (slice_get (set x.holders (event_node e) (Some h)) (event_node z.event) ≡ Some (Some z))) same (sym t.0, here))
           (λ (t : (j ≢ k) × (x.outs j ≡ Some g)). let old = s.held j g t.1 in
-          let apart : node_of g.event ≢ node_of e = λ i. let a = old.1 in let b : slice_get x.holders (node_of g.event) ≡ Some None = ap (slice_get x.holders) i ∙ at_home in absurd (cc) in
-          (old.0, get_set_else x.holders (node_of e) (node_of g.event) (Some h) apart ∙ old.1))
+          let apart : event_node g.event ≢ event_node e = λ i. let a = old.1 in let b : slice_get x.holders (event_node g.event) ≡ Some None = ap (slice_get x.holders) i ∙ at_home in absurd (cc) in
+          (old.0, get_set_else x.holders (event_node e) (event_node g.event) (Some h) apart ∙ old.1))
           (out_cases x.outs k (Some h) j (Some g) o);
       back = λ v g o. ⊎_elim
-          (λ (t : (v ≡ node_of e) × (Some h ≡ Some g)). let same : h ≡ g = (let a = t.1 in cc) in subst (λ (z : Holding). (set_out x.outs k (Some h) z.seat ≡ Some z) × (node_of z.event ≡ v)) same (out_here x.outs k (Some h), sym t.0))
-          (λ (t : (v ≢ node_of e) × (slice_get x.holders v ≡ Some (Some g))). let old = s.back v g t.1 in
+          (λ (t : (v ≡ event_node e) × (Some h ≡ Some g)). let same : h ≡ g = (let a = t.1 in cc) in subst (λ (z : Holding). (set_out x.outs k (Some h) z.seat ≡ Some z) × (event_node z.event ≡ v)) same (out_here x.outs k (Some h), sym t.0))
+          (λ (t : (v ≢ event_node e) × (slice_get x.holders v ≡ Some (Some g))). let old = s.back v g t.1 in
           let apart : g.seat ≢ k = λ i. let a = old.0 in let b : x.outs g.seat ≡ None = ap x.outs i ∙ free in absurd (cc) in
           (out_else x.outs k (Some h) g.seat apart ∙ old.0, old.1))
-          (get_set_cases x.holders (node_of e) v (Some h) (Some g) o);
+          (get_set_cases x.holders (event_node e) v (Some h) (Some g) o);
       noted = λ j g o. ⊎_elim
           (λ (t : (j ≡ k) × (Some h ≡ Some g)). let same : h ≡ g = (let a = t.1 in cc) in subst (λ (z : Holding). (z.since ≤ length x.journal) × IsUnmoved x.journal z) same
           (le_refl (length x.journal), λ i e' l at. let w = slice_get_within x.journal i e' at in absurd (omega arith)))
           (λ (t : (j ≢ k) × (x.outs j ≡ Some g)). s.noted j g t.1)
           (out_cases x.outs k (Some h) j (Some g) o);
       fresh = λ j l. out_else x.outs k (Some h) j (λ i. omega arith) ∙ s.fresh j l;
-      wide = length-set x.holders (node_of e) (Some h) ∙ s.wide;
+      wide = length-set x.holders (event_node e) (Some h) ∙ s.wide;
       few = s.few;
-      counts = omega (arith, s.counts, taken_fill x.holders (node_of e) h at_home);
-      room = let w = s.wide in omega (arith, taken_most (set x.holders (node_of e) (Some h)), length-set x.holders (node_of e) (Some h));
+      counts = omega (arith, s.counts, taken_fill x.holders (event_node e) h at_home);
+      room = let w = s.wide in omega (arith, taken_most (set x.holders (event_node e) (Some h)), length-set x.holders (event_node e) (Some h));
     }
 
 -- so does a commit of what a seat has out
 pub sound_commit : (n made c : ℕ) (x : Kept) (k : ℕ) (h : Holding) → Sound n made c x → x.outs k ≡ Some h → Sound n made (c + 1) (committed_in x k h.event)
 sound_commit n made c x k h s out =
-    let mine = s.held k h out in let v : ℕ = node_of h.event in let long : length (x.journal ++ h.event ∷ []) ≡ length x.journal + 1 = length-append x.journal (h.event ∷ []) in
-    let others : (g : Holding) → slice_get x.holders (node_of g.event) ≡ Some (Some g) → g.seat ≢ k → node_of g.event ≢ v = λ g at ne i.
-    let a : slice_get x.holders (node_of g.event) ≡ Some (Some h) = ap (slice_get x.holders) i ∙ mine.1 in let same : g ≡ h = cc in ne (ap (λ (z : Holding). z.seat) same ∙ mine.0) in record {
+    let mine = s.held k h out in let v : ℕ = event_node h.event in let long : length (x.journal ++ h.event ∷ []) ≡ length x.journal + 1 = length-append x.journal (h.event ∷ []) in
+    let others : (g : Holding) → slice_get x.holders (event_node g.event) ≡ Some (Some g) → g.seat ≢ k → event_node g.event ≢ v = λ g at ne i.
+    let a : slice_get x.holders (event_node g.event) ≡ Some (Some h) = ap (slice_get x.holders) i ∙ mine.1 in let same : g ≡ h = cc in ne (ap (λ (z : Holding). z.seat) same ∙ mine.0) in record {
       held = λ j g o. ⊎_elim
           (λ (t : (j ≡ k) × (None ≡ Some g)). let a = t.1 in absurd (cc))
           (λ (t : (j ≢ k) × (x.outs j ≡ Some g)). let old = s.held j g t.1 in let ne = t.0 in
-          (old.0, get_set_else x.holders v (node_of g.event) None (others g old.1 (λ i. ne (sym old.0 ∙ i))) ∙ old.1))
+          (old.0, get_set_else x.holders v (event_node g.event) None (others g old.1 (λ i. ne (sym old.0 ∙ i))) ∙ old.1))
           (out_cases x.outs k None j (Some g) o);
       back = λ w g o. ⊎_elim
           (λ (t : (w ≡ v) × (None ≡ Some g)). let a = t.1 in absurd (cc))
           (λ (t : (w ≢ v) × (slice_get x.holders w ≡ Some (Some g))). let old = s.back w g t.1 in let ne = t.0 in
-          let apart : g.seat ≢ k = λ i. let a = old.0 in let b : x.outs g.seat ≡ Some h = ap x.outs i ∙ out in let same : g ≡ h = cc in ne (sym old.1 ∙ ap (λ (z : Holding). node_of z.event) same) in
+          let apart : g.seat ≢ k = λ i. let a = old.0 in let b : x.outs g.seat ≡ Some h = ap x.outs i ∙ out in let same : g ≡ h = cc in ne (sym old.1 ∙ ap (λ (z : Holding). event_node z.event) same) in
           (out_else x.outs k None g.seat apart ∙ old.0, old.1))
           (get_set_cases x.holders v w None (Some g) o);
       noted = λ j g o. ⊎_elim
@@ -163,7 +164,7 @@ sound_commit n made c x k h s out =
           (λ (t : (j ≢ k) × (x.outs j ≡ Some g)). let old = s.noted j g t.1 in let at = s.held j g t.1 in let ne = t.0 in let since = old.0 in (
             omega arith,
             λ i e l there. ⊎_elim (λ (before : slice_get x.journal i ≡ Some e). old.1 i e l before)
-                (λ (last : h.event ≡ e). λ (same : node_of e ≡ node_of g.event). others g at.1 (λ z. ne (sym at.0 ∙ z)) (sym same ∙ sym (ap node_of last)))
+                (λ (last : h.event ≡ e). λ (same : event_node e ≡ event_node g.event). others g at.1 (λ z. ne (sym at.0 ∙ z)) (sym same ∙ sym (ap event_node last)))
                 (get_snoc x.journal h.event e i there),
           ))
           (out_cases x.outs k None j (Some g) o);

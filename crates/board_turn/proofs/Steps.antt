@@ -12,7 +12,8 @@ use Rattle.stat_desk.specs.declared.event.Event.{Event}
 use Rattle.board_turn.specs.declared.holding.Holding.{Holding}
 use Rattle.board_turn.specs.declared.view.LogEntry.{LogEntry}
 use Rattle.board_turn.specs.declared.view.View.{View}
-use Rattle.board_turn.specs.Entries.{node_of, holding, claim_of, commit_of, Kept, added, kept, IsUnmoved}
+use Rattle.board_turn.specs.Entries.{holding, claim_of, commit_of, Kept, added, kept, IsUnmoved}
+use Rattle.stat_desk.specs.Events.{event_node}
 use Rattle.board_turn.specs.Turns.{Sound, Fits, Ruled, first_view, with_turn, with_no_turn, with_entry, with_none_due, with_one_more, split_off, spent_view, knows, IsKeptBy, took, freed, counted, committed, claimed, with_lift, laid, picked}
 use Rattle.board_turn.proofs.Logs.{prefix_self, prefix_trans, out_else, out_here, all_none, sound_start, sound_claim, sound_commit, kept-append}
 
@@ -206,7 +207,7 @@ module _ {X Y : Type 0} (journal : X → List Event) (holders : X → List (Opti
               refl,
               f.saw,
               (let m = home.1.2 in (m.same_journal ∙ ap (λ (q : Kept). q.journal) (sym same), m.same_holders ∙ ap (λ (q : Kept). q.holders) (sym same), λ y e. m.same_base ∙ (let a : Some (base x) ≡ Some y = sym from ∙ e in cc))),
-              (λ h there. let out = sym f.out ∙ there in subst (λ (q : Kept). (slice_get q.holders (node_of h.event) ≡ Some (Some h)) × IsUnmoved q.journal h) (sym same) ((r.sound.held v.number h out).1, (r.sound.noted v.number h out).1)),
+              (λ h there. let out = sym f.out ∙ there in subst (λ (q : Kept). (slice_get q.holders (event_node h.event) ≡ Some (Some h)) × IsUnmoved q.journal h) (sym same) ((r.sound.held v.number h out).1, (r.sound.noted v.number h out).1)),
             ),
           ),
           λ ne. absurd (ne z),
@@ -415,7 +416,7 @@ module _ {X Y : Type 0} (journal : X → List Event) (holders : X → List (Opti
 
   -- of noting a claim
   pub marks : (slots id k : ℕ) (e : Event) (me : M) → me.0.spent ≡ false → me.0.number ≡ k → me.0.turn ≡ true → me.0.due ≡ 0 → me.0.out ≡ None → length (knows me.0).journal < 2 ^ 62
-      → slice_get (knows me.0).holders (node_of e) ≡ Some None
+      → slice_get (knows me.0).holders (event_node e) ≡ Some None
       → Allows Rule slots id me 0 (λ _. k) (λ _. claimed e (step slots 0 k 0 none) me k)
   marks slots id k e me living is has settled free room at_home s r _ at _ = let v : V = me.0 in let f = r.each id v at living in let t = f.turn has in let all : knows v ≡ kept N r.log = saw_is v N r.log f.nodes t.1 in
       let x' : Kept = kept N r.log in let h : Holding = holding v.number e (length (knows v).journal) in let n = t.0 in
@@ -425,7 +426,7 @@ module _ {X Y : Type 0} (journal : X → List Event) (holders : X → List (Opti
         tt,
         worded s r (λ ws. Rule (stepped (at_words s ws) 0 k id me.1 (with_entry v (claim_of v.number e) (Some h)) keeps))
             (entered s r id v me.1 (claim_of v.number e) (Some h) 0 k at living has settled refl
-            (sound_claim N r.made (length r.log) x' v.number e r.sound f.high (sym f.out ∙ free) (subst (λ (q : Kept). slice_get q.holders (node_of e) ≡ Some None) all at_home) (subst (λ (q : Kept). length q.journal < 2 ^ 62) all room))
+            (sound_claim N r.made (length r.log) x' v.number e r.sound f.high (sym f.out ∙ free) (subst (λ (q : Kept). slice_get q.holders (event_node e) ≡ Some None) all at_home) (subst (λ (q : Kept). length q.journal < 2 ^ 62) all room))
             (ap Some same ∙ sym (out_here x'.outs v.number (Some (holding v.number e (length x'.journal)))))
             (λ u ne. out_else x'.outs v.number (Some (holding v.number e (length x'.journal))) u ne)
             (ap (λ (z : ℕ). z ∷ length x'.journal ∷ r.entries ∷ []) (sym is ∙ n))),

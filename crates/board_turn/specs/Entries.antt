@@ -1,16 +1,10 @@
 -- The entries, and what they leave: the journal, the holders, and what each seat has out.
 use Rattle.std.specs.Prelude.{◌≡◌, ◌≢◌, ℕ, ◌+◌, ◌≤◌, ◌==◌, true, false, cond, List, [], ◌∷◌, ◌++◌, length, replicate, Option, Some, None, slice_get, slice_set}
+use Rattle.stat_desk.specs.Events.{event_node}
 use Rattle.stat_desk.specs.declared.event.Event.{Event}
 use Rattle.stat_desk.specs.declared.event.Event.TheVariants.{Sample, Recv, Tick, Lose}
 use Rattle.board_turn.specs.declared.holding.Holding.{Holding}
 use Rattle.board_turn.specs.declared.view.LogEntry.{LogEntry}
-
--- the node of an event
-abbrev pub node_of : Event → ℕ
-node_of (Sample n s w) = n
-node_of (Recv n m) = n
-node_of (Tick n) = n
-node_of (Lose n) = n
 
 -- a seat's claim of an event, where the journal had this length
 abbrev pub holding : ℕ → Event → ℕ → Holding
@@ -38,13 +32,13 @@ set_out f k o j = cond (j == k) o (f j)
 abbrev pub claimed_in : Kept → ℕ → Event → Kept
 claimed_in x k e = record {
   journal = x.journal;
-  holders = slice_set x.holders (node_of e) (Some (holding k e (length x.journal)));
+  holders = slice_set x.holders (event_node e) (Some (holding k e (length x.journal)));
   outs = set_out x.outs k (Some (holding k e (length x.journal)));
 }
 
 -- after a commit the event stands at the end of the journal, and its node is home
 abbrev pub committed_in : Kept → ℕ → Event → Kept
-committed_in x k e = record { journal = x.journal ++ e ∷ []; holders = slice_set x.holders (node_of e) None; outs = set_out x.outs k None }
+committed_in x k e = record { journal = x.journal ++ e ∷ []; holders = slice_set x.holders (event_node e) None; outs = set_out x.outs k None }
 
 -- after one more entry
 abbrev pub added : Kept → LogEntry → Kept
@@ -61,7 +55,7 @@ kept n log = kept_after record { journal = []; holders = replicate n None; outs 
 
 -- no event of the node stands in the journal at or after the claim
 abbrev pub IsUnmoved : List Event → Holding → Type 0
-IsUnmoved journal h = (i : ℕ) (e : Event) → h.since ≤ i → slice_get journal i ≡ Some e → node_of e ≢ node_of h.event
+IsUnmoved journal h = (i : ℕ) (e : Event) → h.since ≤ i → slice_get journal i ≡ Some e → event_node e ≢ event_node h.event
 
 -- how many nodes are out
 abbrev pub taken : List (Option Holding) → ℕ

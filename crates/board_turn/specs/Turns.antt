@@ -8,14 +8,15 @@ use Rattle.stat_desk.specs.declared.event.Event.{Event}
 use Rattle.board_turn.specs.declared.holding.Holding.{Holding}
 use Rattle.board_turn.specs.declared.view.LogEntry.{LogEntry}
 use Rattle.board_turn.specs.declared.view.View.{View}
-use Rattle.board_turn.specs.Entries.{node_of, holding, claim_of, commit_of, Kept, kept, taken, IsUnmoved}
+use Rattle.board_turn.specs.Entries.{holding, claim_of, commit_of, Kept, kept, taken, IsUnmoved}
+use Rattle.stat_desk.specs.Events.{event_node}
 
 -- what holds of what the entries leave, of a board of n nodes, where so many seats were split off
 pub record Sound (n made entries : ℕ) (x : Kept) : Type 0 where
   -- what a seat has out is held under its own number
-  pub held : (k : ℕ) (h : Holding) → x.outs k ≡ Some h → (h.seat ≡ k) × (slice_get x.holders (node_of h.event) ≡ Some (Some h))
+  pub held : (k : ℕ) (h : Holding) → x.outs k ≡ Some h → (h.seat ≡ k) × (slice_get x.holders (event_node h.event) ≡ Some (Some h))
   -- and what is held is out with the seat of that number, at the node of the event
-  pub back : (v : ℕ) (h : Holding) → slice_get x.holders v ≡ Some (Some h) → (x.outs h.seat ≡ Some h) × (node_of h.event ≡ v)
+  pub back : (v : ℕ) (h : Holding) → slice_get x.holders v ≡ Some (Some h) → (x.outs h.seat ≡ Some h) × (event_node h.event ≡ v)
   -- no event of a node came since its claim
   pub noted : (k : ℕ) (h : Holding) → x.outs k ≡ Some h → (h.since ≤ length x.journal) × IsUnmoved x.journal h
   -- a number that no seat was given yet has nothing out
@@ -129,7 +130,7 @@ module _ {X Y : Type 0} (journal : X → List Event) (holders : X → List (Opti
   -- the taker keeps the board that it takes, which goes on from what it saw, and has what it has out still out
   abbrev pub Takes : Option Y → View → View → X → Type 0
   Takes o v w b = (w ≡ with_turn v w.known) × IsPrefix v.seen w.known × IsKeptBy o b w
-      × ((h : Holding) → v.out ≡ Some h → (slice_get (knows w).holders (node_of h.event) ≡ Some (Some h)) × IsUnmoved (knows w).journal h)
+      × ((h : Holding) → v.out ≡ Some h → (slice_get (knows w).holders (event_node h.event) ≡ Some (Some h)) × IsUnmoved (knows w).journal h)
 
   -- a try for the turn: where word 0 was 0, the seat has the turn and carries the slot with the board; else nothing changed
   abbrev pub took : Option Y → Step (Option X) → Me (Option X) View → ℕ → Me (Option X) View → Type 0

@@ -1,7 +1,7 @@
 //! A small board, and seats that claim and commit.
 ghost use Rattle.std.specs.Prelude.{◌≡◌, ◌≢◌, ◌<◌, ◌∷◌, [], false, Some, None, IsTrue, MatchBool};
 ghost use Rattle.board_turn.specs.Seats.{IsSeatOf, number_of, has_turn, out_of};
-ghost use Rattle.board_turn.specs.Entries.{node_of};
+ghost use Rattle.stat_desk.specs.Events.{event_node};
 ghost use Rattle.stat_desk.specs.declared.event.Event.TheVariants.{Tick};
 ghost use Rattle.std.specs.Thread.{IsSync};
 

@@ -49,7 +49,8 @@ pub struct Held<B> {
 impl<B: Board> Turn<B> {
     ghost use Rattle.std.specs.Prelude.{◌≡◌, ◌≢◌, ℕ, ◌+◌, ◌^◌, ◌<◌, true, false, [], ◌∷◌, ◌++◌, length, Some, None, IfOk, slice_get, slice_set};
     ghost use mathlib.Core.List.{IsPrefix};
-    ghost use Rattle.board_turn.specs.Entries.{node_of, holding, IsUnmoved};
+    ghost use Rattle.board_turn.specs.Entries.{holding, IsUnmoved};
+    ghost use Rattle.stat_desk.specs.Events.{event_node};
     ghost use Rattle.board_turn.specs.Turns.{saw, knows, after_claim, after_commit, IsKeptBy, with_no_turn};
     ghost use Rattle.board_turn.specs.Known.{known_of};
     ghost use Rattle.board_turn.specs.Seats.{AreAllHome, IsAsKept, IsFetched, IsSeatOf, IsSeenAs, IsTry, Took, has_turn, number_of, out_of, seen_by, split_count, turn_base, view_of};
@@ -200,7 +201,7 @@ impl<B: Board> Turn<B> {
         ensures seat { IsSeenAs seat.new (record (view_of seat.old) { turn = true }) }
         ensures kept { IsAsKept B.journal B.holders result }
         ensures later { IsPrefix (seen_by seat.old) (B.journal result.board) }
-        ensures holder { (h : _) → out_of seat.old ≡ Some h → slice_get (B.holders result.board) (node_of h.event) ≡ Some (Some h) }
+        ensures holder { (h : _) → out_of seat.old ≡ Some h → slice_get (B.holders result.board) (event_node h.event) ≡ Some (Some h) }
         ensures unmoved { (h : _) → out_of seat.old ≡ Some h → IsUnmoved (B.journal result.board) h }
     {
         let mut place = mem::replace(&mut seat.badge, Badge::blank()).into_seat();
@@ -239,9 +240,9 @@ impl<B: Board> Turn<B> {
         requires took { Took B.journal B.holders B.base self.now seat.old held.old }
         requires free { out_of seat.old ≡ None }
         requires room { length (B.journal held.old.board) < 2 ^ 62 }
-        requires home { slice_get (B.holders held.old.kept.value) (node_of event) ≡ Some None }
+        requires home { slice_get (B.holders held.old.kept.value) (event_node event) ≡ Some None }
         requires journal { B.journal held.old.board ≡ B.journal held.old.kept.value }
-        requires holders { B.holders held.old.board ≡ slice_set (B.holders held.old.kept.value) (node_of event) (Some (holding (number_of seat.old) event (length (B.journal held.old.board)))) }
+        requires holders { B.holders held.old.board ≡ slice_set (B.holders held.old.kept.value) (event_node event) (Some (holding (number_of seat.old) event (length (B.journal held.old.board)))) }
         ensures mine { IsSeatOf self.now seat.new }
         ensures took { Took B.journal B.holders B.base self.now seat.new held.new }
         ensures seat { IsSeenAs seat.new (record (view_of seat.old) { journal = B.journal held.old.board; out = Some (holding (number_of seat.old) event (length (B.journal held.old.board))) }) }
@@ -261,11 +262,11 @@ impl<B: Board> Turn<B> {
         requires living { (place.old.me.0.spent ≡ false) × (place.old.me.0.number ≡ number) × (place.old.me.0.turn ≡ true) × (place.old.me.0.due ≡ 0) }
         requires free { place.old.me.0.out ≡ None }
         requires room { length (knows place.old.me.0).journal < 2 ^ 62 }
-        requires home { slice_get (knows place.old.me.0).holders (node_of event) ≡ Some None }
+        requires home { slice_get (knows place.old.me.0).holders (event_node event) ≡ Some None }
         ensures after { (place.new.table_id ≡ place.old.table_id) × (place.new.id ≡ place.old.id) × (place.new.me ≡ (after_claim place.old.me.0 event, place.old.me.1)) }
         ensures saw { (saw place.new.me.0).journal ≡ (knows place.old.me.0).journal }
         ensures journal { (knows place.new.me.0).journal ≡ (knows place.old.me.0).journal }
-        ensures holders { (knows place.new.me.0).holders ≡ slice_set (knows place.old.me.0).holders (node_of event) (Some (holding number event (length (knows place.old.me.0).journal))) }
+        ensures holders { (knows place.new.me.0).holders ≡ slice_set (knows place.old.me.0).holders (event_node event) (Some (holding number event (length (knows place.old.me.0).journal))) }
     {
         let _ = event;
         self.table
@@ -279,7 +280,7 @@ impl<B: Board> Turn<B> {
     pub fn commit(&self, seat: &mut TurnSeat, held: &mut Held<B>)
         requires mine { IsSeatOf self.now seat.old }
         requires took { Took B.journal B.holders B.base self.now seat.old held.old }
-        requires done { (h : _) × (out_of seat.old ≡ Some h) × (B.journal held.old.board ≡ B.journal held.old.kept.value ++ h.event ∷ []) × (B.holders held.old.board ≡ slice_set (B.holders held.old.kept.value) (node_of h.event) None) }
+        requires done { (h : _) × (out_of seat.old ≡ Some h) × (B.journal held.old.board ≡ B.journal held.old.kept.value ++ h.event ∷ []) × (B.holders held.old.board ≡ slice_set (B.holders held.old.kept.value) (event_node h.event) None) }
         ensures mine { IsSeatOf self.now seat.new }
         ensures took { Took B.journal B.holders B.base self.now seat.new held.new }
         ensures seat { IsSeenAs seat.new (record (view_of seat.old) { journal = B.journal held.old.board; out = None }) }
@@ -299,7 +300,7 @@ impl<B: Board> Turn<B> {
         requires count { count ≡ length (knows place.old.me.0).journal + 1 }
         requires out { (h : _) × (place.old.me.0.out ≡ Some h) }
         ensures after { (place.new.table_id ≡ place.old.table_id) × (place.new.id ≡ place.old.id) × ((h : _) → place.old.me.0.out ≡ Some h → place.new.me ≡ (after_commit place.old.me.0 h, place.old.me.1)) }
-        ensures saw { (h : _) → place.old.me.0.out ≡ Some h → ((knows place.new.me.0).journal ≡ (knows place.old.me.0).journal ++ h.event ∷ []) × ((knows place.new.me.0).holders ≡ slice_set (knows place.old.me.0).holders (node_of h.event) None) × ((saw place.new.me.0).journal ≡ (knows place.old.me.0).journal ++ h.event ∷ []) }
+        ensures saw { (h : _) → place.old.me.0.out ≡ Some h → ((knows place.new.me.0).journal ≡ (knows place.old.me.0).journal ++ h.event ∷ []) × ((knows place.new.me.0).holders ≡ slice_set (knows place.old.me.0).holders (event_node h.event) None) × ((saw place.new.me.0).journal ≡ (knows place.old.me.0).journal ++ h.event ∷ []) }
     {
         self.table.shared.store::<CountCommit>(place, 1, count);
         self.table.shared.fetch_add::<CountEntry>(place, 2, 1);

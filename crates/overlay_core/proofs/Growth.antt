@@ -9,7 +9,7 @@ use Rattle.stat_desk.specs.declared.event.Event.TheVariants.{Sample, Recv, Tick,
 use Rattle.overlay_core.specs.Nodes.{Packet, Node, Outcome, sampled, after_tick, received}
 use Rattle.overlay_core.specs.Machine.{State, step, commit, with_link, lose, receive, is_enabled}
 use Rattle.overlay_core.specs.Runs.{after, IsLegal}
-use Rattle.overlay_core.specs.Independent.{node_of}
+use Rattle.stat_desk.specs.Events.{event_node}
 use Rattle.overlay_core.specs.Counts.{OnlyGrows}
 use Rattle.overlay_core.specs.LinkInvariant.{LinkInvariant}
 use Rattle.overlay_core.proofs.PlanFacts.{HasPlanFacts}
@@ -26,7 +26,7 @@ same_grows v = record { opens = λ e. e; covers = λ e r i. i }
 commit_grows : (p : Plan) (alive : ℕ → Bool) (st : State) (n : ℕ) (taken : List (ℕ × Packet)) (o : Outcome) (s w : ℕ) → OutcomeGoes p alive n (st.node n) taken o → OnlyGrows ((st.node n).book s w) (((commit st n o).node n).book s w)
 commit_grows p alive st n taken o s w h = subst (λ (y : Node). OnlyGrows ((st.node n).book s w) (y.book s w)) (sym (commit_here st n o)) (record { opens = h.opens s w; covers = h.cov s w })
 
-own_grows : (p : Plan) (st : State) (e : Event) (s w : ℕ) → HasPlanFacts p → LinkInvariant p st → is_enabled p st e ≡ true → OnlyGrows ((st.node (node_of e)).book s w) (((step p st e).node (node_of e)).book s w)
+own_grows : (p : Plan) (st : State) (e : Event) (s w : ℕ) → HasPlanFacts p → LinkInvariant p st → is_enabled p st e ≡ true → OnlyGrows ((st.node (event_node e)).book s w) (((step p st e).node (event_node e)).book s w)
 unfolding lose with_link
 own_grows p st (Sample n a b) s w plan h en =
     let t = and_parts _ _ en in
@@ -40,9 +40,9 @@ own_grows p st (Tick n) s w plan h en = commit_grows p st.alive st n [] (after_t
 own_grows p st (Lose n) s w plan h en = same_grows ((st.node n).book s w)
 
 step_grows : (p : Plan) (st : State) (e : Event) (n s w : ℕ) → HasPlanFacts p → LinkInvariant p st → is_enabled p st e ≡ true → OnlyGrows ((st.node n).book s w) (((step p st e).node n).book s w)
-step_grows p st e n s w plan h en = elim (cases_Bool (node_of e == n)) [
-  | inl t ↦ subst (λ a. OnlyGrows ((st.node a).book s w) (((step p st e).node a).book s w)) (eqb-true (node_of e) n t) (own_grows p st e s w plan h en)
-  | inr f ↦ subst (λ (y : Node). OnlyGrows ((st.node n).book s w) (y.book s w)) (sym (node_else p st e n (eqb-false (node_of e) n f))) (same_grows ((st.node n).book s w))
+step_grows p st e n s w plan h en = elim (cases_Bool (event_node e == n)) [
+  | inl t ↦ subst (λ a. OnlyGrows ((st.node a).book s w) (((step p st e).node a).book s w)) (eqb-true (event_node e) n t) (own_grows p st e s w plan h en)
+  | inr f ↦ subst (λ (y : Node). OnlyGrows ((st.node n).book s w) (y.book s w)) (sym (node_else p st e n (eqb-false (event_node e) n f))) (same_grows ((st.node n).book s w))
 ]
 
 pub coverage_grows : (p : Plan) (journal : List Event) (e : Event) (n s w : ℕ) → HasPlanFacts p → IsLegal p (journal ++ e ∷ []) → OnlyGrows (((after p journal).node n).book s w) (((after p (journal ++ e ∷ [])).node n).book s w)

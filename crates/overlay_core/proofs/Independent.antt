@@ -10,14 +10,15 @@ use Rattle.stat_desk.specs.declared.event.Event.TheVariants.{Sample, Recv, Tick,
 use Rattle.overlay_core.specs.Nodes.{Packet, Down, Node, Outcome, handled}
 use Rattle.overlay_core.specs.Machine.{State, step, commit, with_link, lose, receive, to, keep_of, is_spent, is_doomed, is_active, is_pending, is_wave, next_sample, is_enabled}
 use Rattle.overlay_core.specs.Runs.{run}
-use Rattle.overlay_core.specs.Independent.{node_of, first_from, outcome, sender_of, AreIndependent}
+use Rattle.overlay_core.specs.Independent.{first_from, outcome, sender_of, AreIndependent}
+use Rattle.stat_desk.specs.Events.{event_node}
 
 commit_node_else : (st : State) (k : ℕ) (o : Outcome) (n : ℕ) → k ≢ n → (commit st k o).node n ≡ st.node n
 unfolding commit
 commit_node_else st k o n ne = cond_both {A = Node} (n == k) _ (st.node n) (λ x. x ≡ st.node n) (λ e. absurd (ne (sym (eqb-true n k e)))) (λ e. refl)
 
 -- a node is as it was after another node's event
-pub node_else : (p : Plan) (st : State) (f : Event) (n : ℕ) → node_of f ≢ n → (step p st f).node n ≡ st.node n
+pub node_else : (p : Plan) (st : State) (f : Event) (n : ℕ) → event_node f ≢ n → (step p st f).node n ≡ st.node n
 unfolding lose with_link
 node_else p st (Sample k s w) n ne = commit_node_else st k _ n ne
 node_else p st (Recv k m) n ne = go (st.link m k)
@@ -28,7 +29,7 @@ node_else p st (Recv k m) n ne = go (st.link m k)
 node_else p st (Tick k) n ne = commit_node_else st k _ n ne
 node_else p st (Lose k) n ne = refl
 
-alive_else : (p : Plan) (st : State) (f : Event) (n : ℕ) → node_of f ≢ n → (step p st f).alive n ≡ st.alive n
+alive_else : (p : Plan) (st : State) (f : Event) (n : ℕ) → event_node f ≢ n → (step p st f).alive n ≡ st.alive n
 unfolding commit lose with_link
 alive_else p st (Sample k s w) n ne = refl
 alive_else p st (Recv k m) n ne = go (st.link m k)
@@ -53,7 +54,7 @@ unfolding with_link
 link_else st j k qs n m ne = cond_both {A = List Packet} ((m == j) && (n == k)) qs (st.link m n) (λ l. l ≡ st.link m n) (λ e. absurd (ne (sym (eqb-true n k (and_parts (m == j) (n == k) e).1)))) (λ e. refl)
 
 -- the first packet of a link stays the first
-first_else : (p : Plan) (st : State) (f : Event) (n m : ℕ) → node_of f ≢ n → f ≢ Lose m → is_pending (st.link m n) ≡ true → first_from m ((step p st f).link m n) ≡ first_from m (st.link m n)
+first_else : (p : Plan) (st : State) (f : Event) (n m : ℕ) → event_node f ≢ n → f ≢ Lose m → is_pending (st.link m n) ≡ true → first_from m ((step p st f).link m n) ≡ first_from m (st.link m n)
 unfolding lose
 first_else p st (Sample k s w) n m ne keeps pending = commit_first st k _ n m pending
 first_else p st (Recv k j) n m ne keeps pending = go (st.link j k)
@@ -80,8 +81,8 @@ pending_first m qs [] e h = absurd (true≢false (sym h))
 pending_first m [] (r ∷ rs) e h = absurd (cc)
 pending_first m (q ∷ qs) (r ∷ rs) e h = refl
 
-enabled_like : (p : Plan) (st st' : State) (e : Event) → st'.alive (node_of e) ≡ st.alive (node_of e) → st'.node (node_of e) ≡ st.node (node_of e)
-    → ((m : ℕ) → sender_of e ≡ Some m → is_pending (st.link m (node_of e)) ≡ true → first_from m (st'.link m (node_of e)) ≡ first_from m (st.link m (node_of e)))
+enabled_like : (p : Plan) (st st' : State) (e : Event) → st'.alive (event_node e) ≡ st.alive (event_node e) → st'.node (event_node e) ≡ st.node (event_node e)
+    → ((m : ℕ) → sender_of e ≡ Some m → is_pending (st.link m (event_node e)) ≡ true → first_from m (st'.link m (event_node e)) ≡ first_from m (st.link m (event_node e)))
     → is_enabled p st e ≡ true → (is_enabled p st' e ≡ true) × (outcome p st' e ≡ outcome p st e)
 unfolding outcome is_doomed
 enabled_like p st st' (Sample n s w) a x first en = (
@@ -104,7 +105,7 @@ enabled_like p st st' (Lose n) a x first en = (
 )
 
 pub stays_enabled : (p : Plan) (st : State) (e f : Event) → AreIndependent e f → is_enabled p st e ≡ true → (is_enabled p (step p st f) e ≡ true) × (outcome p (step p st f) e ≡ outcome p st e)
-stays_enabled p st e f apart en = enabled_like p st (step p st f) e (alive_else p st f (node_of e) apart.elsewhere) (node_else p st f (node_of e) apart.elsewhere) (λ m k pending. first_else p st f (node_of e) m apart.elsewhere (apart.keeps_sender m k) pending) en
+stays_enabled p st e f apart en = enabled_like p st (step p st f) e (alive_else p st f (event_node e) apart.elsewhere) (node_else p st f (event_node e) apart.elsewhere) (λ m k pending. first_else p st f (event_node e) m apart.elsewhere (apart.keeps_sender m k) pending) en
 
 pub stays_through : (p : Plan) (st : State) (e : Event) (fs : List Event) → AllByRecursion (AreIndependent e) fs → is_enabled p st e ≡ true → (is_enabled p (run p st fs) e ≡ true) × (outcome p (run p st fs) e ≡ outcome p st e)
 stays_through p st e [] apart en = (en, refl)

@@ -21,7 +21,8 @@ use Rattle.overlay_core.specs.declared.release.Kind.TheVariants.{Partial as Part
 use Rattle.overlay_core.specs.Nodes.{Packet, Up, Done, Attach, Down, Node, Effects, Outcome, release, begin, due_at, to_parent, dones, acted, act_as, act, act_each, done_work, sampled, after_tick, received_up, received_done, received_attach, received_down, received, handled}
 use Rattle.overlay_core.specs.Machine.{State, start, step, commit, with_link, lose, receive}
 use Rattle.overlay_core.specs.Runs.{run, after}
-use Rattle.overlay_core.specs.Independent.{node_of, first_from, outcome}
+use Rattle.overlay_core.specs.Independent.{first_from, outcome}
+use Rattle.stat_desk.specs.Events.{event_node}
 use Rattle.overlay_core.specs.Counts.{one_if, is_up_of, is_partial_of, sends_in, grows, is_same_parent, is_unsent, sends_at, sends, growths, moves}
 use Rattle.overlay_core.proofs.Lists.{in_member, with_number_new, test_from_same, same_true}
 use Rattle.overlay_core.proofs.ParentLinks.{set_wave_here}
@@ -324,7 +325,7 @@ commit_pays st n o s w h = subst (λ (y : Node). Pays (st.node n) y.kin y.book s
 same_pays : (x : Node) (s w : ℕ) → Pays x x.kin x.book s w 0
 same_pays x s w = omega arith
 
-own_pays : (p : Plan) (st : State) (e : Event) (s w : ℕ) → Pays (st.node (node_of e)) ((step p st e).node (node_of e)).kin ((step p st e).node (node_of e)).book s w (sends_in s w (outcome p st e).work)
+own_pays : (p : Plan) (st : State) (e : Event) (s w : ℕ) → Pays (st.node (event_node e)) ((step p st e).node (event_node e)).kin ((step p st e).node (event_node e)).book s w (sends_in s w (outcome p st e).work)
 unfolding outcome lose with_link
 own_pays p st (Sample n a b) s w = commit_pays st n (sampled p n (st.node n) a b) s w (sampled_pays p n (st.node n) a b s w)
 own_pays p st (Recv n m) s w = go (st.link m n)
@@ -337,9 +338,9 @@ own_pays p st (Lose n) s w = same_pays (st.node n) s w
 
 event_pays : (p : Plan) (st : State) (e : Event) (n s w : ℕ) → Pays (st.node n) ((step p st e).node n).kin ((step p st e).node n).book s w (sends_at p st e n s w)
 event_pays p st e n s w =
-    cond_both (node_of e == n) (sends_in s w (outcome p st e).work) 0 (λ k. Pays (st.node n) ((step p st e).node n).kin ((step p st e).node n).book s w k)
-    (λ t. subst (λ a. Pays (st.node a) ((step p st e).node a).kin ((step p st e).node a).book s w (sends_in s w (outcome p st e).work)) (eqb-true (node_of e) n t) (own_pays p st e s w))
-    (λ f. subst (λ (y : Node). Pays (st.node n) y.kin y.book s w 0) (sym (node_else p st e n (eqb-false (node_of e) n f))) (same_pays (st.node n) s w))
+    cond_both (event_node e == n) (sends_in s w (outcome p st e).work) 0 (λ k. Pays (st.node n) ((step p st e).node n).kin ((step p st e).node n).book s w k)
+    (λ t. subst (λ a. Pays (st.node a) ((step p st e).node a).kin ((step p st e).node a).book s w (sends_in s w (outcome p st e).work)) (eqb-true (event_node e) n t) (own_pays p st e s w))
+    (λ f. subst (λ (y : Node). Pays (st.node n) y.kin y.book s w 0) (sym (node_else p st e n (eqb-false (event_node e) n f))) (same_pays (st.node n) s w))
 
 run_pays : (p : Plan) (st : State) (es : List Event) (n s w : ℕ) → sends p st es n s w + one_if (is_unsent (((run p st es).node n).book s w)) ≤ one_if (is_unsent ((st.node n).book s w)) + (growths p st es n s w + moves p st es n)
 run_pays p st [] n s w = omega arith

@@ -9,7 +9,8 @@ use Rattle.overlay_core.specs.declared.release.Kind.{Kind}
 use Rattle.overlay_core.specs.declared.release.Kind.TheVariants.{Partial as PartialRelease, Final as FinalRelease}
 use Rattle.overlay_core.specs.Nodes.{Packet, Up, Done, Attach, Down, Release, Effects}
 use Rattle.overlay_core.specs.Machine.{State, step}
-use Rattle.overlay_core.specs.Independent.{node_of, outcome}
+use Rattle.overlay_core.specs.Independent.{outcome}
+use Rattle.stat_desk.specs.Events.{event_node}
 
 -- 1 where a test holds, and 0 elsewhere
 abbrev pub one_if : Bool → ℕ
@@ -60,7 +61,7 @@ is_unsent Closed = false
 
 -- how often n sends the wave in an event
 abbrev pub sends_at : Plan → State → Event → ℕ → ℕ → ℕ → ℕ
-sends_at p st e n s w = cond (node_of e == n) (sends_in s w (outcome p st e).work) 0
+sends_at p st e n s w = cond (event_node e == n) (sends_in s w (outcome p st e).work) 0
 
 -- how often n sends the wave in some events
 abbrev pub sends : Plan → State → List Event → ℕ → ℕ → ℕ → ℕ

@@ -1,17 +1,11 @@
 -- What an event does at its node, and which events leave it as it is.
 use Rattle.std.specs.Prelude.{◌≡◌, ◌≢◌, ℕ, List, [], ◌∷◌, Option, None, Some}
 use Rattle.stat_plan.specs.Plans.{Plan}
+use Rattle.stat_desk.specs.Events.{event_node}
 use Rattle.stat_desk.specs.declared.event.Event.{Event}
 use Rattle.stat_desk.specs.declared.event.Event.TheVariants.{Sample, Recv, Tick, Lose}
 use Rattle.overlay_core.specs.Nodes.{Packet, Outcome, handled}
 use Rattle.overlay_core.specs.Machine.{State}
-
--- the node of an event
-abbrev pub node_of : Event → ℕ
-node_of (Sample n s w) = n
-node_of (Recv n m) = n
-node_of (Tick n) = n
-node_of (Lose n) = n
 
 -- the first of the packets from m, with the sender
 abbrev pub first_from : ℕ → List Packet → Option (ℕ × Packet)
@@ -27,7 +21,7 @@ taken st (Lose n) = None
 
 -- what an event leaves of its node
 unfoldable pub outcome : Plan → State → Event → Outcome
-outcome p st e = handled p (node_of e) (st.node (node_of e)) e (taken st e)
+outcome p st e = handled p (event_node e) (st.node (event_node e)) e (taken st e)
 
 -- the node from whose link an event takes a packet
 abbrev pub sender_of : Event → Option ℕ
@@ -38,5 +32,5 @@ sender_of (Lose n) = None
 
 -- the second event is of another node, and isn't the loss of the sender of the first one's packet
 pub record AreIndependent (e f : Event) : Type 0 where
-  pub elsewhere : node_of f ≢ node_of e
+  pub elsewhere : event_node f ≢ event_node e
   pub keeps_sender : (m : ℕ) → sender_of e ≡ Some m → f ≢ Lose m

@@ -9,7 +9,7 @@ use Rattle.stat_plan.specs.Waves.{Wave, Open, Closed, set_wave, covering, growin
 use Rattle.stat_plan.specs.Plans.{Plan, nodes, front, is_front, is_within, serves, daemons, ranks, waves_at, waves_of}
 use Rattle.stat_desk.specs.declared.event.Event.{Event}
 use Rattle.stat_desk.specs.declared.event.Event.TheVariants.{Sample, Recv, Tick, Lose}
-use Rattle.overlay_core.specs.Independent.{node_of as event_node}
+use Rattle.stat_desk.specs.Events.{event_node}
 use Rattle.overlay_core.specs.Nodes.{Node, Packet, Up, Done, Attach, Down, Outcome, Release, handled, begin, sampled, after_tick, received_up, received_done, done_work}
 use Rattle.overlay_core.specs.Machine.{State, is_enabled, is_pending, is_wave, next_sample, commit, receive, step}
 use Rattle.overlay_core.specs.LinkInvariant.{LinkInvariant, PacketIsSound, SendIsSound}

@@ -6,7 +6,7 @@ use Rattle.std.proofs.lemmas.Option.{slice_get-get_or}
 use Rattle.prefix_tree.specs.Tree.{Tree}
 use Rattle.stat_plan.specs.Plans.{Plan}
 use Rattle.stat_desk.specs.declared.event.Event.{Event}
-use Rattle.overlay_core.specs.Independent.{node_of as event_node}
+use Rattle.stat_desk.specs.Events.{event_node}
 use Rattle.overlay_core.specs.Nodes.{Node, Outcome, Release}
 use Rattle.overlay_core.specs.TreeReleases.{AreNumberedInOrder, bare_releases, releases_view}
 use Rattle.overlay_node.specs.declared.packet.Outgoing.{Outgoing}

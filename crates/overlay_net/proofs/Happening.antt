@@ -8,7 +8,7 @@ use Rattle.prefix_tree.specs.Tree.{Tree}
 use Rattle.stat_plan.specs.Invariants.{IsPlan}
 use Rattle.stat_plan.specs.Plans.{Plan, nodes, front}
 use Rattle.stat_desk.specs.declared.event.Event.{Event}
-use Rattle.overlay_core.specs.Independent.{node_of as event_node}
+use Rattle.stat_desk.specs.Events.{event_node}
 use Rattle.overlay_core.specs.declared.release.Release.{Release as Held}
 use Rattle.overlay_core.specs.Nodes.{Node}
 use Rattle.overlay_core.specs.Machine.{State, enabled_events, is_enabled, step}

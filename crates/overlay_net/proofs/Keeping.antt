@@ -7,7 +7,7 @@ use Rattle.std.specs.List.{AllByRecursion, flat_map}
 use Rattle.stat_plan.specs.Plans.{Plan, nodes, front}
 use Rattle.stat_desk.specs.declared.event.Event.{Event}
 use Rattle.stat_desk.specs.declared.event.Event.TheVariants.{Recv}
-use Rattle.overlay_core.specs.Independent.{node_of as event_node}
+use Rattle.stat_desk.specs.Events.{event_node}
 use Rattle.overlay_core.specs.Nodes.{Release}
 use Rattle.overlay_core.specs.TreeReleases.{TreeRelease, AreNumberedInOrder, bare_release, bare_releases, numbers_after}
 use Rattle.overlay_node.specs.Packets.{TreePacket, PacketFits, ReleaseFits}

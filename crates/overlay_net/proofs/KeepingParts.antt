@@ -4,7 +4,7 @@ use Rattle.std.proofs.lemmas.Bool.{cases_Bool, true≢false, or_cases}
 use Rattle.std.specs.List.{AllByRecursion}
 use Rattle.stat_desk.specs.declared.event.Event.{Event}
 use Rattle.stat_desk.specs.declared.event.Event.TheVariants.{Sample, Recv, Tick, Lose}
-use Rattle.overlay_core.specs.Independent.{node_of as event_node}
+use Rattle.stat_desk.specs.Events.{event_node}
 use Rattle.overlay_core.specs.Nodes.{Release}
 use Rattle.overlay_core.specs.Releases.{next_release}
 use Rattle.overlay_core.specs.TreeReleases.{numbers_after}

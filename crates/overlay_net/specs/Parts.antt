@@ -3,13 +3,12 @@ use Rattle.std.specs.Prelude.{◌≡◌, ◌<◌, ◌^◌, ℕ, Bool, true, List
 use Rattle.prefix_tree.specs.Tree.{Tree}
 use Rattle.stat_plan.specs.Plans.{Plan}
 use Rattle.stat_desk.specs.declared.event.Event.{Event}
-use Rattle.overlay_core.specs.Independent.{node_of}
+use Rattle.stat_desk.specs.Events.{event_node}
 use Rattle.overlay_core.specs.TreeReleases.{TreeRelease, releases_view}
 use Rattle.overlay_node.specs.Packets.{TreePacket}
 use Rattle.overlay_core.specs.Nodes.{Node}
 use Rattle.overlay_core.specs.Machine.{start_node}
-use Rattle.overlay_node.specs.NodeViews as Views
-use Rattle.overlay_node.specs.NodeViews.{Counts, IsNodeOf, MayHandle, NodeView}
+use Rattle.overlay_node.specs.NodeViews.{Counts, IsNodeOf, MayHandle, NodeView, node_of}
 use Rattle.overlay_net.specs.Inboxes.{Waiting}
 use Rattle.overlay_net.specs.Nets.{NetView, inbox_at, net_view_of, node_events}
 use Rattle.overlay_net.specs.Events.{has_some, is_listed}
@@ -27,24 +26,24 @@ pub record IsHandedOver (p : Plan) (e : Event) (xs ys : List NodeView) (old new 
   pub before : NodeView
   pub after : NodeView
   pub taken : IsTaken old e packet new
-  pub at : slice_get xs (node_of e) ≡ Some before
+  pub at : slice_get xs (event_node e) ≡ Some before
   pub done : HasHandled p before after e packet sends more
-  pub now : ys ≡ slice_set xs (node_of e) after
+  pub now : ys ≡ slice_set xs (event_node e) after
 
 -- The event's packet may be taken, and its node may handle it with whatever is taken; the node has done few events.
 pub record MayHandOver (p : Plan) (xs : List NodeView) (old : List Waiting) (e : Event) : Type 0 where
-  pub below : node_of e < length xs
+  pub below : event_node e < length xs
   pub take : CanTake old e
-  pub fits : (x : NodeView) → slice_get xs (node_of e) ≡ Some x → IsNodeOf p x
-  pub handle : (new : List Waiting) (packet : Option TreePacket) (x : NodeView) → IsTaken old e packet new → slice_get xs (node_of e) ≡ Some x → MayHandle p x e packet
-  pub few : (x : NodeView) → slice_get xs (node_of e) ≡ Some x → x.count < 2 ^ 62
+  pub fits : (x : NodeView) → slice_get xs (event_node e) ≡ Some x → IsNodeOf p x
+  pub handle : (new : List Waiting) (packet : Option TreePacket) (x : NodeView) → IsTaken old e packet new → slice_get xs (event_node e) ≡ Some x → MayHandle p x e packet
+  pub few : (x : NodeView) → slice_get xs (event_node e) ≡ Some x → x.count < 2 ^ 62
 
 -- the first so many nodes have done nothing yet, nothing waits for them, and those with an event that may come next are listed
 pub record AreFresh (p : Plan) (count : ℕ) (xs : List NodeView) (inboxes : List Waiting) (listed : List ℕ) : Type 0 where
   pub all_nodes : length xs ≡ count
   pub all_inboxes : length inboxes ≡ count
   pub numbers : (n : ℕ) (x : NodeView) → slice_get xs n ≡ Some x → (x.number ≡ n) × IsNodeOf p x
-  pub start : (n : ℕ) (x : NodeView) → slice_get xs n ≡ Some x → ◌≡◌ {A = Node} (Views.node_of x) (start_node p n)
+  pub start : (n : ℕ) (x : NodeView) → slice_get xs n ≡ Some x → ◌≡◌ {A = Node} (node_of x) (start_node p n)
   pub counts : (n : ℕ) (x : NodeView) → slice_get xs n ≡ Some x → Counts x.entries []
   pub empty : (n : ℕ) → inbox_at inboxes n ≡ []
   pub below : (n : ℕ) → is_listed listed n ≡ true → n < count

@@ -1,7 +1,6 @@
 //! One event of the overlay: a node handles it, and what the node sends is put where it goes.
 
 ghost use Rattle.std.specs.Prelude.{◌≡◌, ◌<◌, ◌∷◌, [], length, option_map, OnOk};
-ghost use Rattle.overlay_core.specs.Independent.{node_of};
 ghost use Rattle.overlay_node.specs.Packets.{packet_view, sends_view};
 ghost use Rattle.overlay_net.specs.Sends.{AreSent, CanTake, GoBelow, IsTaken};
 
@@ -54,17 +53,5 @@ pub fn take_packet<T: PrefixTree>(inboxes: &mut [Inbox<T>], event: Event) -> Opt
     match event {
         Event::Recv { node, from } => Some(inboxes[node as usize].take(from)),
         _ => None,
-    }
-}
-
-/// The node of an event.
-pub fn node_of(event: Event) -> u32
-    ensures { result ≡ node_of event }
-{
-    match event {
-        Event::Sample { node, .. } => node,
-        Event::Recv { node, .. } => node,
-        Event::Tick { node } => node,
-        Event::Lose { node } => node,
     }
 }

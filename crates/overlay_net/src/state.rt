@@ -10,7 +10,7 @@ ghost use Rattle.overlay_net.specs.Events.{IsNet, has_some, is_listed};
 ghost use Rattle.overlay_net.specs.Handled.{ExtendsBy};
 ghost use Rattle.overlay_net.specs.Parts.{IsHandedOver, MayHandOver, net_view};
 
-use crate::delivery::{deliver, node_of, take_packet};
+use crate::delivery::{deliver, take_packet};
 use crate::events::{has_event, no_event_where_none_is_ready};
 use crate::inbox::Inbox;
 use overlay_core::Release;
@@ -71,7 +71,7 @@ fn hand_over<T: PrefixTree>(
     ensures { IfOk result (λ out. IsHandedOver plan.now event nodes.old nodes.new inboxes.old inboxes.new (sends_view T.tree out.sends.items) (releases_view T.tree out.releases.items)) }
 {
     let packet = take_packet(inboxes, event);
-    nodes[node_of(event) as usize].handle(alloc, plan, event, packet)
+    nodes[event.node() as usize].handle(alloc, plan, event, packet)
 }
 
 // Lists a node just where it has an event that may come next.
@@ -110,7 +110,7 @@ fn do_event<T: PrefixTree>(
 {
     plan.invariant();
     let alloc = *releases.allocator();
-    let n = node_of(event);
+    let n = event.node();
     let mut out = hand_over(alloc, plan, nodes, inboxes, event)?;
     deliver(alloc, n, out.sends, inboxes, ready)?;
     releases.append(&mut out.releases)?;

@@ -6,7 +6,8 @@ use Rattle.rank_set.specs.declared.read.RanksError.{RanksError}
 use Rattle.rank_set.specs.declared.read.RanksError.TheVariants.{BadNumber, Backward}
 use Rattle.rank_set.specs.Ranks.{Ranks, none, union}
 use Rattle.rank_set.specs.Runs.{ranks_between}
-use Rattle.rank_set.specs.RanksText.{digits_len, value_after, number_at, ends_at, second_at, after_first, item_from, item_at, item_len, items, before_first, ranks_at}
+use Rattle.rank_set.specs.Digits.{digits_len, value_after}
+use Rattle.rank_set.specs.RanksText.{number_at, ends_at, second_at, after_first, item_from, item_at, item_len, items, before_first, ranks_at}
 
 -- a number that is cut at a limit goes on as the number itself does
 same_capped : (limit a b : ℕ) (ds : List ℕ) → min limit a ≡ min limit b → min limit (value_after a ds) ≡ min limit (value_after b ds)

@@ -2,5 +2,6 @@ pub mod Ranks
 pub mod Runs
 pub mod Text
 pub mod Words
+pub mod Digits
 pub mod RanksText
 pub mod Rows

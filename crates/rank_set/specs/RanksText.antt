@@ -1,23 +1,14 @@
 -- How a text of ranks is read, as `7,0-2,1`: items parted by `,`, each a number or `a-b`. It is read from the left, and the
 -- first fault refuses it, with its place: how many bytes stand before it.
 use Rattle.std.specs.Prelude.{ℕ, ◌+◌, ◌-◌, ◌*◌, nat_eq, nat_lt, nat_le, cond, List, [], ◌∷◌, length, take, drop, Result, Ok, Err, not}
-use Rattle.std.specs.Char.{is_ascii_digit}
 use Rattle.std.specs.List.{prefix_len}
 use Rattle.rank_set.specs.declared.read.RanksError.{RanksError}
 use Rattle.rank_set.specs.declared.read.RanksError.TheVariants.{Empty, BadNumber, Backward, OverLimit}
 use Rattle.rank_set.specs.declared.TheConstants.{RANK_LIMIT}
+use Rattle.rank_set.specs.Digits.{digits_len, value_after}
 use Rattle.rank_set.specs.Ranks.{Ranks, none, union}
 use Rattle.rank_set.specs.Runs.{ranks_between}
 use Rattle.rank_set.specs.Text.{comma, dash}
-
--- how many digits a text begins with
-abbrev pub digits_len : List ℕ → ℕ
-digits_len text = prefix_len is_ascii_digit text
-
--- the number that digits write after a number so far: 48 is `0`
-abbrev pub value_after : ℕ → List ℕ → ℕ
-value_after n [] = n
-value_after n (d ∷ ds) = value_after (10 * n + (d - 48)) ds
 
 -- the number that a text begins with
 abbrev pub number : List ℕ → ℕ

@@ -10,6 +10,7 @@ ghost use Rattle.rank_set.specs.Runs.{ranks_between, IsRun};
 ghost use Rattle.rank_set.specs.Words.{ranks_in, AreWords, offset_of};
 ghost use Rattle.rank_set.specs.Text.{text_of};
 
+pub mod digits;
 mod read;
 #[cfg(test)]
 mod tests;

@@ -1,10 +1,12 @@
 //! Reads sets of ranks: items parted by `,`, each a number or `a-b`, in any order, where ranges may overlap.
 
 ghost use Rattle.rank_set.specs.Ranks.{none};
-ghost use Rattle.rank_set.specs.RanksText.{digits_len, value_after, number_at, ends_at, after_first, item_at, item_len, items, ranks_at, ranks_text};
+ghost use Rattle.rank_set.specs.Digits.{digits_len};
+ghost use Rattle.rank_set.specs.RanksText.{number_at, ends_at, after_first, item_at, item_len, items, ranks_at, ranks_text};
 ghost use Rattle.rank_set.specs.declared.read.RanksError.TheVariants.{OutOfMemory};
 ghost use Rattle.std.specs.Prelude.{◌≡◌, ◌<◌, ◌≤◌, ◌+◌, ◌-◌, ◌^◌, ◌≢◌, length, min, IfOk, IfErr, OnOk, Ok, Err, take};
 
+use crate::digits::{capped_value, digits_len};
 use crate::{RANK_LIMIT, RankSet, Run};
 use std::alloc::{AllocError, Global};
 
@@ -32,26 +34,6 @@ impl From<AllocError> for RanksError {
     fn from(_: AllocError) -> Self {
         RanksError::OutOfMemory
     }
-}
-
-// How many digits a text begins with.
-fn digits_len(text: &[u8]) -> usize
-    ensures value { result ≡ digits_len text.now }
-    ensures within { result ≤ length text.now }
-{
-    text.iter().take_while(|b| b.is_ascii_digit()).count()
-}
-
-// The number that digits write, or the limit where it is more.
-fn capped_value(digits: &[u8], limit: u32) -> u32
-    requires { limit < 2 ^ 28 }
-    ensures { result ≡ min limit (value_after 0 digits.now) }
-{
-    let mut number = 0;
-    for digit in digits {
-        number = limit.min(10 * number + u32::from(digit.saturating_sub(b'0')));
-    }
-    number
 }
 
 // The number that must stand at a place, and how many digits it has.

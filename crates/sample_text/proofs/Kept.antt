@@ -10,16 +10,16 @@ use Rattle.call_path.specs.Reading.{path_of}
 use Rattle.call_path.specs.declared.read.PathError.{PathError}
 use Rattle.call_path.proofs.ReadBack.{read_good}
 use Rattle.stat_plan.specs.Invariants.{IsSampleLine, AreSamples, SamplesFit}
-use Rattle.stat_plan.specs.Lines.{number_in}
+use Rattle.text_lines.specs.Lines.{number_in}
 use Rattle.stat_plan.specs.Names.{number_of}
 use Rattle.stat_plan.specs.Plans.{Sampled}
 use Rattle.stat_plan.specs.Samples.{SampleLine, all_ranks}
 use Rattle.stat_plan.specs.Topologies.{Nodes}
 use Rattle.stat_plan.specs.Trees.{is_daemon}
-use Rattle.stat_plan.specs.declared.text_error.TextError.{TextError}
-use Rattle.stat_plan.specs.declared.text_error.TextError.TheVariants.{Bad, Over}
-use Rattle.stat_plan.specs.declared.text_error.Reason.TheVariants.{Unplaced}
-use Rattle.stat_plan.specs.declared.text_error.Quantity.TheVariants.{Lines}
+use Rattle.text_lines.specs.declared.text_error.TextError.{TextError}
+use Rattle.text_lines.specs.declared.text_error.TextError.TheVariants.{Bad, Over}
+use Rattle.text_lines.specs.declared.text_error.Reason.TheVariants.{Unplaced}
+use Rattle.text_lines.specs.declared.text_error.Quantity.TheVariants.{Lines}
 use Rattle.stat_plan.specs.declared.samples.TheConstants.{LINE_LIMIT}
 use Rattle.sample_text.specs.Said.{Said, Nothing, Daemon, Stack, line_said}
 use Rattle.sample_text.specs.Steps.{and_then, if_holds, daemon_at, daemon_named, ranks_on, time_at, time_on, path_or_fault, path_on, are_disjoint, add_at, sample, with_daemon, with_stack, with_said, with_line}

@@ -6,9 +6,9 @@ use Rattle.rank_set.specs.Ranks.{Ranks, size, is_empty}
 use Rattle.stat_plan.specs.Plans.{Sampled}
 use Rattle.stat_plan.specs.Topologies.{Nodes}
 use Rattle.stat_plan.specs.Trees.{is_daemon}
-use Rattle.stat_plan.specs.declared.text_error.TextError.{TextError}
-use Rattle.stat_plan.specs.declared.text_error.TextError.TheVariants.{Bad}
-use Rattle.stat_plan.specs.declared.text_error.Reason.TheVariants.{DaemonWithoutRank}
+use Rattle.text_lines.specs.declared.text_error.TextError.{TextError}
+use Rattle.text_lines.specs.declared.text_error.TextError.TheVariants.{Bad}
+use Rattle.text_lines.specs.declared.text_error.Reason.TheVariants.{DaemonWithoutRank}
 use Rattle.sample_text.specs.Steps.{and_then, if_holds, with_line}
 use Rattle.sample_text.specs.Whole.{with_lines, lacks_rank, whole}
 

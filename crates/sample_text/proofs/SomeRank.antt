@@ -6,10 +6,11 @@ use Rattle.rank_set.specs.declared.read.RanksError.{RanksError}
 use Rattle.rank_set.specs.declared.read.RanksError.TheVariants.{BadNumber, Backward}
 use Rattle.rank_set.specs.Ranks.{Ranks, none, has, Has, union, has-none, has-union}
 use Rattle.rank_set.specs.Runs.{ranks_between}
-use Rattle.rank_set.specs.RanksText.{digits_len, number_at, ends_at, second_at, after_first, item_from, item_at, item_len, ranks_at, ranks_text}
+use Rattle.rank_set.specs.Digits.{digits_len}
+use Rattle.rank_set.specs.RanksText.{number_at, ends_at, second_at, after_first, item_from, item_at, item_len, ranks_at, ranks_text}
 use Rattle.rank_set.proofs.RunSets.{has-ranks_between}
 use Rattle.rank_set.proofs.Reading.{items_first, item_bad_ranks, item_good_ranks, no_items}
-use Rattle.stat_plan.specs.declared.text_error.TextError.{TextError}
+use Rattle.text_lines.specs.declared.text_error.TextError.{TextError}
 use Rattle.sample_text.specs.Steps.{ranks_or_fault, ranks_on}
 use Rattle.sample_text.proofs.Sets.{or_first, or_second}
 

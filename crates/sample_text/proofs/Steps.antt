@@ -9,10 +9,10 @@ use Rattle.call_path.specs.Path.{Path}
 use Rattle.stat_plan.specs.Plans.{Sampled}
 use Rattle.stat_plan.specs.Samples.{all_ranks}
 use Rattle.stat_plan.specs.Topologies.{Nodes}
-use Rattle.stat_plan.specs.declared.text_error.TextError.{TextError}
-use Rattle.stat_plan.specs.declared.text_error.TextError.TheVariants.{Bad, Over}
-use Rattle.stat_plan.specs.declared.text_error.Reason.TheVariants.{PlacedTwice, Unplaced}
-use Rattle.stat_plan.specs.declared.text_error.Quantity.TheVariants.{Lines}
+use Rattle.text_lines.specs.declared.text_error.TextError.{TextError}
+use Rattle.text_lines.specs.declared.text_error.TextError.TheVariants.{Bad, Over}
+use Rattle.text_lines.specs.declared.text_error.Reason.TheVariants.{PlacedTwice, Unplaced}
+use Rattle.text_lines.specs.declared.text_error.Quantity.TheVariants.{Lines}
 use Rattle.sample_text.specs.Said.{Said, line_said}
 use Rattle.sample_text.specs.Steps.{daemon_named, ranks_on, time_on, path_on, are_disjoint, add_at, sample, with_daemon, with_stack, with_said, with_line, and_then}
 

@@ -4,9 +4,9 @@ use Rattle.std.proofs.lemmas.Bool.Decides.{nat_tests}
 use Rattle.std.specs.Str.{IsUtf8, is_utf8, IsCharBoundary}
 use Rattle.std.proofs.lemmas.Str.{IsUtf8-from_is_utf8, is_utf8-from_IsUtf8, IsUtf8-drop, IsCharBoundary-after_ascii}
 use Rattle.std.proofs.lemmas.List.Sums.{prefix_len-le-length, prefix_len_stops}
-use Rattle.stat_plan.specs.Lines.{words, is_blank, blanks_len, word_len, after_blanks, after_word, says_nothing}
-use Rattle.stat_plan.specs.declared.text_error.Reason.TheVariants.{NotUtf8, BadDirective}
-use Rattle.stat_plan.proofs.Cuts.{past_blanks, no_words, word_here}
+use Rattle.text_lines.specs.Lines.{words, is_blank, blanks_len, word_len, after_blanks, after_word, says_nothing}
+use Rattle.text_lines.specs.declared.text_error.Reason.TheVariants.{NotUtf8, BadDirective}
+use Rattle.text_lines.proofs.Cuts.{past_blanks, no_words, word_here}
 use Rattle.sample_text.specs.Said.{Nothing, Stack, bad, stack_said, words_said, line_said}
 
 -- three words, where the first two are read

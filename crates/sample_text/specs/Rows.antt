@@ -3,11 +3,11 @@ use Rattle.std.specs.Prelude.{◌≡◌, refl, ℕ, List, [], ◌∷◌, ◌++�
 use Rattle.rank_set.specs.Ranks.{none, set_of}
 use Rattle.stat_plan.specs.Plans.{Sampled, sampled}
 use Rattle.stat_plan.specs.Topologies.{Nodes, topology}
-use Rattle.stat_plan.specs.declared.text_error.TextError.{TextError}
-use Rattle.stat_plan.specs.declared.text_error.TextError.TheVariants.{Bad, Over}
-use Rattle.stat_plan.specs.declared.text_error.Reason.TheVariants.{NotUtf8, BadDirective, NotADaemon, BadRanks, PlacedTwice, BadTime, Unplaced, BadPath, DaemonWithoutRank}
-use Rattle.stat_plan.specs.declared.text_error.Quantity.TheVariants.{Ranks}
-use Rattle.stat_plan.specs.Lines.{pieces, words}
+use Rattle.text_lines.specs.declared.text_error.TextError.{TextError}
+use Rattle.text_lines.specs.declared.text_error.TextError.TheVariants.{Bad, Over}
+use Rattle.text_lines.specs.declared.text_error.Reason.TheVariants.{NotUtf8, BadDirective, NotADaemon, BadRanks, PlacedTwice, BadTime, Unplaced, BadPath, DaemonWithoutRank}
+use Rattle.text_lines.specs.declared.text_error.Quantity.TheVariants.{Ranks}
+use Rattle.text_lines.specs.Lines.{pieces, words}
 use Rattle.stat_plan.specs.Names.{number_of}
 use Rattle.rank_set.specs.Ranks.{has, those, union, with_rank}
 use Rattle.rank_set.specs.Runs.{ranks_between}

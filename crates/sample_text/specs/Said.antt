@@ -1,11 +1,11 @@
 -- What a line of a samples text says by its words alone, or why it is no such line.
 use Rattle.std.specs.Prelude.{ℕ, cond, List, [], ◌∷◌, Result, Ok, Err, codes}
 use Rattle.std.specs.Str.{bytes_eq, is_utf8}
-use Rattle.stat_plan.specs.declared.text_error.TextError.{TextError}
-use Rattle.stat_plan.specs.declared.text_error.TextError.TheVariants.{Bad}
-use Rattle.stat_plan.specs.declared.text_error.Reason.{Reason}
-use Rattle.stat_plan.specs.declared.text_error.Reason.TheVariants.{NotUtf8, BadDirective}
-use Rattle.stat_plan.specs.Lines.{words, after_blanks, after_word, says_nothing}
+use Rattle.text_lines.specs.declared.text_error.TextError.{TextError}
+use Rattle.text_lines.specs.declared.text_error.TextError.TheVariants.{Bad}
+use Rattle.text_lines.specs.declared.text_error.Reason.{Reason}
+use Rattle.text_lines.specs.declared.text_error.Reason.TheVariants.{NotUtf8, BadDirective}
+use Rattle.text_lines.specs.Lines.{words, after_blanks, after_word, says_nothing}
 
 -- nothing, the NAME and RANKS of a daemon, or the TIME, RANKS and PATH of a sample
 pub data Said : Type 0 where

@@ -9,17 +9,17 @@ use Rattle.call_path.specs.Path.{Path}
 use Rattle.call_path.specs.Reading.{path_of}
 use Rattle.call_path.specs.declared.read.PathError.{PathError}
 use Rattle.call_path.specs.declared.read.PathError.TheVariants as path_error
-use Rattle.stat_plan.specs.Lines.{number_in}
+use Rattle.text_lines.specs.Lines.{number_in}
 use Rattle.stat_plan.specs.Names.{number_of}
 use Rattle.stat_plan.specs.Plans.{Sampled}
 use Rattle.stat_plan.specs.Samples.{SampleLine, all_ranks}
 use Rattle.stat_plan.specs.Topologies.{Nodes}
 use Rattle.stat_plan.specs.Trees.{is_daemon}
 use Rattle.stat_plan.specs.declared.samples.TheConstants.{TIME_LIMIT, LINE_LIMIT}
-use Rattle.stat_plan.specs.declared.text_error.TextError.{TextError}
-use Rattle.stat_plan.specs.declared.text_error.TextError.TheVariants.{Bad, Over, OutOfMemory}
-use Rattle.stat_plan.specs.declared.text_error.Reason.TheVariants.{NotADaemon, BadRanks, PlacedTwice, BadTime, Unplaced, BadPath}
-use Rattle.stat_plan.specs.declared.text_error.Quantity.TheVariants as quantity
+use Rattle.text_lines.specs.declared.text_error.TextError.{TextError}
+use Rattle.text_lines.specs.declared.text_error.TextError.TheVariants.{Bad, Over, OutOfMemory}
+use Rattle.text_lines.specs.declared.text_error.Reason.TheVariants.{NotADaemon, BadRanks, PlacedTwice, BadTime, Unplaced, BadPath}
+use Rattle.text_lines.specs.declared.text_error.Quantity.TheVariants as quantity
 use Rattle.sample_text.specs.Said.{Said, Nothing, Daemon, Stack, bad, line_said}
 
 -- a second step where the first finds no fault

@@ -1,13 +1,13 @@
 -- What a samples text says: where the ranks are and the samples, or its first fault.
 use Rattle.std.specs.Prelude.{ℕ, zero, suc, Bool, false, ◌&&◌, ◌||◌, not, List, [], ◌∷◌, ◌++◌, length, Option, Result, Ok}
 use Rattle.rank_set.specs.Ranks.{Ranks, none, is_empty}
-use Rattle.stat_plan.specs.Lines.{lines}
+use Rattle.text_lines.specs.Lines.{lines}
 use Rattle.stat_plan.specs.Plans.{Sampled, sampled}
 use Rattle.stat_plan.specs.Topologies.{Nodes}
 use Rattle.stat_plan.specs.Trees.{is_daemon}
-use Rattle.stat_plan.specs.declared.text_error.TextError.{TextError}
-use Rattle.stat_plan.specs.declared.text_error.TextError.TheVariants.{Bad}
-use Rattle.stat_plan.specs.declared.text_error.Reason.TheVariants.{DaemonWithoutRank}
+use Rattle.text_lines.specs.declared.text_error.TextError.{TextError}
+use Rattle.text_lines.specs.declared.text_error.TextError.TheVariants.{Bad}
+use Rattle.text_lines.specs.declared.text_error.Reason.TheVariants.{DaemonWithoutRank}
 use Rattle.sample_text.specs.Steps.{and_then, if_holds, with_line}
 
 -- so many sets without a rank

@@ -6,9 +6,9 @@
 #![tactic(auto)]
 
 ghost use Rattle.std.specs.Prelude.{◌≡◌, ◌≢◌, length, IfErr, OnOk, IfOk, Ok, Err};
-ghost use Rattle.stat_plan.specs.Lines.{lines};
+ghost use Rattle.text_lines.specs.Lines.{lines};
 ghost use Rattle.stat_plan.specs.Invariants.{SamplesFit};
-ghost use Rattle.stat_plan.specs.declared.text_error.TextError.TheVariants.{OutOfMemory};
+ghost use Rattle.text_lines.specs.declared.text_error.TextError.TheVariants.{OutOfMemory};
 ghost use Rattle.sample_text.specs.Parsers.{parser_view, IsInStep};
 ghost use Rattle.sample_text.specs.Whole.{with_lines, samples_of_text};
 
@@ -19,9 +19,9 @@ mod paths;
 mod tests;
 
 use parser::Parser;
-use stat_plan::lines::next_line;
-use stat_plan::{Samples, TextError, Topology};
+use stat_plan::{Samples, Topology};
 use std::alloc::Global;
+use text_lines::{TextError, next_line};
 
 // Takes the lines of a text into a parser.
 fn read_lines(text: &[u8], topology: &Topology, parser: &mut Parser) -> Result<(), TextError>

@@ -2,14 +2,13 @@
 
 ghost use Rattle.std.specs.Prelude.{◌≡◌, IfOk, IfErr, Ok, Err};
 ghost use Rattle.std.specs.Str.{IsUtf8};
-ghost use Rattle.stat_plan.specs.Lines.{words};
-ghost use Rattle.stat_plan.specs.declared.text_error.TextError.TheVariants.{Bad};
-ghost use Rattle.stat_plan.specs.declared.text_error.Reason.TheVariants.{BadDirective};
+ghost use Rattle.text_lines.specs.Lines.{words};
+ghost use Rattle.text_lines.specs.declared.text_error.TextError.TheVariants.{Bad};
+ghost use Rattle.text_lines.specs.declared.text_error.Reason.TheVariants.{BadDirective};
 ghost use Rattle.sample_text.specs.Said.{daemon_said, stack_said, words_said, line_said};
 ghost use Rattle.sample_text.specs.LineViews.{line_view};
 
-use stat_plan::lines::{after_blanks, next_word, says_nothing};
-use stat_plan::{Reason, TextError};
+use text_lines::{Reason, TextError, after_blanks, next_word, says_nothing};
 
 /// What a line says.
 #[derive(Debug, Clone, Copy)]

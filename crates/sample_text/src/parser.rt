@@ -2,18 +2,16 @@
 
 ghost use Rattle.std.specs.Prelude.{◌≡◌, ◌≢◌, ◌<◌, length, IfOk, IfErr, OnOk, Ok, Err};
 ghost use Rattle.rank_set.specs.Ranks.{none};
-ghost use Rattle.stat_plan.specs.declared.text_error.TextError.TheVariants.{Bad, Over, OutOfMemory};
+ghost use Rattle.text_lines.specs.declared.text_error.TextError.TheVariants.{Bad, Over, OutOfMemory};
 ghost use Rattle.sample_text.specs.Steps.{daemon_named, ranks_on, time_on, are_disjoint, add_at};
 ghost use Rattle.sample_text.specs.Whole.{nones, lacks_rank};
 
 use crate::line::{Line, read_line};
 use crate::paths::Paths;
 use rank_set::{RANK_LIMIT, RankSet, RanksError, read_ranks};
-use stat_plan::lines::number_in;
-use stat_plan::{
-    LINE_LIMIT, Quantity, Reason, Samples, StackLine, TIME_LIMIT, TextError, Topology,
-};
+use stat_plan::{LINE_LIMIT, Samples, StackLine, TIME_LIMIT, Topology};
 use std::alloc::{AllocError, Global};
+use text_lines::{Quantity, Reason, TextError, number_in};
 
 /// The ranks by node number, and the samples.
 #[derive(Drop)]

@@ -3,13 +3,13 @@
 ghost use Rattle.std.specs.Prelude.{◌≡◌, ◌≢◌, ◌≤◌, ◌<◌, ◌+◌, ℕ, length, IfOk, IfErr, OnOk, Ok, Err};
 ghost use Rattle.call_path.specs.Reading.{path_of};
 ghost use Rattle.stat_plan.specs.declared.samples.TheConstants.{LINE_LIMIT};
-ghost use Rattle.stat_plan.specs.declared.text_error.TextError.TheVariants.{OutOfMemory};
+ghost use Rattle.text_lines.specs.declared.text_error.TextError.TheVariants.{OutOfMemory};
 ghost use Rattle.sample_text.specs.Steps.{path_on};
 
 use call_path::{CallPath, PathError};
 use indexmap::IndexSet;
-use stat_plan::{Reason, TextError};
 use std::alloc::Global;
+use text_lines::{Reason, TextError};
 
 /// Paths by number, and the set that finds the number of a text.
 #[derive(Drop)]

@@ -1,10 +1,11 @@
 //! What no clause says: texts as they are written, and that each call succeeds with ample memory.
 
 use crate::read;
-use stat_plan::{Quantity, Reason, TextError, Topology};
+use stat_plan::Topology;
 use std::alloc::{AllocError, Global};
 use std::process::Abort;
 use std::test::Fail;
+use text_lines::{Quantity, Reason, TextError};
 
 // A front end and two daemons.
 fn job(alloc: Global) -> Result<Topology, TextError> {

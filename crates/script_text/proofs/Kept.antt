@@ -5,7 +5,7 @@ use Rattle.std.specs.List.{AllByRecursion, list_any}
 use Rattle.std.specs.Str.{bytes_eq}
 use Rattle.std.proofs.lemmas.Bool.{ltb-false, eqb-false}
 use Rattle.stat_plan.specs.Invariants.{IsMode, IsStream, IsScript, ScriptFits, IsDaemon}
-use Rattle.stat_plan.specs.Lines.{words, says_nothing}
+use Rattle.text_lines.specs.Lines.{words, says_nothing}
 use Rattle.stat_plan.specs.Names.{number_of}
 use Rattle.stat_plan.specs.NodeSets.{IsStrictlyIncreasing, with_number}
 use Rattle.stat_plan.specs.Plans.{Stream, Scripted, scripted}
@@ -13,10 +13,10 @@ use Rattle.stat_plan.specs.Topologies.{Nodes, IsTopology}
 use Rattle.stat_plan.specs.Trees.{is_daemon, root_of}
 use Rattle.stat_plan.specs.declared.script.Mode.TheVariants as mode
 use Rattle.stat_plan.specs.declared.script.Fault.{Fault}
-use Rattle.stat_plan.specs.declared.text_error.TextError.{TextError}
-use Rattle.stat_plan.specs.declared.text_error.TextError.TheVariants.{Bad, Over}
-use Rattle.stat_plan.specs.declared.text_error.Reason.TheVariants.{BadNumber, BadDirective, SecondStream, SecondLoss, LosesFront, NotADaemon}
-use Rattle.stat_plan.specs.declared.text_error.Quantity.TheVariants.{Streams, Waves, Faults}
+use Rattle.text_lines.specs.declared.text_error.TextError.{TextError}
+use Rattle.text_lines.specs.declared.text_error.TextError.TheVariants.{Bad, Over}
+use Rattle.text_lines.specs.declared.text_error.Reason.TheVariants.{BadNumber, BadDirective, SecondStream, SecondLoss, LosesFront, NotADaemon}
+use Rattle.text_lines.specs.declared.text_error.Quantity.TheVariants.{Streams, Waves, Faults}
 use Rattle.script_text.specs.Words.{ModeWords, WaitForAll, TimeOut, DontWait, StreamWords, LoseWords, stream_words, lose_words}
 use Rattle.script_text.specs.Numbers.{and_then, in_range, number_from}
 use Rattle.script_text.specs.Streams.{new_number, stream_number, mode_of, as_daemon, daemon_of, with_named, all_daemons, daemons_of, stream_of, with_stream}

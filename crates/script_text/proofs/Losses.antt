@@ -2,9 +2,9 @@
 use Rattle.std.proofs.Common.{◌≡◌, ℕ, List, Ok, Err, refl}
 use Rattle.stat_plan.specs.Topologies.{Nodes}
 use Rattle.stat_plan.specs.declared.script.Fault.{Fault}
-use Rattle.stat_plan.specs.declared.text_error.TextError.{TextError}
-use Rattle.stat_plan.specs.declared.text_error.TextError.TheVariants.{Bad}
-use Rattle.stat_plan.specs.declared.text_error.Reason.TheVariants.{BadNumber}
+use Rattle.text_lines.specs.declared.text_error.TextError.{TextError}
+use Rattle.text_lines.specs.declared.text_error.TextError.TheVariants.{Bad}
+use Rattle.text_lines.specs.declared.text_error.Reason.TheVariants.{BadNumber}
 use Rattle.script_text.specs.Words.{LoseWords}
 use Rattle.script_text.specs.Numbers.{number_from}
 use Rattle.script_text.specs.Losses.{lost_node, fault_of}

@@ -1,10 +1,10 @@
 -- Numbers in their ranges, where a word's number is known up to a limit.
 use Rattle.std.proofs.Common.{◌≡◌, ℕ, ◌+◌, ◌<◌, ◌≤◌, min, List, Option, None, Some, Ok, Err, refl, option_map, arith}
 use Rattle.std.proofs.lemmas.Bool.{lt-ltb, le-ltb}
-use Rattle.stat_plan.specs.Lines.{number_in}
-use Rattle.stat_plan.specs.declared.text_error.TextError.{TextError}
-use Rattle.stat_plan.specs.declared.text_error.TextError.TheVariants.{Bad}
-use Rattle.stat_plan.specs.declared.text_error.Reason.TheVariants.{BadNumber}
+use Rattle.text_lines.specs.Lines.{number_in}
+use Rattle.text_lines.specs.declared.text_error.TextError.{TextError}
+use Rattle.text_lines.specs.declared.text_error.TextError.TheVariants.{Bad}
+use Rattle.text_lines.specs.declared.text_error.Reason.TheVariants.{BadNumber}
 use Rattle.script_text.specs.Numbers.{in_range, number_from}
 
 module _ (line least most : ℕ) (more : TextError) where

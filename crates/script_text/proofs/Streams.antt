@@ -7,10 +7,10 @@ use Rattle.stat_plan.specs.Plans.{Stream, stream}
 use Rattle.stat_plan.specs.Topologies.{Nodes}
 use Rattle.stat_plan.specs.declared.script.Mode.{Mode}
 use Rattle.stat_plan.specs.declared.script.Mode.TheVariants as mode
-use Rattle.stat_plan.specs.declared.text_error.TextError.{TextError}
-use Rattle.stat_plan.specs.declared.text_error.TextError.TheVariants.{Bad, Over}
-use Rattle.stat_plan.specs.declared.text_error.Reason.TheVariants.{BadDirective, BadNumber, SecondStream}
-use Rattle.stat_plan.specs.declared.text_error.Quantity.TheVariants.{Streams, Waves}
+use Rattle.text_lines.specs.declared.text_error.TextError.{TextError}
+use Rattle.text_lines.specs.declared.text_error.TextError.TheVariants.{Bad, Over}
+use Rattle.text_lines.specs.declared.text_error.Reason.TheVariants.{BadDirective, BadNumber, SecondStream}
+use Rattle.text_lines.specs.declared.text_error.Quantity.TheVariants.{Streams, Waves}
 use Rattle.script_text.specs.Words.{WaitForAll, TimeOut, DontWait, StreamWords}
 use Rattle.script_text.specs.Numbers.{and_then, number_from}
 use Rattle.script_text.specs.Streams.{new_number, stream_number, mode_of, daemon_of, with_named, all_daemons, daemons_of, stream_of}

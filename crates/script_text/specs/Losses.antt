@@ -6,10 +6,10 @@ use Rattle.stat_plan.specs.Topologies.{Nodes}
 use Rattle.stat_plan.specs.Trees.{root_of}
 use Rattle.stat_plan.specs.declared.script.Fault.{Fault}
 use Rattle.stat_plan.specs.declared.script.TheConstants.{FAULT_LIMIT}
-use Rattle.stat_plan.specs.declared.text_error.TextError.{TextError}
-use Rattle.stat_plan.specs.declared.text_error.TextError.TheVariants.{Bad, Over}
-use Rattle.stat_plan.specs.declared.text_error.Reason.TheVariants.{BadNumber, UnknownNode, LosesFront, SecondLoss}
-use Rattle.stat_plan.specs.declared.text_error.Quantity.TheVariants.{Faults}
+use Rattle.text_lines.specs.declared.text_error.TextError.{TextError}
+use Rattle.text_lines.specs.declared.text_error.TextError.TheVariants.{Bad, Over}
+use Rattle.text_lines.specs.declared.text_error.Reason.TheVariants.{BadNumber, UnknownNode, LosesFront, SecondLoss}
+use Rattle.text_lines.specs.declared.text_error.Quantity.TheVariants.{Faults}
 use Rattle.script_text.specs.declared.lose_line.TheConstants.{COUNT_LIMIT}
 use Rattle.script_text.specs.Order.{with_item}
 use Rattle.script_text.specs.Words.{LoseWords}

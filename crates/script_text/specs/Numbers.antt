@@ -1,9 +1,9 @@
 -- Numbers that words write, with their ranges, and steps one after another.
 use Rattle.std.specs.Prelude.{ℕ, nat_lt, if◌then◌else◌, List, Option, None, Some, Result, Ok, Err}
-use Rattle.stat_plan.specs.Lines.{number_in}
-use Rattle.stat_plan.specs.declared.text_error.TextError.{TextError}
-use Rattle.stat_plan.specs.declared.text_error.TextError.TheVariants.{Bad}
-use Rattle.stat_plan.specs.declared.text_error.Reason.TheVariants.{BadNumber}
+use Rattle.text_lines.specs.Lines.{number_in}
+use Rattle.text_lines.specs.declared.text_error.TextError.{TextError}
+use Rattle.text_lines.specs.declared.text_error.TextError.TheVariants.{Bad}
+use Rattle.text_lines.specs.declared.text_error.Reason.TheVariants.{BadNumber}
 
 -- a second step where the first finds no fault
 abbrev pub and_then : {A B : Type 0} → Result A TextError → (A → Result B TextError) → Result B TextError

@@ -1,5 +1,5 @@
 -- What the code's words and drafts stand for.
-use Rattle.stat_plan.specs.Lines.{words}
+use Rattle.text_lines.specs.Lines.{words}
 use Rattle.stat_plan.specs.Plans.{Scripted, scripted}
 use Rattle.script_text.specs.declared.words.ModeText.{ModeText}
 use Rattle.script_text.specs.declared.words.ModeText.TheVariants as text

@@ -1,14 +1,14 @@
 -- Scripts, and what they stand for.
 use Rattle.std.specs.Prelude.{◌≡◌, refl, ℕ, List, [], ◌∷◌, ◌++◌, None, Some, Ok, Err, Result, codes}
-use Rattle.stat_plan.specs.Lines.{pieces, words}
+use Rattle.text_lines.specs.Lines.{pieces, words}
 use Rattle.stat_plan.specs.Names.{number_of}
 use Rattle.stat_plan.specs.Plans.{Scripted, stream, scripted}
 use Rattle.stat_plan.specs.Topologies.{Nodes, topology}
 use Rattle.stat_plan.specs.declared.script.Mode.TheVariants as mode
-use Rattle.stat_plan.specs.declared.text_error.TextError.{TextError}
-use Rattle.stat_plan.specs.declared.text_error.TextError.TheVariants.{Bad, Over}
-use Rattle.stat_plan.specs.declared.text_error.Reason.TheVariants.{BadDirective, BadNumber, SecondStream, NotADaemon, UnknownNode, LosesFront, SecondLoss, NoStream}
-use Rattle.stat_plan.specs.declared.text_error.Quantity.TheVariants.{Streams, Waves}
+use Rattle.text_lines.specs.declared.text_error.TextError.{TextError}
+use Rattle.text_lines.specs.declared.text_error.TextError.TheVariants.{Bad, Over}
+use Rattle.text_lines.specs.declared.text_error.Reason.TheVariants.{BadDirective, BadNumber, SecondStream, NotADaemon, UnknownNode, LosesFront, SecondLoss, NoStream}
+use Rattle.text_lines.specs.declared.text_error.Quantity.TheVariants.{Streams, Waves}
 use Rattle.script_text.specs.Words.{after_mode, stream_words, lose_words}
 use Rattle.script_text.specs.Numbers.{number_from}
 use Rattle.script_text.specs.Streams.{new_number, stream_number, mode_of, daemon_of, with_named, all_daemons, daemons_of, stream_of}

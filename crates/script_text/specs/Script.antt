@@ -1,12 +1,12 @@
 -- What a script text says: streams and losses, or its first fault.
 use Rattle.std.specs.Prelude.{ℕ, suc, if◌then◌else◌, true, false, List, [], ◌∷◌, Option, None, Some, Result, Ok, Err, codes}
 use Rattle.std.specs.Str.{bytes_eq}
-use Rattle.stat_plan.specs.Lines.{lines, words, says_nothing}
+use Rattle.text_lines.specs.Lines.{lines, words, says_nothing}
 use Rattle.stat_plan.specs.Plans.{Scripted, scripted}
 use Rattle.stat_plan.specs.Topologies.{Nodes}
-use Rattle.stat_plan.specs.declared.text_error.TextError.{TextError}
-use Rattle.stat_plan.specs.declared.text_error.TextError.TheVariants.{Bad}
-use Rattle.stat_plan.specs.declared.text_error.Reason.TheVariants.{BadDirective, NoStream}
+use Rattle.text_lines.specs.declared.text_error.TextError.{TextError}
+use Rattle.text_lines.specs.declared.text_error.TextError.TheVariants.{Bad}
+use Rattle.text_lines.specs.declared.text_error.Reason.TheVariants.{BadDirective, NoStream}
 use Rattle.script_text.specs.Words.{StreamWords, LoseWords, stream_words, lose_words}
 use Rattle.script_text.specs.Numbers.{and_then}
 use Rattle.script_text.specs.Streams.{stream_of, with_stream}

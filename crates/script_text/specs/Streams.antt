@@ -10,10 +10,10 @@ use Rattle.stat_plan.specs.Trees.{is_daemon}
 use Rattle.stat_plan.specs.declared.script.Mode.{Mode}
 use Rattle.stat_plan.specs.declared.script.Mode.TheVariants as mode
 use Rattle.stat_plan.specs.declared.script.TheConstants.{STREAM_LIMIT, WAVE_LIMIT, SAMPLE_LIMIT, TICK_LIMIT}
-use Rattle.stat_plan.specs.declared.text_error.TextError.{TextError}
-use Rattle.stat_plan.specs.declared.text_error.TextError.TheVariants.{Bad, Over}
-use Rattle.stat_plan.specs.declared.text_error.Reason.TheVariants.{BadDirective, BadNumber, SecondStream, NotADaemon}
-use Rattle.stat_plan.specs.declared.text_error.Quantity.TheVariants.{Streams, Waves}
+use Rattle.text_lines.specs.declared.text_error.TextError.{TextError}
+use Rattle.text_lines.specs.declared.text_error.TextError.TheVariants.{Bad, Over}
+use Rattle.text_lines.specs.declared.text_error.Reason.TheVariants.{BadDirective, BadNumber, SecondStream, NotADaemon}
+use Rattle.text_lines.specs.declared.text_error.Quantity.TheVariants.{Streams, Waves}
 use Rattle.script_text.specs.Order.{with_item}
 use Rattle.script_text.specs.Words.{ModeWords, WaitForAll, TimeOut, DontWait, StreamWords}
 use Rattle.script_text.specs.Numbers.{and_then, number_from}

@@ -7,13 +7,12 @@
 
 ghost use Rattle.std.specs.Prelude.{◌≡◌, ◌≢◌, IfErr, OnOk, IfOk, Ok, Err};
 ghost use Rattle.stat_plan.specs.Invariants.{ScriptFits};
-ghost use Rattle.stat_plan.specs.Lines.{lines};
+ghost use Rattle.text_lines.specs.Lines.{lines};
 ghost use Rattle.stat_plan.specs.Topologies.{IsTopology};
-ghost use Rattle.stat_plan.specs.declared.text_error.TextError.TheVariants.{OutOfMemory};
+ghost use Rattle.text_lines.specs.declared.text_error.TextError.TheVariants.{OutOfMemory};
 ghost use Rattle.script_text.specs.ParserViews.{parser_view};
 ghost use Rattle.script_text.specs.Script.{after_lines, script_of};
 
-mod errors;
 mod lose_line;
 mod numbers;
 mod parser;
@@ -22,11 +21,10 @@ mod stream_line;
 mod tests;
 mod words;
 
-use errors::bad;
 use parser::Parser;
-use stat_plan::lines::next_line;
-use stat_plan::{Reason, Script, TextError, Topology};
+use stat_plan::{Script, Topology};
 use std::alloc::Global;
+use text_lines::{Reason, TextError, next_line};
 
 // Takes the lines of a text into a parser.
 fn read_lines(text: &[u8], topology: &Topology, parser: &mut Parser) -> Result<(), TextError>
@@ -59,7 +57,7 @@ pub fn read(alloc: Global, text: &[u8], topology: &Topology) -> Result<Script, T
     let mut parser = Parser::new(alloc);
     read_lines(text, topology, &mut parser)?;
     if parser.streams.is_empty() {
-        return Err(bad(0, Reason::NoStream));
+        return Err(TextError::bad(0, Reason::NoStream));
     }
     Ok(Script::new(parser.streams, parser.faults))
 }

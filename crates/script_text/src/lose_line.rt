@@ -5,10 +5,10 @@ ghost use Rattle.std.specs.List.{list_any};
 ghost use Rattle.script_text.specs.ParserViews.{meant_lose};
 ghost use Rattle.script_text.specs.Losses.{lost_node, fault_of};
 
-use crate::errors::{bad, over};
 use crate::numbers::number_from;
 use crate::words::LoseLine;
-use stat_plan::{FAULT_LIMIT, Fault, Quantity, Reason, TextError, Topology};
+use stat_plan::{FAULT_LIMIT, Fault, Topology};
+use text_lines::{Quantity, Reason, TextError};
 
 /// The most events of a node, and frames of a link, that a lose line may speak of.
 pub const COUNT_LIMIT: u32 = 65_535;
@@ -32,16 +32,16 @@ fn lost_node(
     ensures err { IfErr result (λ e. lost_node topology.now faults.now line name.now ≡ Err e) }
 {
     if faults.len() >= FAULT_LIMIT as usize {
-        return Err(over(line, Quantity::Faults, FAULT_LIMIT));
+        return Err(TextError::over(line, Quantity::Faults, FAULT_LIMIT));
     }
     let Some(n) = topology.number_of(name) else {
-        return Err(bad(line, Reason::UnknownNode));
+        return Err(TextError::bad(line, Reason::UnknownNode));
     };
     if n == topology.front() {
-        return Err(bad(line, Reason::LosesFront));
+        return Err(TextError::bad(line, Reason::LosesFront));
     }
     if is_lost(faults, n) {
-        return Err(bad(line, Reason::SecondLoss));
+        return Err(TextError::bad(line, Reason::SecondLoss));
     }
     Ok(n)
 }
@@ -61,14 +61,14 @@ pub fn fault_of(
         line,
         0,
         COUNT_LIMIT,
-        bad(line, Reason::BadNumber),
+        TextError::bad(line, Reason::BadNumber),
         words.after,
     )?;
     let keep = number_from(
         line,
         0,
         COUNT_LIMIT,
-        bad(line, Reason::BadNumber),
+        TextError::bad(line, Reason::BadNumber),
         words.keep,
     )?;
     Ok(Fault { node, after, keep })

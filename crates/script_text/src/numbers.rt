@@ -3,9 +3,7 @@
 ghost use Rattle.std.specs.Prelude.{◌≡◌, ◌<◌, ◌≤◌, ◌^◌, IfErr, IfOk, Ok, Err};
 ghost use Rattle.script_text.specs.Numbers.{number_from};
 
-use crate::errors::bad;
-use stat_plan::lines::number_in;
-use stat_plan::{Reason, TextError};
+use text_lines::{Reason, TextError, number_in};
 
 /// The number from `least` to `most` that a word of a line writes. A word that writes no number, or less, is a bad number;
 /// one that writes more has the fault that is given.
@@ -24,10 +22,10 @@ pub fn number_from(
     ensures err { IfErr result (λ e. number_from line least most more word.now ≡ Err e) }
 {
     let Some(n) = number_in(word, most + 1) else {
-        return Err(bad(line, Reason::BadNumber));
+        return Err(TextError::bad(line, Reason::BadNumber));
     };
     if n < least {
-        return Err(bad(line, Reason::BadNumber));
+        return Err(TextError::bad(line, Reason::BadNumber));
     }
     if n > most {
         return Err(more);

@@ -2,18 +2,17 @@
 
 ghost use Rattle.std.specs.Prelude.{◌≡◌, ◌≢◌, ◌≤◌, IfErr, OnOk, IfOk, Ok, Err, [], length, not, nat_lt};
 ghost use Rattle.std.specs.List.{prefix_len};
-ghost use Rattle.stat_plan.specs.Lines.{words};
+ghost use Rattle.text_lines.specs.Lines.{words};
 ghost use Rattle.stat_plan.specs.Plans.{scripted};
 ghost use Rattle.stat_plan.specs.Topologies.{IsTopology};
-ghost use Rattle.stat_plan.specs.declared.text_error.TextError.TheVariants.{OutOfMemory};
+ghost use Rattle.text_lines.specs.declared.text_error.TextError.TheVariants.{OutOfMemory};
 
-use crate::errors::bad;
 use crate::lose_line::fault_of;
 use crate::stream_line::stream_of;
-use crate::words::{is_word, lose_words, stream_words};
-use stat_plan::lines::{next_word, says_nothing};
-use stat_plan::{Fault, Reason, StreamDef, TextError, Topology};
+use crate::words::{lose_words, stream_words};
+use stat_plan::{Fault, StreamDef, Topology};
 use std::alloc::Global;
+use text_lines::{Reason, TextError, is_word, next_word, says_nothing};
 
 /// The streams so far, ascending by number, and the losses, ascending by node.
 #[derive(Drop)]
@@ -63,7 +62,7 @@ impl Parser {
         ensures err { IfErr result (λ e. e ≢ OutOfMemory → after_stream topology.now (parser_view self.old) line (stream_words (words text.now)) ≡ Err e) }
     {
         let Some(words) = stream_words(text) else {
-            return Err(bad(line, Reason::BadDirective));
+            return Err(TextError::bad(line, Reason::BadDirective));
         };
         let alloc = *self.streams.allocator();
         let stream = stream_of(alloc, topology, &self.streams, line, &words)?;
@@ -78,7 +77,7 @@ impl Parser {
         ensures err { IfErr result (λ e. e ≢ OutOfMemory → after_lose topology.now (parser_view self.old) line (lose_words (words text.now)) ≡ Err e) }
     {
         let Some(words) = lose_words(text) else {
-            return Err(bad(line, Reason::BadDirective));
+            return Err(TextError::bad(line, Reason::BadDirective));
         };
         let fault = fault_of(topology, &self.faults, line, &words)?;
         let place = faults_to(&self.faults, fault.node);
@@ -100,9 +99,9 @@ impl Parser {
                 if is_word(word, b"lose") {
                     return self.lose(line, rest, topology);
                 }
-                Err(bad(line, Reason::BadDirective))
+                Err(TextError::bad(line, Reason::BadDirective))
             }
-            None => Err(bad(line, Reason::BadDirective)),
+            None => Err(TextError::bad(line, Reason::BadDirective)),
         }
     }
 

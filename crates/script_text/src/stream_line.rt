@@ -3,22 +3,18 @@
 ghost use Rattle.std.specs.Prelude.{◌≡◌, ◌≢◌, ◌<◌, ◌++◌, [], ◌∷◌, IfErr, OnOk, IfOk, Ok, Err, length, ℕ, nat_eq, ◌^◌};
 ghost use Rattle.std.specs.List.{list_any};
 ghost use Rattle.stat_plan.specs.Invariants.{IsMode, IsStream};
-ghost use Rattle.stat_plan.specs.Lines.{words};
+ghost use Rattle.text_lines.specs.Lines.{words};
 ghost use Rattle.stat_plan.specs.Topologies.{IsTopology};
-ghost use Rattle.stat_plan.specs.declared.text_error.TextError.TheVariants.{OutOfMemory};
+ghost use Rattle.text_lines.specs.declared.text_error.TextError.TheVariants.{OutOfMemory};
 ghost use Rattle.script_text.specs.ParserViews.{mode_words, meant_stream};
 ghost use Rattle.script_text.specs.Marks.{marked_from};
 ghost use Rattle.script_text.specs.Streams.{new_number, stream_number, mode_of, daemon_of, with_named, all_daemons, daemons_of, stream_of};
 
-use crate::errors::{bad, over};
 use crate::numbers::number_from;
-use crate::words::{ModeText, StreamLine, is_word};
-use stat_plan::lines::next_word;
-use stat_plan::{
-    Mode, Quantity, Reason, SAMPLE_LIMIT, STREAM_LIMIT, StreamDef, TICK_LIMIT, TextError, Topology,
-    WAVE_LIMIT,
-};
+use crate::words::{ModeText, StreamLine};
+use stat_plan::{Mode, SAMPLE_LIMIT, STREAM_LIMIT, StreamDef, TICK_LIMIT, Topology, WAVE_LIMIT};
 use std::alloc::{AllocError, Global};
+use text_lines::{Quantity, Reason, TextError, is_word, next_word};
 
 // Whether a stream of this number is among these.
 fn is_defined(streams: &[StreamDef], number: u32) -> bool
@@ -35,10 +31,10 @@ fn stream_number(streams: &[StreamDef], line: u64, word: &[u8]) -> Result<u32, T
     ensures small { IfOk result (λ n. n < 8) }
     ensures err { IfErr result (λ e. stream_number streams.now line word.now ≡ Err e) }
 {
-    let more = over(line, Quantity::Streams, STREAM_LIMIT);
+    let more = TextError::over(line, Quantity::Streams, STREAM_LIMIT);
     let number = number_from(line, 0, STREAM_LIMIT - 1, more, word)?;
     if is_defined(streams, number) {
-        return Err(bad(line, Reason::SecondStream));
+        return Err(TextError::bad(line, Reason::SecondStream));
     }
     Ok(number)
 }
@@ -51,7 +47,8 @@ fn mode_of(line: u64, mode: ModeText<'_>) -> Result<Mode, TextError>
     match mode {
         ModeText::WaitForAll => Ok(Mode::WaitForAll),
         ModeText::TimeOut(ticks) => {
-            let ticks = number_from(line, 1, TICK_LIMIT, bad(line, Reason::BadNumber), ticks)?;
+            let bad_number = TextError::bad(line, Reason::BadNumber);
+            let ticks = number_from(line, 1, TICK_LIMIT, bad_number, ticks)?;
             Ok(Mode::TimeOut(ticks as u16))
         }
         ModeText::DontWait => Ok(Mode::DontWait),
@@ -67,10 +64,10 @@ fn daemon_of(topology: &Topology, line: u64, name: &[u8]) -> Result<u32, TextErr
     ensures err { IfErr result (λ e. daemon_of topology.now line name.now ≡ Err e) }
 {
     let Some(n) = topology.number_of(name) else {
-        return Err(bad(line, Reason::NotADaemon));
+        return Err(TextError::bad(line, Reason::NotADaemon));
     };
     if !topology.is_daemon(n) {
-        return Err(bad(line, Reason::NotADaemon));
+        return Err(TextError::bad(line, Reason::NotADaemon));
     }
     Ok(n)
 }
@@ -136,7 +133,7 @@ fn daemons_of(
             }
             named(alloc, topology, line, names)
         }
-        None => Err(bad(line, Reason::BadDirective)),
+        None => Err(TextError::bad(line, Reason::BadDirective)),
     }
 }
 
@@ -154,9 +151,9 @@ pub fn stream_of(
 {
     let number = stream_number(streams, line, words.number)?;
     let mode = mode_of(line, words.mode)?;
-    let more = over(line, Quantity::Waves, WAVE_LIMIT);
+    let more = TextError::over(line, Quantity::Waves, WAVE_LIMIT);
     let waves = number_from(line, 1, WAVE_LIMIT, more, words.waves)?;
-    let bad_number = bad(line, Reason::BadNumber);
+    let bad_number = TextError::bad(line, Reason::BadNumber);
     let samples = number_from(line, 1, SAMPLE_LIMIT, bad_number, words.samples)?;
     let daemons = daemons_of(alloc, topology, line, words.names)?;
     Ok(StreamDef::new(number as u8, mode, waves as u8, samples as u8, daemons))

@@ -1,10 +1,11 @@
 //! What no clause says: texts as they are written, and that each call succeeds with ample memory.
 
 use crate::read;
-use stat_plan::{Fault, Mode, Quantity, Reason, Script, TextError};
+use stat_plan::{Fault, Mode, Script};
 use std::alloc::{AllocError, Global};
 use std::process::Abort;
 use std::test::Fail;
+use text_lines::{Quantity, Reason, TextError};
 
 // The nodes `fe:0`, `c:0`, `d:0`, `b:0` and `a:0`, of which the last three are daemons.
 const JOB: &[u8] = b"fe:0 => c:0 d:0 ;\nc:0 => b:0 a:0 ;\n";

@@ -3,11 +3,11 @@
 
 ghost use Rattle.std.specs.Prelude.{◌≡◌, ◌<◌, ◌∷◌, length, IfNone, IfSome, option_map, codes, ◌&&◌};
 ghost use Rattle.std.specs.Str.{bytes_eq};
-ghost use Rattle.stat_plan.specs.Lines.{words};
+ghost use Rattle.text_lines.specs.Lines.{words};
 ghost use Rattle.script_text.specs.Words.{are_names, after_mode, stream_words, lose_words};
 ghost use Rattle.script_text.specs.ParserViews.{mode_words, meant_stream, meant_lose};
 
-use stat_plan::lines::next_word;
+use text_lines::{is_word, next_word};
 
 /// A stream's mode, as it is written.
 #[derive(Debug, Clone, Copy)]
@@ -48,13 +48,6 @@ struct FiveWords<'t> {
     fourth: &'t [u8],
     fifth: &'t [u8],
     rest: &'t [u8],
-}
-
-/// Whether a word is this one.
-pub fn is_word(word: &[u8], this: &[u8]) -> bool
-    ensures { result ≡ bytes_eq word.now this.now }
-{
-    word == this
 }
 
 // The first five words of a line; none where there are fewer.

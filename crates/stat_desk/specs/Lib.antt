@@ -3,3 +3,4 @@ pub mod Desk
 pub mod Sink
 pub mod MemDesk
 pub mod MemSink
+pub mod Events

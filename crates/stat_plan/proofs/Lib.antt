@@ -1,6 +1,5 @@
 pub mod Prefixes
 pub mod LinePrefixes
-pub mod Cuts
 pub mod NameNumbers
 pub mod Leaves
 pub mod InLists

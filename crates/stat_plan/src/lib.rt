@@ -20,14 +20,12 @@ mod job;
 mod limit;
 mod line_index;
 mod line_order;
-pub mod lines;
 mod plan;
 mod plan_error;
 mod samples;
 mod script;
 #[cfg(test)]
 mod tests;
-mod text_error;
 mod topology;
 
 pub use act::{Act, Timer};
@@ -37,7 +35,6 @@ pub use samples::{LINE_LIMIT, Line, Lines, Samples, StackLine, TIME_LIMIT, is_in
 pub use script::{
     FAULT_LIMIT, Fault, Mode, SAMPLE_LIMIT, STREAM_LIMIT, Script, StreamDef, TICK_LIMIT, WAVE_LIMIT,
 };
-pub use text_error::{Quantity, Reason, TextError};
 pub use topology::{DEPTH_LIMIT, NODE_LIMIT, Topology};
 
 /// A law: fewer pairs over fewer ranks have no more prefixes.

@@ -4,7 +4,7 @@ use Rattle.std.specs.Prelude.{Result, IfSome, if◌then◌else◌}
 use Rattle.std.proofs.lemmas.Bool.{le-leb, lt-leb}
 use Rattle.stat_plan.specs.Topologies.{Nodes}
 use Rattle.stat_plan.specs.Plans.{Sampled}
-use Rattle.stat_plan.specs.declared.text_error.TextError.{TextError}
+use Rattle.text_lines.specs.declared.text_error.TextError.{TextError}
 use Rattle.stat_desk.specs.declared.event.Event.{Event}
 use Rattle.topology_text.specs.Whole.{topology_of}
 use Rattle.sample_text.specs.Whole.{samples_of_text}

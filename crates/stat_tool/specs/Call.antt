@@ -5,7 +5,7 @@ use Rattle.stat_desk.specs.Desk.{FailedAt, IsLonger, IsWhole}
 use Rattle.stat_desk.specs.Faults.{Rose}
 use Rattle.stat_desk.specs.Sink.{AppendsPrefix}
 use Rattle.stat_plan.specs.Plans.{Plan}
-use Rattle.stat_plan.specs.declared.text_error.TextError.{TextError}
+use Rattle.text_lines.specs.declared.text_error.TextError.{TextError}
 use Rattle.stat_desk.specs.declared.event.Event.{Event}
 use Rattle.stat_tool.specs.Status.{refusal_of}
 use Rattle.stat_tool.specs.NextStep.{Answers, Bytes, Does, AreReadResults, ReadResult, Step, TooLong, Wants, next_step, limit, too_long}

@@ -4,8 +4,8 @@ use Rattle.stat_desk.specs.Desk.{IsLonger, IsWhole}
 use Rattle.stat_plan.specs.Limits.{first_over}
 use Rattle.stat_plan.specs.Plans.{Plan, Sampled, Scripted, plan_of}
 use Rattle.stat_plan.specs.Topologies.{Nodes}
-use Rattle.stat_plan.specs.declared.text_error.TextError.{TextError}
-use Rattle.stat_plan.specs.declared.text_error.Quantity.TheVariants.{Bytes as TheBytes, Prefixes}
+use Rattle.text_lines.specs.declared.text_error.TextError.{TextError}
+use Rattle.text_lines.specs.declared.text_error.Quantity.TheVariants.{Bytes as TheBytes, Prefixes}
 use Rattle.topology_text.specs.Whole.{topology_of}
 use Rattle.sample_text.specs.Whole.{samples_of_text}
 use Rattle.script_text.specs.Script.{script_of}

@@ -1,7 +1,7 @@
 -- The numbers of the statuses, with which the program ends, and what a refused text answers.
 use Rattle.std.specs.Prelude.{ℕ}
-use Rattle.stat_plan.specs.declared.text_error.TextError.{TextError}
-use Rattle.stat_plan.specs.declared.text_error.TextError.TheVariants.{Bad, Over, OutOfMemory as NoMemory}
+use Rattle.text_lines.specs.declared.text_error.TextError.{TextError}
+use Rattle.text_lines.specs.declared.text_error.TextError.TheVariants.{Bad, Over, OutOfMemory as NoMemory}
 use Rattle.stat_tool.specs.declared.status.FileRole.{FileRole}
 use Rattle.stat_tool.specs.declared.status.Status.{Status}
 use Rattle.stat_tool.specs.declared.status.Status.TheVariants.{Done, BadWords, DeskFault, BadInput, OverLimit, SinkFault, OutOfMemory, NotYet}

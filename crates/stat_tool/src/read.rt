@@ -17,8 +17,9 @@ use crate::status::{FileRole, Status};
 use crate::words::Files;
 use prefix_tree::PREFIX_LIMIT;
 use stat_desk::{Desk, DeskError};
-use stat_plan::{Plan, PlanError, Quantity, Samples, Script, TextError, Topology};
+use stat_plan::{Plan, PlanError, Samples, Script, Topology};
 use std::alloc::Global;
+use text_lines::{Quantity, TextError};
 
 /// The most bytes of a file.
 const FILE_LIMIT: u64 = 33_554_432;

@@ -3,8 +3,8 @@ ghost use Rattle.std.specs.Prelude.{◌≡◌};
 ghost use Rattle.stat_tool.specs.Status.{number_of};
 
 use stat_desk::Journal;
-use stat_plan::{Quantity, Reason};
 use std::fmt;
+use text_lines::{Quantity, Reason};
 use thiserror::Error;
 
 /// A file that the words name.

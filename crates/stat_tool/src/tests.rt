@@ -5,9 +5,9 @@ use crate::fixtures::{
 };
 use crate::{FileRole, Status, Target, WordFault, stat};
 use stat_desk::{Event, FileDesk, MemDesk, MemSink, StdSink};
-use stat_plan::{Quantity, Reason};
 use std::alloc::{AllocError, Global};
 use std::fs;
+use text_lines::{Quantity, Reason};
 
 const WORDS: [&str; 7] = ["run", "--topology", "t", "--samples", "s", "--script", "c"];
 

@@ -2,7 +2,8 @@
 use Rattle.std.proofs.Common.{◌≡◌, ℕ, zero, suc, ◌+◌, ◌-◌, ◌<◌, ◌≤◌, true, false, not, nat_eq, List, [], ◌∷◌, length, drop, Option, None, Some, refl, sym, ap, ◌∙◌, arith, is_some, add-one}
 use Rattle.stat_plan.specs.Trees.{parent_of}
 use Rattle.topology_text.specs.Whole.{is_within}
-use Rattle.topology_text.specs.Tokens.{End, piece_at, piece_len, pieces, line_left, is_space, StopsAt}
+use Rattle.topology_text.specs.Tokens.{End, piece_at, piece_len, pieces, is_space, StopsAt}
+use Rattle.text_lines.specs.Lines.{line_len}
 
 -- passing bytes is dropping them
 pub passed_drop : (line n : ℕ) (text : List ℕ) → pieces line n text ≡ pieces line 0 (drop n text)
@@ -23,9 +24,9 @@ unfolding pieces
 after_space line b rest not_feed space = rw (not_feed, space, pieces) refl
 
 -- a comment is skipped
-pub after_comment : (line b : ℕ) (rest : List ℕ) → nat_eq b 10 ≡ false → is_space b ≡ false → nat_eq b 35 ≡ true → pieces line 0 (drop (line_left rest) rest) ≡ pieces line 0 (b ∷ rest)
+pub after_comment : (line b : ℕ) (rest : List ℕ) → nat_eq b 10 ≡ false → is_space b ≡ false → nat_eq b 35 ≡ true → pieces line 0 (drop (line_len rest) rest) ≡ pieces line 0 (b ∷ rest)
 unfolding pieces
-after_comment line b rest not_feed not_space mark = sym (passed_drop line (line_left rest) rest) ∙ rw (not_feed, not_space, mark, pieces) refl
+after_comment line b rest not_feed not_space mark = sym (passed_drop line (line_len rest) rest) ∙ rw (not_feed, not_space, mark, pieces) refl
 
 -- a token stands where no blank and no comment does
 pub at_piece : (line b : ℕ) (rest : List ℕ) → nat_eq b 10 ≡ false → is_space b ≡ false → nat_eq b 35 ≡ false → pieces line 0 (b ∷ rest) ≡ (line, piece_at (b ∷ rest)) ∷ pieces line (piece_len (piece_at (b ∷ rest)) - 1) rest

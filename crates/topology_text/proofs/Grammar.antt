@@ -2,10 +2,12 @@
 use Rattle.std.proofs.Common.{◌≡◌, ℕ, zero, suc, ◌+◌, ◌-◌, Bool, true, false, cond, nat_eq, List, [], ◌∷◌, ◌++◌, map, length, drop, take, Option, None, Some, Ok, Err, Result, refl, sym, ap, ◌∙◌, subst, ◌⊎◌, inl, inr, ◌<◌, ◌≤◌, rules, slice_get}
 use Rattle.std.specs.Result.{IfOk}
 use Rattle.stat_plan.specs.Names.{number_of, begins}
-use Rattle.stat_plan.specs.declared.text_error.TextError.{TextError}
+use Rattle.text_lines.specs.declared.text_error.TextError.{TextError}
 use Rattle.topology_text.specs.declared.parser.ParserState.{ParserState}
 use Rattle.topology_text.specs.declared.parser.ParserState.TheVariants.{Outside, AfterParent, AfterArrow, AfterChild}
-use Rattle.topology_text.specs.Tokens.{Piece, Arrow, Semicolon, Name, End, NoToken, host_len, digits_len, is_space, is_name, name_after, name_at, piece_at, piece_len, line_left, pieces}
+use Rattle.topology_text.specs.Tokens.{Piece, Arrow, Semicolon, Name, End, NoToken, host_len, is_space, is_name, name_after, name_at, piece_at, piece_len, pieces}
+use Rattle.rank_set.specs.Digits.{digits_len}
+use Rattle.text_lines.specs.Lines.{line_len}
 use Rattle.topology_text.specs.Statements.{Seen, nothing_seen, appear, number_or_0, begin, adopt, is_begun, is_child, name_stands, arrow_stands, semicolon_stands, end_stands, with_piece, with_pieces}
 use Rattle.topology_text.specs.Grammar.{Statement, written, IsWritten}
 use Rattle.topology_text.proofs.Numbers.{appear_known, appear_over, appear_new}
@@ -162,14 +164,14 @@ ends_once line zero (b ∷ rest) = by (nat_eq b 10) (is_space b) (nat_eq b 35) (
       | false ↦ elim space as (λ _. List (ℕ × Piece)) [
         | true ↦ pieces line 0 rest
         | false ↦ elim mark as (λ _. List (ℕ × Piece)) [
-          | true ↦ pieces line (line_left rest) rest
+          | true ↦ pieces line (line_len rest) rest
           | false ↦ (line, piece_at (b ∷ rest)) ∷ pieces line (piece_len (piece_at (b ∷ rest)) - 1) rest
         ]
       ]
     ])
     by true space mark more = more (suc line) 0
     by false true mark more = more line 0
-    by false false true more = more line (line_left rest)
+    by false false true more = more line (line_len rest)
     by false false false more = more_once line (piece_at (b ∷ rest)) (pieces line (piece_len (piece_at (b ∷ rest)) - 1) rest) (no_end (b ∷ rest)) (more line (piece_len (piece_at (b ∷ rest)) - 1))
 
 -- a text whose tokens have no fault is written as statements

@@ -2,7 +2,7 @@
 use Rattle.std.proofs.Common.{◌≡◌, ℕ, zero, suc, ◌+◌, ◌-◌, ◌<◌, ◌≤◌, ◌⊎◌, inl, inr, Bool, true, false, ◌||◌, List, [], ◌∷◌, ◌++◌, length, Option, None, Some, Ok, Err, Result, refl, sym, ap, ◌∙◌, subst, arith, rules, slice_get, length-append, is_some}
 use Rattle.std.specs.List.{AllByRecursion, IsDistinct}
 use Rattle.std.specs.Str.{bytes_eq}
-use Rattle.stat_plan.specs.declared.text_error.TextError.{TextError}
+use Rattle.text_lines.specs.declared.text_error.TextError.{TextError}
 use Rattle.stat_plan.specs.Names.{IsName, number_of}
 use Rattle.stat_plan.specs.Topologies.{IsTopology, topology}
 use Rattle.stat_plan.proofs.NameNumbers.{length-map}

@@ -8,7 +8,8 @@ use Rattle.std.proofs.lemmas.List.{get_or-drop, get_or-take, length-take}
 use Rattle.std.proofs.lemmas.List.Sums.{prefix_len_passes}
 use Rattle.std.proofs.lemmas.Bool.Decides.{nat_tests}
 use Rattle.stat_plan.specs.Names.{is_host_byte}
-use Rattle.topology_text.specs.Tokens.{host_len, digits_len}
+use Rattle.topology_text.specs.Tokens.{host_len}
+use Rattle.rank_set.specs.Digits.{digits_len}
 
 host_small : (b : ℕ) → is_host_byte b ≡ true → b < 128
 host_small b e = grind (arith, nat_tests)

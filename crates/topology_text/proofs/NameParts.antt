@@ -6,7 +6,9 @@ use Rattle.std.proofs.lemmas.List.{length-take}
 use Rattle.std.proofs.lemmas.List.Sums.{prefix_len-le-length}
 use Rattle.std.proofs.lemmas.Bool.Decides.{nat_tests}
 use Rattle.stat_plan.specs.Names.{IsName, is_host_byte, begins}
-use Rattle.topology_text.specs.Tokens.{Piece, Arrow, Semicolon, Name, End, NoToken, host_len, digits_len, is_space, is_name, name_after, name_at, piece_at, piece_len, line_left, pieces}
+use Rattle.topology_text.specs.Tokens.{Piece, Arrow, Semicolon, Name, End, NoToken, host_len, is_space, is_name, name_after, name_at, piece_at, piece_len, pieces}
+use Rattle.rank_set.specs.Digits.{digits_len}
+use Rattle.text_lines.specs.Lines.{line_len}
 
 -- a token that is a name is a good one
 abbrev pub IsGoodPiece : Piece → Type 0
@@ -122,12 +124,12 @@ pieces_good line zero (b ∷ rest) = by (nat_eq b 10) (is_space b) (nat_eq b 35)
       | false ↦ elim space as (λ _. List (ℕ × Piece)) [
         | true ↦ pieces line 0 rest
         | false ↦ elim mark as (λ _. List (ℕ × Piece)) [
-          | true ↦ pieces line (line_left rest) rest
+          | true ↦ pieces line (line_len rest) rest
           | false ↦ (line, piece_at (b ∷ rest)) ∷ pieces line (piece_len (piece_at (b ∷ rest)) - 1) rest
         ]
       ]
     ])
     by true space mark more = more (suc line) 0
     by false true mark more = more line 0
-    by false false true more = more line (line_left rest)
+    by false false true more = more line (line_len rest)
     by false false false more = (piece_good (b ∷ rest), more line (piece_len (piece_at (b ∷ rest)) - 1))

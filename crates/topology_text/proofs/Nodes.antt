@@ -1,9 +1,9 @@
 -- Nodes and tokens, one at a time.
 use Rattle.std.proofs.Common.{◌≡◌, ℕ, zero, suc, ◌<◌, ◌≤◌, true, false, List, [], ◌∷◌, length, Ok, Err, Result, refl, sym, ap, subst, arith, slice_get, slice_set, slice_index_or}
 use Rattle.std.specs.Result.{IfErr}
-use Rattle.stat_plan.specs.declared.text_error.TextError.{TextError}
-use Rattle.stat_plan.specs.declared.text_error.TextError.TheVariants.{Bad}
-use Rattle.stat_plan.specs.declared.text_error.Reason.TheVariants.{SecondLine, SecondParent}
+use Rattle.text_lines.specs.declared.text_error.TextError.{TextError}
+use Rattle.text_lines.specs.declared.text_error.TextError.TheVariants.{Bad}
+use Rattle.text_lines.specs.declared.text_error.Reason.TheVariants.{SecondLine, SecondParent}
 use Rattle.topology_text.specs.declared.parser.Node.{Node}
 use Rattle.topology_text.specs.declared.parser.ParserState.TheVariants.{AfterParent, AfterChild}
 use Rattle.topology_text.specs.Tokens.{Piece}

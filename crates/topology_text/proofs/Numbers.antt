@@ -10,8 +10,8 @@ use Rattle.std.proofs.lemmas.Slice.Eq.{bytes_eq-Decides}
 use Rattle.std.proofs.lemmas.Bool.{eq-eqb, lt-ltb, ltb-true, ltb-false, le-leb, lt-leb}
 use Rattle.std.proofs.lemmas.List.Folds.{position_or_len_push}
 use Rattle.stat_plan.specs.Names.{number_of}
-use Rattle.stat_plan.specs.declared.text_error.TextError.TheVariants.{Over}
-use Rattle.stat_plan.specs.declared.text_error.Quantity.TheVariants.{Nodes}
+use Rattle.text_lines.specs.declared.text_error.TextError.TheVariants.{Over}
+use Rattle.text_lines.specs.declared.text_error.Quantity.TheVariants.{Nodes}
 use Rattle.topology_text.specs.Statements.{Seen, appear}
 
 cond_none : (t : Bool) (n : ℕ) → cond t (Some n) None ≡ None → t ≡ false

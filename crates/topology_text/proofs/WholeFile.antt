@@ -1,7 +1,7 @@
 -- The checks of the whole text, one after another.
 use Rattle.std.proofs.Common.{◌≡◌, ℕ, ◌+◌, ◌-◌, List, [], ◌∷◌, length, drop, Option, None, Some, refl, sym, ap, ◌∙◌}
-use Rattle.stat_plan.specs.declared.text_error.TextError.TheVariants.{Bad}
-use Rattle.stat_plan.specs.declared.text_error.Reason.TheVariants.{NoRoot, TwoRoots, Unreached}
+use Rattle.text_lines.specs.declared.text_error.TextError.TheVariants.{Bad}
+use Rattle.text_lines.specs.declared.text_error.Reason.TheVariants.{NoRoot, TwoRoots, Unreached}
 use Rattle.stat_plan.specs.declared.topology.TheConstants.{DEPTH_LIMIT}
 use Rattle.topology_text.specs.declared.parser.Node.{Node}
 use Rattle.topology_text.specs.Whole.{roots_from, parents_of, line_of, first_beyond, depth_fault, reach_fault, roots_fault, whole_fault}

@@ -1,7 +1,7 @@
 -- Texts, and what they stand for.
 use Rattle.std.specs.Prelude.{◌≡◌, refl, ℕ, List, [], ◌∷◌, ◌++◌, None, Some, Ok, Err, codes}
-use Rattle.stat_plan.specs.declared.text_error.TextError.TheVariants.{Bad}
-use Rattle.stat_plan.specs.declared.text_error.Reason.TheVariants.{SecondLine, NoArrow, NoChild, SecondParent, NoSemicolon, NoRoot, TwoRoots, Unreached}
+use Rattle.text_lines.specs.declared.text_error.TextError.TheVariants.{Bad}
+use Rattle.text_lines.specs.declared.text_error.Reason.TheVariants.{SecondLine, NoArrow, NoChild, SecondParent, NoSemicolon, NoRoot, TwoRoots, Unreached}
 use Rattle.topology_text.specs.Tokens.{pieces, Arrow, Semicolon, Name, End, NoToken}
 use Rattle.stat_plan.specs.Names.{number_of}
 use Rattle.stat_plan.specs.Topologies.{topology}

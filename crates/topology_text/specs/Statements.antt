@@ -2,11 +2,11 @@
 use Rattle.std.specs.Prelude.{ℕ, zero, suc, Bool, true, false, nat_le, cond, List, [], ◌∷◌, ◌++◌, length, Option, None, Some, Result, Ok, Err, is_some, slice_get}
 use Rattle.stat_plan.specs.Names.{number_of}
 use Rattle.stat_plan.specs.declared.topology.TheConstants.{NODE_LIMIT}
-use Rattle.stat_plan.specs.declared.text_error.TextError.{TextError}
-use Rattle.stat_plan.specs.declared.text_error.TextError.TheVariants.{Bad, Over}
-use Rattle.stat_plan.specs.declared.text_error.Reason.{Reason}
-use Rattle.stat_plan.specs.declared.text_error.Reason.TheVariants.{BadToken, SecondLine, NoArrow, NoChild, SecondParent, NoSemicolon}
-use Rattle.stat_plan.specs.declared.text_error.Quantity.TheVariants.{Nodes}
+use Rattle.text_lines.specs.declared.text_error.TextError.{TextError}
+use Rattle.text_lines.specs.declared.text_error.TextError.TheVariants.{Bad, Over}
+use Rattle.text_lines.specs.declared.text_error.Reason.{Reason}
+use Rattle.text_lines.specs.declared.text_error.Reason.TheVariants.{BadToken, SecondLine, NoArrow, NoChild, SecondParent, NoSemicolon}
+use Rattle.text_lines.specs.declared.text_error.Quantity.TheVariants.{Nodes}
 use Rattle.topology_text.specs.declared.parser.Node.{Node}
 use Rattle.topology_text.specs.declared.parser.ParserState.{ParserState}
 use Rattle.topology_text.specs.declared.parser.ParserState.TheVariants.{Outside, AfterParent, AfterArrow, AfterChild}

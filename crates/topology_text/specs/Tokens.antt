@@ -1,6 +1,8 @@
 -- The tokens of a topology text, each with its line.
 use Rattle.std.specs.Prelude.{ℕ, ◌≡◌, zero, suc, ◌+◌, ◌-◌, Bool, true, false, ◌||◌, ◌&&◌, not, nat_eq, nat_le, cond, List, [], ◌∷◌, length, take, drop}
 use Rattle.std.specs.Char.{is_ascii_digit}
+use Rattle.rank_set.specs.Digits.{digits_len}
+use Rattle.text_lines.specs.Lines.{line_len}
 use Rattle.std.specs.List.{prefix_len}
 use Rattle.stat_plan.specs.Names.{is_host_byte, begins}
 
@@ -19,10 +21,6 @@ is_space b = nat_eq b 32 || nat_eq b 9 || nat_eq b 13
 -- how many host bytes a text begins with
 abbrev pub host_len : List ℕ → ℕ
 host_len text = prefix_len is_host_byte text
-
--- how many digits a text begins with
-abbrev pub digits_len : List ℕ → ℕ
-digits_len text = prefix_len is_ascii_digit text
 
 -- 1 to 63 host bytes, `:`, and 1 to 5 digits without a leading zero, but `0` itself
 abbrev pub is_name : ℕ → ℕ → List ℕ → ℕ → Bool
@@ -52,10 +50,6 @@ piece_len (Name name) = length name
 piece_len End = 1
 piece_len NoToken = 1
 
--- how many bytes of a line are left
-abbrev pub line_left : List ℕ → ℕ
-line_left text = prefix_len (λ b. not (nat_eq b 10)) text
-
 -- The tokens and the text's end from a line on, where the first bytes belong to the token or comment before.
 -- `#` outside a token starts a comment that goes to the line's end.
 unfoldable pub pieces : ℕ → ℕ → List ℕ → List (ℕ × Piece)
@@ -66,7 +60,7 @@ pieces line zero (b ∷ rest) = elim (nat_eq b 10) [
   | false ↦ elim (is_space b) [
     | true ↦ pieces line 0 rest
     | false ↦ elim (nat_eq b 35) [
-      | true ↦ pieces line (line_left rest) rest
+      | true ↦ pieces line (line_len rest) rest
       | false ↦ (line, piece_at (b ∷ rest)) ∷ pieces line (piece_len (piece_at (b ∷ rest)) - 1) rest
     ]
   ]

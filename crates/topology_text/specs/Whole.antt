@@ -1,9 +1,9 @@
 -- What a topology text says: its nodes, or its first fault.
 use Rattle.std.specs.Prelude.{ℕ, zero, suc, ◌-◌, Bool, true, false, not, is_some, List, [], ◌∷◌, map, length, Option, None, Some, Result, Ok, Err, slice_get}
-use Rattle.stat_plan.specs.declared.text_error.TextError.{TextError}
-use Rattle.stat_plan.specs.declared.text_error.TextError.TheVariants.{Bad, Over}
-use Rattle.stat_plan.specs.declared.text_error.Reason.TheVariants.{NoRoot, TwoRoots, Unreached}
-use Rattle.stat_plan.specs.declared.text_error.Quantity.TheVariants.{Depth}
+use Rattle.text_lines.specs.declared.text_error.TextError.{TextError}
+use Rattle.text_lines.specs.declared.text_error.TextError.TheVariants.{Bad, Over}
+use Rattle.text_lines.specs.declared.text_error.Reason.TheVariants.{NoRoot, TwoRoots, Unreached}
+use Rattle.text_lines.specs.declared.text_error.Quantity.TheVariants.{Depth}
 use Rattle.stat_plan.specs.Trees.{parent_of}
 use Rattle.stat_plan.specs.Topologies.{Nodes, topology}
 use Rattle.stat_plan.specs.declared.topology.TheConstants.{DEPTH_LIMIT}

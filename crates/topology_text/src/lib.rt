@@ -12,7 +12,7 @@ ghost use Rattle.topology_text.specs.Grammar.{IsWritten};
 ghost use Rattle.topology_text.specs.Invariants.{IsKept};
 ghost use Rattle.topology_text.specs.Whole.{whole, parsed, topology_of};
 ghost use Rattle.topology_text.specs.declared.parser.ParserState.TheVariants.{Outside};
-ghost use Rattle.stat_plan.specs.declared.text_error.TextError.TheVariants.{OutOfMemory};
+ghost use Rattle.text_lines.specs.declared.text_error.TextError.TheVariants.{OutOfMemory};
 
 mod parser;
 #[cfg(test)]
@@ -21,8 +21,9 @@ mod tokens;
 mod whole;
 
 use parser::Parser;
-use stat_plan::{Reason, TextError, Topology};
+use stat_plan::Topology;
 use std::alloc::Global;
+use text_lines::{Reason, TextError};
 use tokens::{skipped, token_at, token_len};
 use whole::{parents_of, whole_fault};
 

@@ -6,12 +6,13 @@ ghost use Rattle.std.proofs.Props.{props};
 ghost use Rattle.std.specs.List.{IsDistinct};
 ghost use Rattle.std.specs.String.{string_eq};
 ghost use Rattle.topology_text.specs.Statements.{is_begun, is_child, at_node, begun_now, child_of};
-ghost use Rattle.stat_plan.specs.declared.text_error.TextError.TheVariants.{Bad};
+ghost use Rattle.text_lines.specs.declared.text_error.TextError.TheVariants.{Bad};
 
 use crate::tokens::Token;
 use indexmap::IndexSet;
-use stat_plan::{NODE_LIMIT, Quantity, Reason, TextError};
+use stat_plan::NODE_LIMIT;
 use std::alloc::Global;
+use text_lines::{Quantity, Reason, TextError};
 
 /// A node, as far as it has been seen.
 #[derive(Debug, Clone, Copy)]
@@ -53,7 +54,7 @@ impl Parser {
     ghost use Rattle.stat_plan.specs.Names.{number_of};
     ghost use Rattle.topology_text.specs.declared.parser.ParserState.TheVariants.{Outside};
     ghost use Rattle.topology_text.specs.Statements.{nothing_seen, appear, with_piece, end_stands, arrow_stands, semicolon_stands, name_stands, begin, adopt};
-    ghost use Rattle.stat_plan.specs.declared.text_error.TextError.TheVariants.{OutOfMemory};
+    ghost use Rattle.text_lines.specs.declared.text_error.TextError.TheVariants.{OutOfMemory};
 
     /// Nothing seen yet.
     pub fn new(alloc: Global) -> Parser

@@ -2,8 +2,11 @@
 
 ghost use Rattle.std.specs.Prelude.{◌≡◌, ◌<◌, ◌≤◌, ◌+◌, ◌^◌, length, IfSome};
 ghost use Rattle.stat_plan.specs.Names.{is_host_byte, begins};
-ghost use Rattle.topology_text.specs.Tokens.{host_len, digits_len, is_space, line_left, pieces, StopsAt, piece_at, is_name, name_at};
+ghost use Rattle.topology_text.specs.Tokens.{host_len, is_space, pieces, StopsAt, piece_at, is_name, name_at};
 ghost use Rattle.topology_text.specs.TokenViews.{token_view_at, token_bytes, named};
+
+use rank_set::digits::digits_len;
+use text_lines::line_len;
 
 /// A token.
 #[derive(Debug, Clone, Copy)]
@@ -36,22 +39,6 @@ fn host_len(text: &[u8]) -> usize
     ensures within { result ≤ length text.now }
 {
     text.iter().take_while(|b| is_host_byte(**b)).count()
-}
-
-// How many digits a text begins with.
-fn digits_len(text: &[u8]) -> usize
-    ensures value { result ≡ digits_len text.now }
-    ensures within { result ≤ length text.now }
-{
-    text.iter().take_while(|b| b.is_ascii_digit()).count()
-}
-
-// How many bytes are before the next line feed.
-fn line_left(text: &[u8]) -> usize
-    ensures value { result ≡ line_left text.now }
-    ensures within { result ≤ length text.now }
-{
-    memchr::memchr(b'\n', text).unwrap_or(text.len())
 }
 
 // Whether a text begins with this byte.
@@ -142,7 +129,7 @@ pub fn skipped(text: &[u8], line: u64) -> (&[u8], u64)
         } else if is_space(*b) {
             rest = after;
         } else if *b == b'#' {
-            (_, rest) = after.split_at(line_left(after));
+            (_, rest) = after.split_at(line_len(after));
         } else {
             break;
         }

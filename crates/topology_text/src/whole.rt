@@ -3,11 +3,12 @@
 ghost use Rattle.std.specs.Prelude.{◌≡◌, ◌<◌, ◌+◌, ◌^◌, length, drop, IfSome, Some, IfOk, MatchOption, [], ◌∷◌};
 ghost use Rattle.stat_plan.specs.Trees.{parent_of};
 ghost use Rattle.topology_text.specs.Whole.{is_within, roots_from, parents_of, line_of, first_beyond, whole_fault};
-ghost use Rattle.stat_plan.specs.declared.text_error.TextError.TheVariants.{Bad};
+ghost use Rattle.text_lines.specs.declared.text_error.TextError.TheVariants.{Bad};
 
 use crate::parser::Node;
-use stat_plan::{DEPTH_LIMIT, Quantity, Reason, TextError};
+use stat_plan::DEPTH_LIMIT;
 use std::alloc::{AllocError, Global};
+use text_lines::{Quantity, Reason, TextError};
 
 // The parent of a node.
 fn parent_at(parents: &[Option<u32>], node: u32) -> Option<u32>

@@ -1,4 +1,4 @@
-use Rattle.stat_plan.specs.Lines.{lines}
+use Rattle.text_lines.specs.Lines.{lines}
 use Rattle.sample_text.specs.Parsers.{parser_view}
 use Rattle.sample_text.proofs.Kept.{kept_from}
 use Rattle.sample_text.proofs.read.Goals as goal

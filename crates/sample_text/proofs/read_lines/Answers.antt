@@ -1,6 +1,6 @@
 use Rattle.std.proofs.Common.{◌≡◌, ◌≢◌, ◌∙◌, sym, ap, Err, arith}
-use Rattle.stat_plan.specs.Lines.{lines}
-use Rattle.stat_plan.specs.declared.text_error.TextError.TheVariants.{OutOfMemory}
+use Rattle.text_lines.specs.Lines.{lines}
+use Rattle.text_lines.specs.declared.text_error.TextError.TheVariants.{OutOfMemory}
 use Rattle.sample_text.specs.Parsers.{parser_view}
 use Rattle.sample_text.specs.Whole.{with_lines}
 use Rattle.sample_text.proofs.Steps.{handed_on}

@@ -1,5 +1,5 @@
 use Rattle.std.proofs.Common.{◌≡◌, ◌≤◌, ◌+◌, length}
-use Rattle.stat_plan.specs.Lines.{lines}
+use Rattle.text_lines.specs.Lines.{lines}
 use Rattle.sample_text.specs.Parsers.{parser_view, IsInStep}
 use Rattle.sample_text.specs.Whole.{with_lines}
 use Rattle.sample_text.proofs.read_lines.Given as goal

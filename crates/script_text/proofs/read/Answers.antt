@@ -1,10 +1,10 @@
 use Rattle.std.proofs.Common.{◌≡◌, ◌≢◌, ◌<◌, ◌∙◌, sym, ap, subst, Ok, Err, IfOk, length, nat_eq, true, false, [], List, ℕ, vec_len, arith}
 use Rattle.std.proofs.lemmas.Bool.{eqb-true, eqb-false}
 use Rattle.stat_plan.specs.Invariants.{ScriptFits}
-use Rattle.stat_plan.specs.Lines.{lines}
+use Rattle.text_lines.specs.Lines.{lines}
 use Rattle.stat_plan.specs.Plans.{Scripted, scripted}
 use Rattle.stat_plan.specs.Topologies.{Nodes, IsTopology}
-use Rattle.stat_plan.specs.declared.text_error.TextError.TheVariants.{OutOfMemory}
+use Rattle.text_lines.specs.declared.text_error.TextError.TheVariants.{OutOfMemory}
 use Rattle.script_text.specs.ParserViews.{parser_view}
 use Rattle.script_text.specs.Script.{after_lines, script_of}
 use Rattle.script_text.proofs.Kept.{IsKept, nothing_kept, lines_kept, kept_script, kept_fits}

@@ -1,6 +1,6 @@
 use Rattle.std.proofs.Common.{◌≡◌, ◌≢◌, ◌∙◌, sym, Err, arith}
-use Rattle.stat_plan.specs.Lines.{lines}
-use Rattle.stat_plan.specs.declared.text_error.TextError.TheVariants.{OutOfMemory}
+use Rattle.text_lines.specs.Lines.{lines}
+use Rattle.text_lines.specs.declared.text_error.TextError.TheVariants.{OutOfMemory}
 use Rattle.script_text.specs.ParserViews.{parser_view}
 use Rattle.script_text.specs.Script.{after_lines}
 use Rattle.script_text.proofs.Steps.{handed_on}

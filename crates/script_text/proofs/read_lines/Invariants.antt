@@ -1,5 +1,5 @@
 use Rattle.std.proofs.Common.{◌≡◌, ◌≤◌, ◌+◌, length}
-use Rattle.stat_plan.specs.Lines.{lines}
+use Rattle.text_lines.specs.Lines.{lines}
 use Rattle.script_text.specs.ParserViews.{parser_view}
 use Rattle.script_text.specs.Script.{after_lines}
 use Rattle.script_text.proofs.read_lines.Given as goal

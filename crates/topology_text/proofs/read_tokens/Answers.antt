@@ -1,8 +1,8 @@
 use Rattle.std.proofs.Common.{◌≡◌, ◌≢◌, ◌∙◌, ◌<◌, ◌≤◌, ℕ, List, [], length, drop, sym, ap, Ok, Err, nat_eq, false, true, arith, Result, subst}
 use Rattle.std.specs.Result.{IfErr, OnOk, IsErr, IsErrAnd}
 use Rattle.std.proofs.lemmas.Bool.Decides.{nat_tests}
-use Rattle.stat_plan.specs.declared.text_error.TextError.{TextError}
-use Rattle.stat_plan.specs.declared.text_error.TextError.TheVariants.{OutOfMemory}
+use Rattle.text_lines.specs.declared.text_error.TextError.{TextError}
+use Rattle.text_lines.specs.declared.text_error.TextError.TheVariants.{OutOfMemory}
 use Rattle.topology_text.specs.Tokens.{End, pieces, piece_at, piece_len, StopsAt}
 use Rattle.topology_text.specs.Statements.{Seen, with_piece, with_pieces}
 use Rattle.topology_text.specs.ParserViews.{parser_view}

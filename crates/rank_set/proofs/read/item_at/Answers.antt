@@ -3,7 +3,8 @@ use Rattle.std.proofs.lemmas.Bool.{eq-eqb, ne_eqb}
 use Rattle.std.proofs.lemmas.Bool.Decides.{nat_tests}
 use Rattle.rank_set.specs.declared.read.RanksError.{RanksError}
 use Rattle.rank_set.specs.declared.read.RanksError.TheVariants.{BadNumber, Backward}
-use Rattle.rank_set.specs.RanksText.{digits_len, second_at, number_at, item_at}
+use Rattle.rank_set.specs.Digits.{digits_len}
+use Rattle.rank_set.specs.RanksText.{second_at, number_at, item_at}
 use Rattle.rank_set.proofs.Reading.{item_bad, item_alone, item_stray, item_run, second_backward, second_ends, second_stray, nothing_left, handed_on}
 use Rattle.rank_set.proofs.read.item_at.Goals as goal
 

@@ -1,6 +1,6 @@
 use Rattle.std.proofs.Common.{◌≡◌, ◌≢◌, ◌∙◌, sym, ap, subst, Ok, Err, IfOk, IfErr}
-use Rattle.stat_plan.specs.Lines.{words}
-use Rattle.stat_plan.specs.declared.text_error.TextError.TheVariants.{OutOfMemory}
+use Rattle.text_lines.specs.Lines.{words}
+use Rattle.text_lines.specs.declared.text_error.TextError.TheVariants.{OutOfMemory}
 use Rattle.script_text.proofs.Streams.{on_none, on_all, on_names}
 use Rattle.script_text.proofs.stream_line.daemons_of.Goals as goal
 

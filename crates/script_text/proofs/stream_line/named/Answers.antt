@@ -1,7 +1,7 @@
 use Rattle.std.proofs.Common.{◌≡◌, ◌≢◌, ◌<◌, ◌∙◌, sym, ap, Ok, Err, [], length, false, true, replicate, arith}
 use Rattle.std.proofs.Math.ListN.{length-set}
-use Rattle.stat_plan.specs.Lines.{words}
-use Rattle.stat_plan.specs.declared.text_error.TextError.TheVariants.{OutOfMemory}
+use Rattle.text_lines.specs.Lines.{words}
+use Rattle.text_lines.specs.declared.text_error.TextError.TheVariants.{OutOfMemory}
 use Rattle.script_text.specs.Marks.{marked_from}
 use Rattle.script_text.specs.Streams.{with_named}
 use Rattle.script_text.proofs.Marking.{one_more, none_marked}

@@ -1,5 +1,5 @@
 use Rattle.std.proofs.Common.{◌≡◌, [], length}
-use Rattle.stat_plan.specs.Lines.{words}
+use Rattle.text_lines.specs.Lines.{words}
 use Rattle.script_text.specs.Marks.{marked_from}
 use Rattle.script_text.specs.Streams.{with_named}
 use Rattle.script_text.proofs.stream_line.named.Given as goal

@@ -1,6 +1,6 @@
 use Rattle.std.proofs.Common.{◌≡◌, ◌≢◌, ◌∙◌, sym, ap, subst, Ok, Err, IfOk}
 use Rattle.stat_plan.specs.Plans.{stream}
-use Rattle.stat_plan.specs.declared.text_error.TextError.TheVariants.{OutOfMemory}
+use Rattle.text_lines.specs.declared.text_error.TextError.TheVariants.{OutOfMemory}
 use Rattle.script_text.specs.ParserViews.{meant_stream}
 use Rattle.script_text.specs.Numbers.{number_from}
 use Rattle.script_text.specs.Streams.{stream_of}

@@ -1,5 +1,5 @@
 use Rattle.std.proofs.Common.{◌∙◌, sym, ap, option_map}
-use Rattle.stat_plan.specs.Lines.{words}
+use Rattle.text_lines.specs.Lines.{words}
 use Rattle.script_text.specs.ParserViews.{mode_words, meant_stream}
 use Rattle.script_text.proofs.Forms.{mode_short, mode_bad, mode_good}
 use Rattle.script_text.proofs.words.after_mode.Goals as goal

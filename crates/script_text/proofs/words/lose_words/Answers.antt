@@ -1,5 +1,5 @@
 use Rattle.std.proofs.Common.{◌∙◌, sym, ap, option_map}
-use Rattle.stat_plan.specs.Lines.{words}
+use Rattle.text_lines.specs.Lines.{words}
 use Rattle.script_text.specs.ParserViews.{meant_lose}
 use Rattle.script_text.proofs.Forms.{lose_short, lose_long, lose_bad, lose_good, some_left, none_left}
 use Rattle.script_text.proofs.words.lose_words.Goals as goal

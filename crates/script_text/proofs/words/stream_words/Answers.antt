@@ -1,5 +1,5 @@
 use Rattle.std.proofs.Common.{◌∙◌, sym, ap, option_map}
-use Rattle.stat_plan.specs.Lines.{words}
+use Rattle.text_lines.specs.Lines.{words}
 use Rattle.script_text.specs.ParserViews.{meant_stream}
 use Rattle.script_text.specs.Words.{after_time_out}
 use Rattle.script_text.proofs.Forms.{no_number, no_mode, waits, times, passes, neither}

@@ -23,7 +23,7 @@ loop-b-preserved-then-is_space c =
 pub loop-b-preserved : goal.loop-b-preserved
 loop-b-preserved c =
     let not_feed = ne_eqb c.in-Some.b.now 10 c.if-b-eq10.false in
-    let next = c.split_at.ensures.back ∙ ap (λ n. drop n c.in-Some.after.now) c.line_left.ensures.value in
+    let next = c.split_at.ensures.back ∙ ap (λ n. drop n c.in-Some.after.now) c.line_len.ensures.value in
     record {
       room = omega (arith, c.in-Some.ensures.cases.1, c.split_at.ensures.back_len);
       shorter = omega (arith, c.in-Some.ensures.cases.1, c.split_at.ensures.back_len);

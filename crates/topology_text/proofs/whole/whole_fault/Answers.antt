@@ -1,7 +1,7 @@
 use Rattle.std.proofs.Common.{◌∙◌, sym, ap, Some, None}
-use Rattle.stat_plan.specs.declared.text_error.TextError.TheVariants.{Bad, Over}
-use Rattle.stat_plan.specs.declared.text_error.Quantity.TheVariants.{Depth}
-use Rattle.stat_plan.specs.declared.text_error.Reason.TheVariants.{TwoRoots, Unreached}
+use Rattle.text_lines.specs.declared.text_error.TextError.TheVariants.{Bad, Over}
+use Rattle.text_lines.specs.declared.text_error.Quantity.TheVariants.{Depth}
+use Rattle.text_lines.specs.declared.text_error.Reason.TheVariants.{TwoRoots, Unreached}
 use Rattle.topology_text.proofs.WholeFile.{fault_no_root, fault_two_roots, fault_unreached, fault_by_depth}
 use Rattle.topology_text.proofs.whole.whole_fault.Goals as goal
 

@@ -3,7 +3,7 @@ use Rattle.atomic_table.specs.Table.{Me}
 use Rattle.atomic_table.specs.declared.badge.Badge.{Badge}
 use Rattle.board_turn.specs.declared.view.View.{View}
 use Rattle.board_turn.specs.Known.{known_of}
-use Rattle.board_turn.specs.Entries.{node_of}
+use Rattle.stat_desk.specs.Events.{event_node}
 use Rattle.stat_desk.specs.declared.event.Event.{Event}
 use Rattle.board_turn.specs.declared.holding.Holding.{Holding}
 use Rattle.board_turn.proofs.Ends.{badge_view, commit_badge, commit_view_saw}
@@ -35,7 +35,7 @@ returns-clause-took g c =
     let same = c.of.ensures in record {
       turn = ap (λ (v : View). v.turn) e ∙ t.turn;
       journal = ap g.B.Board.journal same ∙ (d.2 ∙ (ap (λ (l : List Event). l ++ d.0.event ∷ []) t.journal ∙ sym s.0));
-      holders = ap g.B.Board.holders same ∙ (d.3 ∙ (ap (λ (l : List (Option Holding)). slice_set l (node_of d.0.event) None) t.holders ∙ sym s.1));
+      holders = ap g.B.Board.holders same ∙ (d.3 ∙ (ap (λ (l : List (Option Holding)). slice_set l (event_node d.0.event) None) t.holders ∙ sym s.1));
       base = t.base;
     }
 

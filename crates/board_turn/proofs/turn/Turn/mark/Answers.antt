@@ -1,6 +1,6 @@
 use Rattle.std.proofs.Common.{rules, ◌≡◌, Option, Some, None, slice_get, ap, ◌∙◌, subst}
 use Rattle.atomic_table.specs.Table.{Me}
-use Rattle.board_turn.specs.Entries.{node_of}
+use Rattle.stat_desk.specs.Events.{event_node}
 use Rattle.board_turn.specs.Turns.{knows}
 use Rattle.stat_desk.specs.declared.event.Event.{Event}
 use Rattle.board_turn.specs.declared.view.View.{View}
@@ -13,7 +13,7 @@ store-requires g c = let l = c.requires.living in (
   search rules,
   search rules,
   marks g.B.Board.journal g.B.Board.holders g.B.Board.base _ _ _ _ _ _ l.0 l.1 l.2 l.3 c.requires.free c.requires.room
-      (subst (λ (e : Event). slice_get (knows c.args.place.now.me.0).holders (node_of e) ≡ Some None) c.requires.event c.requires.home),
+      (subst (λ (e : Event). slice_get (knows c.args.place.now.me.0).holders (event_node e) ≡ Some None) c.requires.event c.requires.home),
 )
 
 pub fetch_add-requires : goal.fetch_add-requires

@@ -2,7 +2,7 @@ use Rattle.std.proofs.Common.{◌≡◌, ◌≢◌, ◌∙◌, length, sym, ap, 
 use Rattle.rank_set.specs.Ranks.{union}
 use Rattle.stat_plan.specs.Plans.{sampled}
 use Rattle.stat_plan.specs.Samples.{all_ranks}
-use Rattle.stat_plan.specs.declared.text_error.TextError.TheVariants.{OutOfMemory}
+use Rattle.text_lines.specs.declared.text_error.TextError.TheVariants.{OutOfMemory}
 use Rattle.sample_text.specs.Parsers.{parser_view}
 use Rattle.sample_text.specs.Steps.{are_disjoint, with_daemon}
 use Rattle.sample_text.proofs.Sets.{all_ranks-add_at, length-add_at}

@@ -4,8 +4,8 @@ use Rattle.call_path.specs.Path.{Path}
 use Rattle.stat_plan.specs.Plans.{sampled}
 use Rattle.stat_plan.specs.StackLines.{line_of, lines_of, PathIndicesInRange}
 use Rattle.stat_plan.specs.declared.samples.StackLine.{StackLine}
-use Rattle.stat_plan.specs.declared.text_error.TextError.TheVariants.{Over, OutOfMemory}
-use Rattle.stat_plan.specs.declared.text_error.Quantity.TheVariants.{Lines}
+use Rattle.text_lines.specs.declared.text_error.TextError.TheVariants.{Over, OutOfMemory}
+use Rattle.text_lines.specs.declared.text_error.Quantity.TheVariants.{Lines}
 use Rattle.sample_text.specs.Parsers.{parser_view, path_at}
 use Rattle.sample_text.specs.Steps.{with_stack}
 use Rattle.sample_text.proofs.Texts.{same_lines, lines_more, numbered_more, length-lines_of}

@@ -1,6 +1,6 @@
 use Rattle.std.proofs.Common.{◌≡◌, ◌≢◌, ◌∙◌, sym, ap, subst, Ok, Err, OnOk, IfErr}
-use Rattle.stat_plan.specs.Lines.{words}
-use Rattle.stat_plan.specs.declared.text_error.TextError.TheVariants.{OutOfMemory}
+use Rattle.text_lines.specs.Lines.{words}
+use Rattle.text_lines.specs.declared.text_error.TextError.TheVariants.{OutOfMemory}
 use Rattle.script_text.specs.ParserViews.{parser_view}
 use Rattle.script_text.proofs.Script.{words_none, words_stream, words_lose, words_other}
 use Rattle.script_text.proofs.parser.Parser.directive.Goals as goal

@@ -1,6 +1,6 @@
 use Rattle.std.proofs.Common.{◌∙◌, sym, ap, not, nat_lt}
 use Rattle.std.specs.List.{insert, prefix_len}
-use Rattle.stat_plan.specs.Lines.{words}
+use Rattle.text_lines.specs.Lines.{words}
 use Rattle.stat_plan.specs.declared.script.Fault.{Fault}
 use Rattle.script_text.specs.ParserViews.{parser_view, meant_lose}
 use Rattle.script_text.specs.Words.{lose_words}

@@ -1,5 +1,5 @@
 use Rattle.std.proofs.Common.{◌≡◌, ◌≢◌, ◌∙◌, sym, subst, Ok, Err, OnOk, IfErr}
-use Rattle.stat_plan.specs.declared.text_error.TextError.TheVariants.{OutOfMemory}
+use Rattle.text_lines.specs.declared.text_error.TextError.TheVariants.{OutOfMemory}
 use Rattle.script_text.specs.ParserViews.{parser_view}
 use Rattle.script_text.proofs.Script.{line_skipped, line_said}
 use Rattle.script_text.proofs.parser.Parser.take.Goals as goal

@@ -3,7 +3,7 @@ use Rattle.std.proofs.Common.{◌≡◌, ℕ, suc, ◌+◌, ◌<◌, ◌≤◌, 
 use Rattle.std.specs.Option.{unwrap_or}
 use Rattle.std.proofs.lemmas.List.Sums.{prefix_len_is}
 use Rattle.memchr.specs.Find.{IsFirstByte, is_byte}
-use Rattle.stat_plan.specs.Lines.{pieces, before_first, without_return, lines, is_blank, words, line_len, word_len, blanks_len, after_blanks}
+use Rattle.text_lines.specs.Lines.{pieces, before_first, without_return, lines, is_blank, words, line_len, word_len, blanks_len, after_blanks}
 
 not_true : (b : Bool) → (b ≡ true → ⊥) → not b ≡ true
 not_true true h = absurd (h refl)

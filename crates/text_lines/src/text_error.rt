@@ -5,7 +5,7 @@ use std::alloc::{AllocError, AllocFailed};
 /// What is wrong with a text.
 #[derive(Debug, PartialEq, Eq, Clone, Copy)]
 pub enum Reason {
-    /// Bytes of a topology are no token, or a statement begins with one that is no name.
+    /// Bytes of a topology are not a token, or a statement begins with one that is not a name.
     BadToken,
     /// The parent of a statement has begun a statement before.
     SecondLine,
@@ -29,23 +29,23 @@ pub enum Reason {
     BadDirective,
     /// The name isn't a daemon's.
     NotADaemon,
-    /// A word is no set of ranks.
+    /// A word is not a valid set of ranks.
     BadRanks,
     /// A rank is placed already.
     PlacedTwice,
-    /// A word is no time, or a time is above 65,535.
+    /// A word is not a time from 0 to 65,535.
     BadTime,
     /// A rank of a sample is placed on no daemon yet.
     Unplaced,
-    /// A path of a sample is no good path.
+    /// The path of a sample is not a valid path.
     BadPath,
     /// A daemon has no rank.
     DaemonWithoutRank,
-    /// A word is no number, or a number is out of its range.
+    /// A word is not a number, or the number is out of its range.
     BadNumber,
     /// A stream is defined a second time.
     SecondStream,
-    /// A name is none of a node.
+    /// The name isn't that of a node.
     UnknownNode,
     /// The front end is to be lost.
     LosesFront,
@@ -92,13 +92,36 @@ pub enum TextError {
         what: Quantity,
         limit: u64,
     },
-    /// There was no memory. Then the text may hold a fault.
+    /// Out of memory; the text may contain an error.
     OutOfMemory,
+}
+
+impl TextError {
+    ghost use Rattle.std.specs.Prelude.{◌≡◌};
+    ghost use Rattle.text_lines.specs.declared.text_error.TextError.TheVariants.{Bad, Over};
+
+    /// Something is wrong on a line.
+    pub fn bad(line: u64, reason: Reason) -> TextError
+        ensures { result ≡ Bad line reason }
+    {
+        TextError::Bad { line, reason }
+    }
+
+    /// On a line there is more of something than this limit.
+    pub fn over(line: u64, what: Quantity, limit: u32) -> TextError
+        ensures { result ≡ Over line what limit }
+    {
+        TextError::Over {
+            line,
+            what,
+            limit: u64::from(limit),
+        }
+    }
 }
 
 impl From<AllocError> for TextError {
     ghost use Rattle.std.specs.Prelude.{◌≡◌};
-    ghost use Rattle.stat_plan.specs.declared.text_error.TextError.TheVariants.{OutOfMemory};
+    ghost use Rattle.text_lines.specs.declared.text_error.TextError.TheVariants.{OutOfMemory};
 
     ghost from_gives = { λ _ e. e ≡ OutOfMemory };
 
@@ -109,7 +132,7 @@ impl From<AllocError> for TextError {
 
 impl<T: Drop> From<AllocFailed<T>> for TextError {
     ghost use Rattle.std.specs.Prelude.{◌≡◌};
-    ghost use Rattle.stat_plan.specs.declared.text_error.TextError.TheVariants.{OutOfMemory};
+    ghost use Rattle.text_lines.specs.declared.text_error.TextError.TheVariants.{OutOfMemory};
 
     ghost from_gives = { λ _ e. e ≡ OutOfMemory };
 

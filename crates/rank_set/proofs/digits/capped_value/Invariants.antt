@@ -1,6 +1,6 @@
 use Rattle.std.proofs.Common.{◌≡◌, ◌≤◌, min, drop}
-use Rattle.rank_set.specs.RanksText.{value_after}
-use Rattle.stat_plan.proofs.lines.capped_value.Given as goal
+use Rattle.rank_set.specs.Digits.{value_after}
+use Rattle.rank_set.proofs.digits.capped_value.Given as goal
 
 abbrev pub invariant-loop-digit : goal.invariant-loop-digit
 invariant-loop-digit l = record {

@@ -1,9 +1,9 @@
 use Rattle.std.proofs.Common.{◌≡◌, ◌∙◌, ◌<◌, ◌≤◌, ◌∷◌, ℕ, List, length, take, drop, sym, ap, subst, nat_eq, false, arith}
 use Rattle.std.proofs.lemmas.Bool.{eqb-true}
 use Rattle.std.proofs.lemmas.Bool.Decides.{nat_tests}
-use Rattle.stat_plan.specs.Lines.{words, word_len, after_blanks}
-use Rattle.stat_plan.proofs.Cuts.{past_blanks, no_words, word_here, word_some}
-use Rattle.stat_plan.proofs.lines.next_word.Goals as goal
+use Rattle.text_lines.specs.Lines.{words, word_len, after_blanks}
+use Rattle.text_lines.proofs.Cuts.{past_blanks, no_words, word_here, word_some}
+use Rattle.text_lines.proofs.lines.next_word.Goals as goal
 
 -- something is left after the blanks
 some : (line rest : List ℕ) → rest ≡ after_blanks line → nat_eq (length rest) 0 ≡ false → 0 < length (after_blanks line)

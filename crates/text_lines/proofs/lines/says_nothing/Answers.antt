@@ -1,6 +1,6 @@
 use Rattle.std.proofs.Common.{◌≡◌, ◌∷◌, ℕ, List, [], length, true, refl, arith}
-use Rattle.stat_plan.specs.Lines.{words, says_nothing}
-use Rattle.stat_plan.proofs.lines.says_nothing.Goals as goal
+use Rattle.text_lines.specs.Lines.{words, says_nothing}
+use Rattle.text_lines.proofs.lines.says_nothing.Goals as goal
 
 -- an empty line says nothing
 empty : (line : List ℕ) → length line ≡ 0 → true ≡ says_nothing line

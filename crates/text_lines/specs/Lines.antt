@@ -2,7 +2,7 @@
 use Rattle.std.specs.Prelude.{ℕ, Bool, true, false, ◌||◌, not, nat_eq, cond, List, [], ◌∷◌, length, map, drop, Option, None, Some}
 use Rattle.std.specs.Char.{is_ascii_digit}
 use Rattle.std.specs.List.{prefix_len, list_all}
-use Rattle.rank_set.specs.RanksText.{value_after}
+use Rattle.rank_set.specs.Digits.{value_after}
 
 -- a byte before the first of the pieces
 abbrev pub before_first : ℕ → List (List ℕ) → List (List ℕ)

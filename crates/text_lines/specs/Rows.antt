@@ -1,6 +1,6 @@
 -- Texts, their lines, words and numbers.
 use Rattle.std.specs.Prelude.{◌≡◌, refl, [], ◌∷◌, ◌++◌, codes, None, Some}
-use Rattle.stat_plan.specs.Lines.{lines, pieces, words, number_in}
+use Rattle.text_lines.specs.Lines.{lines, pieces, words, number_in}
 
 -- no bytes are no line
 no_line : lines [] ≡ []

@@ -1,6 +1,6 @@
 use Rattle.std.proofs.Common.{◌∙◌, ◌+◌, ◌*◌, min, ap, refl, arith}
 use Rattle.rank_set.proofs.Reading.{capped_step}
-use Rattle.stat_plan.proofs.lines.capped_value.Goals as goal
+use Rattle.rank_set.proofs.digits.capped_value.Goals as goal
 
 pub loop-digit-preserved : goal.loop-digit-preserved
 loop-digit-preserved c = record {

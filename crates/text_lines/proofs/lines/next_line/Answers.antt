@@ -1,9 +1,9 @@
 use Rattle.std.proofs.Common.{◌≡◌, ◌∙◌, ◌<◌, ℕ, ◌∷◌, sym, ap, nat_eq, false, arith}
 use Rattle.std.proofs.lemmas.Bool.{eqb-true}
 use Rattle.std.proofs.lemmas.Bool.Decides.{nat_tests}
-use Rattle.stat_plan.specs.Lines.{lines}
-use Rattle.stat_plan.proofs.Cuts.{line_more, line_last, no_lines}
-use Rattle.stat_plan.proofs.lines.next_line.Goals as goal
+use Rattle.text_lines.specs.Lines.{lines}
+use Rattle.text_lines.proofs.Cuts.{line_more, line_last, no_lines}
+use Rattle.text_lines.proofs.lines.next_line.Goals as goal
 
 some : (n : ℕ) → nat_eq n 0 ≡ false → 0 < n
 some n e = grind (arith, nat_tests)

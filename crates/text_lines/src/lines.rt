@@ -6,8 +6,10 @@
 ghost use Rattle.std.specs.Prelude.{◌≡◌, ◌<◌, ◌≤◌, ◌^◌, length, min, MatchOption, IfSome, [], ◌∷◌, option_map};
 ghost use Rattle.std.specs.Char.{is_ascii_digit};
 ghost use Rattle.std.specs.List.{list_all};
-ghost use Rattle.rank_set.specs.RanksText.{value_after};
-ghost use Rattle.stat_plan.specs.Lines.{is_blank, line_len, word_len, blanks_len, lines, words, without_return, after_blanks, after_word, number_in, says_nothing};
+ghost use Rattle.std.specs.Str.{bytes_eq};
+ghost use Rattle.text_lines.specs.Lines.{is_blank, line_len, word_len, blanks_len, lines, words, without_return, after_blanks, after_word, number_in, says_nothing};
+
+use rank_set::digits::capped_value;
 
 fn is_blank(b: u8) -> bool
     ensures { result ≡ is_blank b }
@@ -15,8 +17,8 @@ fn is_blank(b: u8) -> bool
     b == b' ' || b == b'\t'
 }
 
-// How many bytes are before the next line feed.
-fn line_len(text: &[u8]) -> usize
+/// How many bytes stand before the first line feed of a text.
+pub fn line_len(text: &[u8]) -> usize
     ensures value { result ≡ line_len text.now }
     ensures within { result ≤ length text.now }
 {
@@ -86,6 +88,13 @@ pub fn next_word(line: &[u8]) -> Option<(&[u8], &[u8])>
     Some(rest.split_at(word_len(rest)))
 }
 
+/// Whether a word is this one.
+pub fn is_word(word: &[u8], this: &[u8]) -> bool
+    ensures { result ≡ bytes_eq word.now this.now }
+{
+    word == this
+}
+
 /// Whether a line says nothing: it begins with `#`, or has no word.
 pub fn says_nothing(line: &[u8]) -> bool
     ensures { result ≡ says_nothing line.now }
@@ -101,18 +110,6 @@ fn are_digits(word: &[u8]) -> bool
     ensures { result ≡ list_all is_ascii_digit word.now }
 {
     word.iter().all(|b| b.is_ascii_digit())
-}
-
-// The number that digits write, or the limit where it is more.
-fn capped_value(digits: &[u8], limit: u32) -> u32
-    requires { limit < 2 ^ 28 }
-    ensures { result ≡ min limit (value_after 0 digits.now) }
-{
-    let mut number = 0;
-    for digit in digits {
-        number = limit.min(10 * number + u32::from(digit.saturating_sub(b'0')));
-    }
-    number
 }
 
 /// The number that a word writes, or the limit where it is more; none where the word is not one or more digits. A word

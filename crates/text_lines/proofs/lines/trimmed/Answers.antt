@@ -1,8 +1,8 @@
 use Rattle.std.proofs.Common.{◌∙◌, ◌∷◌, ◌++◌, [], sym, ap}
 use Rattle.std.proofs.lemmas.Bool.{ne_eqb}
-use Rattle.stat_plan.specs.Lines.{without_return}
-use Rattle.stat_plan.proofs.Cuts.{return_off, return_kept}
-use Rattle.stat_plan.proofs.lines.trimmed.Goals as goal
+use Rattle.text_lines.specs.Lines.{without_return}
+use Rattle.text_lines.proofs.Cuts.{return_off, return_kept}
+use Rattle.text_lines.proofs.lines.trimmed.Goals as goal
 
 pub returns-then-last-eq13 : goal.returns-then-last-eq13
 returns-then-last-eq13 c =
