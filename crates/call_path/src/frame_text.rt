@@ -55,7 +55,7 @@ impl FrameText {
     /// How many frames.
     pub fn len(&self) -> usize
         ensures len { result ≡ length self.now }
-        ensures few { length self.now ≤ FRAME_LIMIT }
+        ensures within_limit { length self.now ≤ FRAME_LIMIT }
         ensures good { AreGoodFrames self.now }
     {
         self.ends.as_slice().len()
@@ -143,7 +143,7 @@ impl FrameText {
 
     /// Puts a frame at the end.
     pub fn push(&mut self, frame: &str) -> Result<(), AllocError>
-        requires few { length self.old < FRAME_LIMIT }
+        requires below_limit { length self.old < FRAME_LIMIT }
         requires good { IsTrue (is_good_frame frame.now) }
         ensures ok { OnOk result (self.new ≡ self.old ++ frame.now ∷ []) }
         ensures err { OnErr result (self.new ≡ self.old) }

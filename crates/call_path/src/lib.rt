@@ -60,8 +60,8 @@ impl CallPath {
     /// How many frames.
     pub fn len(&self) -> usize
         ensures len { result ≡ length self.now }
-        ensures some { 0 < length self.now }
-        ensures few { length self.now ≤ FRAME_LIMIT }
+        ensures not_empty { 0 < length self.now }
+        ensures within_limit { length self.now ≤ FRAME_LIMIT }
         ensures good { IsGoodPath self.now }
     {
         self.frames.len()
@@ -92,7 +92,7 @@ impl CallPath {
 
     /// The path of the first `depth` frames.
     pub fn prefix(&self, depth: usize) -> Result<CallPath, AllocError>
-        requires some { 0 < depth }
+        requires not_empty { 0 < depth }
         requires within { depth ≤ length self.now }
         ensures { IfOk result (λ prefix. prefix ≡ take depth self.now) }
     {
@@ -144,7 +144,7 @@ impl PathBuilder {
     /// How many frames.
     pub fn len(&self) -> usize
         ensures len { result ≡ length self.now }
-        ensures few { length self.now ≤ FRAME_LIMIT }
+        ensures within_limit { length self.now ≤ FRAME_LIMIT }
         ensures good { AreGoodFrames self.now }
     {
         self.frames.len()
@@ -152,7 +152,7 @@ impl PathBuilder {
 
     /// Puts a frame at the end.
     pub fn push(&mut self, frame: &str) -> Result<(), AllocError>
-        requires few { length self.old < FRAME_LIMIT }
+        requires below_limit { length self.old < FRAME_LIMIT }
         requires good { IsTrue (is_good_frame frame.now) }
         ensures ok { OnOk result (self.new ≡ self.old ++ frame.now ∷ []) }
         ensures err { OnErr result (self.new ≡ self.old) }

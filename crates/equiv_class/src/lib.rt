@@ -62,8 +62,11 @@ pub fn paths_of_classes()
 ///
 /// `own` says it of the pairs that the tree's rows give, and `pairs` of any pairs that the tree is of.
 pub fn classes<T: PrefixTree>(alloc: Global, tree: &T) -> Result<Vec<Class>, AllocError>
-    ensures own { IfOk result (λ all. class_views all.items ≡ classes_of (pairs_of (T.tree tree.now)) (T.tree tree.now).coverage) }
-    ensures pairs { IfOk result (λ all. (P : Pairs) (C : Ranks) → HasNoEmptyPath P → T.tree tree.now ≡ tree_of P C → class_views all.items ≡ classes_of P C) }
+    ensures own { IfOk result
+        (λ all. class_views all.items ≡ classes_of (pairs_of (T.tree tree.now)) (T.tree tree.now).coverage) }
+    ensures pairs { IfOk result
+        (λ all. (P : Pairs) (C : Ranks) → HasNoEmptyPath P → T.tree tree.now ≡ tree_of P C
+        → class_views all.items ≡ classes_of P C) }
 {
     let mut frames = PathBuilder::new(alloc);
     let seen = seen_paths(alloc, tree, &mut frames)?;
@@ -132,7 +135,8 @@ fn take_classes(
     left: &mut RankSet,
 ) -> Result<Vec<Class>, AllocError>
     requires { AreSeveral several.now (entries_view seen.now) }
-    ensures { IfOk result (λ all. (P : Pairs) → Lists P (entries_view seen.now) → class_views all.items ≡ classes_of P left.old) }
+    ensures { IfOk result
+        (λ all. (P : Pairs) → Lists P (entries_view seen.now) → class_views all.items ≡ classes_of P left.old) }
 {
     let mut all = Vec::new(alloc);
     while let Some(r) = left.first() {
@@ -152,7 +156,9 @@ fn take_class(
 ) -> Result<Class, AllocError>
     requires several { AreSeveral several.now (entries_view seen.now) }
     requires member { IsTrue (has left.old r) }
-    ensures class { IfOk result (λ class. class_view class ≡ (those (λ s. same_paths r s (entries_view seen.now)) left.old, paths_to r (entries_view seen.now))) }
+    ensures class { IfOk result
+        (λ class. class_view class
+        ≡ (those (λ s. same_paths r s (entries_view seen.now)) left.old, paths_to r (entries_view seen.now))) }
     ensures left { OnOk result (left.new ≡ those (λ s. not (same_paths r s (entries_view seen.now))) left.old) }
 {
     let paths = rank_paths(alloc, seen, r)?;

@@ -12,7 +12,8 @@ ghost use Rattle.front_end.specs.Report.{AreDistinct, IsInOrder, IsReport, relea
 
 /// A law: there is one report, byte for byte, of the same releases of a plan where the same nodes were lost.
 pub fn reports_are_one()
-    ensures { (p : Plan) (given : List TreeRelease) (lost text other : List ℕ) → IsReport p given lost text → IsReport p given lost other → text ≡ other }
+    ensures { (p : Plan) (given : List TreeRelease) (lost text other : List ℕ) → IsReport p given lost text
+        → IsReport p given lost other → text ≡ other }
 {}
 
 /// A law: no two releases that have their numbers have the same stream, wave and number.

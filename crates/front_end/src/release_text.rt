@@ -79,7 +79,9 @@ fn write_missing(
     lost: &[u32],
     out: &mut Vec<u8>,
 ) -> Result<(), AllocError>
-    ensures { OnOk result (out.new.items ≡ out.old.items ++ flat_map (missing_line plan.now covered.now lost.now) (daemons plan.now stream)) }
+    ensures { OnOk result
+        (out.new.items
+        ≡ out.old.items ++ flat_map (missing_line plan.now covered.now lost.now) (daemons plan.now stream)) }
 {
     for daemon in daemons_of(plan, stream) {
         write_missing_line(plan, covered, lost, *daemon, out)?;

@@ -38,7 +38,8 @@ pub fn in_order<'a, T: PrefixTree>(
     releases: &'a [Release<T>],
 ) -> Result<Vec<&'a Release<T>>, AllocError>
     requires distinct { AreDistinct (releases_view T.tree releases.now) }
-    ensures { IfOk result (λ ordered. IsInOrder (releases_view T.tree releases.now) (shown_releases T.tree ordered.items)) }
+    ensures { IfOk result
+        (λ ordered. IsInOrder (releases_view T.tree releases.now) (shown_releases T.tree ordered.items)) }
 {
     let mut ordered = references(alloc, releases)?;
     ordered.sort_unstable_by_key(|release| (release.stream, release.wave, release.number));
@@ -61,7 +62,8 @@ fn write_releases<T: PrefixTree>(
     releases: &[&Release<T>],
     out: &mut Vec<u8>,
 ) -> Result<(), AllocError>
-    ensures { OnOk result (out.new.items ≡ out.old.items ++ flat_map (release_text plan.now) (shown_releases T.tree releases.now)) }
+    ensures { OnOk result
+        (out.new.items ≡ out.old.items ++ flat_map (release_text plan.now) (shown_releases T.tree releases.now)) }
 {
     for release in releases {
         write_release(plan, release, out)?;

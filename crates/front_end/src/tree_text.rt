@@ -17,7 +17,9 @@ pub fn write_tree<T: PrefixTree>(tree: &T, out: &mut Vec<u8>) -> Result<(), Allo
 }
 
 fn write_row(row: &Row<'_>, out: &mut Vec<u8>) -> Result<(), AllocError>
-    ensures { OnOk result (out.new.items ≡ out.old.items ++ line_of row.now.depth row.now.label.now row.now.ends.now row.now.frame.now) }
+    ensures { OnOk result
+        (out.new.items
+        ≡ out.old.items ++ line_of row.now.depth row.now.label.now row.now.ends.now row.now.frame.now) }
 {
     write_indent(row.depth, out)?;
     row.label.write_text(out)?;

@@ -30,7 +30,9 @@ fn add_pending<T: PrefixTree>(
     pending: &Pending,
 ) -> Result<(), AllocError>
     requires { HasRoomFor (T.tree tree.old) paths.now pending.now }
-    ensures { OnOk result ((P : Pairs) (C : Ranks) → T.tree tree.old ≡ tree_of P C → T.tree tree.new ≡ tree_of (with_pending P paths.now pending.now) C) }
+    ensures { OnOk result
+        ((P : Pairs) (C : Ranks) → T.tree tree.old ≡ tree_of P C
+        → T.tree tree.new ≡ tree_of (with_pending P paths.now pending.now) C) }
 {
     if pending.ranks.count() == 0 {
         return Ok(());
@@ -53,7 +55,10 @@ fn take_line<T: PrefixTree>(
     line: &StackLine,
 ) -> Result<(), AllocError>
     requires { HasRoomFor (T.tree tree.old) paths.now pending.old }
-    ensures { OnOk result ((P : Pairs) → T.tree tree.old ≡ tree_of P own.now → TakesLine P own.now paths.now (line_of paths.now line.now) line.now.path pending.old pending.new (T.tree tree.new)) }
+    ensures { OnOk result
+        ((P : Pairs) → T.tree tree.old ≡ tree_of P own.now
+        → TakesLine P own.now paths.now (line_of paths.now line.now) line.now.path pending.old pending.new
+        (T.tree tree.new)) }
 {
     let mut here = own.copy()?;
     here.intersect_with(&line.ranks);
@@ -81,7 +86,9 @@ pub fn own_tree<T: PrefixTree>(
     requires numbered { PathIndicesInRange paths.now lines.now }
     requires numbers { AreOwnLines (lines_of paths.now lines.now) own.now numbers.now }
     requires within { IsWithinLimit (samples_of (wave_lines samples wave (lines_of paths.now lines.now))) own.now }
-    ensures { IfOk result (λ tree. T.tree tree ≡ tree_of (samples_of (wave_lines samples wave (lines_of paths.now lines.now))) own.now) }
+    ensures { IfOk result
+        (λ tree. T.tree tree
+        ≡ tree_of (samples_of (wave_lines samples wave (lines_of paths.now lines.now))) own.now) }
 {
     let mut tree = T::empty(alloc);
     tree.cover(own)?;

@@ -34,8 +34,9 @@ pub fn legal_journals_are_sound()
 
 /// A law: no legal journal is longer than the bound, so after one where an event may still come there is room for it.
 pub fn legal_journals_are_short()
-    ensures short { (p : Plan) (journal : List Event) → IsPlan p → IsLegal p journal → length journal ≤ bound p }
-    ensures room { (p : Plan) (journal : List Event) (e : Event) → IsPlan p → IsLegal p journal → is_enabled p (after p journal) e ≡ true → length journal < bound p }
+    ensures within_bound { (p : Plan) (journal : List Event) → IsPlan p → IsLegal p journal → length journal ≤ bound p }
+    ensures below_bound { (p : Plan) (journal : List Event) (e : Event) → IsPlan p → IsLegal p journal
+        → is_enabled p (after p journal) e ≡ true → length journal < bound p }
 {}
 
 /// A law: a whole journal has ended each wave. The wave has one final release, its last, which covers each daemon of the
@@ -47,7 +48,9 @@ pub fn whole_journals_have_ended()
 
 /// A law: a stream that waits for all, and none of whose daemons is lost, has one release of each wave, of all its ranks.
 pub fn waiting_streams_release_once()
-    ensures once { (p : Plan) (journal : List Event) (s w : ℕ) → IsPlan p → IsWhole p journal → mode p s ≡ WaitForAll → LosesNoDaemon p journal s → In (s, w) (waves_of p.streams) → HasOneRelease p s (of_wave s w (after p journal).releases) }
+    ensures once { (p : Plan) (journal : List Event) (s w : ℕ) → IsPlan p → IsWhole p journal
+        → mode p s ≡ WaitForAll → LosesNoDaemon p journal s → In (s, w) (waves_of p.streams)
+        → HasOneRelease p s (of_wave s w (after p journal).releases) }
 {}
 
 /// A law: the journal that a seed picks is whole.
@@ -57,55 +60,72 @@ pub fn picked_journals_are_whole()
 
 /// A law: a seed picks a journal, and no other.
 pub fn seeds_pick_one_journal()
-    ensures some { (p : Plan) (seed : ℕ) → IsPlan p → IsPickedFrom p seed (picked p seed) }
-    ensures one { (p : Plan) (seed : ℕ) (journal : List Event) → IsPlan p → IsPickedFrom p seed journal → journal ≡ picked p seed }
+    ensures exists { (p : Plan) (seed : ℕ) → IsPlan p → IsPickedFrom p seed (picked p seed) }
+    ensures unique { (p : Plan) (seed : ℕ) (journal : List Event) → IsPlan p → IsPickedFrom p seed journal
+        → journal ≡ picked p seed }
 {}
 
 /// A law: the events that were picked so far and the one that is picked next are picked, and what is picked is legal.
 pub fn picks_go_on()
-    ensures more { (p : Plan) (seed : ℕ) (journal : List Event) (y : ℕ) (e : Event) → Picks p seed journal y → picked_event p (after p journal) (next_number y) ≡ Some e → Picks p seed (journal ++ e ∷ []) (next_number y) }
+    ensures extended { (p : Plan) (seed : ℕ) (journal : List Event) (y : ℕ) (e : Event) → Picks p seed journal y
+        → picked_event p (after p journal) (next_number y) ≡ Some e
+        → Picks p seed (journal ++ e ∷ []) (next_number y) }
     ensures legal { (p : Plan) (seed : ℕ) (journal : List Event) (y : ℕ) → Picks p seed journal y → IsLegal p journal }
 {}
 
 /// A law: each release is of a wave of the plan, covers all ranks of some daemons of its stream, and is final where the stream
 /// waits for all.
 pub fn releases_are_sound()
-    ensures sound { (p : Plan) (journal : List Event) → IsPlan p → IsLegal p journal → ReleasesAreSound p (after p journal) }
+    ensures sound { (p : Plan) (journal : List Event) → IsPlan p → IsLegal p journal
+        → ReleasesAreSound p (after p journal) }
 {}
 
 /// A law: the list of enabled events has just the events that may come next, and is empty just where the state is quiet.
 pub fn enabled_events_are_listed()
-    ensures listed { (p : Plan) (journal : List Event) (e : Event) → IsPlan p → IsLegal p journal → (is_enabled p (after p journal) e ≡ true) ↔ In e (enabled_events p (after p journal)) }
-    ensures quiet { (p : Plan) (journal : List Event) → IsPlan p → IsLegal p journal → IsQuiet p (after p journal) ↔ (enabled_events p (after p journal) ≡ []) }
+    ensures listed { (p : Plan) (journal : List Event) (e : Event) → IsPlan p → IsLegal p journal
+        → (is_enabled p (after p journal) e ≡ true) ↔ In e (enabled_events p (after p journal)) }
+    ensures quiet { (p : Plan) (journal : List Event) → IsPlan p → IsLegal p journal → IsQuiet p (after p journal)
+        ↔ (enabled_events p (after p journal) ≡ []) }
 {}
 
 /// A law: a journal with an event more leaves the state one step on, and is legal just where the journal is and the event may
 /// come after it.
 pub fn journals_go_on()
-    ensures state { (p : Plan) (journal : List Event) (e : Event) → after p (journal ++ e ∷ []) ≡ step p (after p journal) e }
-    ensures legal { (p : Plan) (journal : List Event) (e : Event) → IsLegal p journal → is_enabled p (after p journal) e ≡ true → IsLegal p (journal ++ e ∷ []) }
-    ensures parts { (p : Plan) (journal : List Event) (e : Event) → IsLegal p (journal ++ e ∷ []) → IsLegal p journal × (is_enabled p (after p journal) e ≡ true) }
+    ensures state { (p : Plan) (journal : List Event) (e : Event)
+        → after p (journal ++ e ∷ []) ≡ step p (after p journal) e }
+    ensures legal { (p : Plan) (journal : List Event) (e : Event) → IsLegal p journal
+        → is_enabled p (after p journal) e ≡ true → IsLegal p (journal ++ e ∷ []) }
+    ensures parts { (p : Plan) (journal : List Event) (e : Event) → IsLegal p (journal ++ e ∷ [])
+        → IsLegal p journal × (is_enabled p (after p journal) e ≡ true) }
 {}
 
 /// A law: the nodes that a journal loses are those that are dead after it.
 pub fn lost_nodes_are_dead()
-    ensures lost { (p : Plan) (journal : List Event) (n : ℕ) → n < nodes p → IsLost journal n ↔ ((after p journal).alive n ≡ false) }
+    ensures lost { (p : Plan) (journal : List Event) (n : ℕ) → n < nodes p → IsLost journal n
+        ↔ ((after p journal).alive n ≡ false) }
 {}
 
 /// A law: a node sends a wave at most as often as what it covers of the wave grew or its parent changed, and once less where
 /// something isn't sent yet.
 pub fn sends_are_bounded()
-    ensures paid { (p : Plan) (journal : List Event) (n s w : ℕ) → sends p (start p) journal n s w + one_if (is_unsent (((after p journal).node n).book s w)) ≤ growths p (start p) journal n s w + moves p (start p) journal n }
+    ensures paid { (p : Plan) (journal : List Event) (n s w : ℕ)
+        → sends p (start p) journal n s w + one_if (is_unsent (((after p journal).node n).book s w))
+        ≤ growths p (start p) journal n s w + moves p (start p) journal n }
 {}
 
 /// A law: what a node covers of a wave only grows, and a wave that has ended doesn't begin again.
 pub fn coverages_only_grow()
-    ensures each { (p : Plan) (journal : List Event) (e : Event) (n s w : ℕ) → IsPlan p → IsLegal p (journal ++ e ∷ []) → OnlyGrows (((after p journal).node n).book s w) (((after p (journal ++ e ∷ [])).node n).book s w) }
+    ensures grows { (p : Plan) (journal : List Event) (e : Event) (n s w : ℕ) → IsPlan p
+        → IsLegal p (journal ++ e ∷ [])
+        → OnlyGrows (((after p journal).node n).book s w) (((after p (journal ++ e ∷ [])).node n).book s w) }
 {}
 
 /// A law: an event that may come may still come after events of other nodes, where none of them is the loss of the sender of
 /// its packet, and leaves of its node what it would have left before.
 pub fn independent_events_commute()
-    ensures one { (p : Plan) (st : State) (e f : Event) → AreIndependent e f → is_enabled p st e ≡ true → (is_enabled p (step p st f) e ≡ true) × (outcome p (step p st f) e ≡ outcome p st e) }
-    ensures each { (p : Plan) (st : State) (e : Event) (fs : List Event) → AllByRecursion (AreIndependent e) fs → is_enabled p st e ≡ true → (is_enabled p (run p st fs) e ≡ true) × (outcome p (run p st fs) e ≡ outcome p st e) }
+    ensures single { (p : Plan) (st : State) (e f : Event) → AreIndependent e f → is_enabled p st e ≡ true
+        → (is_enabled p (step p st f) e ≡ true) × (outcome p (step p st f) e ≡ outcome p st e) }
+    ensures several { (p : Plan) (st : State) (e : Event) (fs : List Event) → AllByRecursion (AreIndependent e) fs
+        → is_enabled p st e ≡ true → (is_enabled p (run p st fs) e ≡ true)
+        × (outcome p (run p st fs) e ≡ outcome p st e) }
 {}

@@ -75,12 +75,13 @@ pub trait PrefixTree: Sized + Drop + Send {
     /// Adds a path that each of the ranks was seen in. The ranks are covered, and there are some.
     /// A refusal leaves the tree as it was.
     fn add(&mut self, ranks: &RankSet, path: &CallPath) -> Result<(), TreeError>
-        requires some { ranks.now ≢ none }
-        requires lies { IsTrue (is_subset ranks.now (tree self.old).coverage) }
+        requires not_empty { ranks.now ≢ none }
+        requires in_coverage { IsTrue (is_subset ranks.now (tree self.old).coverage) }
         ensures ok { OnOk result (tree self.new ≡ added (tree self.old) ranks.now path.now) }
         ensures pairs { OnOk result (Adds (tree self.old) ranks.now path.now (tree self.new)) }
         ensures fits { OnOk result (count_below (added (tree self.old) ranks.now path.now) ≤ PREFIX_LIMIT) }
-        ensures full { result ≡ Err TreeError.TooManyPrefixes → PREFIX_LIMIT < count_below (added (tree self.old) ranks.now path.now) }
+        ensures full { result ≡ Err TreeError.TooManyPrefixes
+            → PREFIX_LIMIT < count_below (added (tree self.old) ranks.now path.now) }
         ensures err { OnErr result (tree self.new ≡ tree self.old) };
 
     /// Unites another tree into it, row by row. A refusal leaves the tree as it was.
@@ -88,7 +89,8 @@ pub trait PrefixTree: Sized + Drop + Send {
         ensures ok { OnOk result (tree self.new ≡ merged (tree self.old) (tree other.now)) }
         ensures pairs { OnOk result (Unites (tree self.old) (tree other.now) (tree self.new)) }
         ensures fits { OnOk result (count_below (merged (tree self.old) (tree other.now)) ≤ PREFIX_LIMIT) }
-        ensures full { result ≡ Err TreeError.TooManyPrefixes → PREFIX_LIMIT < count_below (merged (tree self.old) (tree other.now)) }
+        ensures full { result ≡ Err TreeError.TooManyPrefixes
+            → PREFIX_LIMIT < count_below (merged (tree self.old) (tree other.now)) }
         ensures err { OnErr result (tree self.new ≡ tree self.old) };
 
     /// The same tree once more.

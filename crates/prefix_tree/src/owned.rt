@@ -207,7 +207,8 @@ fn united_marks(
     ends: &RankSet,
 ) -> Result<(RankSet, RankSet, bool), AllocError>
     requires { IsInOrder rows.now }
-    ensures marks { IfOk result (λ m. (path.now, (m.0, m.1)) ≡ changed (below_in rows.now) (path.now, (label.now, ends.now))) }
+    ensures marks { IfOk result
+        (λ m. (path.now, (m.0, m.1)) ≡ changed (below_in rows.now) (path.now, (label.now, ends.now))) }
     ensures new { IfOk result (λ m. m.2 ≡ is_new (below_in rows.now) (path.now, (label.now, ends.now))) }
 {
     match place(rows, path, *hint) {
@@ -242,10 +243,13 @@ impl Changes {
         ends: &RankSet,
     ) -> Result<(), AllocError>
         requires in_order { IsInOrder rows.now }
-        requires few { self.old.added ≤ length self.old.rows.items }
-        ensures rows { OnOk result (entries_view self.new.rows.items ≡ entries_view self.old.rows.items ++ changed (below_in rows.now) (path, (label.now, ends.now)) ∷ []) }
-        ensures added { OnOk result (self.new.added ≡ self.old.added + new_among (below_in rows.now) ((path, (label.now, ends.now)) ∷ [])) }
-        ensures few { OnOk result (self.new.added ≤ length self.new.rows.items) }
+        requires added_within { self.old.added ≤ length self.old.rows.items }
+        ensures rows { OnOk result
+            (entries_view self.new.rows.items
+            ≡ entries_view self.old.rows.items ++ changed (below_in rows.now) (path, (label.now, ends.now)) ∷ []) }
+        ensures added { OnOk result
+            (self.new.added ≡ self.old.added + new_among (below_in rows.now) ((path, (label.now, ends.now)) ∷ [])) }
+        ensures added_within { OnOk result (self.new.added ≤ length self.new.rows.items) }
     {
         let (label, ends, is_new) = united_marks(rows, &mut self.hint, &path, label, ends)?;
         self.rows.push(TreeRow { path, label, ends })?;
@@ -259,7 +263,8 @@ impl Changes {
 // The changes that other rows make, put to these.
 fn row_changes(alloc: Global, rows: &[TreeRow], others: &[TreeRow]) -> Result<Changes, AllocError>
     requires { IsInOrder rows.now }
-    ensures rows { IfOk result (λ all. entries_view all.rows.items ≡ map (changed (below_in rows.now)) (entries_view others.now)) }
+    ensures rows { IfOk result
+        (λ all. entries_view all.rows.items ≡ map (changed (below_in rows.now)) (entries_view others.now)) }
     ensures added { IfOk result (λ all. all.added ≡ new_among (below_in rows.now) (entries_view others.now)) }
 {
     let mut changes = Changes {
@@ -283,7 +288,8 @@ fn path_changes(
 ) -> Result<Changes, AllocError>
     requires in_order { IsInOrder rows.now }
     requires nobody { nobody.now ≡ none }
-    ensures rows { IfOk result (λ all. entries_view all.rows.items ≡ map (changed (below_in rows.now)) (path_rows ranks.now path.now)) }
+    ensures rows { IfOk result
+        (λ all. entries_view all.rows.items ≡ map (changed (below_in rows.now)) (path_rows ranks.now path.now)) }
     ensures added { IfOk result (λ all. all.added ≡ new_among (below_in rows.now) (path_rows ranks.now path.now)) }
     ensures good { IfOk result (λ _. IsGoodPath path.now) }
 {
@@ -310,7 +316,8 @@ fn has_room(rows: &[TreeRow], added: usize) -> bool
 // Puts each row in its place, for which there is room.
 fn put_rows(rows: &mut Vec<TreeRow>, changes: Vec<TreeRow>)
     requires in_order { IsInOrder rows.old.items }
-    requires room { length (puts (entries_view rows.old.items) (entries_view changes.items)) ≤ vec_capacity rows.old }
+    requires capacity { length (puts (entries_view rows.old.items) (entries_view changes.items))
+        ≤ vec_capacity rows.old }
     ensures { entries_view rows.new.items ≡ puts (entries_view rows.old.items) (entries_view changes.items) }
 {
     let mut hint = 0;
@@ -332,7 +339,7 @@ fn put_rows(rows: &mut Vec<TreeRow>, changes: Vec<TreeRow>)
 fn push_row(rows: &mut Vec<TreeRow>, row: TreeRow)
     requires { length rows.old.items < vec_capacity rows.old }
     ensures rows { rows.new.items ≡ rows.old.items ++ row ∷ [] }
-    ensures room { vec_capacity rows.old ≤ vec_capacity rows.new }
+    ensures capacity { vec_capacity rows.old ≤ vec_capacity rows.new }
 {
     let _ = rows.push(row);
 }
@@ -340,11 +347,11 @@ fn push_row(rows: &mut Vec<TreeRow>, row: TreeRow)
 // Moves the rows from a place on behind others, the last one first.
 fn move_behind(rows: &mut Vec<TreeRow>, place: usize, behind: &mut Vec<TreeRow>)
     requires within { place ≤ length rows.old.items }
-    requires room { length behind.old.items + (length rows.old.items - place) ≤ vec_capacity behind.old }
+    requires capacity { length behind.old.items + (length rows.old.items - place) ≤ vec_capacity behind.old }
     ensures rows { rows.new.items ≡ take place rows.old.items }
     ensures behind { reverse behind.new.items ≡ drop place rows.old.items ++ reverse behind.old.items }
     ensures count { length behind.new.items + place ≡ length behind.old.items + length rows.old.items }
-    ensures room { vec_capacity rows.new ≡ vec_capacity rows.old }
+    ensures capacity { vec_capacity rows.new ≡ vec_capacity rows.old }
     ensures room_behind { vec_capacity behind.old ≤ vec_capacity behind.new }
 {
     while rows.len() > place {
@@ -359,8 +366,10 @@ fn move_behind(rows: &mut Vec<TreeRow>, place: usize, behind: &mut Vec<TreeRow>)
 fn weave_rows(rows: &mut Vec<TreeRow>, mut changes: Vec<TreeRow>) -> Result<(), AllocError>
     requires in_order { IsInOrder rows.old.items }
     requires rising { IsInOrder changes.items }
-    requires room { length (puts (entries_view rows.old.items) (entries_view changes.items)) ≤ vec_capacity rows.old }
-    ensures ok { OnOk result (entries_view rows.new.items ≡ puts (entries_view rows.old.items) (entries_view changes.items)) }
+    requires capacity { length (puts (entries_view rows.old.items) (entries_view changes.items))
+        ≤ vec_capacity rows.old }
+    ensures ok { OnOk result
+        (entries_view rows.new.items ≡ puts (entries_view rows.old.items) (entries_view changes.items)) }
     ensures err { OnErr result (rows.new.items ≡ rows.old.items) }
 {
     let mut behind = Vec::with_capacity(*rows.allocator(), rows.len() + changes.len())?;
@@ -384,8 +393,10 @@ fn weave_rows(rows: &mut Vec<TreeRow>, mut changes: Vec<TreeRow>) -> Result<(), 
 fn put_changes(rows: &mut Vec<TreeRow>, changes: Changes) -> Result<(), AllocError>
     requires in_order { IsInOrder rows.old.items }
     requires rising { IsInOrder changes.rows.items }
-    requires added { length (puts (entries_view rows.old.items) (entries_view changes.rows.items)) ≤ length rows.old.items + changes.added }
-    ensures ok { OnOk result (entries_view rows.new.items ≡ puts (entries_view rows.old.items) (entries_view changes.rows.items)) }
+    requires added { length (puts (entries_view rows.old.items) (entries_view changes.rows.items))
+        ≤ length rows.old.items + changes.added }
+    ensures ok { OnOk result
+        (entries_view rows.new.items ≡ puts (entries_view rows.old.items) (entries_view changes.rows.items)) }
     ensures err { OnErr result (rows.new.items ≡ rows.old.items) }
 {
     rows.reserve(changes.added)?;

@@ -140,8 +140,8 @@ impl RankSet {
 
     /// Adds the ranks of a run that is not empty and within the limit.
     pub(crate) fn put_run(&mut self, first: u32, last: u32) -> Result<(), AllocError>
-        requires some { first ≤ last }
-        requires small { last < RANK_LIMIT }
+        requires not_empty { first ≤ last }
+        requires below_limit { last < RANK_LIMIT }
         ensures ok { OnOk result (self.new ≡ union self.old (ranks_between first last)) }
         ensures err { OnErr result (self.new ≡ self.old) }
     {
@@ -230,7 +230,7 @@ impl RankSet {
     /// How many ranks the set has.
     pub fn count(&self) -> u32
         ensures count { result ≡ size self.now }
-        ensures few { result ≤ RANK_LIMIT }
+        ensures within_limit { result ≤ RANK_LIMIT }
     {
         words::ones(self.words.as_slice())
     }
@@ -239,7 +239,7 @@ impl RankSet {
     pub fn first(&self) -> Option<u32>
         ensures none { IfNone result (self.now ≡ none) }
         ensures least { IfSome result (λ r. slice_get (in_order self.now) 0 ≡ Some r) }
-        ensures small { IfSome result (λ r. r < RANK_LIMIT) }
+        ensures below_limit { IfSome result (λ r. r < RANK_LIMIT) }
     {
         words::least(self.offset, self.words.as_slice())
     }
@@ -247,8 +247,8 @@ impl RankSet {
     /// The longest run of neighbours that begins with the least rank at or above `from`, `None` where there is no such rank.
     pub fn next_run(&self, from: u32) -> Option<Run>
         ensures none { IfNone result ((q : ℕ) → from ≤ q → has self.now q ≡ false) }
-        ensures some { IfSome result (λ run. IsRun self.now from run.first run.last) }
-        ensures small { IfSome result (λ run. run.last < RANK_LIMIT) }
+        ensures run { IfSome result (λ run. IsRun self.now from run.first run.last) }
+        ensures below_limit { IfSome result (λ run. run.last < RANK_LIMIT) }
     {
         words::next_run(self.offset, self.words.as_slice(), from)
     }

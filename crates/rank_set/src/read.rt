@@ -39,7 +39,7 @@ impl From<AllocError> for RanksError {
 // The number that must stand at a place, and how many digits it has.
 fn number_at(place: usize, text: &[u8]) -> Result<(u32, usize), RanksError>
     ensures ok { IfOk result (λ n. number_at place text.now ≡ Ok n.0) }
-    ensures small { IfOk result (λ n. n.0 < RANK_LIMIT) }
+    ensures below_limit { IfOk result (λ n. n.0 < RANK_LIMIT) }
     ensures len { IfOk result (λ n. n.1 ≡ digits_len text.now) }
     ensures within { IfOk result (λ n. n.1 ≤ length text.now) }
     ensures err { IfErr result (λ e. number_at place text.now ≡ Err e) }
@@ -60,8 +60,8 @@ fn number_at(place: usize, text: &[u8]) -> Result<(u32, usize), RanksError>
 fn item_at(place: usize, item: &[u8]) -> Result<Run, RanksError>
     requires { place + length item.now < 2 ^ 64 }
     ensures ok { IfOk result (λ run. item_at place item.now ≡ Ok (run.first, run.last)) }
-    ensures some { IfOk result (λ run. run.first ≤ run.last) }
-    ensures small { IfOk result (λ run. run.last < RANK_LIMIT) }
+    ensures not_empty { IfOk result (λ run. run.first ≤ run.last) }
+    ensures below_limit { IfOk result (λ run. run.last < RANK_LIMIT) }
     ensures err { IfErr result (λ e. item_at place item.now ≡ Err e) }
 {
     let (first, len) = number_at(place, item)?;

@@ -35,7 +35,8 @@ fn write_run(first: u32, last: u32, out: &mut Vec<u8>) -> Result<(), AllocError>
 // Appends the longest runs of the words' ranks, parted by commas.
 pub(crate) fn write_runs(offset: u32, words: &[u64], out: &mut Vec<u8>) -> Result<(), AllocError>
     requires { offset + length words.now ≤ WORD_LIMIT }
-    ensures { OnOk result (out.new.items ≡ out.old.items ++ runs_text (runs_of (in_order (ranks_in offset words.now)))) }
+    ensures { OnOk result
+        (out.new.items ≡ out.old.items ++ runs_text (runs_of (in_order (ranks_in offset words.now)))) }
 {
     let mut from = 0;
     while let Some(run) = next_run(offset, words, from) {

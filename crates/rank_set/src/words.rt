@@ -47,8 +47,8 @@ fn words_between(
 // Makes the words reach from one place up to another. A refusal leaves them as they were.
 fn cover(offset: &mut u32, words: &mut Words, low: u32, high: u32) -> Result<(), AllocError>
     requires trimmed { AreWords offset.old words.old.items }
-    requires some { low < high }
-    requires few { high ≤ WORD_LIMIT }
+    requires not_empty { low < high }
+    requires within_limit { high ≤ WORD_LIMIT }
     ensures ok { OnOk result (Covers offset.old words.old.items low high offset.new words.new.items) }
     ensures err_offset { OnErr result (offset.new ≡ offset.old) }
     ensures err_words { OnErr result (words.new.items ≡ words.old.items) }
@@ -73,7 +73,8 @@ fn cover(offset: &mut u32, words: &mut Words, low: u32, high: u32) -> Result<(),
 fn or_words(words: &mut [u64], offset: u32, other_offset: u32, others: &[u64])
     requires begins { offset ≤ other_offset }
     requires stops { other_offset + length others.now ≤ offset + length words.old }
-    ensures { (j : ℕ) → get_or words.new j 0 ≡ bit_or (get_or words.old j 0) (word_at other_offset others.now (offset + j)) }
+    ensures { (j : ℕ)
+        → get_or words.new j 0 ≡ bit_or (get_or words.old j 0) (word_at other_offset others.now (offset + j)) }
 {
     let at = (other_offset - offset) as usize;
     for (i, word) in others.iter().enumerate() {
@@ -83,7 +84,7 @@ fn or_words(words: &mut [u64], offset: u32, other_offset: u32, others: &[u64])
 
 // Word k of the ranks from the first to the last, which has some of them.
 fn word_of_run(first: u32, last: u32, k: u32) -> u64
-    requires some { first ≤ last }
+    requires not_empty { first ≤ last }
     requires begins { first / 64 ≤ k }
     requires stops { k ≤ last / 64 }
     ensures { result ≡ run_word first last k }
@@ -95,7 +96,7 @@ fn word_of_run(first: u32, last: u32, k: u32) -> u64
 
 // Sets the bits of the ranks from the first to the last.
 fn or_run(words: &mut [u64], offset: u32, first: u32, last: u32)
-    requires some { first ≤ last }
+    requires not_empty { first ≤ last }
     requires begins { offset ≤ first / 64 }
     requires stops { last / 64 < offset + length words.old }
     ensures { (j : ℕ) → get_or words.new j 0 ≡ bit_or (get_or words.old j 0) (run_word first last (offset + j)) }
@@ -115,7 +116,9 @@ pub(crate) fn add_words(
     requires trimmed { AreWords offset.old words.old.items }
     requires trimmed_others { AreWords other_offset others.now }
     ensures trimmed { AreWords offset.new words.new.items }
-    ensures ok { OnOk result (ranks_in offset.new words.new.items ≡ union (ranks_in offset.old words.old.items) (ranks_in other_offset others.now)) }
+    ensures ok { OnOk result
+        (ranks_in offset.new words.new.items
+        ≡ union (ranks_in offset.old words.old.items) (ranks_in other_offset others.now)) }
     ensures err { OnErr result (ranks_in offset.new words.new.items ≡ ranks_in offset.old words.old.items) }
 {
     if others.is_empty() {
@@ -139,10 +142,12 @@ pub(crate) fn add_run(
     last: u32,
 ) -> Result<(), AllocError>
     requires trimmed { AreWords offset.old words.old.items }
-    requires some { first ≤ last }
-    requires small { last < RANK_LIMIT }
+    requires not_empty { first ≤ last }
+    requires below_limit { last < RANK_LIMIT }
     ensures trimmed { AreWords offset.new words.new.items }
-    ensures ok { OnOk result (ranks_in offset.new words.new.items ≡ union (ranks_in offset.old words.old.items) (ranks_between first last)) }
+    ensures ok { OnOk result
+        (ranks_in offset.new words.new.items
+        ≡ union (ranks_in offset.old words.old.items) (ranks_between first last)) }
     ensures err { OnErr result (ranks_in offset.new words.new.items ≡ ranks_in offset.old words.old.items) }
 {
     cover(offset, words, first / 64, last / 64 + 1)?;
@@ -153,7 +158,8 @@ pub(crate) fn add_run(
 // Clears the bits that the second words have.
 pub(crate) fn clear_words(words: &mut [u64], offset: u32, other_offset: u32, others: &[u64])
     requires { offset + length words.old ≤ WORD_LIMIT }
-    ensures { ranks_in offset words.new ≡ those (λ r. not (has (ranks_in other_offset others.now) r)) (ranks_in offset words.old) }
+    ensures { ranks_in offset words.new
+        ≡ those (λ r. not (has (ranks_in other_offset others.now) r)) (ranks_in offset words.old) }
 {
     for i in 0..words.len() {
         words[i] &= !word_of(other_offset, others, offset + i as u32);
@@ -163,7 +169,8 @@ pub(crate) fn clear_words(words: &mut [u64], offset: u32, other_offset: u32, oth
 // Clears the bits that the second words do not have.
 pub(crate) fn keep_words(words: &mut [u64], offset: u32, other_offset: u32, others: &[u64])
     requires { offset + length words.old ≤ WORD_LIMIT }
-    ensures { ranks_in offset words.new ≡ those (λ r. has (ranks_in other_offset others.now) r) (ranks_in offset words.old) }
+    ensures { ranks_in offset words.new
+        ≡ those (λ r. has (ranks_in other_offset others.now) r) (ranks_in offset words.old) }
 {
     for i in 0..words.len() {
         words[i] &= word_of(other_offset, others, offset + i as u32);
@@ -232,7 +239,7 @@ pub(crate) fn all_are_in(offset: u32, words: &[u64], other_offset: u32, others: 
 pub(crate) fn ones(words: &[u64]) -> u32
     requires { length words.now ≤ WORD_LIMIT }
     ensures ones { (o : ℕ) → result ≡ size (ranks_in o words.now) }
-    ensures few { result ≤ 64 * length words.now }
+    ensures within { result ≤ 64 * length words.now }
 {
     let mut total = 0;
     for word in words {
@@ -262,7 +269,7 @@ pub(crate) fn least(offset: u32, words: &[u64]) -> Option<u32>
     requires { AreWords offset words.now }
     ensures none { IfNone result (ranks_in offset words.now ≡ none) }
     ensures least { IfSome result (λ r. slice_get (in_order (ranks_in offset words.now)) 0 ≡ Some r) }
-    ensures small { IfSome result (λ r. r < RANK_LIMIT) }
+    ensures below_limit { IfSome result (λ r. r < RANK_LIMIT) }
 {
     if words.is_empty() {
         return None;
@@ -290,8 +297,9 @@ pub(crate) fn words_in(offset: u32, words: &[u64]) -> &[u64]
 // The least place from the given one on, within the words, that is a rank, or with `gap` is none.
 fn next_bit(offset: u32, words: &[u64], from: u32, gap: bool) -> Option<u32>
     requires { offset + length words.now ≤ WORD_LIMIT }
-    ensures some { IfSome result (IsNext offset words.now gap from) }
-    ensures none { IfNone result ((q : ℕ) → from ≤ q → q < 64 * (offset + length words.now) → bit_in offset words.now q ≡ gap) }
+    ensures run { IfSome result (IsNext offset words.now gap from) }
+    ensures none { IfNone result
+        ((q : ℕ) → from ≤ q → q < 64 * (offset + length words.now) → bit_in offset words.now q ≡ gap) }
 {
     let end = offset + words.len() as u32;
     let mut mask = u64::MAX << (from % 64);
@@ -311,8 +319,8 @@ fn next_bit(offset: u32, words: &[u64], from: u32, gap: bool) -> Option<u32>
 pub(crate) fn next_run(offset: u32, words: &[u64], from: u32) -> Option<Run>
     requires { offset + length words.now ≤ WORD_LIMIT }
     ensures none { IfNone result ((q : ℕ) → from ≤ q → has (ranks_in offset words.now) q ≡ false) }
-    ensures some { IfSome result (λ run. IsRun (ranks_in offset words.now) from run.first run.last) }
-    ensures small { IfSome result (λ run. run.last < 64 * (offset + length words.now)) }
+    ensures run { IfSome result (λ run. IsRun (ranks_in offset words.now) from run.first run.last) }
+    ensures in_range { IfSome result (λ run. run.last < 64 * (offset + length words.now)) }
 {
     let first = next_bit(offset, words, from, false)?;
     let end = match next_bit(offset, words, first, true) {

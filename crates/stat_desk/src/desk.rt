@@ -30,8 +30,10 @@ pub trait Desk {
     fn read(&mut self, name: &str, max: u64) -> Result<Vec<u8>, DeskError>
         ensures whole { IfOk result (λ bytes. IsWhole (contents self.old name.now) max bytes.items) }
         ensures too_long { IsErrOf result DeskError.TooLong → IsLonger (contents self.old name.now) max }
-        ensures failed { IsErrOf result DeskError.Failed → FailedAt (faults self.old) (faults self.new) (last_fault self.new) name.now }
-        ensures counts { CountsAt (faults self.old) (faults self.new) (last_fault self.old) (last_fault self.new) name.now }
-        ensures small { faults self.new < 2 ^ 64 }
+        ensures failed { IsErrOf result DeskError.Failed
+            → FailedAt (faults self.old) (faults self.new) (last_fault self.new) name.now }
+        ensures counts { CountsAt (faults self.old) (faults self.new) (last_fault self.old)
+            (last_fault self.new) name.now }
+        ensures fits_u64 { faults self.new < 2 ^ 64 }
         ensures contents { contents self.new ≡ contents self.old };
 }

@@ -65,7 +65,8 @@ impl MemDesk {
 
     /// Sets the bytes of a name, in place of those that it had.
     pub fn put(&mut self, name: String, bytes: Vec<u8>) -> Result<(), AllocError>
-        ensures ok { OnOk result (self.new ≡ record self.old { files = (string_bytes name, bytes.items) ∷ self.old.files }) }
+        ensures ok { OnOk result
+            (self.new ≡ record self.old { files = (string_bytes name, bytes.items) ∷ self.old.files }) }
         ensures err { OnErr result (self.new ≡ self.old) }
     {
         self.files.insert(0, StoredFile { name, bytes })?;
@@ -83,11 +84,14 @@ impl MemDesk {
 
     // Counts a read that failed at this name.
     fn refuse(&mut self, call: u64, name: String) -> DeskError
-        ensures refused { self.new ≡ record self.old { calls = call; faults = next_count self.old.faults; last_fault = Some (string_bytes name) } }
+        ensures refused { self.new
+            ≡ record self.old { calls = call; faults = next_count self.old.faults; last_fault = Some
+            (string_bytes name) } }
         ensures why { result ≡ DeskError.Failed }
-        ensures counts { CountsAt self.old.faults self.new.faults self.old.last_fault self.new.last_fault (string_bytes name) }
+        ensures counts { CountsAt self.old.faults self.new.faults self.old.last_fault self.new.last_fault
+            (string_bytes name) }
         ensures failed { FailedAt self.old.faults self.new.faults self.new.last_fault (string_bytes name) }
-        ensures small { self.new.faults < 2 ^ 64 }
+        ensures fits_u64 { self.new.faults < 2 ^ 64 }
     {
         self.calls = call;
         self.faults = self.faults.saturating_add(1);
@@ -98,7 +102,8 @@ impl MemDesk {
 
 // The bytes of a name among files.
 fn bytes_of<'a>(files: &'a [StoredFile], name: &str) -> Option<&'a Vec<u8>>
-    ensures { option_map (λ (bytes : Bor (Vec ℕ Global)). bytes.now.items) result ≡ file_of (entries_of files.now) name.now }
+    ensures { option_map (λ (bytes : Bor (Vec ℕ Global)). bytes.now.items) result
+        ≡ file_of (entries_of files.now) name.now }
 {
     for file in files {
         if file.name.as_str() == name {
@@ -120,9 +125,10 @@ impl Desk for MemDesk {
     fn read(&mut self, name: &str, max: u64) -> Result<Vec<u8>, DeskError>
         ensures whole { IfOk result (λ bytes. IsWhole (file_of self.old.files name.now) max bytes.items) }
         ensures too_long { IsErrOf result DeskError.TooLong → IsLonger (file_of self.old.files name.now) max }
-        ensures failed { IsErrOf result DeskError.Failed → FailedAt self.old.faults self.new.faults self.new.last_fault name.now }
+        ensures failed { IsErrOf result DeskError.Failed
+            → FailedAt self.old.faults self.new.faults self.new.last_fault name.now }
         ensures counts { CountsAt self.old.faults self.new.faults self.old.last_fault self.new.last_fault name.now }
-        ensures small { self.new.faults < 2 ^ 64 }
+        ensures fits_u64 { self.new.faults < 2 ^ 64 }
         ensures contents { self.new.files ≡ self.old.files }
         ensures state { self.new ≡ after_read self.old name.now result }
         ensures exactly { Gives (read_answer self.old name.now max) result }

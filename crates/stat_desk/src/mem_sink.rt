@@ -43,7 +43,8 @@ impl MemSink {
     /// them, so that a write takes none.
     pub fn new(alloc: Global, at_once: usize, room: usize) -> Result<MemSink, AllocError>
         requires { 1 ≤ at_once }
-        ensures { IfOk result (λ s. s ≡ record { bytes = []; at_once = at_once; room = room; failing = []; calls = 0; faults = 0 }) }
+        ensures { IfOk result
+            (λ s. s ≡ record { bytes = []; at_once = at_once; room = room; failing = []; calls = 0; faults = 0 }) }
     {
         Ok(MemSink {
             bytes: Vec::with_capacity(alloc, room)?,
@@ -89,7 +90,7 @@ impl Sink for MemSink {
         ensures taken { IfOk result (TakesFirst (Some self.old.bytes) (Some self.new.bytes) piece.now) }
         ensures err { OnErr result (self.new.bytes ≡ self.old.bytes) }
         ensures cause { HasCause self.old.faults self.new.faults result }
-        ensures small { self.new.faults < 2 ^ 64 }
+        ensures fits_u64 { self.new.faults < 2 ^ 64 }
         ensures state { self.new ≡ after_write self.old piece.now result }
         ensures exactly { result ≡ write_answer self.old piece.now }
     {

@@ -24,7 +24,7 @@ pub trait Sink {
         ensures taken { IfOk result (TakesFirst (contents self.old) (contents self.new) piece.now) }
         ensures err { OnErr result (contents self.new ≡ contents self.old) }
         ensures cause { HasCause (faults self.old) (faults self.new) result }
-        ensures small { faults self.new < 2 ^ 64 };
+        ensures fits_u64 { faults self.new < 2 ^ 64 };
 }
 
 /// Offers what is left of the bytes until all is taken, or a write fails. Takes no memory, and offers

@@ -35,9 +35,11 @@ impl<'a, R: Files> FileDesk<'a, R> {
     // Counts a read that failed at this name.
     fn refuse(&mut self, name: String) -> DeskError
         ensures why { result ≡ DeskError.Failed }
-        ensures counts { CountsAt self.old.faults self.new.faults (option_map string_bytes self.old.last_fault) (option_map string_bytes self.new.last_fault) (string_bytes name) }
-        ensures failed { FailedAt self.old.faults self.new.faults (option_map string_bytes self.new.last_fault) (string_bytes name) }
-        ensures small { self.new.faults < 2 ^ 64 }
+        ensures counts { CountsAt self.old.faults self.new.faults (option_map string_bytes self.old.last_fault)
+            (option_map string_bytes self.new.last_fault) (string_bytes name) }
+        ensures failed { FailedAt self.old.faults self.new.faults (option_map string_bytes self.new.last_fault)
+            (string_bytes name) }
+        ensures fits_u64 { self.new.faults < 2 ^ 64 }
     {
         self.faults = self.faults.saturating_add(1);
         self.last_fault = Some(name);

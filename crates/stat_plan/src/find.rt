@@ -14,7 +14,8 @@ pub fn is_among(nodes: &[u32], n: u32) -> bool
 
 /// The place of the stream of a number, where there is one.
 pub fn stream_place(streams: &[StreamDef], s: u8) -> Option<usize>
-    ensures { MatchOption result (find (λ x. x.number == s) streams.now ≡ None) (λ i. (i < length streams.now) × (find (λ x. x.number == s) streams.now ≡ slice_get streams.now i)) }
+    ensures { MatchOption result (find (λ x. x.number == s) streams.now ≡ None)
+        (λ i. (i < length streams.now) × (find (λ x. x.number == s) streams.now ≡ slice_get streams.now i)) }
 {
     for (i, x) in streams.iter().enumerate() {
         if x.number() == s {

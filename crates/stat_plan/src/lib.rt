@@ -39,5 +39,6 @@ pub use topology::{DEPTH_LIMIT, NODE_LIMIT, Topology};
 
 /// A law: fewer pairs over fewer ranks have no more prefixes.
 pub fn fewer_pairs_have_fewer_prefixes()
-    ensures { (P Q : Pairs) (C D : Ranks) → HasNoMore P Q → ((r : ℕ) → has C r ≡ true → has D r ≡ true) → count_below (tree_of P C) ≤ count_below (tree_of Q D) }
+    ensures { (P Q : Pairs) (C D : Ranks) → HasNoMore P Q → ((r : ℕ) → has C r ≡ true → has D r ≡ true)
+        → count_below (tree_of P C) ≤ count_below (tree_of Q D) }
 {}

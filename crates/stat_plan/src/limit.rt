@@ -31,8 +31,11 @@ fn mark(
 ) -> Result<Option<u32>, TreeError>
     requires path { line.now.path < length paths.now }
     requires covers { tree.old.coverage ≡ ranks.now }
-    ensures ok { IfOk result (λ now. (P : Pairs) → tree.old ≡ tree_of P ranks.now → MarksLine P ranks.now paths.now (line_of paths.now line.now) last now tree.old tree.new) }
-    ensures full { result ≡ Err TooManyPrefixes → (P : Pairs) → tree.old ≡ tree_of P ranks.now → IsTooMuch P ranks.now (line_of paths.now line.now) }
+    ensures ok { IfOk result
+        (λ now. (P : Pairs) → tree.old ≡ tree_of P ranks.now
+        → MarksLine P ranks.now paths.now (line_of paths.now line.now) last now tree.old tree.new) }
+    ensures full { result ≡ Err TooManyPrefixes → (P : Pairs) → tree.old ≡ tree_of P ranks.now
+        → IsTooMuch P ranks.now (line_of paths.now line.now) }
 {
     if last == Some(line.path) {
         return Ok(last);
@@ -62,7 +65,9 @@ fn wave_is_within(
 ) -> Result<bool, AllocError>
     requires numbered { PathIndicesInRange paths.now lines.now }
     requires numbers { AreLineNumbers (length lines.now) numbers.now }
-    ensures { IfOk result (λ within. within ≡ is_within_limit (samples_of (wave_lines samples wave (lines_of paths.now lines.now))) ranks.now) }
+    ensures { IfOk result
+        (λ within. within
+        ≡ is_within_limit (samples_of (wave_lines samples wave (lines_of paths.now lines.now))) ranks.now) }
 {
     let mut tree = OwnedTree::empty(alloc);
     tree.cover(ranks)?;

@@ -17,9 +17,10 @@ use std::alloc::{AllocError, Global};
 // Notes the node of each of its ranks.
 fn assign(rank_to_node: &mut [u32], ranks: &RankSet, node: u32)
     requires { length rank_to_node.old ≡ 16384 }
-    ensures all { length rank_to_node.new ≡ 16384 }
+    ensures length { length rank_to_node.new ≡ 16384 }
     ensures ranks { (r : ℕ) → Has r ranks.now → (r < 16384) × (slice_index_or rank_to_node.new r 0 ≡ node) }
-    ensures others { (r : ℕ) → has ranks.now r ≡ false → slice_index_or rank_to_node.new r 0 ≡ slice_index_or rank_to_node.old r 0 }
+    ensures others { (r : ℕ) → has ranks.now r ≡ false
+        → slice_index_or rank_to_node.new r 0 ≡ slice_index_or rank_to_node.old r 0 }
 {
     let mut from = 0;
     while let Some(run) = ranks.next_run(from) {
@@ -32,8 +33,8 @@ fn assign(rank_to_node: &mut [u32], ranks: &RankSet, node: u32)
 
 // Notes the node of each placed rank.
 fn assign_all(rank_to_node: &mut [u32], placed: &[RankSet])
-    requires all { length rank_to_node.old ≡ 16384 }
-    requires few { length placed.now < 2 ^ 32 }
+    requires length { length rank_to_node.old ≡ 16384 }
+    requires within_limit { length placed.now < 2 ^ 32 }
     requires once { ArePlacedOnce placed.now }
     ensures { AreHomes placed.now rank_to_node.new }
 {
@@ -44,9 +45,9 @@ fn assign_all(rank_to_node: &mut [u32], placed: &[RankSet])
 
 // Puts a number at the end of a row, if it doesn't stand there.
 fn push_once(row: &mut Vec<u32>, number: u32) -> Result<(), AllocError>
-    ensures kept { OnOk result ((i : ℕ) → In i row.old.items → In i row.new.items) }
-    ensures here { OnOk result (In number row.new.items) }
-    ensures only { OnOk result ((i : ℕ) → In i row.new.items → In i row.old.items ⊎ (i ≡ number)) }
+    ensures still_in { OnOk result ((i : ℕ) → In i row.old.items → In i row.new.items) }
+    ensures added { OnOk result (In number row.new.items) }
+    ensures nothing_else { OnOk result ((i : ℕ) → In i row.new.items → In i row.old.items ⊎ (i ≡ number)) }
 {
     let count = row.len();
     if count > 0 && row[count - 1] == number {
@@ -59,9 +60,9 @@ fn push_once(row: &mut Vec<u32>, number: u32) -> Result<(), AllocError>
 // The number after the run of neighbours in which a rank stands, from the rank on.
 fn after_run(ranks: &RankSet, r: u32) -> u32
     requires { Has r ranks.now }
-    ensures more { r < result }
+    ensures advances { r < result }
     ensures within { (q : ℕ) → r ≤ q → q < result → Has q ranks.now }
-    ensures small { result ≤ 16384 }
+    ensures below_limit { result ≤ 16384 }
 {
     match ranks.next_run(r) {
         Some(run) => run.last + 1,
@@ -79,11 +80,12 @@ fn index_run(
     number: u32,
 ) -> Result<(), AllocError>
     requires rank_to_node { AreHomes placed.now rank_to_node.now }
-    requires paired { length table.old ≡ length placed.now }
+    requires same_length { length table.old ≡ length placed.now }
     requires placed { (r : ℕ) → first ≤ r → r ≤ last → Has r (all_ranks placed.now) }
-    requires some { first ≤ last }
-    requires small { last < 16384 }
-    ensures { OnOk result (IndexesRun placed.now first last (last + 1) number (rows_view table.old) (rows_view table.new)) }
+    requires not_empty { first ≤ last }
+    requires below_limit { last < 16384 }
+    ensures { OnOk result
+        (IndexesRun placed.now first last (last + 1) number (rows_view table.old) (rows_view table.new)) }
 {
     let mut r = first;
     while r <= last {
@@ -103,7 +105,7 @@ fn index_line(
     number: u32,
 ) -> Result<(), AllocError>
     requires rank_to_node { AreHomes placed.now rank_to_node.now }
-    requires paired { length table.old ≡ length placed.now }
+    requires same_length { length table.old ≡ length placed.now }
     requires placed { (r : ℕ) → Has r ranks.now → Has r (all_ranks placed.now) }
     ensures { OnOk result (IndexesLine placed.now ranks.now number (rows_view table.old) (rows_view table.new)) }
 {
@@ -117,7 +119,7 @@ fn index_line(
 
 // The node of each placed rank, by rank. What stands at other ranks means nothing.
 fn rank_to_node_of(alloc: Global, placed: &[RankSet]) -> Result<Vec<u32>, AllocError>
-    requires few { length placed.now < 2 ^ 32 }
+    requires within_limit { length placed.now < 2 ^ 32 }
     requires once { ArePlacedOnce placed.now }
     ensures { IfOk result (λ rank_to_node. AreHomes placed.now rank_to_node.items) }
 {

@@ -33,7 +33,7 @@ pub fn by_path(
     lines: &[StackLine],
 ) -> Result<Vec<u32>, AllocError>
     requires numbered { PathIndicesInRange paths.now lines.now }
-    requires few { length lines.now ≤ LINE_LIMIT }
+    requires within_limit { length lines.now ≤ LINE_LIMIT }
     ensures { IfOk result (λ numbers. AreLineNumbers (length lines.now) numbers.items) }
 {
     let places = path_places(alloc, paths)?;

@@ -137,7 +137,7 @@ fn runnable_plan(
     requires samples { SamplesFit topology samples }
     requires script { ScriptFits topology script }
     ensures ok { IfOk result (λ plan. by_limit (plan_of topology samples script) (first_over (plan_of topology samples script)) ≡ Does (RunJob plan)) }
-    ensures safe { IfOk result (λ plan. plan.faults ≡ []) }
+    ensures no_faults { IfOk result (λ plan. plan.faults ≡ []) }
     ensures err { IfErr result (IsPlanRefusal (by_limit (plan_of topology samples script) (first_over (plan_of topology samples script)))) }
 {
     let plan = match Plan::build(alloc, topology, samples, script) {
@@ -161,7 +161,7 @@ fn runnable_plan(
 /// The plan of the three files.
 pub fn read_plan<D: Desk>(alloc: Global, files: Files<'_>, desk: &mut D) -> Result<Plan, Status>
     ensures ok { IfOk result (λ plan. IsPlanned (names_of files.entry) (D.contents desk.old) (RunJob plan)) }
-    ensures safe { IfOk result (λ plan. plan.faults ≡ []) }
+    ensures no_faults { IfOk result (λ plan. plan.faults ≡ []) }
     ensures err { IfErr result (Prevented (names_of files.entry) (record { before = D.faults desk.old; now = D.faults desk.new; last_fault = D.last_fault desk.new; contents = D.contents desk.old })) }
 {
     let topology = match read_topology(alloc, desk, files.topology) {

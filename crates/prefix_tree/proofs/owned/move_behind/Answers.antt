@@ -17,7 +17,7 @@ loop-rows-preserved-in-Some c =
       rows = moved.rows;
       behind = moved.behind;
       count = let n = h.count in omega (arith, n, fewer, grown);
-      room = let r = h.room in omega (arith, r, fewer, grown, c.push_row.ensures.room);
+      room = let r = h.room in omega (arith, r, fewer, grown, c.push_row.ensures.capacity);
       same_room = c.pop.ensures.capacity ∙ h.same_room;
-      more_room = let r = h.more_room in omega (arith, r, c.push_row.ensures.room);
+      more_room = let r = h.more_room in omega (arith, r, c.push_row.ensures.capacity);
     }

@@ -28,13 +28,13 @@ loop-depth-preserved c =
           let left = ap (new_among b) step in
           let all = c.loop-depth.invariant.added in
           omega (arith, now, left, all);
-      few = c.in_ok-note.ensures.few;
+      few = c.in_ok-note.ensures.added_within;
     }
 
 pub returns-clause-rows : goal.returns-clause-rows
 returns-clause-rows c =
     let b = below_in c.args.rows.now in
-    let last : c.loop-depth.depth ≡ length c.args.path.now = omega (arith, c.loop-depth-test.false, c.len-depth-end.ensures.len, c.len-depth-end.ensures.some, c.loop-depth.auto.depth-end, c.loop-depth.auto.depth) in
+    let last : c.loop-depth.depth ≡ length c.args.path.now = omega (arith, c.loop-depth-test.false, c.len-depth-end.ensures.len, c.len-depth-end.ensures.not_empty, c.loop-depth.auto.depth-end, c.loop-depth.auto.depth) in
     let end = path_last c.args.ranks.now c.args.path.now c.loop-depth.depth (omega arith) last in
     c.in_ok-note-2.ensures.rows
     ∙ (λ k. entries_view c.loop-depth.changes.rows.items ++ changed b (c.in_ok-copy.ensures k, (c.args.ranks.now, c.args.ranks.now)) ∷ [])
@@ -44,7 +44,7 @@ returns-clause-rows c =
 pub returns-clause-added : goal.returns-clause-added
 returns-clause-added c =
     let b = below_in c.args.rows.now in
-    let last : c.loop-depth.depth ≡ length c.args.path.now = omega (arith, c.loop-depth-test.false, c.len-depth-end.ensures.len, c.len-depth-end.ensures.some, c.loop-depth.auto.depth-end, c.loop-depth.auto.depth) in
+    let last : c.loop-depth.depth ≡ length c.args.path.now = omega (arith, c.loop-depth-test.false, c.len-depth-end.ensures.len, c.len-depth-end.ensures.not_empty, c.loop-depth.auto.depth-end, c.loop-depth.auto.depth) in
     let end = path_last c.args.ranks.now c.args.path.now c.loop-depth.depth (omega arith) last in
     c.in_ok-note-2.ensures.added
     ∙ (λ k. c.loop-depth.changes.added + new_among b ((c.in_ok-copy.ensures k, (c.args.ranks.now, c.args.ranks.now)) ∷ []))

@@ -11,8 +11,8 @@ push_row-requires c =
     let room = c.loop-change.invariant.room_behind in
     let one = ap length c.in-Some.ensures.items ∙ length-append c.pop.new.self.items (c.in-Some.change ∷ []) in
     elim c.match-place.branch [
-      | in-Ok w ↦ omega (arith, room, one, w.in-Ok.ensures.found, c.deref.ensures.len, w.move_behind.ensures.count, w.move_behind.ensures.room_behind, ap (λ v. length v.items) w.behind-is, ap vec_capacity w.behind-is)
-      | in-Err w ↦ omega (arith, room, one, w.in-Err.ensures.absent, c.deref.ensures.len, w.move_behind-in-Err.ensures.count, w.move_behind-in-Err.ensures.room_behind, ap (λ v. length v.items) w.behind-is, ap vec_capacity w.behind-is)
+      | in-Ok w ↦ omega (arith, room, one, w.in-Ok.ensures.found, c.deref.ensures.len, w.move_behind.ensures.count, w.move_behind.ensures.capacity_behind, ap (λ v. length v.items) w.behind-is, ap vec_capacity w.behind-is)
+      | in-Err w ↦ omega (arith, room, one, w.in-Err.ensures.absent, c.deref.ensures.len, w.move_behind-in-Err.ensures.count, w.move_behind-in-Err.ensures.capacity_behind, ap (λ v. length v.items) w.behind-is, ap vec_capacity w.behind-is)
     ]
 
 pub loop-change-preserved : goal.loop-change-preserved
@@ -31,18 +31,18 @@ loop-change-preserved c =
           (goes_new rows behind row w.move_behind-in-Err.new.rows.items w.move_behind-in-Err.new.behind.items w.in-Err.at (at ∙ w.in-Err.is) (omega (arith, w.in-Err.ensures.absent, ap length c.deref.ensures.value)) w.move_behind-in-Err.ensures.rows w.move_behind-in-Err.ensures.behind)
     ] in
     let room : vec_capacity c.match-place.rows ≡ vec_capacity c.loop-change.rows = elim c.match-place.branch [
-      | in-Ok w ↦ ap vec_capacity w.rows-is ∙ w.truncate.ensures.capacity ∙ w.move_behind.ensures.room
-      | in-Err w ↦ ap vec_capacity w.rows-is ∙ w.move_behind-in-Err.ensures.room
+      | in-Ok w ↦ ap vec_capacity w.rows-is ∙ w.truncate.ensures.capacity ∙ w.move_behind.ensures.capacity
+      | in-Err w ↦ ap vec_capacity w.rows-is ∙ w.move_behind-in-Err.ensures.capacity
     ] in
     let more_room : vec_capacity c.loop-change.behind ≤ vec_capacity c.match-place.behind = elim c.match-place.branch [
-      | in-Ok w ↦ omega (arith, ap vec_capacity w.behind-is, w.move_behind.ensures.room_behind)
-      | in-Err w ↦ omega (arith, ap vec_capacity w.behind-is, w.move_behind-in-Err.ensures.room_behind)
+      | in-Ok w ↦ omega (arith, ap vec_capacity w.behind-is, w.move_behind.ensures.capacity_behind)
+      | in-Err w ↦ omega (arith, ap vec_capacity w.behind-is, w.move_behind-in-Err.ensures.capacity_behind)
     ] in
     let woven = weaves_on rows c.loop-change.changes.items behind c.match-place.rows.items c.pop.new.self.items c.match-place.behind.items c.push_row.new.rows.items row h.in_order h.rising c.in-Some.ensures.items between c.push_row.ensures.rows in
     record {
       in_order = woven.in_order;
       rising = woven.rising;
       room = room ∙ h.room;
-      room_behind = let left = h.room_behind in let moved = woven.room in omega (arith, left, moved, more_room, c.push_row.ensures.room);
+      room_behind = let left = h.room_behind in let moved = woven.room in omega (arith, left, moved, more_room, c.push_row.ensures.capacity);
       woven = woven.woven ∙ h.woven;
     }

@@ -17,8 +17,8 @@ loop-run-preserved c =
     let from : ℕ = c.loop-run.from in
     let first : ℕ = c.in-Some.run'.first in
     let last : ℕ = c.in-Some.run'.last in
-    let found = c.in-Some.ensures.some in
-    let small : last < n = c.in-Some.ensures.small in
+    let found = c.in-Some.ensures.run in
+    let small : last < n = c.in-Some.ensures.in_range in
     let later : List (ℕ × ℕ) = runs_of (members_from t (last + 1) n) in
     let runs : runs_of (members_from t from n) ≡ (first, last) ∷ later =
     first_run t from first last n found.start found.some small (λ q le lt. sym (has-ranks_in c.args.offset c.args.words.now q) ∙ found.passed q le lt) (λ q le lt. sym (has-ranks_in c.args.offset c.args.words.now q) ∙ found.within q le lt)

@@ -8,7 +8,7 @@ use Rattle.rank_set.proofs.words.add_run.Goals as goal
 -- the words with the bits of the run
 made : (c : goal.After-words-1) → HasBits c.args.offset.now c.args.words.now.items (run_word c.args.first c.args.last) c.cover.new.offset c.or_run.new.words
 made c =
-    let some : c.args.first ≤ c.args.last = c.requires.some in
+    let some : c.args.first ≤ c.args.last = c.requires.not_empty in
     let at : c.args.last / 64 + 1 - 1 ≡ c.args.last / 64 = omega arith in
     covered_bits c.args.offset.now c.args.words.now.items (c.args.first / 64) (c.args.last / 64 + 1) c.cover.new.offset c.cover.new.words.items c.as_mut_slice.result.now c.or_run.new.words (run_word c.args.first c.args.last)
     c.in_ok-cover.ensures.ok (omega arith) c.as_mut_slice.ensures.value c.or_run.auto.words c.or_run.ensures (λ k. (no_run_word c.args.first c.args.last k).0)

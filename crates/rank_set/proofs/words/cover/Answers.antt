@@ -9,14 +9,14 @@ use Rattle.rank_set.proofs.words.cover.Goals as goal
 pub returns-then-high-end-clause-ok : goal.returns-then-high-end-clause-ok
 returns-then-high-end-clause-ok c =
     let begins : c.args.offset.now ≤ c.args.low = c.if-offset-low.true in
-    covers_itself c.args.offset.now c.args.words.now.items c.args.low c.args.high c.requires.trimmed c.requires.some begins (omega (arith, c.if-high-end.true, ap length c.as_slice-held.ensures))
+    covers_itself c.args.offset.now c.args.words.now.items c.args.low c.args.high c.requires.trimmed c.requires.not_empty begins (omega (arith, c.if-high-end.true, ap length c.as_slice-held.ensures))
 
 pub returns-clause-ok : goal.returns-clause-ok
 returns-clause-ok c =
     let held : c.as_slice-held.result.now ≡ c.args.words.now.items = c.as_slice-held.ensures in
     let long : length c.as_slice-held.result.now ≡ length c.args.words.now.items = ap length held in
     let start : ℕ = c.if-is_empty.start in
-    covers_wider c.args.offset.now c.args.words.now.items c.args.low c.args.high start c.max-stop.result c.in_ok-words.field-0.items c.requires.trimmed c.requires.some c.requires.few
+    covers_wider c.args.offset.now c.args.words.now.items c.args.low c.args.high start c.max-stop.result c.in_ok-words.field-0.items c.requires.trimmed c.requires.not_empty c.requires.within_limit
     (λ none. elim c.if-is_empty.branch [
       | then-is_empty w ↦ w.start-is
       | else-is_empty w ↦ absurd (eqb-false _ _ (sym c.is_empty.ensures ∙ w.if-is_empty.false) (long ∙ none))

@@ -37,8 +37,8 @@ positive : (n : ℕ) → (n ≡ 0 → ⊥) → 0 < n
 positive zero f = absurd (f refl)
 positive (suc n) f = omega arith
 
-pub returns-then-left-ne0-clause-some : goal.returns-then-left-ne0-clause-some
-returns-then-left-ne0-clause-some c =
+pub returns-then-left-ne0-clause-run : goal.returns-then-left-ne0-clause-run
+returns-then-left-ne0-clause-run c =
     let seen : c.if-gap.seen ≡ turned c.args.gap c.word_of-word.result = elim c.if-gap.branch [
       | then-gap w ↦ w.seen-is ∙ ap (λ b. turned b c.word_of-word.result) (sym w.if-gap.true)
       | else-gap w ↦ w.seen-is ∙ ap (λ b. turned b c.word_of-word.result) (sym w.if-gap.false)

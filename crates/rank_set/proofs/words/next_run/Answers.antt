@@ -21,15 +21,15 @@ returns-in_err-first-clause-none c = told_none c.from_residual.result _ (λ q le
 apart : (t : ℕ → Bool) (p q : ℕ) → p ≤ q → t p ≡ true → t q ≡ false → p < q
 apart t p q le one none = elim (cases_lt p q) [ inl lt ↦ lt | inr ge ↦ let e : p ≡ q = omega arith in absurd (true≢false (sym one ∙ ap t e ∙ none)) ]
 
-pub returns-clause-some : goal.returns-clause-some
-returns-clause-some c =
+pub returns-clause-run : goal.returns-clause-run
+returns-clause-run c =
     let first : ℕ = c.in_ok-first.first in
     let n : ℕ = 64 * (c.args.offset + length c.args.words.now) in
     let t : ℕ → Bool = bit_in c.args.offset c.args.words.now in
-    let next = c.in_ok-first.ensures.some in
+    let next = c.in_ok-first.ensures.run in
     elim c.match-next_bit.branch [
       | in-Some w ↦
-          let gap = w.in-Some.ensures.some in
+          let gap = w.in-Some.ensures.run in
           subst (λ e. IsRun (ranks_in c.args.offset c.args.words.now) c.args.from first (e - 1)) (sym w.end-is)
           (run_from c.args.offset c.args.words.now c.args.from first w.in-Some.gap next (apart t first w.in-Some.gap gap.start next.bit gap.bit) gap.before gap.bit)
       | in-None w ↦

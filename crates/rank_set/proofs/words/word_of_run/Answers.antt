@@ -5,7 +5,7 @@ use Rattle.rank_set.proofs.words.word_of_run.Goals as goal
 
 pub returns : goal.returns
 returns c =
-    let some : c.args.first ≤ c.args.last = c.requires.some in
+    let some : c.args.first ≤ c.args.last = c.requires.not_empty in
     let begins : c.args.first / 64 ≤ c.args.k = c.requires.begins in
     let stops : c.args.k ≤ c.args.last / 64 = c.requires.stops in
     let from : c.if-k-first.from ≡ c.args.first - 64 * c.args.k = elim c.if-k-first.branch [

@@ -12,8 +12,8 @@ pub returns-then-count-eq0-clause-ok : goal.returns-then-count-eq0-clause-ok
 returns-then-count-eq0-clause-ok c P tree =
     marks_nothing c.args.ranks.now c.intersect_with.new.self (line_of c.args.paths.now c.args.line.now) (c.intersect_with.ensures ∙ ap (those (λ r. has c.args.ranks.now r)) c.in_ok-here.ensures) P c.args.paths.now c.args.last c.args.tree.now (sym c.count.ensures.count ∙ c.if-count-eq0.true) tree
 
-pub add-requires-clause-lies : goal.add-requires-clause-lies
-add-requires-clause-lies c =
+pub add-requires-clause-in_coverage : goal.add-requires-clause-in_coverage
+add-requires-clause-in_coverage c =
     here_lies c.args.ranks.now c.intersect_with.new.self (line_of c.args.paths.now c.args.line.now) (c.intersect_with.ensures ∙ ap (those (λ r. has c.args.ranks.now r)) c.in_ok-here.ensures) c.args.tree.now.coverage c.requires.covers
 
 pub returns-in-Ok-clause-ok : goal.returns-in-Ok-clause-ok

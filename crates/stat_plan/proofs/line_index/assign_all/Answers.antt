@@ -4,7 +4,7 @@ use Rattle.stat_plan.proofs.line_index.assign_all.Goals as goal
 
 pub loop-n-preserved : goal.loop-n-preserved
 loop-n-preserved c = record {
-  all = c.assign.ensures.all;
+  all = c.assign.ensures.length;
   each = homes_more c.args.placed.now c.loop-n.rank_to_node c.assign.new.rank_to_node c.loop-n.n c.index-placed-n.result c.requires.once c.index-placed-n.is c.loop-n-test.true c.loop-n.invariant.each c.assign.ensures.ranks c.assign.ensures.others;
 }
 

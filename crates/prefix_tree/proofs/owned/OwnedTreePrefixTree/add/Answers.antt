@@ -12,12 +12,12 @@ use Rattle.prefix_tree.proofs.owned.OwnedTreePrefixTree.add.Goals as goal
 -- too many
 pub returns-then-not-has_room-clause-full : goal.returns-then-not-has_room-clause-full
 returns-then-not-has_room-clause-full c _ =
-    let count = count_added c.self.inside.coverage c.args.ranks.now c.args.path.now c.self.inside.rows.items c.args.self.now c.self.view_is c.self.invariant.tree c.requires.some c.requires.lies in
+    let count = count_added c.self.inside.coverage c.args.ranks.now c.args.path.now c.self.inside.rows.items c.args.self.now c.self.view_is c.self.invariant.tree c.requires.not_empty c.requires.in_coverage in
     let new = c.in_ok-changes.ensures.added ∙ ap (λ rows. new_among (below_in rows) (path_rows c.args.ranks.now c.args.path.now)) c.deref.ensures.value in
     omega (arith, count, new, ap length c.deref-2.ensures.value, leb-false _ _ (sym c.has_room.ensures ∙ c.if-not-has_room.true))
 
-pub put_rows-requires-clause-room : goal.put_rows-requires-clause-room
-put_rows-requires-clause-room c =
+pub put_rows-requires-clause-capacity : goal.put_rows-requires-clause-capacity
+put_rows-requires-clause-capacity c =
     let count = ap (λ rows. length (puts (entries_view rows) (entries_view c.in_ok-changes.changes.rows.items))) c.in_ok-reserve.ensures.items
     ∙ puts_count c.self.inside.rows.items c.self.inside.rows.items c.in_ok-changes.changes.rows.items (path_rows c.args.ranks.now c.args.path.now) c.self.invariant.tree.in_order (apart_path_rows c.args.ranks.now c.args.path.now) (c.in_ok-changes.ensures.rows ∙ ap (λ rows. map (changed (below_in rows)) (path_rows c.args.ranks.now c.args.path.now)) c.deref.ensures.value) in
     let new = c.in_ok-changes.ensures.added ∙ ap (λ rows. new_among (below_in rows) (path_rows c.args.ranks.now c.args.path.now)) c.deref.ensures.value in
@@ -25,13 +25,13 @@ put_rows-requires-clause-room c =
 
 makes : (c : goal.After-put_rows) → MakesTree c.self.inside.coverage c.put_rows.new.rows.items (added c.args.self.now c.args.ranks.now c.args.path.now)
 makes c =
-    makes_added c.self.inside.coverage c.args.ranks.now c.args.path.now c.self.inside.rows.items c.put_rows.new.rows.items c.args.self.now c.self.view_is c.self.invariant.tree c.requires.some c.requires.lies c.in_ok-changes.ensures.good
+    makes_added c.self.inside.coverage c.args.ranks.now c.args.path.now c.self.inside.rows.items c.put_rows.new.rows.items c.args.self.now c.self.view_is c.self.invariant.tree c.requires.not_empty c.requires.in_coverage c.in_ok-changes.ensures.good
     (puts_in_order c.self.inside.rows.items c.put_rows.new.rows.items c.in_ok-changes.changes.rows.items (path_rows c.args.ranks.now c.args.path.now) c.self.invariant.tree.in_order (apart_path_rows c.args.ranks.now c.args.path.now) (c.in_ok-changes.ensures.rows ∙ ap (λ rows. map (changed (below_in rows)) (path_rows c.args.ranks.now c.args.path.now)) c.deref.ensures.value) (c.put_rows.ensures ∙ ap (λ rows. puts (entries_view rows) (entries_view c.in_ok-changes.changes.rows.items)) c.in_ok-reserve.ensures.items))
     (puts_are_united c.self.inside.rows.items c.put_rows.new.rows.items c.in_ok-changes.changes.rows.items (path_rows c.args.ranks.now c.args.path.now) c.self.invariant.tree.in_order (apart_path_rows c.args.ranks.now c.args.path.now) (c.in_ok-changes.ensures.rows ∙ ap (λ rows. map (changed (below_in rows)) (path_rows c.args.ranks.now c.args.path.now)) c.deref.ensures.value) (c.put_rows.ensures ∙ ap (λ rows. puts (entries_view rows) (entries_view c.in_ok-changes.changes.rows.items)) c.in_ok-reserve.ensures.items))
 
 pub returns-clause-fits : goal.returns-clause-fits
 returns-clause-fits c =
-    let count = count_added c.self.inside.coverage c.args.ranks.now c.args.path.now c.self.inside.rows.items c.args.self.now c.self.view_is c.self.invariant.tree c.requires.some c.requires.lies in
+    let count = count_added c.self.inside.coverage c.args.ranks.now c.args.path.now c.self.inside.rows.items c.args.self.now c.self.view_is c.self.invariant.tree c.requires.not_empty c.requires.in_coverage in
     let new = c.in_ok-changes.ensures.added ∙ ap (λ rows. new_among (below_in rows) (path_rows c.args.ranks.now c.args.path.now)) c.deref.ensures.value in
     let few = c.self.invariant.tree.few in
     omega (arith, count, new, few, ap length c.deref-2.ensures.value, leb-true _ _ (sym c.has_room.ensures ∙ c.if-not-has_room.false))
@@ -39,7 +39,7 @@ returns-clause-fits c =
 pub invariant_of-self-2 : goal.invariant_of-self-2
 invariant_of-self-2 c =
     let size = (makes c).size in
-    let count = count_added c.self.inside.coverage c.args.ranks.now c.args.path.now c.self.inside.rows.items c.args.self.now c.self.view_is c.self.invariant.tree c.requires.some c.requires.lies in
+    let count = count_added c.self.inside.coverage c.args.ranks.now c.args.path.now c.self.inside.rows.items c.args.self.now c.self.view_is c.self.invariant.tree c.requires.not_empty c.requires.in_coverage in
     let new = c.in_ok-changes.ensures.added ∙ ap (λ rows. new_among (below_in rows) (path_rows c.args.ranks.now c.args.path.now)) c.deref.ensures.value in
     let few = c.self.invariant.tree.few in
     record { tree = (makes c).tree (omega (arith, size, count, new, few, ap length c.deref-2.ensures.value, leb-true _ _ (sym c.has_room.ensures ∙ c.if-not-has_room.false))); nobody = c.self.invariant.nobody }
