@@ -17,8 +17,8 @@ use Rattle.equiv_class.proofs.PathsInOrder.{paths_of-same}
 
 -- pairs that are the same at covered ranks make the same classes
 module _ (P Q : Pairs) (C : Ranks) (same : (r : ℕ) (p : Path) → has C r ≡ true → is_pair P r p ≡ is_pair Q r p) where
-  same_alike : (r s : ℕ) → has C r ≡ true → has C s ≡ true → equivalent P r s ≡ equivalent Q r s
-  same_alike r s hr hs = both_ways _ _
+  same_equivalent : (r s : ℕ) → has C r ≡ true → has C s ≡ true → equivalent P r s ≡ equivalent Q r s
+  same_equivalent r s hr hs = both_ways _ _
       (λ one. equivalent-from_paths Q r s (λ p. sym (same r p hr) ∙ paths-from_equivalent P r s one p ∙ same s p hs))
       (λ one. equivalent-from_paths P r s (λ p. same r p hr ∙ paths-from_equivalent Q r s one p ∙ sym (same s p hs)))
 
@@ -38,10 +38,10 @@ module _ (P Q : Pairs) (C : Ranks) (same : (r : ℕ) (p : Path) → has C r ≡ 
   unfolding classes_of
   classes-same_pairs =
       ap (map (λ r. let b : Ranks × List Path = (those (equivalent P r) C, paths_of P r) in b)) (filter_on (is_least P C) (is_least Q C) (in_order C) (λ r there.
-      ap not (any_on (λ s. ltb s r && equivalent P r s) (λ s. ltb s r && equivalent Q r s) (in_order C) (λ s here. ap (λ b. ltb s r && b) (same_alike r s (in_C r there) (in_C s here))))))
+      ap not (any_on (λ s. ltb s r && equivalent P r s) (λ s. ltb s r && equivalent Q r s) (in_order C) (λ s here. ap (λ b. ltb s r && b) (same_equivalent r s (in_C r there) (in_C s here))))))
       ∙ map_on (λ r. let b : Ranks × List Path = (those (equivalent P r) C, paths_of P r) in b) (λ r. let b : Ranks × List Path = (those (equivalent Q r) C, paths_of Q r) in b) (filter (is_least Q C) (in_order C)) (λ r one.
       let hr = in_C r (kept_in (is_least Q C) (in_order C) r one) in
-      (λ i. (same_ranks (those (equivalent P r) C) (those (equivalent Q r) C) (λ q. has-those (equivalent P r) C q ∙ under (has C q) (equivalent P r q) (equivalent Q r q) (λ hq. same_alike r q hr hq) ∙ sym (has-those (equivalent Q r) C q)) i, paths_agree r hr i)))
+      (λ i. (same_ranks (those (equivalent P r) C) (those (equivalent Q r) C) (λ q. has-those (equivalent P r) C q ∙ under (has C q) (equivalent P r q) (equivalent Q r q) (λ hq. same_equivalent r q hr hq) ∙ sym (has-those (equivalent Q r) C q)) i, paths_agree r hr i)))
     where
       under : (a b c : Bool) → (a ≡ true → b ≡ c) → (a && b) ≡ (a && c)
       under true b c f = f refl

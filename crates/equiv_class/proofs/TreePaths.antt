@@ -65,8 +65,8 @@ rows_same r s (e ∷ es) up each =
     sym (skip_row (ended r) e f es up there) ∙ each q (or_right (is_path q e.0 && true) (in_rows (λ m. true) es q) there) ∙ skip_row (ended s) e f es up there))
 
 -- ranks are equivalent exactly where each row has both or neither in its ends
-alike_rows : (t : Tree) (r s : ℕ) → equivalent (pairs_of t) r s ≡ same_in_rows r s (finmap.entries t.below)
-alike_rows t r s = both_ways _ _
+equivalent_rows : (t : Tree) (r s : ℕ) → equivalent (pairs_of t) r s ≡ same_in_rows r s (finmap.entries t.below)
+equivalent_rows t r s = both_ways _ _
     (λ one. rows_same r s (finmap.entries t.below) (finmap.entries_sorted t.below) (λ q there. sym (pair_rows t r q) ∙ paths-from_equivalent (pairs_of t) r s one q ∙ pair_rows t s q))
     (λ one. equivalent-from_paths (pairs_of t) r s (λ q. pair_rows t r q ∙ same_rows r s (finmap.entries t.below) q one ∙ sym (pair_rows t s q)))
 
@@ -148,6 +148,6 @@ paths_to-seen r (e ∷ es) = elim (size e.1.1 == 0) as (λ b. (size e.1.1 == 0) 
 -- the paths of a tree in which ranks were seen say of each rank what the tree's pairs say
 pub Lists-tree : (t : Tree) → Lists (pairs_of t) (seen_in t)
 Lists-tree t = record {
-  same_ranks = λ r s. alike_rows t r s ∙ sym (same_paths-seen r s (finmap.entries t.below));
+  same_ranks = λ r s. equivalent_rows t r s ∙ sym (same_paths-seen r s (finmap.entries t.below));
   paths_agree = λ r. paths_of_rows t r ∙ sym (paths_to-seen r (finmap.entries t.below));
 }

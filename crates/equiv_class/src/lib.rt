@@ -249,6 +249,7 @@ fn drop_if_unshared(ranks: &RankSet, r: u32, block: &mut RankSet) -> Result<(), 
 fn common(a: &RankSet, b: &RankSet) -> Result<RankSet, AllocError>
     ensures { IfOk result (λ both. both ≡ those (has b.now) a.now) }
 {
-    let others = a.difference(b)?;
-    a.difference(&others)
+    let mut both = a.copy()?;
+    both.intersect_with(b);
+    Ok(both)
 }

@@ -6,7 +6,7 @@ use Rattle.stat_plan.specs.Plans.{Plan, fault}
 use Rattle.stat_plan.specs.declared.script.Fault.{Fault}
 use Rattle.overlay_core.specs.Nodes.{Packet, Up, Done, Attach, Down, Node, Outcome}
 use Rattle.overlay_core.specs.Machine.{State, commit, to, is_spent, is_doomed}
-use Rattle.overlay_core.specs.LinkInvariant.{AreRelated, KinIsSound, PacketIsSound, SendIsSound, BookIsSound, LinkIsSound, EndsAtDown, LossIsTold, CountIsSound, FrontIsAlive, LinkInvariant}
+use Rattle.overlay_core.specs.LinkInvariant.{AreRelated, KinIsSound, PacketIsSound, SendIsSound, BookIsSound, LinkIsSound, EndsAtDown, LossIsKnown, CountIsSound, FrontIsAlive, LinkInvariant}
 use Rattle.overlay_core.proofs.Lists.{in_append, append_left}
 use Rattle.overlay_core.proofs.Acts.{SendsAreSound}
 use Rattle.overlay_core.proofs.Outcomes.{OutcomeIsSound}
@@ -85,7 +85,7 @@ commit_links p st n o up links hs a b =
 
 -- a state in which n has taken the notices `heard` off its links
 pub record LossIsHeard (p : Plan) (st : State) (n : ℕ) (heard : List ℕ) (a b : ℕ) : Type 0 where
-  pub told : st.alive a ≡ true → st.alive b ≡ false → AreRelated p a b → (In b (st.node a).kin.lost ⊎ In Down (st.link b a)) ⊎ ((a ≡ n) × (In b heard))
+  pub named : st.alive a ≡ true → st.alive b ≡ false → AreRelated p a b → (In b (st.node a).kin.lost ⊎ In Down (st.link b a)) ⊎ ((a ≡ n) × (In b heard))
   pub once : st.alive a ≡ true → In b (st.node a).kin.lost → In Down (st.link b a) → ⊥
   pub gone : In b heard → In Down (st.link b n) → ⊥
 
@@ -96,11 +96,11 @@ kept_at p alive st n heard o h a b i =
     (λ e. let ea : a ≡ n = eqb-true a n e in h.kept b (subst (λ x. In b (st.node x).kin.lost) ea i))
     (λ e. i)
 
-told_at : (p : Plan) (alive : ℕ → Bool) (st : State) (n : ℕ) (heard : List ℕ) (o : Outcome) → OutcomeIsSound p alive n (st.node n) heard o → (a b : ℕ) → a ≡ n → In b heard → In b ((commit st n o).node a).kin.lost
+named_at : (p : Plan) (alive : ℕ → Bool) (st : State) (n : ℕ) (heard : List ℕ) (o : Outcome) → OutcomeIsSound p alive n (st.node n) heard o → (a b : ℕ) → a ≡ n → In b heard → In b ((commit st n o).node a).kin.lost
 unfolding commit
-told_at p alive st n heard o h a b ea i =
+named_at p alive st n heard o h a b ea i =
     cond_both (a == n) (next_node (st.node n) o) (st.node a) (λ x. In b x.kin.lost)
-    (λ e. h.told b i)
+    (λ e. h.named b i)
     (λ e. absurd (eqb-false a n e ea))
 
 new_at : (p : Plan) (alive : ℕ → Bool) (st : State) (n : ℕ) (heard : List ℕ) (o : Outcome) → OutcomeIsSound p alive n (st.node n) heard o → (a b : ℕ) → In b ((commit st n o).node a).kin.lost → In b (st.node a).kin.lost ⊎ ((a ≡ n) × (In b heard))
@@ -110,12 +110,12 @@ new_at p alive st n heard o h a b =
     (λ e i. let ea : a ≡ n = eqb-true a n e in elim (h.new b i) [ inl j ↦ inl (subst (λ x. In b (st.node x).kin.lost) (sym ea) j) | inr j ↦ inr (ea, j) ])
     (λ e i. inl i)
 
-commit_losses : (p : Plan) (st : State) (n : ℕ) (heard : List ℕ) (o : Outcome) → OutcomeIsSound p st.alive n (st.node n) heard o → ((a b : ℕ) → LossIsHeard p st n heard a b) → (a b : ℕ) → LossIsTold p (commit st n o) a b
+commit_losses : (p : Plan) (st : State) (n : ℕ) (heard : List ℕ) (o : Outcome) → OutcomeIsSound p st.alive n (st.node n) heard o → ((a b : ℕ) → LossIsHeard p st n heard a b) → (a b : ℕ) → LossIsKnown p (commit st n o) a b
 unfolding commit
 commit_losses p st n heard o h losses a b = record {
-  told = λ up down rel. elim ((losses a b).told up down rel) [
+  named = λ up down rel. elim ((losses a b).named up down rel) [
     | inl i ↦ elim i [ inl j ↦ inl (kept_at p st.alive st n heard o h a b j) | inr j ↦ inr (commit_link_grows st n o b a Down j) ]
-    | inr i ↦ inl (told_at p st.alive st n heard o h a b i.0 i.1)
+    | inr i ↦ inl (named_at p st.alive st n heard o h a b i.0 i.1)
   ];
   once = λ up i j. elim (commit_link st n o b a Down j) [
     | inl d ↦ elim (new_at p st.alive st n heard o h a b i) [
@@ -137,9 +137,9 @@ pub record IsReady (p : Plan) (st : State) (n : ℕ) (heard : List ℕ) : Type 0
   pub books : (a : ℕ) → BookIsSound p a (st.node a).book
   pub counts : (a : ℕ) → CountIsSound p a (st.node a)
 
-count_goes_on : (p : Plan) (st : State) (n : ℕ) (f : Fault) → fault p n ≡ Some f → is_doomed p st n ≡ false → (st.node n).count ≤ f.after → suc (st.node n).count ≤ f.after
+count_continues : (p : Plan) (st : State) (n : ℕ) (f : Fault) → fault p n ≡ Some f → is_doomed p st n ≡ false → (st.node n).count ≤ f.after → suc (st.node n).count ≤ f.after
 unfolding is_doomed
-count_goes_on p st n f ef d le =
+count_continues p st n f ef d le =
     let t : ((st.node n).count == f.after) ≡ false = subst (λ o. is_spent o (st.node n).count ≡ false) ef d in
     let ne : (st.node n).count ≡ f.after → ⊥ = eqb-false _ _ t in
     omega arith
@@ -152,5 +152,5 @@ commit_sound p st n heard o r h = record {
   links = commit_links p st n o r.up r.links h.work.sends;
   losses = commit_losses p st n heard o h r.losses;
   books = commit_node (λ a x. BookIsSound p a x.book) st n o h.work.book r.books;
-  counts = commit_node (λ a x. CountIsSound p a x) st n o (λ f ef. count_goes_on p st n f ef r.active (r.counts n f ef)) r.counts;
+  counts = commit_node (λ a x. CountIsSound p a x) st n o (λ f ef. count_continues p st n f ef r.active (r.counts n f ef)) r.counts;
 }

@@ -14,7 +14,7 @@ use Rattle.overlay_core.specs.Counts.{OnlyGrows}
 use Rattle.overlay_core.specs.LinkInvariant.{LinkInvariant}
 use Rattle.overlay_core.proofs.PlanFacts.{HasPlanFacts}
 use Rattle.overlay_core.proofs.Outcomes.{next_is_empty}
-use Rattle.overlay_core.proofs.ParentLinks.{OutcomeGoes, sampled_goes, tick_goes, received_goes, front_top_of}
+use Rattle.overlay_core.proofs.ParentLinks.{OutcomeLinks, sampled_links, tick_links, received_links, front_top_of}
 use Rattle.overlay_core.proofs.Whole.{legal_is_sound}
 use Rattle.overlay_core.proofs.Independent.{node_else}
 use Rattle.overlay_core.proofs.Journals.{after_more, legal_less}
@@ -23,20 +23,20 @@ use Rattle.overlay_core.proofs.Sends.{commit_here}
 same_grows : (v : Wave) → OnlyGrows v v
 same_grows v = record { opens = λ e. e; covers = λ e r i. i }
 
-commit_grows : (p : Plan) (alive : ℕ → Bool) (st : State) (n : ℕ) (taken : List (ℕ × Packet)) (o : Outcome) (s w : ℕ) → OutcomeGoes p alive n (st.node n) taken o → OnlyGrows ((st.node n).book s w) (((commit st n o).node n).book s w)
+commit_grows : (p : Plan) (alive : ℕ → Bool) (st : State) (n : ℕ) (taken : List (ℕ × Packet)) (o : Outcome) (s w : ℕ) → OutcomeLinks p alive n (st.node n) taken o → OnlyGrows ((st.node n).book s w) (((commit st n o).node n).book s w)
 commit_grows p alive st n taken o s w h = subst (λ (y : Node). OnlyGrows ((st.node n).book s w) (y.book s w)) (sym (commit_here st n o)) (record { opens = h.opens s w; covers = h.cov s w })
 
 own_grows : (p : Plan) (st : State) (e : Event) (s w : ℕ) → HasPlanFacts p → LinkInvariant p st → is_enabled p st e ≡ true → OnlyGrows ((st.node (event_node e)).book s w) (((step p st e).node (event_node e)).book s w)
 unfolding lose with_link
 own_grows p st (Sample n a b) s w plan h en =
     let t = and_parts _ _ en in
-    commit_grows p st.alive st n [] (sampled p n (st.node n) a b) s w (sampled_goes p st.alive n (st.node n) a b (front_top_of p st.alive n (st.node n).kin plan (h.kin n)) (next_is_empty p (st.node n) a b t.1))
+    commit_grows p st.alive st n [] (sampled p n (st.node n) a b) s w (sampled_links p st.alive n (st.node n) a b (front_top_of p st.alive n (st.node n).kin plan (h.kin n)) (next_is_empty p (st.node n) a b t.1))
 own_grows p st (Recv n m) s w plan h en = go (st.link m n) refl
   where
     go : (qs : List Packet) → st.link m n ≡ qs → OnlyGrows ((st.node n).book s w) (((receive p st n m qs).node n).book s w)
     go [] e = same_grows ((st.node n).book s w)
-    go (q ∷ qs) e = commit_grows p st.alive (with_link st m n qs) n ((m, q) ∷ []) (received p n (st.node n) m q) s w (received_goes p st.alive n (st.node n) m q plan (h.kin n) ((h.links m n).packets q (subst (λ l. In q l) (sym e) (inl refl))))
-own_grows p st (Tick n) s w plan h en = commit_grows p st.alive st n [] (after_tick p n (st.node n)) s w (tick_goes p st.alive n (st.node n) (front_top_of p st.alive n (st.node n).kin plan (h.kin n)))
+    go (q ∷ qs) e = commit_grows p st.alive (with_link st m n qs) n ((m, q) ∷ []) (received p n (st.node n) m q) s w (received_links p st.alive n (st.node n) m q plan (h.kin n) ((h.links m n).packets q (subst (λ l. In q l) (sym e) (inl refl))))
+own_grows p st (Tick n) s w plan h en = commit_grows p st.alive st n [] (after_tick p n (st.node n)) s w (tick_links p st.alive n (st.node n) (front_top_of p st.alive n (st.node n).kin plan (h.kin n)))
 own_grows p st (Lose n) s w plan h en = same_grows ((st.node n).book s w)
 
 step_grows : (p : Plan) (st : State) (e : Event) (n s w : ℕ) → HasPlanFacts p → LinkInvariant p st → is_enabled p st e ≡ true → OnlyGrows ((st.node n).book s w) (((step p st e).node n).book s w)

@@ -27,7 +27,7 @@ use Rattle.overlay_core.proofs.Lists.{filter_from, list_all_in, subset_from_test
 use Rattle.overlay_core.proofs.Acts.{IsSubsetOf, each_wave_set, WorkIsSound, act_sound}
 use Rattle.overlay_core.proofs.Outcomes.{next_is_named, waves_at_named, kin_fits, begin_sound, next_is_empty, covering_sound, growing_sound, ticked_sound, received_sound}
 use Rattle.overlay_core.proofs.Steps.{popped_in}
-use Rattle.overlay_core.proofs.ParentLinks.{set_wave_here, test_from_within, BookGrows, covering_grows, growing_grows, ticking_grows, OutcomeGoes, sampled_goes, tick_goes, received_goes, front_top_of}
+use Rattle.overlay_core.proofs.ParentLinks.{set_wave_here, test_from_within, BookGrows, covering_grows, growing_grows, ticking_grows, OutcomeLinks, sampled_links, tick_links, received_links, front_top_of}
 use Rattle.overlay_core.proofs.Settled.{set_wave_else, ne_from_grown}
 use Rattle.overlay_core.proofs.Commits.{commit_link}
 use Rattle.overlay_core.proofs.Losses.{still_dead}
@@ -376,7 +376,7 @@ received_logged p alive n x m Attach plan hk hk' hb hq = attach_logged p alive n
 received_logged p alive n x m Down plan hk hk' hb hq = down_logged p alive n x ((m, Down) ∷ []) m plan hk hk' hb
 
 -- what was closed at the front end stays so
-front_keeps : (p : Plan) (alive : ℕ → Bool) (st : State) (n : ℕ) (taken : List (ℕ × Packet)) (o : Outcome) (s w : ℕ) → OutcomeGoes p alive n (st.node n) taken o → is_open ((st.node (front p)).book s w) ≡ false → is_open (((commit st n o).node (front p)).book s w) ≡ false
+front_keeps : (p : Plan) (alive : ℕ → Bool) (st : State) (n : ℕ) (taken : List (ℕ × Packet)) (o : Outcome) (s w : ℕ) → OutcomeLinks p alive n (st.node n) taken o → is_open ((st.node (front p)).book s w) ≡ false → is_open (((commit st n o).node (front p)).book s w) ≡ false
 front_keeps p alive st n taken o s w g e = elim (cases_Bool (front p == n)) [
   | inl t ↦
       let en : front p ≡ n = eqb-true (front p) n t in
@@ -389,22 +389,22 @@ front_keeps p alive st n taken o s w g e = elim (cases_Bool (front p == n)) [
 
 -- what an event of n closes is closed at the front end
 closed_after : (p : Plan) (old : ℕ → ℕ → List Packet) (st : State) (n : ℕ) (taken : List (ℕ × Packet)) (o : Outcome) (s w : ℕ)
-    → OutcomeGoes p st.alive n (st.node n) taken o → OutcomeIsLogged p st.alive n (st.node n) taken o
+    → OutcomeLinks p st.alive n (st.node n) taken o → OutcomeIsLogged p st.alive n (st.node n) taken o
     → ((m : ℕ) (q : Packet) → In (m, q) taken → In q (old m n))
     → ((n s w : ℕ) → is_open ((st.node n).book s w) ≡ false → is_open ((st.node (front p)).book s w) ≡ false)
     → ((m n s w : ℕ) → In (Done s w) (old m n) → is_open ((st.node (front p)).book s w) ≡ false)
     → is_open (o.work.book s w) ≡ false → is_open (((commit st n o).node (front p)).book s w) ≡ false
 unfolding is_front
-closed_after p old st n taken o s w g l from closed told e = elim (cases_Bool (n == front p)) [
+closed_after p old st n taken o s w g l from closed named e = elim (cases_Bool (n == front p)) [
   | inl t ↦ subst (λ v. is_open (v.book s w) ≡ false) (sym (node_here st n o (front p) (sym (eqb-true n (front p) t)))) e
   | inr f ↦ front_keeps p st.alive st n taken o s w g (elim (l.closes f s w e) [
     | inl k ↦ closed n s w k
-    | inr k ↦ told k.0 n s w (from k.0 (Done s w) k.1)
+    | inr k ↦ named k.0 n s w (from k.0 (Done s w) k.1)
   ])
 ]
 
 commit_history : (p : Plan) (old : ℕ → ℕ → List Packet) (st : State) (n : ℕ) (taken : List (ℕ × Packet)) (o : Outcome)
-    → OutcomeGoes p st.alive n (st.node n) taken o → OutcomeIsLogged p st.alive n (st.node n) taken o
+    → OutcomeLinks p st.alive n (st.node n) taken o → OutcomeIsLogged p st.alive n (st.node n) taken o
     → ((m : ℕ) (q : Packet) → In (m, q) taken → In q (old m n))
     → ((a b : ℕ) (q : Packet) → In q (st.link a b) → In q (old a b))
     → ((s w : ℕ) → IsHistory p st.alive s none (of_wave s w st.releases) ((st.node (front p)).book s w))
@@ -412,7 +412,7 @@ commit_history : (p : Plan) (old : ℕ → ℕ → List Packet) (st : State) (n 
     → ((m n s w : ℕ) → In (Done s w) (old m n) → is_open ((st.node (front p)).book s w) ≡ false)
     → HistoryIsSound p (commit st n o)
 unfolding commit is_front
-commit_history p old st n taken o g l from still rel closed told = record {
+commit_history p old st n taken o g l from still rel closed named = record {
   releases = λ s w. elim (cases_Bool (front p == n)) [
     | inl t ↦
         let en : front p ≡ n = eqb-true (front p) n t in
@@ -424,12 +424,12 @@ commit_history p old st n taken o g l from still rel closed told = record {
         (subst (λ r. IsHistory p st.alive s none (of_wave s w r) ((st.node (front p)).book s w)) (sym (ap (λ r. st.releases ++ r) (l.quiet low) ∙ append-nil st.releases)) (rel s w))
   ];
   closed = λ a s w e. elim (cases_Bool (a == n)) [
-    | inl t ↦ closed_after p old st n taken o s w g l from closed told (subst (λ v. is_open (v.book s w) ≡ false) (node_here st n o a (eqb-true a n t)) e)
+    | inl t ↦ closed_after p old st n taken o s w g l from closed named (subst (λ v. is_open (v.book s w) ≡ false) (node_here st n o a (eqb-true a n t)) e)
     | inr f ↦ front_keeps p st.alive st n taken o s w g (closed a s w (subst (λ v. is_open (v.book s w) ≡ false) (node_else st n o a f) e))
   ];
-  told = λ a b s w i. elim (commit_link st n o a b (Done s w) i) [
-    | inl j ↦ front_keeps p st.alive st n taken o s w g (told a b s w (still a b (Done s w) j))
-    | inr j ↦ closed_after p old st n taken o s w g l from closed told (l.dones b s w j.1)
+  named = λ a b s w i. elim (commit_link st n o a b (Done s w) i) [
+    | inl j ↦ front_keeps p st.alive st n taken o s w g (named a b s w (still a b (Done s w) j))
+    | inr j ↦ closed_after p old st n taken o s w g l from closed named (l.dones b s w j.1)
   ];
 }
   where
@@ -442,11 +442,11 @@ receive_history p st n m [] plan hs h e = h
 receive_history p st n m (q ∷ qs) plan hs h e =
     let hq = (hs.links m n).packets q (subst (λ l. In q l) (sym e) (inl refl)) in
     commit_history p st.link (with_link st m n qs) n ((m, q) ∷ []) (received p n (st.node n) m q)
-    (received_goes p st.alive n (st.node n) m q plan (hs.kin n) hq)
+    (received_links p st.alive n (st.node n) m q plan (hs.kin n) hq)
     (received_logged p st.alive n (st.node n) m q plan (hs.kin n) (received_sound p st.alive n (st.node n) m q plan (hs.kin n) (hs.books n) hq).kin (hs.books n) hq)
     (λ a v. elim [ inl k ↦ let ea : a ≡ m = ap (λ y. y.0) k in let ev : v ≡ q = ap (λ y. y.1) k in subst (λ x. In v (st.link x n)) (sym ea) (subst (λ x. In x (st.link m n)) (sym ev) (subst (λ l. In q l) (sym e) (inl refl))) | inr k ↦ absurd k ])
     (popped_in st m n q qs e)
-    h.releases h.closed h.told
+    h.releases h.closed h.named
 
 lose_in : (p : Plan) (st : State) (n a b s w : ℕ) → In (Done s w) ((lose p st n).link a b) → In (Done s w) (st.link a b)
 unfolding lose
@@ -467,7 +467,7 @@ unfolding lose
 lose_history p st n h = record {
   releases = λ s w. history_later p st.alive (put_at st.alive n false) s none (of_wave s w st.releases) ((st.node (front p)).book s w) (still_dead st.alive n) (h.releases s w);
   closed = h.closed;
-  told = λ a b s w i. h.told a b s w (lose_in p st n a b s w i);
+  named = λ a b s w i. h.named a b s w (lose_in p st n a b s w i);
 }
 
 pub step_history : (p : Plan) (st : State) (e : Event) → HasPlanFacts p → LinkInvariant p st → HistoryIsSound p st → is_enabled p st e ≡ true → HistoryIsSound p (step p st e)
@@ -476,17 +476,17 @@ step_history p st (Sample n s w) plan hs h e =
     let u = and_parts _ _ t.0 in
     let z = next_is_empty p (st.node n) s w t.1 in
     commit_history p st.link st n [] _
-    (sampled_goes p st.alive n (st.node n) s w (front_top_of p st.alive n (st.node n).kin plan (hs.kin n)) z)
+    (sampled_links p st.alive n (st.node n) s w (front_top_of p st.alive n (st.node n).kin plan (hs.kin n)) z)
     (sampled_logged p st.alive n (st.node n) s w (next_is_named p (st.node n) s w t.1) plan (hs.kin n) (each_wave_set (λ a b v. WaveIsSound p n a v) (st.node n).book s w _ (hs.books n) (covering_sound p n s ((st.node n).book s w) plan (in_from_member n (daemons p s) u.1) z (hs.books n s w))) z)
-    (λ m q i. absurd i) (λ a b q i. i) h.releases h.closed h.told
+    (λ m q i. absurd i) (λ a b q i. i) h.releases h.closed h.named
 step_history p st (Recv n m) plan hs h e = receive_history p st n m (st.link m n) plan hs h refl
 step_history p st (Tick n) plan hs h e =
     commit_history p st.link st n [] _
-    (tick_goes p st.alive n (st.node n) (front_top_of p st.alive n (st.node n).kin plan (hs.kin n)))
+    (tick_links p st.alive n (st.node n) (front_top_of p st.alive n (st.node n).kin plan (hs.kin n)))
     (tick_logged p st.alive n (st.node n) plan (hs.kin n) (λ s w. ticked_sound p n s ((st.node n).book s w) (hs.books n s w)))
-    (λ m q i. absurd i) (λ a b q i. i) h.releases h.closed h.told
+    (λ m q i. absurd i) (λ a b q i. i) h.releases h.closed h.named
 step_history p st (Lose n) plan hs h e = lose_history p st n h
 
 pub start_history : (p : Plan) → HistoryIsSound p (start p)
 unfolding start
-start_history p = record { releases = λ s w. refl; closed = λ n s w e. absurd (true≢false e); told = λ m n s w i. absurd i }
+start_history p = record { releases = λ s w. refl; closed = λ n s w e. absurd (true≢false e); named = λ m n s w i. absurd i }

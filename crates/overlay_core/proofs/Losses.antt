@@ -7,7 +7,7 @@ use Rattle.stat_plan.specs.Plans.{Plan, fault, front, is_related, is_under, ance
 use Rattle.overlay_core.specs.Nodes.{Packet, Up, Done, Attach, Down}
 use Rattle.overlay_core.specs.Machine.{State, lose, keep_of, is_spent, is_doomed}
 use Rattle.overlay_core.proofs.PlanFacts.{HasPlanFacts}
-use Rattle.overlay_core.specs.LinkInvariant.{AreRelated, PacketIsSound, LinkIsSound, EndsAtDown, LossIsTold, LinkInvariant}
+use Rattle.overlay_core.specs.LinkInvariant.{AreRelated, PacketIsSound, LinkIsSound, EndsAtDown, LossIsKnown, LinkInvariant}
 use Rattle.overlay_core.proofs.Lists.{in_append, append_right, in_take, in_member, in_from_member}
 use Rattle.overlay_core.proofs.Commits.{ends_append}
 
@@ -112,14 +112,14 @@ notice_there p st n a b up rel =
     append_right Down (take (keep_of (fault p n)) (st.link a b)) _
     (subst (λ t. In Down (cond t (Down ∷ []) [])) (sym (and_from _ _ up (test_from_related p n b rel))) (inl refl))
 
-lose_losses : (p : Plan) (st : State) (n : ℕ) → LinkInvariant p st → st.alive n ≡ true → (a b : ℕ) → LossIsTold p (lose p st n) a b
+lose_losses : (p : Plan) (st : State) (n : ℕ) → LinkInvariant p st → st.alive n ≡ true → (a b : ℕ) → LossIsKnown p (lose p st n) a b
 unfolding lose
 lose_losses p st n h up a b = record {
-  told = λ u d rel.
+  named = λ u d rel.
       let was = was_alive st.alive n a u in
       elim (now_dead st.alive n b d) [
         | inl eb ↦ inr (subst (λ qs. In Down qs) (sym (link_cut p st n b a was.1 eb)) (notice_there p st n b a was.0 (subst (λ x. AreRelated p x a) eb (back rel))))
-        | inr db ↦ elim ((h.losses a b).told was.0 db rel) [
+        | inr db ↦ elim ((h.losses a b).named was.0 db rel) [
           | inl i ↦ inl i
           | inr i ↦ inr (subst (λ qs. In Down qs) (sym (link_stays p st n b a Down was.1 (other b db))) i)
         ]

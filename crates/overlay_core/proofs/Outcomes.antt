@@ -45,7 +45,7 @@ pub record OutcomeIsSound (p : Plan) (alive : ℕ → Bool) (n : ℕ) (x : Node)
   pub kin : KinIsSound p alive n o.kin
   pub kept : (m : ℕ) → In m x.kin.lost → In m o.kin.lost
   pub new : (m : ℕ) → In m o.kin.lost → In m x.kin.lost ⊎ In m heard
-  pub told : (m : ℕ) → In m heard → In m o.kin.lost
+  pub named : (m : ℕ) → In m heard → In m o.kin.lost
   pub work : WorkIsSound p n o.work
 
 pub begin_sound : (p : Plan) (n : ℕ) (book : Book) → BookIsSound p n book → WorkIsSound p n (begin book)
@@ -53,7 +53,7 @@ begin_sound p n book h = record { book = h; sends = λ m q i. absurd i }
 
 -- an event that leaves the kin as it is
 same_kin : (p : Plan) (alive : ℕ → Bool) (n : ℕ) (x : Node) (k : Effects) → KinIsSound p alive n x.kin → WorkIsSound p n k → OutcomeIsSound p alive n x [] (record { kin = x.kin; work = k })
-same_kin p alive n x k hk hw = record { kin = hk; kept = λ m i. i; new = λ m i. inl i; told = λ m i. absurd i; work = hw }
+same_kin p alive n x k hk hw = record { kin = hk; kept = λ m i. i; new = λ m i. inl i; named = λ m i. absurd i; work = hw }
 
 pub find_passes : {X : Type 0} (test : X → Bool) (xs : List X) (v : X) → find test xs ≡ Some v → test v ≡ true
 find_passes test [] v e = absurd (cc)
@@ -176,7 +176,7 @@ attach_sound p alive n x m hk hb u = record {
   };
   kept = λ a i. i;
   new = λ a i. inl i;
-  told = λ a i. absurd i;
+  named = λ a i. absurd i;
   work = record {
     book = hb;
     sends = λ b q i.
@@ -232,7 +232,7 @@ down_sound p alive n x m hk hb dead rel =
       kin = hk';
       kept = λ a i. with_number_old a m x.kin.lost i;
       new = λ a i. elim (in_with_number a m x.kin.lost i) [ inl j ↦ inr (inl j) | inr j ↦ inl j ];
-      told = λ a i. subst (λ b. In b (with_number m x.kin.lost)) (sym (in_heard m a i)) (with_number_new m x.kin.lost);
+      named = λ a i. subst (λ b. In b (with_number m x.kin.lost)) (sym (in_heard m a i)) (with_number_new m x.kin.lost);
       work = act_each_sound p n (with_parent p n x.kin m) (waves_at p n) _ (waves_at_named p n) fits (record {
         book = λ s w. unsent_sound p n s (x.book s w) (hb s w);
         sends = to_parent_sound p n (with_parent p n x.kin m).parent Attach fits.parent;
@@ -244,7 +244,7 @@ down_sound p alive n x m hk hb dead rel =
       kin = hk';
       kept = λ a i. with_number_old a m x.kin.lost i;
       new = λ a i. elim (in_with_number a m x.kin.lost i) [ inl j ↦ inr (inl j) | inr j ↦ inl j ];
-      told = λ a i. subst (λ b. In b (with_number m x.kin.lost)) (sym (in_heard m a i)) (with_number_new m x.kin.lost);
+      named = λ a i. subst (λ b. In b (with_number m x.kin.lost)) (sym (in_heard m a i)) (with_number_new m x.kin.lost);
       work = act_each_sound p n (without_child x.kin m) (waves_at p n) _ (waves_at_named p n) (kin_fits p alive n (without_child x.kin m) hk') (begin_sound p n x.book hb);
     })
 

@@ -15,7 +15,7 @@ use Rattle.overlay_core.proofs.Lists.{append_right, in_from_member}
 use Rattle.overlay_core.proofs.Outcomes.{nearest_in, next_is_empty, next_is_named, sampled_sound, tick_sound, received_sound}
 use Rattle.overlay_core.proofs.Commits.{next_node, commit_link_grows}
 use Rattle.overlay_core.proofs.Losses.{was_alive, link_stays}
-use Rattle.overlay_core.proofs.ParentLinks.{OutcomeGoes, sampled_goes, tick_goes, received_goes, front_top_of, filter_in}
+use Rattle.overlay_core.proofs.ParentLinks.{OutcomeLinks, sampled_links, tick_links, received_links, front_top_of, filter_in}
 use Rattle.overlay_core.proofs.Steps.{popped}
 
 in_to_back : (b : ℕ) (q : Packet) (vs : List (ℕ × Packet)) → In (b, q) vs → In q (to b vs)
@@ -57,7 +57,7 @@ pair_else p old st n taken o c q x y takes nc nq h = record {
     down v i = elim (takes q c v i) [ inl j ↦ commit_link_grows st n o q c v j | inr t ↦ absurd (nc t.0) ]
 
 -- n is the child
-pair_child : (p : Plan) (old : ℕ → ℕ → List Packet) (st : State) (n : ℕ) (taken : List (ℕ × Packet)) (o : Outcome) (q : ℕ) (x y : Node) → TakesFrom old st n taken → (q ≡ n → ⊥) → st.alive q ≡ true → OutcomeGoes p st.alive n x taken o → o.kin.parent ≡ Some q → (x.kin.parent ≡ Some q → ParentChildHolds p n x y (old n q) (old q n)) → ParentChildHolds p n (next_node x o) y ((commit st n o).link n q) ((commit st n o).link q n)
+pair_child : (p : Plan) (old : ℕ → ℕ → List Packet) (st : State) (n : ℕ) (taken : List (ℕ × Packet)) (o : Outcome) (q : ℕ) (x y : Node) → TakesFrom old st n taken → (q ≡ n → ⊥) → st.alive q ≡ true → OutcomeLinks p st.alive n x taken o → o.kin.parent ≡ Some q → (x.kin.parent ≡ Some q → ParentChildHolds p n x y (old n q) (old q n)) → ParentChildHolds p n (next_node x o) y ((commit st n o).link n q) ((commit st n o).link q n)
 pair_child p old st n taken o q x y takes nq alive g par h = record {
   child = elim g.parent [
     | inl e ↦ elim (h (sym e ∙ par)).child [ inl i ↦ inl i | inr i ↦ inr (up Attach i) ]
@@ -83,7 +83,7 @@ pair_child p old st n taken o q x y takes nq alive g par h = record {
     fresh v i = commit_link_sent st n o q v alive i
 
 -- n is the parent
-pair_parent : (p : Plan) (old : ℕ → ℕ → List Packet) (st : State) (n : ℕ) (taken : List (ℕ × Packet)) (o : Outcome) (c : ℕ) (x y : Node) → TakesFrom old st n taken → (c ≡ n → ⊥) → st.alive c ≡ true → OutcomeGoes p st.alive n y taken o → ParentChildHolds p c x y (old c n) (old n c) → ParentChildHolds p c x (next_node y o) ((commit st n o).link c n) ((commit st n o).link n c)
+pair_parent : (p : Plan) (old : ℕ → ℕ → List Packet) (st : State) (n : ℕ) (taken : List (ℕ × Packet)) (o : Outcome) (c : ℕ) (x y : Node) → TakesFrom old st n taken → (c ≡ n → ⊥) → st.alive c ≡ true → OutcomeLinks p st.alive n y taken o → ParentChildHolds p c x y (old c n) (old n c) → ParentChildHolds p c x (next_node y o) ((commit st n o).link c n) ((commit st n o).link n c)
 unfolding waves_at
 pair_parent p old st n taken o c x y takes nc alive g h = record {
   child = elim h.child [
@@ -126,7 +126,7 @@ pub node_else : (st : State) (n : ℕ) (o : Outcome) (a : ℕ) → (a == n) ≡ 
 unfolding commit
 node_else st n o a e = cond-false (a == n) (next_node (st.node n) o) (st.node a) e
 
-commit_pairs : (p : Plan) (old : ℕ → ℕ → List Packet) (st : State) (n : ℕ) (taken : List (ℕ × Packet)) (o : Outcome) → HasPlanFacts p → TakesFrom old st n taken → OutcomeGoes p st.alive n (st.node n) taken o → KinIsSound p st.alive n o.kin
+commit_pairs : (p : Plan) (old : ℕ → ℕ → List Packet) (st : State) (n : ℕ) (taken : List (ℕ × Packet)) (o : Outcome) → HasPlanFacts p → TakesFrom old st n taken → OutcomeLinks p st.alive n (st.node n) taken o → KinIsSound p st.alive n o.kin
     → ((c q : ℕ) → st.alive c ≡ true → st.alive q ≡ true → (st.node c).kin.parent ≡ Some q → ParentChildHolds p c (st.node c) (st.node q) (old c q) (old q c))
     → ParentChildInvariant p (commit st n o)
 unfolding commit
@@ -176,7 +176,7 @@ receive_pairs p st n m [] plan h hp e = hp
 receive_pairs p st n m (q ∷ qs) plan h hp e =
     let hq = (h.links m n).packets q (subst (λ l. In q l) (sym e) (inl refl)) in
     commit_pairs p st.link (with_link st m n qs) n ((m, q) ∷ []) (received p n (st.node n) m q) plan (takes_front st m n q qs e)
-    (received_goes p st.alive n (st.node n) m q plan (h.kin n) hq)
+    (received_links p st.alive n (st.node n) m q plan (h.kin n) hq)
     (received_sound p st.alive n (st.node n) m q plan (h.kin n) (h.books n) hq).kin
     hp
 
@@ -193,10 +193,10 @@ step_pairs p st (Sample n s w) plan h hp e =
     let t = and_parts _ _ e in
     let u = and_parts _ _ t.0 in
     let z = next_is_empty p (st.node n) s w t.1 in
-    commit_pairs p st.link st n [] _ plan (takes_none st n) (sampled_goes p st.alive n (st.node n) s w (front_top_of p st.alive n (st.node n).kin plan (h.kin n)) z)
+    commit_pairs p st.link st n [] _ plan (takes_none st n) (sampled_links p st.alive n (st.node n) s w (front_top_of p st.alive n (st.node n).kin plan (h.kin n)) z)
     (sampled_sound p st.alive n (st.node n) s w plan (h.kin n) (h.books n) (in_from_member n _ u.1) (next_is_named p (st.node n) s w t.1) z).kin hp
 step_pairs p st (Recv n m) plan h hp e = receive_pairs p st n m (st.link m n) plan h hp refl
 step_pairs p st (Tick n) plan h hp e =
-    commit_pairs p st.link st n [] _ plan (takes_none st n) (tick_goes p st.alive n (st.node n) (front_top_of p st.alive n (st.node n).kin plan (h.kin n)))
+    commit_pairs p st.link st n [] _ plan (takes_none st n) (tick_links p st.alive n (st.node n) (front_top_of p st.alive n (st.node n).kin plan (h.kin n)))
     (tick_sound p st.alive n (st.node n) (h.kin n) (h.books n)).kin hp
 step_pairs p st (Lose n) plan h hp e = lose_pairs p st n hp

@@ -28,14 +28,14 @@ pub record IsSent (m s w r : ℕ) (sends : List (ℕ × Packet)) : Type 0 where
   pub holds : Has r set
 
 -- how a wave goes on from v0 to v, with what was sent since
-pub record WaveGoes (p : Plan) (kin : Kin) (s w : ℕ) (v0 v : Wave) (sends : List (ℕ × Packet)) : Type 0 where
+pub record WaveLinks (p : Plan) (kin : Kin) (s w : ℕ) (v0 v : Wave) (sends : List (ℕ × Packet)) : Type 0 where
   pub opens : is_open v ≡ true → is_open v0 ≡ true
   pub cov : is_open v ≡ true → IsSubset (cov_of v0) (cov_of v)
   pub sent : (r : ℕ) → Has r (sent_of v) → Has r (sent_of v0) ⊎ ((m : ℕ) → kin.parent ≡ Some m → IsSent m s w r sends)
   pub closing : is_open v0 ≡ true → is_open v ≡ false → (c : ℕ) → In c kin.children → serves p c s ≡ true → In (c, Done s w) sends
 
-pub goes_more : (p : Plan) (kin : Kin) (s w : ℕ) (v0 v : Wave) (xs ys : List (ℕ × Packet)) → WaveGoes p kin s w v0 v xs → WaveGoes p kin s w v0 v (xs ++ ys)
-goes_more p kin s w v0 v xs ys h = record {
+pub links_more : (p : Plan) (kin : Kin) (s w : ℕ) (v0 v : Wave) (xs ys : List (ℕ × Packet)) → WaveLinks p kin s w v0 v xs → WaveLinks p kin s w v0 v (xs ++ ys)
+links_more p kin s w v0 v xs ys h = record {
   opens = h.opens;
   cov = h.cov;
   sent = λ r i. elim (h.sent r i) [
@@ -45,11 +45,11 @@ goes_more p kin s w v0 v xs ys h = record {
   closing = λ a b c i j. append_left (c, Done s w) xs ys (h.closing a b c i j);
 }
 
-abbrev pub WorkGoes : Plan → Kin → Book → Effects → Type 0
-WorkGoes p kin b k = (s w : ℕ) → WaveGoes p kin s w (b s w) (k.book s w) k.sends
+abbrev pub WorkLinks : Plan → Kin → Book → Effects → Type 0
+WorkLinks p kin b k = (s w : ℕ) → WaveLinks p kin s w (b s w) (k.book s w) k.sends
 
-pub goes_not : (p : Plan) (kin : Kin) (s w : ℕ) (v : Wave) (sends : List (ℕ × Packet)) → WaveGoes p kin s w v v sends
-goes_not p kin s w v sends = record {
+pub links_not : (p : Plan) (kin : Kin) (s w : ℕ) (v : Wave) (sends : List (ℕ × Packet)) → WaveLinks p kin s w v v sends
+links_not p kin s w v sends = record {
   opens = λ e. e;
   cov = λ e x i. i;
   sent = λ r i. inl i;
@@ -70,30 +70,30 @@ pub done_there : (p : Plan) (kin : Kin) (s w c : ℕ) → In c kin.children → 
 unfolding dones
 done_there p kin s w c i t = in_map_filter_back (λ c. (c, Done s w)) (λ c. serves p c s) kin.children c i t
 
-acted_goes : (p : Plan) (kin : Kin) (b : Book) (s w : ℕ) (cov sent : Ranks) (timer : Timer) (k : Effects) (a : Act) → WorkGoes p kin b k → WaveGoes p kin s w (b s w) (Open cov sent timer) k.sends → (a ≡ Partial → kin.parent ≡ None) → WorkGoes p kin b (acted p kin s w cov sent timer k a)
+acted_links : (p : Plan) (kin : Kin) (b : Book) (s w : ℕ) (cov sent : Ranks) (timer : Timer) (k : Effects) (a : Act) → WorkLinks p kin b k → WaveLinks p kin s w (b s w) (Open cov sent timer) k.sends → (a ≡ Partial → kin.parent ≡ None) → WorkLinks p kin b (acted p kin s w cov sent timer k a)
 unfolding acted
-acted_goes p kin b s w cov sent timer k Hold h hv top = h
-acted_goes p kin b s w cov sent timer k Arm h hv top =
-    each_wave_set (λ x y v. WaveGoes p kin x y (b x y) v k.sends) k.book s w _ h
+acted_links p kin b s w cov sent timer k Hold h hv top = h
+acted_links p kin b s w cov sent timer k Arm h hv top =
+    each_wave_set (λ x y v. WaveLinks p kin x y (b x y) v k.sends) k.book s w _ h
     (record { opens = hv.opens; cov = hv.cov; sent = hv.sent; closing = hv.closing })
-acted_goes p kin b s w cov sent timer k Send h hv top =
-    each_wave_set (λ x y v. WaveGoes p kin x y (b x y) v (k.sends ++ to_parent kin.parent (Up s w cov))) k.book s w _
-    (λ x y. goes_more p kin x y (b x y) (k.book x y) k.sends _ (h x y))
+acted_links p kin b s w cov sent timer k Send h hv top =
+    each_wave_set (λ x y v. WaveLinks p kin x y (b x y) v (k.sends ++ to_parent kin.parent (Up s w cov))) k.book s w _
+    (λ x y. links_more p kin x y (b x y) (k.book x y) k.sends _ (h x y))
     (record {
       opens = hv.opens;
       cov = hv.cov;
       sent = λ r i. inr (λ m e. record { set = cov; there = append_right (m, Up s w cov) k.sends _ (subst (λ o. In (m, Up s w cov) (to_parent o (Up s w cov))) (sym e) (inl refl)); holds = i });
       closing = λ e f. absurd (cc);
     })
-acted_goes p kin b s w cov sent timer k Partial h hv top =
-    each_wave_set (λ x y v. WaveGoes p kin x y (b x y) v k.sends) k.book s w _ h
+acted_links p kin b s w cov sent timer k Partial h hv top =
+    each_wave_set (λ x y v. WaveLinks p kin x y (b x y) v k.sends) k.book s w _ h
     (record { opens = hv.opens; cov = hv.cov; sent = λ r i. inr (λ m e. absurd (none m e)); closing = λ e f. absurd (cc) })
   where
     none : (m : ℕ) → kin.parent ≡ Some m → ⊥
     none m e = let t : kin.parent ≡ None = top refl in cc
-acted_goes p kin b s w cov sent timer k Final h hv top =
-    each_wave_set (λ x y v. WaveGoes p kin x y (b x y) v (k.sends ++ dones p kin s w)) k.book s w _
-    (λ x y. goes_more p kin x y (b x y) (k.book x y) k.sends _ (h x y))
+acted_links p kin b s w cov sent timer k Final h hv top =
+    each_wave_set (λ x y v. WaveLinks p kin x y (b x y) v (k.sends ++ dones p kin s w)) k.book s w _
+    (λ x y. links_more p kin x y (b x y) (k.book x y) k.sends _ (h x y))
     (record {
       opens = λ e. absurd (cc);
       cov = λ e. absurd (cc);
@@ -119,22 +119,22 @@ partial_front (TimeOut k) false false false Fired e = absurd (cc)
 abbrev pub FrontIsTop : Plan → ℕ → Kin → Type 0
 FrontIsTop p n kin = is_front p n ≡ true → kin.parent ≡ None
 
-act_as_goes : (p : Plan) (n : ℕ) (kin : Kin) (b : Book) (s w : ℕ) (k : Effects) (v : Wave) → FrontIsTop p n kin → WorkGoes p kin b k → WaveGoes p kin s w (b s w) v k.sends → WorkGoes p kin b (act_as p n kin s w k v)
+act_as_links : (p : Plan) (n : ℕ) (kin : Kin) (b : Book) (s w : ℕ) (k : Effects) (v : Wave) → FrontIsTop p n kin → WorkLinks p kin b k → WaveLinks p kin s w (b s w) v k.sends → WorkLinks p kin b (act_as p n kin s w k v)
 unfolding due_at
-act_as_goes p n kin b s w k (Open cov sent timer) top h hv =
-    acted_goes p kin b s w cov sent timer k (due_at p n kin.lost s cov sent timer) h hv
+act_as_links p n kin b s w k (Open cov sent timer) top h hv =
+    acted_links p kin b s w cov sent timer k (due_at p n kin.lost s cov sent timer) h hv
     (λ e. top (partial_front (mode p s) (complete p n kin.lost s cov) (not (is_same cov sent)) (is_front p n) timer e))
-act_as_goes p n kin b s w k Closed top h hv = h
+act_as_links p n kin b s w k Closed top h hv = h
 
-pub act_goes : (p : Plan) (n : ℕ) (kin : Kin) (b : Book) (s w : ℕ) (k : Effects) → FrontIsTop p n kin → WorkGoes p kin b k → WorkGoes p kin b (act p n kin s w k)
-act_goes p n kin b s w k top h = act_as_goes p n kin b s w k (k.book s w) top h (h s w)
+pub act_links : (p : Plan) (n : ℕ) (kin : Kin) (b : Book) (s w : ℕ) (k : Effects) → FrontIsTop p n kin → WorkLinks p kin b k → WorkLinks p kin b (act p n kin s w k)
+act_links p n kin b s w k top h = act_as_links p n kin b s w k (k.book s w) top h (h s w)
 
-pub act_each_goes : (p : Plan) (n : ℕ) (kin : Kin) (b : Book) (vs : List (ℕ × ℕ)) (k : Effects) → FrontIsTop p n kin → WorkGoes p kin b k → WorkGoes p kin b (act_each p n kin vs k)
-act_each_goes p n kin b [] k top h = h
-act_each_goes p n kin b (v ∷ vs) k top h = act_each_goes p n kin b vs (act p n kin v.0 v.1 k) top (act_goes p n kin b v.0 v.1 k top h)
+pub act_each_links : (p : Plan) (n : ℕ) (kin : Kin) (b : Book) (vs : List (ℕ × ℕ)) (k : Effects) → FrontIsTop p n kin → WorkLinks p kin b k → WorkLinks p kin b (act_each p n kin vs k)
+act_each_links p n kin b [] k top h = h
+act_each_links p n kin b (v ∷ vs) k top h = act_each_links p n kin b vs (act p n kin v.0 v.1 k) top (act_links p n kin b v.0 v.1 k top h)
 
 -- how an event of n, which took the packets `taken`, changes it
-pub record OutcomeGoes (p : Plan) (alive : ℕ → Bool) (n : ℕ) (x : Node) (taken : List (ℕ × Packet)) (o : Outcome) : Type 0 where
+pub record OutcomeLinks (p : Plan) (alive : ℕ → Bool) (n : ℕ) (x : Node) (taken : List (ℕ × Packet)) (o : Outcome) : Type 0 where
   pub parent : (o.kin.parent ≡ x.kin.parent) ⊎ ((m : ℕ) → o.kin.parent ≡ Some m → In (m, Attach) o.work.sends)
   pub children : (c : ℕ) → alive c ≡ true → In c x.kin.children → In c o.kin.children
   pub opens : (s w : ℕ) → is_open (o.work.book s w) ≡ true → is_open (x.book s w) ≡ true
@@ -153,7 +153,7 @@ pub record BookGrows (x b : Book) : Type 0 where
   pub sent : (s w : ℕ) → sent_of (b s w) ≡ sent_of (x s w)
 
 -- where nothing is taken, or nothing but what `took_up` says
-pub acts_go : (p : Plan) (alive : ℕ → Bool) (n : ℕ) (x : Node) (b : Book) (k : Effects) → BookGrows x.book b → WorkGoes p x.kin b k → OutcomeGoes p alive n x [] (record { kin = x.kin; work = k })
+pub acts_go : (p : Plan) (alive : ℕ → Bool) (n : ℕ) (x : Node) (b : Book) (k : Effects) → BookGrows x.book b → WorkLinks p x.kin b k → OutcomeLinks p alive n x [] (record { kin = x.kin; work = k })
 acts_go p alive n x b k g h = record {
   parent = inl refl;
   children = λ c u i. i;
@@ -219,16 +219,16 @@ ticking_grows x = record { opens = λ s w. a (x s w); cov = λ s w. c (x s w); s
     d (Open cov sent t) = refl
     d Closed = refl
 
-begin_goes : (p : Plan) (kin : Kin) (b : Book) → WorkGoes p kin b (begin b)
-begin_goes p kin b s w = goes_not p kin s w (b s w) []
+begin_links : (p : Plan) (kin : Kin) (b : Book) → WorkLinks p kin b (begin b)
+begin_links p kin b s w = links_not p kin s w (b s w) []
 
-pub sampled_goes : (p : Plan) (alive : ℕ → Bool) (n : ℕ) (x : Node) (s w : ℕ) → FrontIsTop p n x.kin → is_empty_open (x.book s w) ≡ true → OutcomeGoes p alive n x [] (sampled p n x s w)
+pub sampled_links : (p : Plan) (alive : ℕ → Bool) (n : ℕ) (x : Node) (s w : ℕ) → FrontIsTop p n x.kin → is_empty_open (x.book s w) ≡ true → OutcomeLinks p alive n x [] (sampled p n x s w)
 unfolding sampled
-sampled_goes p alive n x s w top e = acts_go p alive n x _ _ (covering_grows x.book s w _ e) (act_goes p n x.kin _ s w _ top (begin_goes p x.kin _))
+sampled_links p alive n x s w top e = acts_go p alive n x _ _ (covering_grows x.book s w _ e) (act_links p n x.kin _ s w _ top (begin_links p x.kin _))
 
-pub tick_goes : (p : Plan) (alive : ℕ → Bool) (n : ℕ) (x : Node) → FrontIsTop p n x.kin → OutcomeGoes p alive n x [] (after_tick p n x)
+pub tick_links : (p : Plan) (alive : ℕ → Bool) (n : ℕ) (x : Node) → FrontIsTop p n x.kin → OutcomeLinks p alive n x [] (after_tick p n x)
 unfolding after_tick
-tick_goes p alive n x top = acts_go p alive n x _ _ (ticking_grows x.book) (act_each_goes p n x.kin _ (filter (λ v. is_fired (ticked (x.book v.0 v.1))) (waves_at p n)) _ top (begin_goes p x.kin _))
+tick_links p alive n x top = acts_go p alive n x _ _ (ticking_grows x.book) (act_each_links p n x.kin _ (filter (λ v. is_fired (ticked (x.book v.0 v.1))) (waves_at p n)) _ top (begin_links p x.kin _))
 
 -- what was sent stays among what is sent
 acted_sends : (p : Plan) (kin : Kin) (s w : ℕ) (cov sent : Ranks) (timer : Timer) (k : Effects) (a : Act) (v : ℕ × Packet) → In v k.sends → In v (acted p kin s w cov sent timer k a).sends
@@ -250,12 +250,12 @@ act_each_sends p n kin (y ∷ ys) k v i = act_each_sends p n kin ys (act p n kin
 pub set_wave_here : (x : Book) (s w : ℕ) (v : Wave) → set_wave x s w v s w ≡ v
 set_wave_here x s w v = ap (λ (f : ℕ → Wave). f w) (cond-true (s == s) _ _ (eq-eqb s s refl)) ∙ cond-true (w == w) _ _ (eq-eqb w w refl)
 
-pub up_goes : (p : Plan) (alive : ℕ → Bool) (n : ℕ) (x : Node) (m s w : ℕ) (set : Ranks) → FrontIsTop p n x.kin → OutcomeGoes p alive n x ((m, Up s w set) ∷ []) (received_up p n x s w set)
+pub up_links : (p : Plan) (alive : ℕ → Bool) (n : ℕ) (x : Node) (m s w : ℕ) (set : Ranks) → FrontIsTop p n x.kin → OutcomeLinks p alive n x ((m, Up s w set) ∷ []) (received_up p n x s w set)
 unfolding received_up
-up_goes p alive n x m s w set top =
+up_links p alive n x m s w set top =
     let b : Book = set_wave x.book s w (growing set (x.book s w)) in
-    let goes : WorkGoes p x.kin b (act p n x.kin s w (begin b)) = act_goes p n x.kin b s w (begin b) top (begin_goes p x.kin b) in
-    let g = acts_go p alive n x b (act p n x.kin s w (begin b)) (growing_grows x.book s w set) goes in
+    let links : WorkLinks p x.kin b (act p n x.kin s w (begin b)) = act_links p n x.kin b s w (begin b) top (begin_links p x.kin b) in
+    let g = acts_go p alive n x b (act p n x.kin s w (begin b)) (growing_grows x.book s w set) links in
     record {
       parent = g.parent;
       children = g.children;
@@ -271,7 +271,7 @@ up_goes p alive n x m s w set top =
           subst (λ a. Has r (cov_of ((act p n x.kin s w (begin b)).book a w'))) (sym es) (subst (λ a. Has r (cov_of ((act p n x.kin s w (begin b)).book s a))) (sym ew)
           (let o : is_open ((act p n x.kin s w (begin b)).book s w) ≡ true = subst (λ a. is_open ((act p n x.kin s w (begin b)).book s a) ≡ true) ew (subst (λ a. is_open ((act p n x.kin s w (begin b)).book a w') ≡ true) es e) in
           let k : is_open (x.book s w) ≡ true = g.opens s w o in
-          (goes s w).cov o r (subst (λ v. Has r (cov_of v)) (sym (set_wave_here x.book s w (growing set (x.book s w)))) (grown (x.book s w) k r (subst (λ l. Has r l) el j)))));
+          (links s w).cov o r (subst (λ v. Has r (cov_of v)) (sym (set_wave_here x.book s w (growing set (x.book s w)))) (grown (x.book s w) k r (subst (λ l. Has r l) el j)))));
       took_done = λ m' s' w' i. absurd (let eq : Done s' w' ≡ Up s w set = ap (λ v. v.1) (only i) in cc);
       took_attach = λ m' i. absurd (let eq : Attach ≡ Up s w set = ap (λ v. v.1) (only i) in cc);
       answered = λ m' s' w' i. absurd (let eq : Attach ≡ Up s w set = ap (λ v. v.1) (only i) in cc);
@@ -284,21 +284,21 @@ up_goes p alive n x m s w set top =
     grown (Open cov sent t) e r j = union_right r cov set j
     grown Closed e r j = absurd (cc)
 
-done_work_goes : (p : Plan) (kin : Kin) (s w : ℕ) (book : Book) (v : Wave) → v ≡ book s w → WorkGoes p kin book (done_work p kin s w book v)
-done_work_goes p kin s w book Closed e = begin_goes p kin book
-done_work_goes p kin s w book (Open cov sent timer) e =
-    each_wave_set (λ a b y. WaveGoes p kin a b (book a b) y (dones p kin s w)) book s w Closed
-    (λ a b. goes_not p kin a b (book a b) _)
+done_work_links : (p : Plan) (kin : Kin) (s w : ℕ) (book : Book) (v : Wave) → v ≡ book s w → WorkLinks p kin book (done_work p kin s w book v)
+done_work_links p kin s w book Closed e = begin_links p kin book
+done_work_links p kin s w book (Open cov sent timer) e =
+    each_wave_set (λ a b y. WaveLinks p kin a b (book a b) y (dones p kin s w)) book s w Closed
+    (λ a b. links_not p kin a b (book a b) _)
     (record { opens = λ f. absurd (cc); cov = λ f. absurd (cc); sent = λ r i. absurd (no_rank r i); closing = λ f g c i t. done_there p kin s w c i t })
 
 done_work_closed : (p : Plan) (kin : Kin) (s w : ℕ) (book : Book) (v : Wave) → v ≡ book s w → is_open ((done_work p kin s w book v).book s w) ≡ false
 done_work_closed p kin s w book Closed e = subst (λ y. is_open y ≡ false) e refl
 done_work_closed p kin s w book (Open cov sent timer) e = rw set_wave_here refl
 
-pub done_goes : (p : Plan) (alive : ℕ → Bool) (n : ℕ) (x : Node) (m s w : ℕ) → OutcomeGoes p alive n x ((m, Done s w) ∷ []) (received_done p n x s w)
+pub done_links : (p : Plan) (alive : ℕ → Bool) (n : ℕ) (x : Node) (m s w : ℕ) → OutcomeLinks p alive n x ((m, Done s w) ∷ []) (received_done p n x s w)
 unfolding received_done
-done_goes p alive n x m s w =
-    let g = acts_go p alive n x x.book (done_work p x.kin s w x.book (x.book s w)) (record { opens = λ s w. refl; cov = λ s w r i. i; sent = λ s w. refl }) (done_work_goes p x.kin s w x.book (x.book s w) refl) in
+done_links p alive n x m s w =
+    let g = acts_go p alive n x x.book (done_work p x.kin s w x.book (x.book s w)) (record { opens = λ s w. refl; cov = λ s w r i. i; sent = λ s w. refl }) (done_work_links p x.kin s w x.book (x.book s w) refl) in
     record {
       parent = g.parent;
       children = g.children;
@@ -374,9 +374,9 @@ closed_from_open : (v : Wave) → is_open v ≡ false → is_closed v ≡ true
 closed_from_open (Open cov sent t) e = absurd (cc)
 closed_from_open Closed e = refl
 
-pub attach_goes : (p : Plan) (alive : ℕ → Bool) (n : ℕ) (x : Node) (m : ℕ) → HasPlanFacts p → IsUnder p m n → OutcomeGoes p alive n x ((m, Attach) ∷ []) (received_attach p n x m)
+pub attach_links : (p : Plan) (alive : ℕ → Bool) (n : ℕ) (x : Node) (m : ℕ) → HasPlanFacts p → IsUnder p m n → OutcomeLinks p alive n x ((m, Attach) ∷ []) (received_attach p n x m)
 unfolding received_attach
-attach_goes p alive n x m plan u = record {
+attach_links p alive n x m plan u = record {
   parent = inl refl;
   children = λ c a i. with_number_old c m x.kin.children i;
   opens = λ s w e. e;
@@ -418,16 +418,16 @@ unsent_cov : (v : Wave) → cov_of (unsent v) ≡ cov_of v
 unsent_cov (Open cov sent t) = refl
 unsent_cov Closed = refl
 
-child_goes : (p : Plan) (alive : ℕ → Bool) (n : ℕ) (x : Node) (m : ℕ) → alive m ≡ false → FrontIsTop p n (without_child x.kin m) → OutcomeGoes p alive n x ((m, Down) ∷ []) (record { kin = without_child x.kin m; work = act_each p n (without_child x.kin m) (waves_at p n) (begin x.book) })
-child_goes p alive n x m dead top =
-    let goes : WorkGoes p (without_child x.kin m) x.book (act_each p n (without_child x.kin m) (waves_at p n) (begin x.book)) = act_each_goes p n (without_child x.kin m) x.book (waves_at p n) (begin x.book) top (begin_goes p (without_child x.kin m) x.book) in
+child_links : (p : Plan) (alive : ℕ → Bool) (n : ℕ) (x : Node) (m : ℕ) → alive m ≡ false → FrontIsTop p n (without_child x.kin m) → OutcomeLinks p alive n x ((m, Down) ∷ []) (record { kin = without_child x.kin m; work = act_each p n (without_child x.kin m) (waves_at p n) (begin x.book) })
+child_links p alive n x m dead top =
+    let links : WorkLinks p (without_child x.kin m) x.book (act_each p n (without_child x.kin m) (waves_at p n) (begin x.book)) = act_each_links p n (without_child x.kin m) x.book (waves_at p n) (begin x.book) top (begin_links p (without_child x.kin m) x.book) in
     record {
       parent = inl refl;
       children = λ c a i. stays c a i;
-      opens = λ s w e. (goes s w).opens e;
-      cov = λ s w e. (goes s w).cov e;
-      sent = λ s w r i. elim ((goes s w).sent r i) [ inl j ↦ inl (refl, j) | inr f ↦ inr f ];
-      closing = λ s w e f c a i t. (goes s w).closing e f c (stays c a i) t;
+      opens = λ s w e. (links s w).opens e;
+      cov = λ s w e. (links s w).cov e;
+      sent = λ s w r i. elim ((links s w).sent r i) [ inl j ↦ inl (refl, j) | inr f ↦ inr f ];
+      closing = λ s w e f c a i t. (links s w).closing e f c (stays c a i) t;
       took_up = λ m' s' w' set i. absurd (let eq : Up s' w' set ≡ Down = ap (λ v. v.1) (only i) in cc);
       took_done = λ m' s' w' i. absurd (let eq : Done s' w' ≡ Down = ap (λ v. v.1) (only i) in cc);
       took_attach = λ m' i. absurd (let eq : Attach ≡ Down = ap (λ v. v.1) (only i) in cc);
@@ -440,22 +440,22 @@ child_goes p alive n x m dead top =
     stays : (c : ℕ) → alive c ≡ true → In c x.kin.children → In c (without_number m x.kin.children)
     stays c a i = without_other m c x.kin.children (λ e. let k : alive c ≡ false = subst (λ y. alive y ≡ false) e dead in cc) i
 
-parent_goes : (p : Plan) (alive : ℕ → Bool) (n : ℕ) (x : Node) (m : ℕ) → FrontIsTop p n (with_parent p n x.kin m) → OutcomeGoes p alive n x ((m, Down) ∷ []) (record {
+parent_links : (p : Plan) (alive : ℕ → Bool) (n : ℕ) (x : Node) (m : ℕ) → FrontIsTop p n (with_parent p n x.kin m) → OutcomeLinks p alive n x ((m, Down) ∷ []) (record {
   kin = with_parent p n x.kin m;
   work = act_each p n (with_parent p n x.kin m) (waves_at p n) (record { book = λ s w. unsent (x.book s w); sends = to_parent (with_parent p n x.kin m).parent Attach; releases = [] });
 })
-parent_goes p alive n x m top =
+parent_links p alive n x m top =
     let kin' : Kin = with_parent p n x.kin m in
     let b : Book = λ s w. unsent (x.book s w) in
     let k0 : Effects = record { book = b; sends = to_parent kin'.parent Attach; releases = [] } in
-    let goes : WorkGoes p kin' b (act_each p n kin' (waves_at p n) k0) = act_each_goes p n kin' b (waves_at p n) k0 top (λ s w. goes_not p kin' s w (b s w) k0.sends) in
+    let links : WorkLinks p kin' b (act_each p n kin' (waves_at p n) k0) = act_each_links p n kin' b (waves_at p n) k0 top (λ s w. links_not p kin' s w (b s w) k0.sends) in
     record {
       parent = inr (λ q e. act_each_sends p n kin' (waves_at p n) k0 (q, Attach) (subst (λ o. In (q, Attach) (to_parent o Attach)) (sym e) (inl refl)));
       children = λ c a i. i;
-      opens = λ s w e. sym (unsent_open (x.book s w)) ∙ (goes s w).opens e;
-      cov = λ s w e r i. (goes s w).cov e r (subst (λ l. Has r l) (sym (unsent_cov (x.book s w))) i);
-      sent = λ s w r i. elim ((goes s w).sent r i) [ inl j ↦ absurd (no_rank r (subst (λ l. Has r l) (unsent_none (x.book s w)) j)) | inr f ↦ inr f ];
-      closing = λ s w e f c a i t. (goes s w).closing (unsent_open (x.book s w) ∙ e) f c i t;
+      opens = λ s w e. sym (unsent_open (x.book s w)) ∙ (links s w).opens e;
+      cov = λ s w e r i. (links s w).cov e r (subst (λ l. Has r l) (sym (unsent_cov (x.book s w))) i);
+      sent = λ s w r i. elim ((links s w).sent r i) [ inl j ↦ absurd (no_rank r (subst (λ l. Has r l) (unsent_none (x.book s w)) j)) | inr f ↦ inr f ];
+      closing = λ s w e f c a i t. (links s w).closing (unsent_open (x.book s w) ∙ e) f c i t;
       took_up = λ m' s' w' set i. absurd (let eq : Up s' w' set ≡ Down = ap (λ v. v.1) (only i) in cc);
       took_done = λ m' s' w' i. absurd (let eq : Done s' w' ≡ Down = ap (λ v. v.1) (only i) in cc);
       took_attach = λ m' i. absurd (let eq : Attach ≡ Down = ap (λ v. v.1) (only i) in cc);
@@ -474,15 +474,15 @@ top_kin p n kin plan e t =
 pub front_top_of : (p : Plan) (alive : ℕ → Bool) (n : ℕ) (kin : Kin) → HasPlanFacts p → KinIsSound p alive n kin → FrontIsTop p n kin
 front_top_of p alive n kin plan h = top_kin p n kin plan h.parent
 
-pub down_goes : (p : Plan) (alive : ℕ → Bool) (n : ℕ) (x : Node) (m : ℕ) → HasPlanFacts p → KinIsSound p alive n x.kin → alive m ≡ false → OutcomeGoes p alive n x ((m, Down) ∷ []) (received_down p n x m)
+pub down_links : (p : Plan) (alive : ℕ → Bool) (n : ℕ) (x : Node) (m : ℕ) → HasPlanFacts p → KinIsSound p alive n x.kin → alive m ≡ false → OutcomeLinks p alive n x ((m, Down) ∷ []) (received_down p n x m)
 unfolding received_down
-down_goes p alive n x m plan hk dead =
-    cond_both (is_parent x.kin.parent m) _ _ (OutcomeGoes p alive n x ((m, Down) ∷ []))
-    (λ e. parent_goes p alive n x m (top_kin p n (with_parent p n x.kin m) plan refl))
-    (λ e. child_goes p alive n x m dead (front_top_of p alive n x.kin plan hk))
+down_links p alive n x m plan hk dead =
+    cond_both (is_parent x.kin.parent m) _ _ (OutcomeLinks p alive n x ((m, Down) ∷ []))
+    (λ e. parent_links p alive n x m (top_kin p n (with_parent p n x.kin m) plan refl))
+    (λ e. child_links p alive n x m dead (front_top_of p alive n x.kin plan hk))
 
-pub received_goes : (p : Plan) (alive : ℕ → Bool) (n : ℕ) (x : Node) (m : ℕ) (q : Packet) → HasPlanFacts p → KinIsSound p alive n x.kin → PacketIsSound p alive m n q → OutcomeGoes p alive n x ((m, q) ∷ []) (received p n x m q)
-received_goes p alive n x m (Up s w set) plan hk hq = up_goes p alive n x m s w set (front_top_of p alive n x.kin plan hk)
-received_goes p alive n x m (Done s w) plan hk hq = done_goes p alive n x m s w
-received_goes p alive n x m Attach plan hk hq = attach_goes p alive n x m plan hq
-received_goes p alive n x m Down plan hk hq = down_goes p alive n x m plan hk hq.0
+pub received_links : (p : Plan) (alive : ℕ → Bool) (n : ℕ) (x : Node) (m : ℕ) (q : Packet) → HasPlanFacts p → KinIsSound p alive n x.kin → PacketIsSound p alive m n q → OutcomeLinks p alive n x ((m, q) ∷ []) (received p n x m q)
+received_links p alive n x m (Up s w set) plan hk hq = up_links p alive n x m s w set (front_top_of p alive n x.kin plan hk)
+received_links p alive n x m (Done s w) plan hk hq = done_links p alive n x m s w
+received_links p alive n x m Attach plan hk hq = attach_links p alive n x m plan hq
+received_links p alive n x m Down plan hk hq = down_links p alive n x m plan hk hq.0

@@ -13,7 +13,7 @@ use Rattle.overlay_core.specs.Losses.{IsLost}
 use Rattle.overlay_core.specs.Pick.{next_number, picked_event, picked_from, picked, PicksFrom, Picks, IsPickedFrom}
 use Rattle.stat_desk.specs.declared.event.Event.{Event}
 use Rattle.overlay_core.proofs.Whole.{step_is_sound, start_is_sound, step_alive, start_below}
-use Rattle.overlay_core.proofs.Potential.{weight, step_spends, start_weight, legal_is_short}
+use Rattle.overlay_core.proofs.Potential.{weight, step_decreases, start_weight, legal_is_short}
 use Rattle.overlay_core.proofs.Enabled.{listed_enabled, quiet_from_list}
 
 get_in : {X : Type 0} (xs : List X) (i : ℕ) (x : X) → slice_get xs i ≡ Some x → In x xs
@@ -41,7 +41,7 @@ picked_whole p (suc fuel) x st plan h below lt = go (picked_event p st (next_num
     go None eo ih = (tt, quiet_from_list p st plan h.base below (none_listed (enabled_events p st) (next_number x / 2 ^ 33) eo))
     go (Some e) eo ih =
         let en : is_enabled p st e ≡ true = listed_enabled p st e (get_in (enabled_events p st) (next_number x / 2 ^ 33 % length (enabled_events p st)) e eo) in
-        let w : weight p (step p st e) + 1 ≤ weight p st = step_spends p st e plan h below en in
+        let w : weight p (step p st e) + 1 ≤ weight p st = step_decreases p st e plan h below en in
         let r = ih e plan (step_is_sound p st e plan h en) (λ n u. below n (step_alive p st e n u)) (omega arith) in
         ((en, r.0), r.1)
 

@@ -23,7 +23,7 @@ use Rattle.overlay_core.proofs.ParentLinks.{in_filter, in_list_any, test_from_wi
 use Rattle.overlay_core.proofs.ParentChild.{node_here, node_else}
 use Rattle.overlay_core.proofs.Steps.{active_parts}
 use Rattle.overlay_core.proofs.Whole.{step_is_sound, start_is_sound, step_alive, start_below}
-use Rattle.overlay_core.proofs.PotentialDecreases.{tick_cap, wave_count, uncovered, wave_weight, book_weight, packet_weight, sends_weight, kin_weight, parent_cost, Spends, up_spends, sampled_spends, tick_spends, done_spends, attach_spends, down_spends}
+use Rattle.overlay_core.proofs.PotentialDecreases.{tick_cap, wave_count, uncovered, wave_weight, book_weight, packet_weight, sends_weight, kin_weight, parent_cost, Decreases, up_decreases, sampled_decreases, tick_decreases, done_decreases, attach_decreases, down_decreases}
 
 abbrev node_weight : Plan → ℕ → Bool → Node → ℕ
 node_weight p n up x = cond up (nodes p + kin_weight p n x.kin.lost + book_weight p n x.book) 0
@@ -120,9 +120,9 @@ row_same p st n o a e =
     (λ t. absurd (true≢false (sym (and_parts (a == n) (st.alive b) t).0 ∙ e)))
     (λ t. le_refl _))
 
-commit_spends : (p : Plan) (st : State) (n paid : ℕ) (o : Outcome) → n < nodes p → st.alive n ≡ true → Spends p n (st.node n) paid o → weight p (commit st n o) + 1 ≤ weight p st + paid
+commit_decreases : (p : Plan) (st : State) (n paid : ℕ) (o : Outcome) → n < nodes p → st.alive n ≡ true → Decreases p n (st.node n) paid o → weight p (commit st n o) + 1 ≤ weight p st + paid
 unfolding weight nodes_weight rows_weight commit
-commit_spends p st n paid o lt up h =
+commit_decreases p st n paid o lt up h =
     let f : ℕ → ℕ = λ a. node_weight p a (st.alive a) ((commit st n o).node a) in
     let g : ℕ → ℕ = λ a. node_weight p a (st.alive a) (st.node a) in
     let a : total f (up_to (nodes p)) + g n ≤ total g (up_to (nodes p)) + f n = total_at f g (nodes p) n
@@ -213,13 +213,13 @@ few_children p n xs plan h f = elim (length_below xs 0 (nodes p) h (λ x i. (zer
   | inr e ↦ let z : length xs ≡ 0 = ap length e in omega arith
 ]
 
-received_spends : (p : Plan) (alive : ℕ → Bool) (n : ℕ) (x : Node) (m : ℕ) (q : Packet) → HasPlanFacts p → KinIsSound p alive n x.kin → BookIsSound p n x.book → PacketIsSound p alive m n q → Spends p n x (packet_weight p q) (received p n x m q)
-received_spends p alive n x m (Up s w set) plan hk hb hq =
-    up_spends p n x s w set hq.3 (few_children p n x.kin.children plan hk.children_rise hk.children) (hb s w) (growing_sound p m n s set (x.book s w) plan hq.0 hq.1 (hb s w))
-received_spends p alive n x m (Done s w) plan hk hb hq = done_spends p n x s w hq.2 (few_children p n x.kin.children plan hk.children_rise hk.children)
-received_spends p alive n x m Attach plan hk hb hq = attach_spends p n x m
-received_spends p alive n x m Down plan hk hb hq =
-    down_spends p alive n x m hk (few_children p n x.kin.children plan hk.children_rise hk.children)
+received_decreases : (p : Plan) (alive : ℕ → Bool) (n : ℕ) (x : Node) (m : ℕ) (q : Packet) → HasPlanFacts p → KinIsSound p alive n x.kin → BookIsSound p n x.book → PacketIsSound p alive m n q → Decreases p n x (packet_weight p q) (received p n x m q)
+received_decreases p alive n x m (Up s w set) plan hk hb hq =
+    up_decreases p n x s w set hq.3 (few_children p n x.kin.children plan hk.children_rise hk.children) (hb s w) (growing_sound p m n s set (x.book s w) plan hq.0 hq.1 (hb s w))
+received_decreases p alive n x m (Done s w) plan hk hb hq = done_decreases p n x s w hq.2 (few_children p n x.kin.children plan hk.children_rise hk.children)
+received_decreases p alive n x m Attach plan hk hb hq = attach_decreases p n x m
+received_decreases p alive n x m Down plan hk hb hq =
+    down_decreases p alive n x m hk (few_children p n x.kin.children plan hk.children_rise hk.children)
     (few_children p n (without_child x.kin m).children plan (without_rises m x.kin.children hk.children_rise) (λ c i. hk.children c (in_without c m x.kin.children i)))
 
 pub sender_below : (p : Plan) (alive : ℕ → Bool) (m n : ℕ) (q : Packet) → HasPlanFacts p → PacketIsSound p alive m n q → m < nodes p
@@ -228,13 +228,13 @@ sender_below p alive m n (Done s w) plan h = (plan.under_nodes n m h.0).1
 sender_below p alive m n Attach plan h = (plan.under_nodes m n h).0
 sender_below p alive m n Down plan h = elim h.1 [ inl u ↦ (plan.under_nodes n m u).1 | inr u ↦ (plan.under_nodes m n u).0 ]
 
-receive_spends : (p : Plan) (st : State) (n m : ℕ) (qs : List Packet) → HasPlanFacts p → LinkInvariant p st → n < nodes p → st.alive n ≡ true → st.link m n ≡ qs → (qs ≡ [] → ⊥) → weight p (receive p st n m qs) + 1 ≤ weight p st
+receive_decreases : (p : Plan) (st : State) (n m : ℕ) (qs : List Packet) → HasPlanFacts p → LinkInvariant p st → n < nodes p → st.alive n ≡ true → st.link m n ≡ qs → (qs ≡ [] → ⊥) → weight p (receive p st n m qs) + 1 ≤ weight p st
 unfolding with_link
-receive_spends p st n m [] plan h lt up e some = absurd (some refl)
-receive_spends p st n m (q ∷ qs) plan h lt up e some =
+receive_decreases p st n m [] plan h lt up e some = absurd (some refl)
+receive_decreases p st n m (q ∷ qs) plan h lt up e some =
     let hq = (h.links m n).packets q (subst (λ l. In q l) (sym e) (inl refl)) in
     let a : weight p (commit (with_link st m n qs) n (received p n (st.node n) m q)) + 1 ≤ weight p (with_link st m n qs) + packet_weight p q =
-    commit_spends p (with_link st m n qs) n (packet_weight p q) (received p n (st.node n) m q) lt up (received_spends p st.alive n (st.node n) m q plan (h.kin n) (h.books n) hq) in
+    commit_decreases p (with_link st m n qs) n (packet_weight p q) (received p n (st.node n) m q) lt up (received_decreases p st.alive n (st.node n) m q plan (h.kin n) (h.books n) hq) in
     let b : weight p (with_link st m n qs) + packet_weight p q ≤ weight p st = popped_weight p st m n q qs (sender_below p st.alive m n q plan hq) lt e in
     omega arith
 
@@ -242,34 +242,34 @@ served : (p : Plan) (n s w : ℕ) → In n (daemons p s) → In (s, w) (waves_of
 unfolding waves_at serves
 served p n s w hd i = in_filter (λ v. serves p n v.0) (waves_of p.streams) (s, w) i (in_list_any (λ d. is_within p d n) (daemons p s) n hd (test_from_within p n n (inl refl)))
 
-pub step_spends : (p : Plan) (st : State) (e : Event) → HasPlanFacts p → IsSound p st → ((n : ℕ) → st.alive n ≡ true → n < nodes p) → is_enabled p st e ≡ true → weight p (step p st e) + 1 ≤ weight p st
-step_spends p st (Sample n s w) plan h below e =
+pub step_decreases : (p : Plan) (st : State) (e : Event) → HasPlanFacts p → IsSound p st → ((n : ℕ) → st.alive n ≡ true → n < nodes p) → is_enabled p st e ≡ true → weight p (step p st e) + 1 ≤ weight p st
+step_decreases p st (Sample n s w) plan h below e =
     let t = and_parts _ _ e in
     let u = and_parts _ _ t.0 in
     let up = (active_parts p st n u.0).0 in
     let hd = in_from_member n (daemons p s) u.1 in
     let i = next_is_named p (st.node n) s w t.1 in
     let hk = h.base.kin n in
-    let a = commit_spends p st n 0 (sampled p n (st.node n) s w) (below n up) up
-    (sampled_spends p n (st.node n) s w plan i hd (few_children p n (st.node n).kin.children plan hk.children_rise hk.children) (next_is_empty p (st.node n) s w t.1) (h.base.books n s w) (h.calm n up s w (served p n s w hd i))) in
+    let a = commit_decreases p st n 0 (sampled p n (st.node n) s w) (below n up) up
+    (sampled_decreases p n (st.node n) s w plan i hd (few_children p n (st.node n).kin.children plan hk.children_rise hk.children) (next_is_empty p (st.node n) s w t.1) (h.base.books n s w) (h.settled n up s w (served p n s w hd i))) in
     omega arith
-step_spends p st (Recv n m) plan h below e =
+step_decreases p st (Recv n m) plan h below e =
     let t = and_parts _ _ e in
     let up = (active_parts p st n t.0).0 in
-    receive_spends p st n m (st.link m n) plan h.base (below n up) up refl (λ z. true≢false (sym t.1 ∙ ap is_pending z))
-step_spends p st (Tick n) plan h below e =
+    receive_decreases p st n m (st.link m n) plan h.base (below n up) up refl (λ z. true≢false (sym t.1 ∙ ap is_pending z))
+step_decreases p st (Tick n) plan h below e =
     let t = and_parts _ _ e in
     let up = (active_parts p st n t.0).0 in
     let hk = h.base.kin n in
-    let a = commit_spends p st n 0 (after_tick p n (st.node n)) (below n up) up (tick_spends p n (st.node n) (few_children p n (st.node n).kin.children plan hk.children_rise hk.children) (h.calm n up) t.1) in
+    let a = commit_decreases p st n 0 (after_tick p n (st.node n)) (below n up) up (tick_decreases p n (st.node n) (few_children p n (st.node n).kin.children plan hk.children_rise hk.children) (h.settled n up) t.1) in
     omega arith
-step_spends p st (Lose n) plan h below e = let up = (and_parts _ _ e).0 in lose_weight p st n (below n up) up
+step_decreases p st (Lose n) plan h below e = let up = (and_parts _ _ e).0 in lose_weight p st n (below n up) up
 
-run_spends : (p : Plan) (st : State) (es : List Event) → HasPlanFacts p → IsSound p st → ((n : ℕ) → st.alive n ≡ true → n < nodes p) → IsLegalFrom p st es → length es ≤ weight p st
-run_spends p st [] plan h below l = zero-le
-run_spends p st (e ∷ es) plan h below l =
-    let a : weight p (step p st e) + 1 ≤ weight p st = step_spends p st e plan h below l.0 in
-    let b : length es ≤ weight p (step p st e) = run_spends p (step p st e) es plan (step_is_sound p st e plan h l.0) (λ n u. below n (step_alive p st e n u)) l.1 in
+run_decreases : (p : Plan) (st : State) (es : List Event) → HasPlanFacts p → IsSound p st → ((n : ℕ) → st.alive n ≡ true → n < nodes p) → IsLegalFrom p st es → length es ≤ weight p st
+run_decreases p st [] plan h below l = zero-le
+run_decreases p st (e ∷ es) plan h below l =
+    let a : weight p (step p st e) + 1 ≤ weight p st = step_decreases p st e plan h below l.0 in
+    let b : length es ≤ weight p (step p st e) = run_decreases p (step p st e) es plan (step_is_sound p st e plan h l.0) (λ n u. below n (step_alive p st e n u)) l.1 in
     omega arith
 
 -- what the start weighs
@@ -324,5 +324,5 @@ start_weight p plan =
 -- a legal journal has at most as many events as the start weighs, and the start weighs at most the bound
 pub legal_is_short : (p : Plan) (journal : List Event) → HasPlanFacts p → IsLegal p journal → length journal ≤ bound p
 legal_is_short p journal plan l =
-    let a : length journal ≤ weight p (start p) = run_spends p (start p) journal plan (start_is_sound p plan) (start_below p) l in
+    let a : length journal ≤ weight p (start p) = run_decreases p (start p) journal plan (start_is_sound p plan) (start_below p) l in
     le_trans a (start_weight p plan)

@@ -148,10 +148,10 @@ attach_weight p (Some m) = omega arith
 abbrev pub work_weight : Plan → ℕ → Effects → ℕ
 work_weight p n k = book_weight p n k.book + sends_weight p k.sends
 
-acted_spends : (p : Plan) (n : ℕ) (kin : Kin) (s w : ℕ) (cov sent : Ranks) (timer : Timer) (k : Effects) (a : Act) → In (s, w) (waves_of p.streams) → length kin.children ≤ nodes p → k.book s w ≡ Open cov sent timer → due_at p n kin.lost s cov sent timer ≡ a → work_weight p n (acted p kin s w cov sent timer k a) ≤ work_weight p n k
+acted_decreases : (p : Plan) (n : ℕ) (kin : Kin) (s w : ℕ) (cov sent : Ranks) (timer : Timer) (k : Effects) (a : Act) → In (s, w) (waves_of p.streams) → length kin.children ≤ nodes p → k.book s w ≡ Open cov sent timer → due_at p n kin.lost s cov sent timer ≡ a → work_weight p n (acted p kin s w cov sent timer k a) ≤ work_weight p n k
 unfolding acted due_at
-acted_spends p n kin s w cov sent timer k Hold i few ev e = le_refl _
-acted_spends p n kin s w cov sent timer k Arm i few ev e =
+acted_decreases p n kin s w cov sent timer k Hold i few ev e = le_refl _
+acted_decreases p n kin s w cov sent timer k Arm i few ev e =
     let t = after_arm (mode p s) (complete p n kin.lost s cov) (not (is_same cov sent)) (is_front p n) timer 0 e in
     let off : timer ≡ Off = arm_off (mode p s) (complete p n kin.lost s cov) (not (is_same cov sent)) (is_front p n) timer e in
     let grown : is_same cov sent ≡ false = not_true _ t.1 in
@@ -160,7 +160,7 @@ acted_spends p n kin s w cov sent timer k Arm i few ev e =
     let le : ticks (mode p s) ≤ tick_cap p = ticks_le p s in
     let d : book_weight p n (set_wave k.book s w (Open cov sent (Running (ticks (mode p s))))) + 0 ≤ book_weight p n k.book = drop_at p n k.book s w (Open cov sent (Running (ticks (mode p s)))) 0 i (omega arith) in
     omega arith
-acted_spends p n kin s w cov sent timer k Send i few ev e =
+acted_decreases p n kin s w cov sent timer k Send i few ev e =
     let grown : is_same cov sent ≡ false = not_true _ (send_grown (mode p s) (complete p n kin.lost s cov) (not (is_same cov sent)) (is_front p n) timer e) in
     let some : 1 ≤ pend (tick_cap p) cov sent timer = pend_some (tick_cap p) cov sent timer grown in
     let none : pend (tick_cap p) cov cov Off ≡ 0 = pend_none (tick_cap p) cov in
@@ -169,27 +169,27 @@ acted_spends p n kin s w cov sent timer k Send i few ev e =
     let u : sends_weight p (to_parent kin.parent (Up s w cov)) ≤ 1 = up_weight p kin.parent s w cov in
     let a : sends_weight p (k.sends ++ to_parent kin.parent (Up s w cov)) ≡ sends_weight p k.sends + sends_weight p (to_parent kin.parent (Up s w cov)) = sends_append p k.sends _ in
     omega arith
-acted_spends p n kin s w cov sent timer k Partial i few ev e =
+acted_decreases p n kin s w cov sent timer k Partial i few ev e =
     let none : pend (tick_cap p) cov cov Off ≡ 0 = pend_none (tick_cap p) cov in
     let old : wave_weight p n s (k.book s w) ≡ uncovered p n s cov * (tick_cap p + 2) + pend (tick_cap p) cov sent timer + nodes p = ap (wave_weight p n s) ev in
     let d : book_weight p n (set_wave k.book s w (Open cov cov Off)) + 0 ≤ book_weight p n k.book = drop_at p n k.book s w (Open cov cov Off) 0 i (omega arith) in
     omega arith
-acted_spends p n kin s w cov sent timer k Final i few ev e =
+acted_decreases p n kin s w cov sent timer k Final i few ev e =
     let old : wave_weight p n s (k.book s w) ≡ uncovered p n s cov * (tick_cap p + 2) + pend (tick_cap p) cov sent timer + nodes p = ap (wave_weight p n s) ev in
     let d : book_weight p n (set_wave k.book s w Closed) + nodes p ≤ book_weight p n k.book = drop_at p n k.book s w Closed (nodes p) i (omega arith) in
     let u : sends_weight p (dones p kin s w) ≤ nodes p = dones_weight p kin s w few in
     let a : sends_weight p (k.sends ++ dones p kin s w) ≡ sends_weight p k.sends + sends_weight p (dones p kin s w) = sends_append p k.sends _ in
     omega arith
 
-act_as_spends : (p : Plan) (n : ℕ) (kin : Kin) (s w : ℕ) (k : Effects) (v : Wave) → In (s, w) (waves_of p.streams) → length kin.children ≤ nodes p → k.book s w ≡ v → work_weight p n (act_as p n kin s w k v) ≤ work_weight p n k
-act_as_spends p n kin s w k (Open cov sent timer) i few ev = acted_spends p n kin s w cov sent timer k (due_at p n kin.lost s cov sent timer) i few ev refl
-act_as_spends p n kin s w k Closed i few ev = le_refl _
+act_as_decreases : (p : Plan) (n : ℕ) (kin : Kin) (s w : ℕ) (k : Effects) (v : Wave) → In (s, w) (waves_of p.streams) → length kin.children ≤ nodes p → k.book s w ≡ v → work_weight p n (act_as p n kin s w k v) ≤ work_weight p n k
+act_as_decreases p n kin s w k (Open cov sent timer) i few ev = acted_decreases p n kin s w cov sent timer k (due_at p n kin.lost s cov sent timer) i few ev refl
+act_as_decreases p n kin s w k Closed i few ev = le_refl _
 
-act_each_spends : (p : Plan) (n : ℕ) (kin : Kin) (vs : List (ℕ × ℕ)) (k : Effects) → IsSubsetOf vs (waves_of p.streams) → length kin.children ≤ nodes p → work_weight p n (act_each p n kin vs k) ≤ work_weight p n k
-act_each_spends p n kin [] k i few = le_refl _
-act_each_spends p n kin (v ∷ vs) k i few =
-    let a : work_weight p n (act p n kin v.0 v.1 k) ≤ work_weight p n k = act_as_spends p n kin v.0 v.1 k (k.book v.0 v.1) (i v (inl refl)) few refl in
-    let b : work_weight p n (act_each p n kin vs (act p n kin v.0 v.1 k)) ≤ work_weight p n (act p n kin v.0 v.1 k) = act_each_spends p n kin vs (act p n kin v.0 v.1 k) (λ y j. i y (inr j)) few in
+act_each_decreases : (p : Plan) (n : ℕ) (kin : Kin) (vs : List (ℕ × ℕ)) (k : Effects) → IsSubsetOf vs (waves_of p.streams) → length kin.children ≤ nodes p → work_weight p n (act_each p n kin vs k) ≤ work_weight p n k
+act_each_decreases p n kin [] k i few = le_refl _
+act_each_decreases p n kin (v ∷ vs) k i few =
+    let a : work_weight p n (act p n kin v.0 v.1 k) ≤ work_weight p n k = act_as_decreases p n kin v.0 v.1 k (k.book v.0 v.1) (i v (inl refl)) few refl in
+    let b : work_weight p n (act_each p n kin vs (act p n kin v.0 v.1 k)) ≤ work_weight p n (act p n kin v.0 v.1 k) = act_each_decreases p n kin vs (act p n kin v.0 v.1 k) (λ y j. i y (inr j)) few in
     omega arith
 
 -- a node's ancestors that it doesn't know to be lost, each of which may become its parent
@@ -199,8 +199,8 @@ parent_cost p = 1 + wave_count p + wave_count p * (tick_cap p + 1)
 unfoldable pub kin_weight : Plan → ℕ → List ℕ → ℕ
 kin_weight p n lost = length (filter (λ a. not (member a lost)) (ancestors p n)) * parent_cost p
 
-abbrev pub Spends : Plan → ℕ → Node → ℕ → Outcome → Type 0
-Spends p n x paid o = kin_weight p n o.kin.lost + work_weight p n o.work + 1 ≤ kin_weight p n x.kin.lost + book_weight p n x.book + paid
+abbrev pub Decreases : Plan → ℕ → Node → ℕ → Outcome → Type 0
+Decreases p n x paid o = kin_weight p n o.kin.lost + work_weight p n o.work + 1 ≤ kin_weight p n x.kin.lost + book_weight p n x.book + paid
 
 begin_weight : (p : Plan) (n : ℕ) (b : Book) → work_weight p n (begin b) ≡ book_weight p n b
 unfolding sends_weight
@@ -248,8 +248,8 @@ pend_grows t cov cov' sent (Running k) = omega arith
 pend_grows t cov cov' sent Fired = omega arith
 
 -- ranks that come up
-growing_spends : (p : Plan) (n s : ℕ) (set : Ranks) (v : Wave) → WaveIsSound p n s v → WaveIsSound p n s (growing set v) → wave_weight p n s (growing set v) ≤ wave_weight p n s v
-growing_spends p n s set (Open cov sent timer) h h' = elim (cases_Bool (is_subset (union cov set) cov)) [
+growing_decreases : (p : Plan) (n s : ℕ) (set : Ranks) (v : Wave) → WaveIsSound p n s v → WaveIsSound p n s (growing set v) → wave_weight p n s (growing set v) ≤ wave_weight p n s v
+growing_decreases p n s set (Open cov sent timer) h h' = elim (cases_Bool (is_subset (union cov set) cov)) [
   | inl t ↦
       let e : union cov set ≡ cov = same_from_members (union cov set) cov (subset_from_test (union cov set) cov t) (λ r i. union_left r cov set i) in
       subst (λ l. uncovered p n s l * (tick_cap p + 2) + pend (tick_cap p) l sent timer + nodes p ≤ uncovered p n s cov * (tick_cap p + 2) + pend (tick_cap p) cov sent timer + nodes p) (sym e) (le_refl _)
@@ -265,21 +265,21 @@ growing_spends p n s set (Open cov sent timer) h h' = elim (cases_Bool (is_subse
   where
     lacks : (xs ys : Ranks) (r : ℕ) → Has r xs → has ys r ≡ false → is_subset xs ys ≡ false
     lacks xs ys r i e = elim (cases_Bool (is_subset xs ys)) [ inl t ↦ absurd (true≢false (sym (subset_from_test xs ys t r i) ∙ e)) | inr f ↦ f ]
-growing_spends p n s set Closed h h' = le_refl _
+growing_decreases p n s set Closed h h' = le_refl _
 
-pub up_spends : (p : Plan) (n : ℕ) (x : Node) (s w : ℕ) (set : Ranks) → In (s, w) (waves_of p.streams) → length x.kin.children ≤ nodes p → WaveIsSound p n s (x.book s w) → WaveIsSound p n s (growing set (x.book s w)) → Spends p n x 1 (received_up p n x s w set)
+pub up_decreases : (p : Plan) (n : ℕ) (x : Node) (s w : ℕ) (set : Ranks) → In (s, w) (waves_of p.streams) → length x.kin.children ≤ nodes p → WaveIsSound p n s (x.book s w) → WaveIsSound p n s (growing set (x.book s w)) → Decreases p n x 1 (received_up p n x s w set)
 unfolding received_up
-up_spends p n x s w set i few h h' =
+up_decreases p n x s w set i few h h' =
     let b = set_wave x.book s w (growing set (x.book s w)) in
-    let le : wave_weight p n s (growing set (x.book s w)) ≤ wave_weight p n s (x.book s w) = growing_spends p n s set (x.book s w) h h' in
+    let le : wave_weight p n s (growing set (x.book s w)) ≤ wave_weight p n s (x.book s w) = growing_decreases p n s set (x.book s w) h h' in
     let d : book_weight p n b + 0 ≤ book_weight p n x.book = drop_at p n x.book s w (growing set (x.book s w)) 0 i (omega arith) in
-    let a : work_weight p n (act p n x.kin s w (begin b)) ≤ work_weight p n (begin b) = act_as_spends p n x.kin s w (begin b) (b s w) i few refl in
+    let a : work_weight p n (act p n x.kin s w (begin b)) ≤ work_weight p n (begin b) = act_as_decreases p n x.kin s w (begin b) (b s w) i few refl in
     let z : work_weight p n (begin b) ≡ book_weight p n b = begin_weight p n b in
     omega arith
 
 -- a sample
-covering_spends : (p : Plan) (n s : ℕ) (v : Wave) → HasPlanFacts p → In n (daemons p s) → is_empty_open v ≡ true → WaveIsSound p n s v → ((cov sent : Ranks) (t : Timer) → v ≡ Open cov sent t → TimerIsSound p s cov sent t) → wave_weight p n s (covering (ranks p n) v) + 1 ≤ wave_weight p n s v
-covering_spends p n s (Open cov sent timer) plan hd e h ht =
+covering_decreases : (p : Plan) (n s : ℕ) (v : Wave) → HasPlanFacts p → In n (daemons p s) → is_empty_open v ≡ true → WaveIsSound p n s v → ((cov sent : Ranks) (t : Timer) → v ≡ Open cov sent t → TimerIsSound p s cov sent t) → wave_weight p n s (covering (ranks p n) v) + 1 ≤ wave_weight p n s v
+covering_decreases p n s (Open cov sent timer) plan hd e h ht =
     let ec : cov ≡ none = empty_true cov e in
     let es : sent ≡ none = none_from_subset sent (subst (IsSubset sent) ec h.within) in
     subst (λ c. wave_weight p n s (Open (ranks p n) sent timer) + 1 ≤ wave_weight p n s (Open c sent timer)) (sym ec)
@@ -297,64 +297,64 @@ covering_spends p n s (Open cov sent timer) plan hd e h ht =
         omega arith
     at_none (Running t) k = absurd (k.2 refl)
     at_none Fired k = absurd k
-covering_spends p n s Closed plan hd e h ht = absurd (true≢false (sym e))
+covering_decreases p n s Closed plan hd e h ht = absurd (true≢false (sym e))
 
-pub sampled_spends : (p : Plan) (n : ℕ) (x : Node) (s w : ℕ) → HasPlanFacts p → In (s, w) (waves_of p.streams) → In n (daemons p s) → length x.kin.children ≤ nodes p → is_empty_open (x.book s w) ≡ true → WaveIsSound p n s (x.book s w) → WaveIsSettled p n x.kin.lost s (x.book s w) → Spends p n x 0 (sampled p n x s w)
+pub sampled_decreases : (p : Plan) (n : ℕ) (x : Node) (s w : ℕ) → HasPlanFacts p → In (s, w) (waves_of p.streams) → In n (daemons p s) → length x.kin.children ≤ nodes p → is_empty_open (x.book s w) ≡ true → WaveIsSound p n s (x.book s w) → WaveIsSettled p n x.kin.lost s (x.book s w) → Decreases p n x 0 (sampled p n x s w)
 unfolding sampled
-sampled_spends p n x s w plan i hd few e h hc =
+sampled_decreases p n x s w plan i hd few e h hc =
     let b = set_wave x.book s w (covering (ranks p n) (x.book s w)) in
-    let d : book_weight p n b + 1 ≤ book_weight p n x.book = drop_at p n x.book s w (covering (ranks p n) (x.book s w)) 1 i (covering_spends p n s (x.book s w) plan hd e h (λ cov sent t ev. (subst (WaveIsSettled p n x.kin.lost s) ev hc).1)) in
-    let a : work_weight p n (act p n x.kin s w (begin b)) ≤ work_weight p n (begin b) = act_as_spends p n x.kin s w (begin b) (b s w) i few refl in
+    let d : book_weight p n b + 1 ≤ book_weight p n x.book = drop_at p n x.book s w (covering (ranks p n) (x.book s w)) 1 i (covering_decreases p n s (x.book s w) plan hd e h (λ cov sent t ev. (subst (WaveIsSettled p n x.kin.lost s) ev hc).1)) in
+    let a : work_weight p n (act p n x.kin s w (begin b)) ≤ work_weight p n (begin b) = act_as_decreases p n x.kin s w (begin b) (b s w) i few refl in
     let z : work_weight p n (begin b) ≡ book_weight p n b = begin_weight p n b in
     omega arith
 
 -- a tick
-ticked_spends : (p : Plan) (n s : ℕ) (v : Wave) → wave_weight p n s (ticked v) ≤ wave_weight p n s v
-ticked_spends p n s (Open cov sent Off) = le_refl _
-ticked_spends p n s (Open cov sent (Running zero)) = omega arith
-ticked_spends p n s (Open cov sent (Running (suc zero))) = omega arith
-ticked_spends p n s (Open cov sent (Running (suc (suc t)))) = omega arith
-ticked_spends p n s (Open cov sent Fired) = le_refl _
-ticked_spends p n s Closed = le_refl _
+ticked_decreases : (p : Plan) (n s : ℕ) (v : Wave) → wave_weight p n s (ticked v) ≤ wave_weight p n s v
+ticked_decreases p n s (Open cov sent Off) = le_refl _
+ticked_decreases p n s (Open cov sent (Running zero)) = omega arith
+ticked_decreases p n s (Open cov sent (Running (suc zero))) = omega arith
+ticked_decreases p n s (Open cov sent (Running (suc (suc t)))) = omega arith
+ticked_decreases p n s (Open cov sent Fired) = le_refl _
+ticked_decreases p n s Closed = le_refl _
 
-running_spends : (p : Plan) (n s : ℕ) (lost : List ℕ) (v : Wave) → is_running v ≡ true → WaveIsSettled p n lost s v → wave_weight p n s (ticked v) + 1 ≤ wave_weight p n s v
-running_spends p n s lost (Open cov sent Off) e h = absurd (true≢false (sym e))
-running_spends p n s lost (Open cov sent (Running zero)) e h = absurd (let k = h.1.0 in omega arith)
-running_spends p n s lost (Open cov sent (Running (suc zero))) e h = omega arith
-running_spends p n s lost (Open cov sent (Running (suc (suc t)))) e h = omega arith
-running_spends p n s lost (Open cov sent Fired) e h = absurd (true≢false (sym e))
-running_spends p n s lost Closed e h = absurd (true≢false (sym e))
+running_decreases : (p : Plan) (n s : ℕ) (lost : List ℕ) (v : Wave) → is_running v ≡ true → WaveIsSettled p n lost s v → wave_weight p n s (ticked v) + 1 ≤ wave_weight p n s v
+running_decreases p n s lost (Open cov sent Off) e h = absurd (true≢false (sym e))
+running_decreases p n s lost (Open cov sent (Running zero)) e h = absurd (let k = h.1.0 in omega arith)
+running_decreases p n s lost (Open cov sent (Running (suc zero))) e h = omega arith
+running_decreases p n s lost (Open cov sent (Running (suc (suc t)))) e h = omega arith
+running_decreases p n s lost (Open cov sent Fired) e h = absurd (true≢false (sym e))
+running_decreases p n s lost Closed e h = absurd (true≢false (sym e))
 
-pub tick_spends : (p : Plan) (n : ℕ) (x : Node) → length x.kin.children ≤ nodes p → NodeIsSettled p n x → list_any (λ v. is_running (x.book v.0 v.1)) (waves_at p n) ≡ true → Spends p n x 0 (after_tick p n x)
+pub tick_decreases : (p : Plan) (n : ℕ) (x : Node) → length x.kin.children ≤ nodes p → NodeIsSettled p n x → list_any (λ v. is_running (x.book v.0 v.1)) (waves_at p n) ≡ true → Decreases p n x 0 (after_tick p n x)
 unfolding after_tick book_weight
-tick_spends p n x few hc e =
+tick_decreases p n x few hc e =
     let r = list_any_in (λ v. is_running (x.book v.0 v.1)) (waves_at p n) e in
     let b : Book = λ s w. ticked (x.book s w) in
     let vs = filter (λ v. is_fired (ticked (x.book v.0 v.1))) (waves_at p n) in
     let d : book_weight p n b + 1 ≤ book_weight p n x.book =
-    total_drop (λ v. wave_weight p n v.0 (b v.0 v.1)) (λ v. wave_weight p n v.0 (x.book v.0 v.1)) 1 r.0 (waves_of p.streams) (λ v i. ticked_spends p n v.0 (x.book v.0 v.1)) (waves_at_named p n r.0 r.1)
-    (running_spends p n r.0.0 x.kin.lost (x.book r.0.0 r.0.1) r.2 (hc r.0.0 r.0.1 r.1)) in
-    let a : work_weight p n (act_each p n x.kin vs (begin b)) ≤ work_weight p n (begin b) = act_each_spends p n x.kin vs (begin b) (λ v i. waves_at_named p n v (filter_from (λ v. is_fired (ticked (x.book v.0 v.1))) (waves_at p n) v i).0) few in
+    total_drop (λ v. wave_weight p n v.0 (b v.0 v.1)) (λ v. wave_weight p n v.0 (x.book v.0 v.1)) 1 r.0 (waves_of p.streams) (λ v i. ticked_decreases p n v.0 (x.book v.0 v.1)) (waves_at_named p n r.0 r.1)
+    (running_decreases p n r.0.0 x.kin.lost (x.book r.0.0 r.0.1) r.2 (hc r.0.0 r.0.1 r.1)) in
+    let a : work_weight p n (act_each p n x.kin vs (begin b)) ≤ work_weight p n (begin b) = act_each_decreases p n x.kin vs (begin b) (λ v i. waves_at_named p n v (filter_from (λ v. is_fired (ticked (x.book v.0 v.1))) (waves_at p n) v i).0) few in
     let z : work_weight p n (begin b) ≡ book_weight p n b = begin_weight p n b in
     omega arith
 
 -- the word that a wave has ended
-done_work_spends : (p : Plan) (n : ℕ) (kin : Kin) (s w : ℕ) (book : Book) (v : Wave) → In (s, w) (waves_of p.streams) → length kin.children ≤ nodes p → book s w ≡ v → work_weight p n (done_work p kin s w book v) ≤ book_weight p n book
-done_work_spends p n kin s w book Closed i few ev = let z = begin_weight p n book in omega arith
-done_work_spends p n kin s w book (Open cov sent timer) i few ev =
+done_work_decreases : (p : Plan) (n : ℕ) (kin : Kin) (s w : ℕ) (book : Book) (v : Wave) → In (s, w) (waves_of p.streams) → length kin.children ≤ nodes p → book s w ≡ v → work_weight p n (done_work p kin s w book v) ≤ book_weight p n book
+done_work_decreases p n kin s w book Closed i few ev = let z = begin_weight p n book in omega arith
+done_work_decreases p n kin s w book (Open cov sent timer) i few ev =
     let old : wave_weight p n s (book s w) ≡ uncovered p n s cov * (tick_cap p + 2) + pend (tick_cap p) cov sent timer + nodes p = ap (wave_weight p n s) ev in
     let d : book_weight p n (set_wave book s w Closed) + nodes p ≤ book_weight p n book = drop_at p n book s w Closed (nodes p) i (omega arith) in
     let u : sends_weight p (dones p kin s w) ≤ nodes p = dones_weight p kin s w few in
     omega arith
 
-pub done_spends : (p : Plan) (n : ℕ) (x : Node) (s w : ℕ) → In (s, w) (waves_of p.streams) → length x.kin.children ≤ nodes p → Spends p n x 1 (received_done p n x s w)
+pub done_decreases : (p : Plan) (n : ℕ) (x : Node) (s w : ℕ) → In (s, w) (waves_of p.streams) → length x.kin.children ≤ nodes p → Decreases p n x 1 (received_done p n x s w)
 unfolding received_done
-done_spends p n x s w i few = let k = done_work_spends p n x.kin s w x.book (x.book s w) i few refl in omega arith
+done_decreases p n x s w i few = let k = done_work_decreases p n x.kin s w x.book (x.book s w) i few refl in omega arith
 
 -- a new child
-pub attach_spends : (p : Plan) (n : ℕ) (x : Node) (m : ℕ) → Spends p n x (1 + wave_count p) (received_attach p n x m)
+pub attach_decreases : (p : Plan) (n : ℕ) (x : Node) (m : ℕ) → Decreases p n x (1 + wave_count p) (received_attach p n x m)
 unfolding received_attach wave_count waves_at
-attach_spends p n x m =
+attach_decreases p n x m =
     let a : sends_weight p (received_attach p n x m).work.sends ≤ length (filter (λ v. is_closed (x.book v.0 v.1) && serves p m v.0) (waves_at p n)) = map_weight p (λ v. (m, Done v.0 v.1)) (λ v. le_refl _) (filter (λ v. is_closed (x.book v.0 v.1) && serves p m v.0) (waves_at p n)) in
     let c : length (filter (λ v. is_closed (x.book v.0 v.1) && serves p m v.0) (waves_at p n)) ≤ length (waves_at p n) = length_filter_le (λ v. is_closed (x.book v.0 v.1) && serves p m v.0) (waves_at p n) in
     let d : length (waves_at p n) ≤ length (waves_of p.streams) = length_filter_le (λ v. serves p n v.0) (waves_of p.streams) in
@@ -380,18 +380,18 @@ kin_drop p n m lost i f =
     keeps : (a : ℕ) → member a (with_number m lost) ≡ false → not (member a lost) ≡ true
     keeps a e = elim (cases_Bool (member a lost)) [ inl t ↦ absurd (true≢false (sym (in_member a (with_number m lost) (with_number_old a m lost (in_from_member a lost t))) ∙ e)) | inr g ↦ subst (λ b. not b ≡ true) (sym g) refl ]
 
-unsent_spends : (p : Plan) (n s : ℕ) (v : Wave) → wave_weight p n s (unsent v) ≤ wave_weight p n s v + (tick_cap p + 1)
-unsent_spends p n s (Open cov sent timer) = let a = pend_off (tick_cap p) cov none in omega arith
-unsent_spends p n s Closed = zero-le
+unsent_decreases : (p : Plan) (n s : ℕ) (v : Wave) → wave_weight p n s (unsent v) ≤ wave_weight p n s v + (tick_cap p + 1)
+unsent_decreases p n s (Open cov sent timer) = let a = pend_off (tick_cap p) cov none in omega arith
+unsent_decreases p n s Closed = zero-le
 
 is_parent_some : (o : Option ℕ) (m : ℕ) → is_parent o m ≡ true → o ≡ Some m
 is_parent_some None m e = absurd (true≢false (sym e))
 is_parent_some (Some a) m e = ap Some (eqb-true a m e)
 
-pub down_spends : (p : Plan) (alive : ℕ → Bool) (n : ℕ) (x : Node) (m : ℕ) → KinIsSound p alive n x.kin → length x.kin.children ≤ nodes p → length (without_child x.kin m).children ≤ nodes p → Spends p n x 1 (received_down p n x m)
+pub down_decreases : (p : Plan) (alive : ℕ → Bool) (n : ℕ) (x : Node) (m : ℕ) → KinIsSound p alive n x.kin → length x.kin.children ≤ nodes p → length (without_child x.kin m).children ≤ nodes p → Decreases p n x 1 (received_down p n x m)
 unfolding received_down book_weight parent_cost wave_count
-down_spends p alive n x m hk few few' =
-    cond_both (is_parent x.kin.parent m) _ _ (Spends p n x 1)
+down_decreases p alive n x m hk few few' =
+    cond_both (is_parent x.kin.parent m) _ _ (Decreases p n x 1)
     (λ e.
     let en : nearest (ancestors p n) x.kin.lost ≡ Some m = sym hk.parent ∙ is_parent_some x.kin.parent m e in
     let r = nearest_split (ancestors p n) x.kin.lost m en in
@@ -400,13 +400,13 @@ down_spends p alive n x m hk few few' =
     let b : Book = λ s w. unsent (x.book s w) in
     let k0 : Effects = record { book = b; sends = to_parent kin'.parent Attach; releases = [] } in
     let rise : book_weight p n b ≤ book_weight p n x.book + wave_count p * (tick_cap p + 1) =
-    total_rise (λ v. wave_weight p n v.0 (b v.0 v.1)) (λ v. wave_weight p n v.0 (x.book v.0 v.1)) (tick_cap p + 1) (waves_of p.streams) (λ v i. unsent_spends p n v.0 (x.book v.0 v.1)) in
+    total_rise (λ v. wave_weight p n v.0 (b v.0 v.1)) (λ v. wave_weight p n v.0 (x.book v.0 v.1)) (tick_cap p + 1) (waves_of p.streams) (λ v i. unsent_decreases p n v.0 (x.book v.0 v.1)) in
     let at : sends_weight p (to_parent kin'.parent Attach) ≤ 1 + wave_count p = attach_weight p kin'.parent in
-    let a : work_weight p n (act_each p n kin' (waves_at p n) k0) ≤ work_weight p n k0 = act_each_spends p n kin' (waves_at p n) k0 (waves_at_named p n) few in
+    let a : work_weight p n (act_each p n kin' (waves_at p n) k0) ≤ work_weight p n k0 = act_each_decreases p n kin' (waves_at p n) k0 (waves_at_named p n) few in
     let cost : parent_cost p ≡ 1 + wave_count p + wave_count p * (tick_cap p + 1) = refl in
     omega arith)
     (λ e.
     let kl : kin_weight p n (with_number m x.kin.lost) ≤ kin_weight p n x.kin.lost = kin_less p n m x.kin.lost in
-    let a : work_weight p n (act_each p n (without_child x.kin m) (waves_at p n) (begin x.book)) ≤ work_weight p n (begin x.book) = act_each_spends p n (without_child x.kin m) (waves_at p n) (begin x.book) (waves_at_named p n) few' in
+    let a : work_weight p n (act_each p n (without_child x.kin m) (waves_at p n) (begin x.book)) ≤ work_weight p n (begin x.book) = act_each_decreases p n (without_child x.kin m) (waves_at p n) (begin x.book) (waves_at_named p n) few' in
     let z : work_weight p n (begin x.book) ≡ book_weight p n x.book = begin_weight p n x.book in
     omega arith)

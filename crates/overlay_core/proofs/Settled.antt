@@ -90,9 +90,9 @@ fits_from_sound p s cov sent Off h = tt
 fits_from_sound p s cov sent (Running t) h = h
 fits_from_sound p s cov sent Fired h = absurd h
 
-fits_from_calm : (p : Plan) (n : ℕ) (lost : List ℕ) (s : ℕ) (v : Wave) → WaveIsSettled p n lost s v → WaveFits p s v
-fits_from_calm p n lost s (Open cov sent timer) h = fits_from_sound p s cov sent timer h.1
-fits_from_calm p n lost s Closed h = tt
+fits_from_settled : (p : Plan) (n : ℕ) (lost : List ℕ) (s : ℕ) (v : Wave) → WaveIsSettled p n lost s v → WaveFits p s v
+fits_from_settled p n lost s (Open cov sent timer) h = fits_from_sound p s cov sent timer h.1
+fits_from_settled p n lost s Closed h = tt
 
 grown_test : (cov sent : Ranks) → cov ≢ sent → not (is_same cov sent) ≡ true
 grown_test cov sent ne = elim (cases_Bool (is_same cov sent)) [ inl e ↦ absurd (ne (same_true cov sent e)) | inr e ↦ subst (λ b. not b ≡ true) (sym e) refl ]
@@ -101,34 +101,34 @@ pub ne_from_grown : (cov sent : Ranks) → not (is_same cov sent) ≡ true → c
 ne_from_grown cov sent e k = let t : is_same cov sent ≡ true = subst (λ z. is_same cov z ≡ true) k (test_from_same cov) in true≢false (sym e ∙ not_from_true _ t)
 
 -- the wave that was acted on is calm
-acted_calm : (p : Plan) (n : ℕ) (kin : Kin) (s w : ℕ) (cov sent : Ranks) (timer : Timer) (k : Effects) (a : Act) → HasPlanFacts p → k.book s w ≡ Open cov sent timer → TimerFits p s cov sent timer → due_at p n kin.lost s cov sent timer ≡ a → WaveIsSettled p n kin.lost s ((acted p kin s w cov sent timer k a).book s w)
+acted_settled : (p : Plan) (n : ℕ) (kin : Kin) (s w : ℕ) (cov sent : Ranks) (timer : Timer) (k : Effects) (a : Act) → HasPlanFacts p → k.book s w ≡ Open cov sent timer → TimerFits p s cov sent timer → due_at p n kin.lost s cov sent timer ≡ a → WaveIsSettled p n kin.lost s ((acted p kin s w cov sent timer k a).book s w)
 unfolding acted due_at
-acted_calm p n kin s w cov sent timer k Hold plan ev fit e = subst (WaveIsSettled p n kin.lost s) (sym ev) (e, held timer fit e)
+acted_settled p n kin s w cov sent timer k Hold plan ev fit e = subst (WaveIsSettled p n kin.lost s) (sym ev) (e, held timer fit e)
   where
     held : (t : Timer) → TimerFits p s cov sent t → due_act (mode p s) (complete p n kin.lost s cov) (not (is_same cov sent)) (is_front p n) t ≡ Hold → TimerIsSound p s cov sent t
     held Off f h = tt
     held (Running t) f h = f
     held Fired f h = let j = ticks_mode (mode p s) f.0 in fired_held (mode p s) (complete p n kin.lost s cov) (is_front p n) j.0 j.1 (subst (λ b. due_act (mode p s) (complete p n kin.lost s cov) b (is_front p n) Fired ≡ Hold) (grown_test cov sent f.1) h)
-acted_calm p n kin s w cov sent timer k Arm plan ev fit e =
+acted_settled p n kin s w cov sent timer k Arm plan ev fit e =
     let t = after_arm (mode p s) (complete p n kin.lost s cov) (not (is_same cov sent)) (is_front p n) timer (ticks (mode p s)) e in
     subst (WaveIsSettled p n kin.lost s) (sym (set_wave_here k.book s w _)) (t.0, (some t.2.0 t.2.1, le_refl _, ne_from_grown cov sent t.1))
   where
     some : (j : ℕ) → mode p s ≡ TimeOut j → 1 ≤ ticks (mode p s)
     some j em = subst (λ m. 1 ≤ ticks m) (sym em) (plan.ticks_some s j em)
-acted_calm p n kin s w cov sent timer k Send plan ev fit e =
+acted_settled p n kin s w cov sent timer k Send plan ev fit e =
     subst (WaveIsSettled p n kin.lost s) (sym (set_wave_here k.book s w _))
     (subst (λ b. due_act (mode p s) (complete p n kin.lost s cov) (not b) (is_front p n) Off ≡ Hold) (sym (test_from_same cov)) (after_pass (mode p s) (complete p n kin.lost s cov) (not (is_same cov sent)) (is_front p n) timer (inl e)), tt)
-acted_calm p n kin s w cov sent timer k Partial plan ev fit e =
+acted_settled p n kin s w cov sent timer k Partial plan ev fit e =
     subst (WaveIsSettled p n kin.lost s) (sym (set_wave_here k.book s w _))
     (subst (λ b. due_act (mode p s) (complete p n kin.lost s cov) (not b) (is_front p n) Off ≡ Hold) (sym (test_from_same cov)) (after_pass (mode p s) (complete p n kin.lost s cov) (not (is_same cov sent)) (is_front p n) timer (inr e)), tt)
-acted_calm p n kin s w cov sent timer k Final plan ev fit e = subst (WaveIsSettled p n kin.lost s) (sym (set_wave_here k.book s w _)) tt
+acted_settled p n kin s w cov sent timer k Final plan ev fit e = subst (WaveIsSettled p n kin.lost s) (sym (set_wave_here k.book s w _)) tt
 
-act_as_calm : (p : Plan) (n : ℕ) (kin : Kin) (s w : ℕ) (k : Effects) (v : Wave) → HasPlanFacts p → k.book s w ≡ v → WaveFits p s v → WaveIsSettled p n kin.lost s ((act_as p n kin s w k v).book s w)
-act_as_calm p n kin s w k (Open cov sent timer) plan ev fit = acted_calm p n kin s w cov sent timer k (due_at p n kin.lost s cov sent timer) plan ev fit refl
-act_as_calm p n kin s w k Closed plan ev fit = subst (WaveIsSettled p n kin.lost s) (sym ev) tt
+act_as_settled : (p : Plan) (n : ℕ) (kin : Kin) (s w : ℕ) (k : Effects) (v : Wave) → HasPlanFacts p → k.book s w ≡ v → WaveFits p s v → WaveIsSettled p n kin.lost s ((act_as p n kin s w k v).book s w)
+act_as_settled p n kin s w k (Open cov sent timer) plan ev fit = acted_settled p n kin s w cov sent timer k (due_at p n kin.lost s cov sent timer) plan ev fit refl
+act_as_settled p n kin s w k Closed plan ev fit = subst (WaveIsSettled p n kin.lost s) (sym ev) tt
 
-pub act_calm : (p : Plan) (n : ℕ) (kin : Kin) (s w : ℕ) (k : Effects) → HasPlanFacts p → WaveFits p s (k.book s w) → WaveIsSettled p n kin.lost s ((act p n kin s w k).book s w)
-act_calm p n kin s w k plan fit = act_as_calm p n kin s w k (k.book s w) plan refl fit
+pub act_settled : (p : Plan) (n : ℕ) (kin : Kin) (s w : ℕ) (k : Effects) → HasPlanFacts p → WaveFits p s (k.book s w) → WaveIsSettled p n kin.lost s ((act p n kin s w k).book s w)
+act_settled p n kin s w k plan fit = act_as_settled p n kin s w k (k.book s w) plan refl fit
 
 -- an act leaves the other waves
 pub set_wave_else : (x : Book) (s w : ℕ) (v : Wave) (a b : ℕ) → ((a == s) && (b == w)) ≡ false → set_wave x s w v a b ≡ x a b
@@ -155,24 +155,24 @@ pub act_else : (p : Plan) (n : ℕ) (kin : Kin) (s w : ℕ) (k : Effects) (a b :
 act_else p n kin s w k a b e = act_as_else p n kin s w k (k.book s w) a b e
 
 -- acts make each wave of theirs calm, and leave the others
-pub act_each_calm : (p : Plan) (n : ℕ) (kin : Kin) (vs : List (ℕ × ℕ)) (k : Effects) (s w : ℕ) → HasPlanFacts p → WaveFits p s (k.book s w) → In (s, w) vs ⊎ WaveIsSettled p n kin.lost s (k.book s w) → WaveIsSettled p n kin.lost s ((act_each p n kin vs k).book s w)
-act_each_calm p n kin [] k s w plan fit (inl i) = absurd i
-act_each_calm p n kin [] k s w plan fit (inr h) = h
-act_each_calm p n kin (v ∷ vs) k s w plan fit h =
-    act_each_calm p n kin vs (act p n kin v.0 v.1 k) s w plan (here.0) (here.1)
+pub act_each_settled : (p : Plan) (n : ℕ) (kin : Kin) (vs : List (ℕ × ℕ)) (k : Effects) (s w : ℕ) → HasPlanFacts p → WaveFits p s (k.book s w) → In (s, w) vs ⊎ WaveIsSettled p n kin.lost s (k.book s w) → WaveIsSettled p n kin.lost s ((act_each p n kin vs k).book s w)
+act_each_settled p n kin [] k s w plan fit (inl i) = absurd i
+act_each_settled p n kin [] k s w plan fit (inr h) = h
+act_each_settled p n kin (v ∷ vs) k s w plan fit h =
+    act_each_settled p n kin vs (act p n kin v.0 v.1 k) s w plan (here.0) (here.1)
   where
     k' : Effects
     k' = act p n kin v.0 v.1 k
 
     done : v.0 ≡ s → v.1 ≡ w → WaveIsSettled p n kin.lost s (k'.book s w)
-    done ea eb = subst (λ a. WaveIsSettled p n kin.lost s ((act p n kin a v.1 k).book s w)) (sym ea) (subst (λ b. WaveIsSettled p n kin.lost s ((act p n kin s b k).book s w)) (sym eb) (act_calm p n kin s w k plan fit))
+    done ea eb = subst (λ a. WaveIsSettled p n kin.lost s ((act p n kin a v.1 k).book s w)) (sym ea) (subst (λ b. WaveIsSettled p n kin.lost s ((act p n kin s b k).book s w)) (sym eb) (act_settled p n kin s w k plan fit))
 
     here : WaveFits p s (k'.book s w) × (In (s, w) vs ⊎ WaveIsSettled p n kin.lost s (k'.book s w))
     here = elim (cases_Bool ((s == v.0) && (w == v.1))) [
       | inl t ↦
           let u = and_parts (s == v.0) (w == v.1) t in
           let c = done (sym (eqb-true s v.0 u.0)) (sym (eqb-true w v.1 u.1)) in
-          (fits_from_calm p n kin.lost s _ c, inr c)
+          (fits_from_settled p n kin.lost s _ c, inr c)
       | inr f ↦
           let e = act_else p n kin v.0 v.1 k s w f in (
             subst (WaveFits p s) (sym e) fit,
@@ -203,48 +203,48 @@ covering_fits p n s set (Open cov sent Fired) e h f = absurd (f.1 (both_empty co
 covering_fits p n s set Closed e h f = tt
 
 -- one wave is changed and acted on
-one_calm : (p : Plan) (n : ℕ) (kin : Kin) (book : Book) (s w : ℕ) (v : Wave) → HasPlanFacts p → ((a b : ℕ) → In (a, b) (waves_at p n) → WaveIsSettled p n kin.lost a (book a b)) → (In (s, w) (waves_at p n) → WaveFits p s v) → (a b : ℕ) → In (a, b) (waves_at p n) → WaveIsSettled p n kin.lost a ((act p n kin s w (begin (set_wave book s w v))).book a b)
-one_calm p n kin book s w v plan h fit a b i = elim (cases_Bool ((a == s) && (b == w))) [
+one_settled : (p : Plan) (n : ℕ) (kin : Kin) (book : Book) (s w : ℕ) (v : Wave) → HasPlanFacts p → ((a b : ℕ) → In (a, b) (waves_at p n) → WaveIsSettled p n kin.lost a (book a b)) → (In (s, w) (waves_at p n) → WaveFits p s v) → (a b : ℕ) → In (a, b) (waves_at p n) → WaveIsSettled p n kin.lost a ((act p n kin s w (begin (set_wave book s w v))).book a b)
+one_settled p n kin book s w v plan h fit a b i = elim (cases_Bool ((a == s) && (b == w))) [
   | inl t ↦
       let u = and_parts (a == s) (b == w) t in
       let ea : a ≡ s = eqb-true a s u.0 in
       let eb : b ≡ w = eqb-true b w u.1 in
       let i' : In (s, w) (waves_at p n) = subst (λ y. In (y, w) (waves_at p n)) ea (subst (λ y. In (a, y) (waves_at p n)) eb i) in
       subst (λ y. WaveIsSettled p n kin.lost y ((act p n kin s w (begin (set_wave book s w v))).book y b)) (sym ea) (subst (λ y. WaveIsSettled p n kin.lost s ((act p n kin s w (begin (set_wave book s w v))).book s y)) (sym eb)
-      (act_calm p n kin s w (begin (set_wave book s w v)) plan (subst (WaveFits p s) (sym (set_wave_here book s w v)) (fit i'))))
+      (act_settled p n kin s w (begin (set_wave book s w v)) plan (subst (WaveFits p s) (sym (set_wave_here book s w v)) (fit i'))))
   | inr f ↦ subst (WaveIsSettled p n kin.lost a) (sym (act_else p n kin s w (begin (set_wave book s w v)) a b f ∙ set_wave_else book s w v a b f)) (h a b i)
 ]
 
-sampled_calm : (p : Plan) (n : ℕ) (x : Node) (s w : ℕ) → HasPlanFacts p → BookIsSound p n x.book → NodeIsSettled p n x → is_empty_open (x.book s w) ≡ true → NodeIsSettled p n (next_node x (sampled p n x s w))
+sampled_settled : (p : Plan) (n : ℕ) (x : Node) (s w : ℕ) → HasPlanFacts p → BookIsSound p n x.book → NodeIsSettled p n x → is_empty_open (x.book s w) ≡ true → NodeIsSettled p n (next_node x (sampled p n x s w))
 unfolding sampled
-sampled_calm p n x s w plan hb h e = one_calm p n x.kin x.book s w _ plan h (λ i. covering_fits p n s (ranks p n) (x.book s w) e (hb s w) (fits_from_calm p n x.kin.lost s (x.book s w) (h s w i)))
+sampled_settled p n x s w plan hb h e = one_settled p n x.kin x.book s w _ plan h (λ i. covering_fits p n s (ranks p n) (x.book s w) e (hb s w) (fits_from_settled p n x.kin.lost s (x.book s w) (h s w i)))
 
-up_calm : (p : Plan) (n : ℕ) (x : Node) (s w : ℕ) (set : Ranks) → HasPlanFacts p → BookIsSound p n x.book → NodeIsSettled p n x → NodeIsSettled p n (next_node x (received_up p n x s w set))
+up_settled : (p : Plan) (n : ℕ) (x : Node) (s w : ℕ) (set : Ranks) → HasPlanFacts p → BookIsSound p n x.book → NodeIsSettled p n x → NodeIsSettled p n (next_node x (received_up p n x s w set))
 unfolding received_up
-up_calm p n x s w set plan hb h = one_calm p n x.kin x.book s w _ plan h (λ i. growing_fits p n s set (x.book s w) (hb s w) (fits_from_calm p n x.kin.lost s (x.book s w) (h s w i)))
+up_settled p n x s w set plan hb h = one_settled p n x.kin x.book s w _ plan h (λ i. growing_fits p n s set (x.book s w) (hb s w) (fits_from_settled p n x.kin.lost s (x.book s w) (h s w i)))
 
-done_calm : (p : Plan) (n : ℕ) (x : Node) (s w : ℕ) → NodeIsSettled p n x → NodeIsSettled p n (next_node x (received_done p n x s w))
+done_settled : (p : Plan) (n : ℕ) (x : Node) (s w : ℕ) → NodeIsSettled p n x → NodeIsSettled p n (next_node x (received_done p n x s w))
 unfolding received_done
-done_calm p n x s w h a b i = go (x.book s w)
+done_settled p n x s w h a b i = go (x.book s w)
   where
     go : (v : Wave) → WaveIsSettled p n x.kin.lost a ((done_work p x.kin s w x.book v).book a b)
     go Closed = h a b i
     go (Open cov sent timer) = each_wave_set (λ a b y. In (a, b) (waves_at p n) → WaveIsSettled p n x.kin.lost a y) x.book s w Closed h (λ j. tt) a b i
 
-attach_calm : (p : Plan) (n : ℕ) (x : Node) (m : ℕ) → NodeIsSettled p n x → NodeIsSettled p n (next_node x (received_attach p n x m))
+attach_settled : (p : Plan) (n : ℕ) (x : Node) (m : ℕ) → NodeIsSettled p n x → NodeIsSettled p n (next_node x (received_attach p n x m))
 unfolding received_attach
-attach_calm p n x m h = h
+attach_settled p n x m h = h
 
 unsent_fits : (p : Plan) (s : ℕ) (v : Wave) → WaveFits p s (unsent v)
 unsent_fits p s (Open cov sent timer) = tt
 unsent_fits p s Closed = tt
 
-down_calm : (p : Plan) (n : ℕ) (x : Node) (m : ℕ) → HasPlanFacts p → NodeIsSettled p n x → NodeIsSettled p n (next_node x (received_down p n x m))
+down_settled : (p : Plan) (n : ℕ) (x : Node) (m : ℕ) → HasPlanFacts p → NodeIsSettled p n x → NodeIsSettled p n (next_node x (received_down p n x m))
 unfolding received_down
-down_calm p n x m plan h =
+down_settled p n x m plan h =
     cond_both (is_parent x.kin.parent m) _ _ (λ o. NodeIsSettled p n (next_node x o))
-    (λ e s w i. act_each_calm p n (with_parent p n x.kin m) (waves_at p n) _ s w plan (unsent_fits p s (x.book s w)) (inl i))
-    (λ e s w i. act_each_calm p n (without_child x.kin m) (waves_at p n) (begin x.book) s w plan (fits_from_calm p n x.kin.lost s (x.book s w) (h s w i)) (inl i))
+    (λ e s w i. act_each_settled p n (with_parent p n x.kin m) (waves_at p n) _ s w plan (unsent_fits p s (x.book s w)) (inl i))
+    (λ e s w i. act_each_settled p n (without_child x.kin m) (waves_at p n) (begin x.book) s w plan (fits_from_settled p n x.kin.lost s (x.book s w) (h s w i)) (inl i))
 
 ticked_fits : (p : Plan) (n : ℕ) (lost : List ℕ) (s : ℕ) (v : Wave) → WaveIsSettled p n lost s v → WaveFits p s (ticked v)
 ticked_fits p n lost s (Open cov sent Off) h = tt
@@ -254,48 +254,48 @@ ticked_fits p n lost s (Open cov sent (Running (suc (suc t)))) h = (omega arith,
 ticked_fits p n lost s (Open cov sent Fired) h = absurd h.1
 ticked_fits p n lost s Closed h = tt
 
-ticked_calm : (p : Plan) (n : ℕ) (lost : List ℕ) (s : ℕ) (v : Wave) → WaveIsSettled p n lost s v → is_fired (ticked v) ≡ false → WaveIsSettled p n lost s (ticked v)
+ticked_settled : (p : Plan) (n : ℕ) (lost : List ℕ) (s : ℕ) (v : Wave) → WaveIsSettled p n lost s v → is_fired (ticked v) ≡ false → WaveIsSettled p n lost s (ticked v)
 unfolding due_at
-ticked_calm p n lost s (Open cov sent Off) h e = h
-ticked_calm p n lost s (Open cov sent (Running zero)) h e = absurd (true≢false e)
-ticked_calm p n lost s (Open cov sent (Running (suc zero))) h e = absurd (true≢false e)
-ticked_calm p n lost s (Open cov sent (Running (suc (suc t)))) h e = (running_same (mode p s) _ _ _ (suc t) (suc (suc t)) ∙ h.0, (omega arith, (let b = h.1.1 in omega arith), h.1.2))
-ticked_calm p n lost s (Open cov sent Fired) h e = absurd h.1
-ticked_calm p n lost s Closed h e = tt
+ticked_settled p n lost s (Open cov sent Off) h e = h
+ticked_settled p n lost s (Open cov sent (Running zero)) h e = absurd (true≢false e)
+ticked_settled p n lost s (Open cov sent (Running (suc zero))) h e = absurd (true≢false e)
+ticked_settled p n lost s (Open cov sent (Running (suc (suc t)))) h e = (running_same (mode p s) _ _ _ (suc t) (suc (suc t)) ∙ h.0, (omega arith, (let b = h.1.1 in omega arith), h.1.2))
+ticked_settled p n lost s (Open cov sent Fired) h e = absurd h.1
+ticked_settled p n lost s Closed h e = tt
 
-tick_calm : (p : Plan) (n : ℕ) (x : Node) → HasPlanFacts p → NodeIsSettled p n x → NodeIsSettled p n (next_node x (after_tick p n x))
+tick_settled : (p : Plan) (n : ℕ) (x : Node) → HasPlanFacts p → NodeIsSettled p n x → NodeIsSettled p n (next_node x (after_tick p n x))
 unfolding after_tick
-tick_calm p n x plan h s w i =
-    act_each_calm p n x.kin (filter (λ v. is_fired (ticked (x.book v.0 v.1))) (waves_at p n)) (begin (λ s w. ticked (x.book s w))) s w plan (ticked_fits p n x.kin.lost s (x.book s w) (h s w i))
+tick_settled p n x plan h s w i =
+    act_each_settled p n x.kin (filter (λ v. is_fired (ticked (x.book v.0 v.1))) (waves_at p n)) (begin (λ s w. ticked (x.book s w))) s w plan (ticked_fits p n x.kin.lost s (x.book s w) (h s w i))
     (elim (cases_Bool (is_fired (ticked (x.book s w)))) [
       | inl t ↦ inl (in_filter (λ v. is_fired (ticked (x.book v.0 v.1))) (waves_at p n) (s, w) i t)
-      | inr f ↦ inr (ticked_calm p n x.kin.lost s (x.book s w) (h s w i) f)
+      | inr f ↦ inr (ticked_settled p n x.kin.lost s (x.book s w) (h s w i) f)
     ])
 
-received_calm : (p : Plan) (n : ℕ) (x : Node) (m : ℕ) (q : Packet) → HasPlanFacts p → BookIsSound p n x.book → NodeIsSettled p n x → NodeIsSettled p n (next_node x (received p n x m q))
-received_calm p n x m (Up s w set) plan hb h = up_calm p n x s w set plan hb h
-received_calm p n x m (Done s w) plan hb h = done_calm p n x s w h
-received_calm p n x m Attach plan hb h = attach_calm p n x m h
-received_calm p n x m Down plan hb h = down_calm p n x m plan h
+received_settled : (p : Plan) (n : ℕ) (x : Node) (m : ℕ) (q : Packet) → HasPlanFacts p → BookIsSound p n x.book → NodeIsSettled p n x → NodeIsSettled p n (next_node x (received p n x m q))
+received_settled p n x m (Up s w set) plan hb h = up_settled p n x s w set plan hb h
+received_settled p n x m (Done s w) plan hb h = done_settled p n x s w h
+received_settled p n x m Attach plan hb h = attach_settled p n x m h
+received_settled p n x m Down plan hb h = down_settled p n x m plan h
 
-commit_calm : (p : Plan) (st : State) (n : ℕ) (o : Outcome) → NodesAreSettled p st → NodeIsSettled p n (next_node (st.node n) o) → NodesAreSettled p (commit st n o)
+commit_settled : (p : Plan) (st : State) (n : ℕ) (o : Outcome) → NodesAreSettled p st → NodeIsSettled p n (next_node (st.node n) o) → NodesAreSettled p (commit st n o)
 unfolding commit
-commit_calm p st n o h here = commit_node (λ a x. st.alive a ≡ true → NodeIsSettled p a x) st n o (λ u. here) h
+commit_settled p st n o h here = commit_node (λ a x. st.alive a ≡ true → NodeIsSettled p a x) st n o (λ u. here) h
 
-receive_calm : (p : Plan) (st : State) (n m : ℕ) (qs : List Packet) → HasPlanFacts p → LinkInvariant p st → NodesAreSettled p st → st.alive n ≡ true → NodesAreSettled p (receive p st n m qs)
+receive_settled : (p : Plan) (st : State) (n m : ℕ) (qs : List Packet) → HasPlanFacts p → LinkInvariant p st → NodesAreSettled p st → st.alive n ≡ true → NodesAreSettled p (receive p st n m qs)
 unfolding with_link
-receive_calm p st n m [] plan hs h u = h
-receive_calm p st n m (q ∷ qs) plan hs h u = commit_calm p (with_link st m n qs) n _ h (received_calm p n (st.node n) m q plan (hs.books n) (h n u))
+receive_settled p st n m [] plan hs h u = h
+receive_settled p st n m (q ∷ qs) plan hs h u = commit_settled p (with_link st m n qs) n _ h (received_settled p n (st.node n) m q plan (hs.books n) (h n u))
 
-pub step_calm : (p : Plan) (st : State) (e : Event) → HasPlanFacts p → LinkInvariant p st → NodesAreSettled p st → is_enabled p st e ≡ true → NodesAreSettled p (step p st e)
+pub step_settled : (p : Plan) (st : State) (e : Event) → HasPlanFacts p → LinkInvariant p st → NodesAreSettled p st → is_enabled p st e ≡ true → NodesAreSettled p (step p st e)
 unfolding is_active lose
-step_calm p st (Sample n s w) plan hs h e =
+step_settled p st (Sample n s w) plan hs h e =
     let t = and_parts _ _ e in
     let u = (and_parts _ _ (and_parts _ _ t.0).0).0 in
-    commit_calm p st n _ h (sampled_calm p n (st.node n) s w plan (hs.books n) (h n u) (next_is_empty p (st.node n) s w t.1))
-step_calm p st (Recv n m) plan hs h e = receive_calm p st n m (st.link m n) plan hs h (and_parts _ _ (and_parts _ _ e).0).0
-step_calm p st (Tick n) plan hs h e = commit_calm p st n _ h (tick_calm p n (st.node n) plan (h n (and_parts _ _ (and_parts _ _ e).0).0))
-step_calm p st (Lose n) plan hs h e = λ a u. h a (was_alive st.alive n a u).0
+    commit_settled p st n _ h (sampled_settled p n (st.node n) s w plan (hs.books n) (h n u) (next_is_empty p (st.node n) s w t.1))
+step_settled p st (Recv n m) plan hs h e = receive_settled p st n m (st.link m n) plan hs h (and_parts _ _ (and_parts _ _ e).0).0
+step_settled p st (Tick n) plan hs h e = commit_settled p st n _ h (tick_settled p n (st.node n) plan (h n (and_parts _ _ (and_parts _ _ e).0).0))
+step_settled p st (Lose n) plan hs h e = λ a u. h a (was_alive st.alive n a u).0
 
 -- at the start
 held_at_start : (m : Mode) (done top : Bool) → (done ≡ true → top ≡ true → ⊥) → due_act m done false top Off ≡ Hold
@@ -305,9 +305,9 @@ held_at_start WaitForAll false top h = refl
 held_at_start DontWait false top h = refl
 held_at_start (TimeOut j) false top h = refl
 
-pub start_calm : (p : Plan) → HasPlanFacts p → NodesAreSettled p (start p)
+pub start_settled : (p : Plan) → HasPlanFacts p → NodesAreSettled p (start p)
 unfolding start due_at waves_at serves complete
-start_calm p plan n u s w i = (held_at_start (mode p s) (complete p n [] s none) (is_front p n) (λ e f. nothing e), tt)
+start_settled p plan n u s w i = (held_at_start (mode p s) (complete p n [] s none) (is_front p n) (λ e f. nothing e), tt)
   where
     nothing : complete p n [] s none ≡ true → ⊥
     nothing e =

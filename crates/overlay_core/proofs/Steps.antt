@@ -28,7 +28,7 @@ ready p st n h e = let t = active_parts p st n e in record {
   front = h.front;
   kin = h.kin;
   links = h.links;
-  losses = λ a b. record { told = λ u d r. inl ((h.losses a b).told u d r); once = (h.losses a b).once; gone = λ i. absurd i };
+  losses = λ a b. record { named = λ u d r. inl ((h.losses a b).named u d r); once = (h.losses a b).once; gone = λ i. absurd i };
   books = h.books;
   counts = h.counts;
 }
@@ -89,7 +89,7 @@ popped_in st m n q qs e a b x = popped st m n q qs e (λ a b l. In x l → In x 
 popped_losses : (p : Plan) (st : State) (m n : ℕ) (q : Packet) (qs : List Packet) → LinkInvariant p st → st.link m n ≡ q ∷ qs → (a b : ℕ) → LossIsHeard p (with_link st m n qs) n (heard_in q m) a b
 unfolding with_link
 popped_losses p st m n q qs h e a b = record {
-  told = λ u d r. elim ((h.losses a b).told u d r) [
+  named = λ u d r. elim ((h.losses a b).named u d r) [
     | inl i ↦ inl (inl i)
     | inr i ↦ still i
   ];
@@ -164,7 +164,7 @@ start_sound p plan = record {
   kin = λ n. record { lost = λ m i. absurd i; related = λ m i. absurd i; parent = refl; children = children_under p n; children_rise = filter_rises _ (up_to (nodes p)) (up_to_rises (nodes p)) };
   links = λ m n. record { into_lost = λ e. refl; packets = λ q i. absurd i; down_last = tt };
   losses = λ n m. record {
-    told = λ u d r. let k : nat_lt m (nodes p) ≡ true = lt-ltb m (nodes p) (below n m r) in absurd (cc);
+    named = λ u d r. let k : nat_lt m (nodes p) ≡ true = lt-ltb m (nodes p) (below n m r) in absurd (cc);
     once = λ u i j. i;
   };
   books = λ n s w. record { within = λ x i. i; whole = λ r i. absurd (no_rank r i) };

@@ -30,7 +30,7 @@ use Rattle.overlay_core.proofs.ParentLinks.{in_filter, filter_in, in_list_any, w
 use Rattle.overlay_core.proofs.ParentChild.{step_pairs}
 use Rattle.overlay_core.proofs.Losses.{was_alive, now_dead}
 use Rattle.overlay_core.specs.Losses.{IsLost}
-use Rattle.overlay_core.proofs.Settled.{step_calm, start_calm}
+use Rattle.overlay_core.proofs.Settled.{step_settled, start_settled}
 use Rattle.overlay_core.proofs.History.{step_history, start_history}
 
 pub in_up_to : (n c : ℕ) → c < n → In c (up_to n)
@@ -54,13 +54,13 @@ start_pairs p plan c q uc uq par = record {
     named (Some m) e = let k : m ≡ q = cc in eq-eqb m q k
 
 pub start_is_sound : (p : Plan) → HasPlanFacts p → IsSound p (start p)
-start_is_sound p plan = record { base = start_sound p plan; pairs = start_pairs p plan; calm = start_calm p plan; history = start_history p }
+start_is_sound p plan = record { base = start_sound p plan; pairs = start_pairs p plan; settled = start_settled p plan; history = start_history p }
 
 pub step_is_sound : (p : Plan) (st : State) (e : Event) → HasPlanFacts p → IsSound p st → is_enabled p st e ≡ true → IsSound p (step p st e)
 step_is_sound p st e plan h en = record {
   base = step_sound p st e plan h.base en;
   pairs = step_pairs p st e plan h.base h.pairs en;
-  calm = step_calm p st e plan h.base h.calm en;
+  settled = step_settled p st e plan h.base h.settled en;
   history = step_history p st e plan h.base h.history en;
 }
 
@@ -131,7 +131,7 @@ record Parent (p : Plan) (st : State) (d q : ℕ) : Type 0 where
   above : (n : ℕ) → st.alive n ≡ true → IsUnder p d n → (n ≡ q) ⊎ IsUnder p q n
 
 dead_is_known : (p : Plan) (st : State) (n m : ℕ) → IsSound p st → IsQuiet p st → st.alive n ≡ true → st.alive m ≡ false → AreRelated p n m → In m (st.node n).kin.lost
-dead_is_known p st n m h quiet up down rel = elim ((h.base.losses n m).told up down rel) [
+dead_is_known p st n m h quiet up down rel = elim ((h.base.losses n m).named up down rel) [
   | inl i ↦ i
   | inr i ↦ absurd (subst (λ l. In Down l) (quiet_links p st m n quiet up) i)
 ]
@@ -221,7 +221,7 @@ open_as p n s lost (Open cov sent timer) e h c = record { cov = cov; sent = sent
 open_as p n s lost Closed e h c = absurd (true≢false (sym e))
 
 open_at : (p : Plan) (st : State) (n s w : ℕ) → IsSound p st → st.alive n ≡ true → In (s, w) (waves_at p n) → is_open ((st.node n).book s w) ≡ true → IsOpenAs p n s (st.node n).kin.lost ((st.node n).book s w)
-open_at p st n s w h up i e = open_as p n s (st.node n).kin.lost ((st.node n).book s w) e (h.base.books n s w) (h.calm n up s w i)
+open_at p st n s w h up i e = open_as p n s (st.node n).kin.lost ((st.node n).book s w) e (h.base.books n s w) (h.settled n up s w i)
 
 open_everywhere : (p : Plan) (st : State) (n s w : ℕ) → IsSound p st → is_open ((st.node (front p)).book s w) ≡ true → is_open ((st.node n).book s w) ≡ true
 open_everywhere p st n s w h e = elim (cases_Bool (is_open ((st.node n).book s w))) [ inl t ↦ t | inr f ↦ absurd (true≢false (sym e ∙ h.history.closed n s w f)) ]

@@ -35,4 +35,4 @@ IsHistory p alive s last (r ∷ rs) v =
 pub record HistoryIsSound (p : Plan) (st : State) : Type 0 where
   pub releases : (s w : ℕ) → IsHistory p st.alive s none (of_wave s w st.releases) ((st.node (front p)).book s w)
   pub closed : (n s w : ℕ) → is_open ((st.node n).book s w) ≡ false → is_open ((st.node (front p)).book s w) ≡ false
-  pub told : (m n s w : ℕ) → In (Done s w) (st.link m n) → is_open ((st.node (front p)).book s w) ≡ false
+  pub named : (m n s w : ℕ) → In (Done s w) (st.link m n) → is_open ((st.node (front p)).book s w) ≡ false

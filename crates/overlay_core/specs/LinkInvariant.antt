@@ -73,8 +73,8 @@ pub record LinkIsSound (p : Plan) (alive : ℕ → Bool) (m n : ℕ) (qs : List 
   pub down_last : EndsAtDown qs
 
 -- Told losses: of a lost m above or under it, a living n knows, or the word is on the way, and not both
-pub record LossIsTold (p : Plan) (st : State) (n m : ℕ) : Type 0 where
-  pub told : st.alive n ≡ true → st.alive m ≡ false → AreRelated p n m → In m (st.node n).kin.lost ⊎ In Down (st.link m n)
+pub record LossIsKnown (p : Plan) (st : State) (n m : ℕ) : Type 0 where
+  pub named : st.alive n ≡ true → st.alive m ≡ false → AreRelated p n m → In m (st.node n).kin.lost ⊎ In Down (st.link m n)
   pub once : st.alive n ≡ true → In m (st.node n).kin.lost → In Down (st.link m n) → ⊥
 
 -- an open wave covers all ranks of some daemons, and what was sent of it is covered
@@ -100,6 +100,6 @@ pub record LinkInvariant (p : Plan) (st : State) : Type 0 where
   pub front : FrontIsAlive p st
   pub kin : (n : ℕ) → KinIsSound p st.alive n (st.node n).kin
   pub links : (m n : ℕ) → LinkIsSound p st.alive m n (st.link m n)
-  pub losses : (n m : ℕ) → LossIsTold p st n m
+  pub losses : (n m : ℕ) → LossIsKnown p st n m
   pub books : (n : ℕ) → BookIsSound p n (st.node n).book
   pub counts : (n : ℕ) → CountIsSound p n (st.node n)

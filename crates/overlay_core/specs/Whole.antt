@@ -20,7 +20,7 @@ use Rattle.overlay_core.specs.Releases.{CoversAll}
 pub record IsSound (p : Plan) (st : State) : Type 0 where
   pub base : LinkInvariant p st
   pub pairs : ParentChildInvariant p st
-  pub calm : NodesAreSettled p st
+  pub settled : NodesAreSettled p st
   pub history : HistoryIsSound p st
 
 -- Of a wave's releases the last one is final, and no other is. It covers all ranks of each daemon that the journal doesn't

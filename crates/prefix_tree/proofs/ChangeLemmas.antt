@@ -14,8 +14,8 @@ use Rattle.std.proofs.lemmas.Bool.{or_parts}
 use Rattle.rank_set.specs.Ranks.{Ranks}
 use Rattle.call_path.specs.Path.{Path, path_cmp, is_path, path_cmp_total}
 use Rattle.prefix_tree.specs.Tree.{Marks}
-use Rattle.prefix_tree.specs.Joined.{Below, both_marks, put_row, put_rows, path_rows, below_frame, in_rows}
-use Rattle.prefix_tree.specs.Changes.{changed, new_among, puts}
+use Rattle.prefix_tree.specs.Joined.{Below, both_marks, put_row, insert_rows, path_rows, below_frame, in_rows}
+use Rattle.prefix_tree.specs.Changes.{changed, new_among, inserted}
 use Rattle.prefix_tree.proofs.Rows.{second, none_after}
 use Rattle.prefix_tree.proofs.PairLemmas.{in_rows-under, no_root}
 use Rattle.prefix_tree.proofs.Edits.{put_sorted, from_sorted-put}
@@ -83,31 +83,31 @@ abbrev put_all : Below → List (Path × Marks) → Below
 put_all b [] = b
 put_all b (c ∷ cs) = put_all (finmap.insert b c.0 c.1) cs
 
-put_all_changed : (es : List (Path × Marks)) (b : Below) → AreDistinct es → put_all b (map (changed b) es) ≡ put_rows b es
+put_all_changed : (es : List (Path × Marks)) (b : Below) → AreDistinct es → put_all b (map (changed b) es) ≡ insert_rows b es
 put_all_changed [] b h = refl
 put_all_changed (e ∷ es) b h =
     ap (put_all (put_row b e.0 e.1)) (sym (changed_later b e.0 (both_marks (finmap.get b e.0) e.1) es h.0))
     ∙ put_all_changed es (put_row b e.0 e.1) h.1
 
--- puts keep the order, and are those of the map
-pub puts_sorted : (es cs : List (Path × Marks)) → T (finmap.is_sorted path_cmp es) → T (finmap.is_sorted path_cmp (puts es cs))
+-- inserted keep the order, and are those of the map
+pub puts_sorted : (es cs : List (Path × Marks)) → T (finmap.is_sorted path_cmp es) → T (finmap.is_sorted path_cmp (inserted es cs))
 puts_sorted es [] up = up
 puts_sorted es (c ∷ cs) up = puts_sorted (finmap.put path_cmp c.0 c.1 es) cs (put_sorted c.0 c.1 es up)
 
-puts_below : (es cs : List (Path × Marks)) → T (finmap.is_sorted path_cmp es) → finmap.from_sorted {R = path_cmp} (puts es cs) ≡ put_all (finmap.from_sorted es) cs
+puts_below : (es cs : List (Path × Marks)) → T (finmap.is_sorted path_cmp es) → finmap.from_sorted {R = path_cmp} (inserted es cs) ≡ put_all (finmap.from_sorted es) cs
 puts_below es [] up = refl
 puts_below es (c ∷ cs) up = puts_below (finmap.put path_cmp c.0 c.1 es) cs (put_sorted c.0 c.1 es up) ∙ ap (λ b. put_all b cs) (from_sorted-put c.0 c.1 es up)
 
 -- rows put as they will stand are united into the rows
-pub puts_united : (es others : List (Path × Marks)) → T (finmap.is_sorted path_cmp es) → AreDistinct others → finmap.from_sorted {R = path_cmp} (puts es (map (changed (finmap.from_sorted es)) others)) ≡ put_rows (finmap.from_sorted es) others
+pub puts_united : (es others : List (Path × Marks)) → T (finmap.is_sorted path_cmp es) → AreDistinct others → finmap.from_sorted {R = path_cmp} (inserted es (map (changed (finmap.from_sorted es)) others)) ≡ insert_rows (finmap.from_sorted es) others
 puts_united es others up apart = puts_below es (map (changed (finmap.from_sorted es)) others) up ∙ put_all_changed others (finmap.from_sorted es) apart
 
 -- there are as many rows then as before, and the new ones
-pub len-put_rows : (others : List (Path × Marks)) (b : Below) → AreDistinct others → finmap.len (put_rows b others) ≡ finmap.len b + new_among b others
-len-put_rows [] b apart = omega arith
-len-put_rows (e ∷ es) b apart =
+pub len-insert_rows : (others : List (Path × Marks)) (b : Below) → AreDistinct others → finmap.len (insert_rows b others) ≡ finmap.len b + new_among b others
+len-insert_rows [] b apart = omega arith
+len-insert_rows (e ∷ es) b apart =
     let w = both_marks (finmap.get b e.0) e.1 in
-    let rest = len-put_rows es (finmap.insert b e.0 w) apart.1 in
+    let rest = len-insert_rows es (finmap.insert b e.0 w) apart.1 in
     let later = new_later b e.0 w es apart.0 in
     rest ∙ (λ i. finmap.len-insert path_cmp_total b e.0 w i + later i) ∙ counted (finmap.contains_key b e.0) (finmap.len b) (new_among b es)
   where
@@ -125,8 +125,8 @@ put_longer p w (e ∷ es) = by_place (path_cmp p e.0) (put_longer p w es)
     by_place Equal h = omega arith
     by_place Greater h = omega arith
 
--- nor do puts
-pub puts_longer : (es cs : List (Path × Marks)) → length es ≤ length (puts es cs)
+-- nor do inserted
+pub puts_longer : (es cs : List (Path × Marks)) → length es ≤ length (inserted es cs)
 puts_longer es [] = omega arith
 puts_longer es (c ∷ cs) =
     let one = put_longer c.0 c.1 es in

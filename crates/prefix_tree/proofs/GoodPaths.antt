@@ -11,8 +11,8 @@ use Rattle.rank_set.specs.Ranks.{Ranks, has}
 use Rattle.call_path.specs.Path.{Path, is_path, is_prefix}
 use Rattle.call_path.specs.Good.{is_good_frame, IsGoodPath}
 use Rattle.prefix_tree.specs.Tree.{Marks}
-use Rattle.prefix_tree.specs.Joined.{Below, put_rows, path_rows, in_rows, seen, is_below}
-use Rattle.prefix_tree.proofs.Rows.{is_path-exact, is_path-itself, seen-put_rows, in_rows-entries}
+use Rattle.prefix_tree.specs.Joined.{Below, insert_rows, path_rows, in_rows, seen, is_below}
+use Rattle.prefix_tree.proofs.Rows.{is_path-exact, is_path-itself, seen-insert_rows, in_rows-entries}
 use Rattle.prefix_tree.proofs.PairLemmas.{label-path_rows, used-path_rows}
 
 -- a row of any marks
@@ -41,8 +41,8 @@ every_spreads : (a b : Marks) → true ≡ (true || true)
 every_spreads a b = refl
 
 -- rows of good paths put together
-pub put_rows_good : (b : Below) (es : List (Path × Marks)) → All IsGood (finmap.entries b) → All IsGood es → All IsGood (finmap.entries (put_rows b es))
-put_rows_good b es old new = all_good _ (λ q there. elim (or_cases (seen any_marks b q) (in_rows any_marks es q) (sym (seen-put_rows any_marks every_spreads b es q) ∙ sym (in_rows-entries any_marks (put_rows b es) q) ∙ there)) [
+pub put_rows_good : (b : Below) (es : List (Path × Marks)) → All IsGood (finmap.entries b) → All IsGood es → All IsGood (finmap.entries (insert_rows b es))
+put_rows_good b es old new = all_good _ (λ q there. elim (or_cases (seen any_marks b q) (in_rows any_marks es q) (sym (seen-insert_rows any_marks every_spreads b es q) ∙ sym (in_rows-entries any_marks (insert_rows b es) q) ∙ there)) [
   | inl mine ↦ good_in (finmap.entries b) old q (in_rows-entries any_marks b q ∙ mine)
   | inr theirs ↦ good_in es new q theirs
 ])

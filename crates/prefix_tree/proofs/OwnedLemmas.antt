@@ -6,8 +6,8 @@ use Rattle.std.specs.Option.{option_map}
 use Rattle.std.specs.Prelude.{All}
 use Rattle.std.proofs.lemmas.List.Elements.{All-nil}
 use Rattle.call_path.specs.Good.{IsGoodPath}
-use Rattle.prefix_tree.specs.Changes.{changed, new_among, puts}
-use Rattle.prefix_tree.proofs.ChangeLemmas.{AreDistinct, apart_from_order, apart_path_rows, puts_sorted, puts_united, len-put_rows}
+use Rattle.prefix_tree.specs.Changes.{changed, new_among, inserted}
+use Rattle.prefix_tree.proofs.ChangeLemmas.{AreDistinct, apart_from_order, apart_path_rows, puts_sorted, puts_united, len-insert_rows}
 use Rattle.prefix_tree.proofs.GoodPaths.{put_rows_good, path_rows_good}
 use Rattle.std.specs.FinMap as finmap
 use Rattle.std.proofs.lemmas.List.{length-map}
@@ -16,7 +16,7 @@ use Rattle.call_path.specs.Path.{Path, path_cmp, path_cmp_total, path_cmp_exact}
 use Rattle.prefix_tree.specs.declared.owned.TreeRow.{TreeRow}
 use Rattle.prefix_tree.specs.Pairs.{Pairs, pairs_at}
 use Rattle.prefix_tree.specs.Tree.{Tree, Marks, IsTree, IsLawful, tree_of, merged, covered, added, count_below, pairs_of, rows_of, frame_of}
-use Rattle.prefix_tree.specs.Joined.{Below, put_rows, path_rows}
+use Rattle.prefix_tree.specs.Joined.{Below, insert_rows, path_rows}
 use Rattle.prefix_tree.specs.Owned.{entry_of, entries_view, IsInOrder, below_in, tree_in, AreTreeRows}
 use Rattle.prefix_tree.proofs.TreeLemmas.{IsTree-tree_of, tree_merged, tree_covered, tree_added, get-tree_of, coverage-tree_of, no_row, some_member}
 
@@ -33,13 +33,13 @@ pub tree_rows : (C : Ranks) (rows : List TreeRow) (P : Pairs) (D : Ranks) → Is
 tree_rows C rows P D up is few good = record { in_order = up; tree = subst IsTree (sym is) (IsTree-tree_of P D); few = few; good = good }
 
 -- rows united with those of another tree make the merged tree
-pub merged_rows : (A B : Ranks) (rows others all : List TreeRow) → AreTreeRows A rows → AreTreeRows B others → below_in all ≡ put_rows (below_in rows) (entries_view others) → tree_in (union A B) all ≡ merged (tree_in A rows) (tree_in B others)
+pub merged_rows : (A B : Ranks) (rows others all : List TreeRow) → AreTreeRows A rows → AreTreeRows B others → below_in all ≡ insert_rows (below_in rows) (entries_view others) → tree_in (union A B) all ≡ merged (tree_in A rows) (tree_in B others)
 merged_rows A B rows others all mine theirs is =
-    (λ i. record { coverage = union A B; below = (is ∙ ap (put_rows (below_in rows)) (sym (entries_below others theirs.in_order))) i })
+    (λ i. record { coverage = union A B; below = (is ∙ ap (insert_rows (below_in rows)) (sym (entries_below others theirs.in_order))) i })
     ∙ tree_merged (tree_in A rows) mine.tree (tree_in B others) theirs.tree
 
 -- rows united with those of a path make the tree with that path
-pub added_rows : (A C : Ranks) (p : Path) (rows all : List TreeRow) → AreTreeRows A rows → (r : ℕ) → has C r ≡ true → ((q : ℕ) → has C q ≡ true → has A q ≡ true) → below_in all ≡ put_rows (below_in rows) (path_rows C p) → tree_in A all ≡ added (tree_in A rows) C p
+pub added_rows : (A C : Ranks) (p : Path) (rows all : List TreeRow) → AreTreeRows A rows → (r : ℕ) → has C r ≡ true → ((q : ℕ) → has C q ≡ true → has A q ≡ true) → below_in all ≡ insert_rows (below_in rows) (path_rows C p) → tree_in A all ≡ added (tree_in A rows) C p
 added_rows A C p rows all mine r some lies is =
     (λ i. record { coverage = A; below = is i }) ∙ tree_added (tree_in A rows) mine.tree C p r some lies
 
@@ -63,7 +63,7 @@ pub lies_in : (C A : Ranks) → is_subset C A ≡ true → (q : ℕ) → has C q
 lies_in C A within q one = subset_has C A within q one
 
 -- rows put to rows of good paths, of good paths themselves
-pub good_rows : (rows all : List TreeRow) (es : List (Path × Marks)) → IsInOrder rows → IsInOrder all → All (λ e. IsGoodPath e.0) (entries_view rows) → All (λ e. IsGoodPath e.0) es → below_in all ≡ put_rows (below_in rows) es → All (λ e. IsGoodPath e.0) (entries_view all)
+pub good_rows : (rows all : List TreeRow) (es : List (Path × Marks)) → IsInOrder rows → IsInOrder all → All (λ e. IsGoodPath e.0) (entries_view rows) → All (λ e. IsGoodPath e.0) es → below_in all ≡ insert_rows (below_in rows) es → All (λ e. IsGoodPath e.0) (entries_view all)
 good_rows rows all es up up_all good more is =
     let old = subst (All (λ e. IsGoodPath e.0)) (sym (entries_below rows up)) good in
     let new = put_rows_good (below_in rows) es old more in
@@ -93,14 +93,14 @@ makes_tree C rows P D up good is = record {
 }
 
 -- rows united with those of a path are rows of the tree with that path
-pub makes_added : (A C : Ranks) (p : Path) (rows all : List TreeRow) (self : Tree) → tree_in A rows ≡ self → AreTreeRows A rows → C ≢ none → is_subset C self.coverage ≡ true → IsGoodPath p → IsInOrder all → below_in all ≡ put_rows (below_in rows) (path_rows C p) → MakesTree A all (added self C p)
+pub makes_added : (A C : Ranks) (p : Path) (rows all : List TreeRow) (self : Tree) → tree_in A rows ≡ self → AreTreeRows A rows → C ≢ none → is_subset C self.coverage ≡ true → IsGoodPath p → IsInOrder all → below_in all ≡ insert_rows (below_in rows) (path_rows C p) → MakesTree A all (added self C p)
 makes_added A C p rows all self seen mine other within good up is =
     let some = some_member C other in
     let new = added_rows A C p rows all mine some.0 some.1 (lies_in C A (ap (λ (t : Tree). is_subset C t.coverage) seen ∙ within)) is in
     makes_tree A all (pairs_of self ++ pairs_at (in_order C) p) self.coverage up (good_rows rows all (path_rows C p) mine.in_order up mine.good (path_rows_good C some.0 some.1 p good) is) (new ∙ ap (λ t. added t C p) seen)
 
 -- rows united with those of another tree are rows of the merged tree
-pub makes_merged : (A B : Ranks) (rows others all : List TreeRow) (self other : Tree) → tree_in A rows ≡ self → tree_in B others ≡ other → AreTreeRows A rows → AreTreeRows B others → IsInOrder all → below_in all ≡ put_rows (below_in rows) (entries_view others) → MakesTree (union A B) all (merged self other)
+pub makes_merged : (A B : Ranks) (rows others all : List TreeRow) (self other : Tree) → tree_in A rows ≡ self → tree_in B others ≡ other → AreTreeRows A rows → AreTreeRows B others → IsInOrder all → below_in all ≡ insert_rows (below_in rows) (entries_view others) → MakesTree (union A B) all (merged self other)
 makes_merged A B rows others all self other seen seen_other mine theirs up is =
     makes_tree (union A B) all (pairs_of self ++ pairs_of other) (union self.coverage other.coverage) up (good_rows rows all (entries_view others) mine.in_order up mine.good theirs.good is)
     (merged_rows A B rows others all mine theirs is ∙ (λ i. merged (seen i) (seen_other i)))
@@ -113,28 +113,28 @@ makes_covered A C rows self seen mine =
 -- rows after changes that were made to them
 module _ (rows all changes : List TreeRow) (others : List (Path × Marks)) (up : IsInOrder rows) (apart : AreDistinct others) (are : entries_view changes ≡ map (changed (below_in rows)) others) where
   -- how many there are
-  pub puts_count : length (puts (entries_view rows) (entries_view changes)) ≡ length rows + new_among (below_in rows) others
+  pub puts_count : length (inserted (entries_view rows) (entries_view changes)) ≡ length rows + new_among (below_in rows) others
   puts_count =
       let united = puts_united (entries_view rows) others up apart in
       let sorted = puts_sorted (entries_view rows) (map (changed (below_in rows)) others) up in
-      ap (λ cs. length (puts (entries_view rows) cs)) are
+      ap (λ cs. length (inserted (entries_view rows) cs)) are
       ∙ sym (ap length (finmap.entries-from_sorted path_cmp _ sorted))
       ∙ sym (finmap.len-entries _) ∙ ap (λ (b : Below). finmap.len b) united
-      ∙ len-put_rows others (below_in rows) apart
+      ∙ len-insert_rows others (below_in rows) apart
       ∙ ap (λ n. n + new_among (below_in rows) others) (finmap.len-entries (below_in rows) ∙ ap length (entries_below rows up) ∙ length-map rows entry_of)
 
-  module _ (is : entries_view all ≡ puts (entries_view rows) (entries_view changes)) where
+  module _ (is : entries_view all ≡ inserted (entries_view rows) (entries_view changes)) where
     -- they are in order
     pub puts_in_order : IsInOrder all
-    puts_in_order = subst (λ es. T (finmap.is_sorted path_cmp es)) (sym (is ∙ ap (puts (entries_view rows)) are)) (puts_sorted (entries_view rows) (map (changed (below_in rows)) others) up)
+    puts_in_order = subst (λ es. T (finmap.is_sorted path_cmp es)) (sym (is ∙ ap (inserted (entries_view rows)) are)) (puts_sorted (entries_view rows) (map (changed (below_in rows)) others) up)
 
     -- and united with the others
-    pub puts_are_united : below_in all ≡ put_rows (below_in rows) others
-    puts_are_united = ap (λ es. finmap.from_sorted {R = path_cmp} es) (is ∙ ap (puts (entries_view rows)) are) ∙ puts_united (entries_view rows) others up apart
+    pub puts_are_united : below_in all ≡ insert_rows (below_in rows) others
+    puts_are_united = ap (λ es. finmap.from_sorted {R = path_cmp} es) (is ∙ ap (inserted (entries_view rows)) are) ∙ puts_united (entries_view rows) others up apart
 
-count_united : (rows : List TreeRow) (others : List (Path × Marks)) (t : Tree) (C : Ranks) → IsInOrder rows → AreDistinct others → record { coverage = C; below = put_rows (below_in rows) others } ≡ t → count_below t ≡ length rows + new_among (below_in rows) others
+count_united : (rows : List TreeRow) (others : List (Path × Marks)) (t : Tree) (C : Ranks) → IsInOrder rows → AreDistinct others → record { coverage = C; below = insert_rows (below_in rows) others } ≡ t → count_below t ≡ length rows + new_among (below_in rows) others
 count_united rows others t C up apart is =
-    ap count_below (sym is) ∙ len-put_rows others (below_in rows) apart
+    ap count_below (sym is) ∙ len-insert_rows others (below_in rows) apart
     ∙ ap (λ n. n + new_among (below_in rows) others) (finmap.len-entries (below_in rows) ∙ ap length (entries_below rows up) ∙ length-map rows entry_of)
 
 -- how many rows a tree has with a path
@@ -148,7 +148,7 @@ count_added A C p rows self seen mine other within =
 pub count_merged : (A B : Ranks) (rows others : List TreeRow) (self other : Tree) → tree_in A rows ≡ self → tree_in B others ≡ other → AreTreeRows A rows → AreTreeRows B others → count_below (merged self other) ≡ length rows + new_among (below_in rows) (entries_view others)
 count_merged A B rows others self other seen seen_other mine theirs =
     count_united rows (entries_view others) (merged self other) (union A B) mine.in_order (apart_from_order (entries_view others) theirs.in_order)
-    ((λ i. record { coverage = union A B; below = put_rows (below_in rows) (sym (entries_below others theirs.in_order) i) })
+    ((λ i. record { coverage = union A B; below = insert_rows (below_in rows) (sym (entries_below others theirs.in_order) i) })
     ∙ tree_merged (tree_in A rows) mine.tree (tree_in B others) theirs.tree ∙ (λ i. merged (seen i) (seen_other i)))
 
 -- what two calls of a part of the tree say, put together

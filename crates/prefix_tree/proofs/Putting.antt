@@ -7,20 +7,20 @@ use Rattle.std.proofs.lemmas.List.Edits.{length-insert}
 use Rattle.call_path.specs.Path.{path_cmp}
 use Rattle.prefix_tree.specs.declared.owned.TreeRow.{TreeRow}
 use Rattle.prefix_tree.specs.Owned.{place_of, entry_of, entries_view, IsInOrder}
-use Rattle.prefix_tree.specs.Changes.{puts}
+use Rattle.prefix_tree.specs.Changes.{inserted}
 use Rattle.prefix_tree.proofs.Edits.{put_sorted, put_present, put_absent}
 use Rattle.prefix_tree.proofs.ChangeLemmas.{puts_longer}
 
 -- after a row is put, what is left to put makes the same rows
 pub record PutsOn (rows new left rest : List TreeRow) (capacity : ℕ) : Type 0 where
   pub in_order : IsInOrder new
-  pub room : length (puts (entries_view new) (entries_view rest)) ≤ capacity
-  pub put : puts (entries_view new) (entries_view rest) ≡ puts (entries_view rows) (entries_view left)
+  pub room : length (inserted (entries_view new) (entries_view rest)) ≤ capacity
+  pub put : inserted (entries_view new) (entries_view rest) ≡ inserted (entries_view rows) (entries_view left)
 
-module _ (rows shown left rest : List TreeRow) (row : TreeRow) (capacity i : ℕ) (up : IsInOrder rows) (is : shown ≡ rows) (first : left ≡ row ∷ rest) (room : length (puts (entries_view rows) (entries_view left)) ≤ capacity) where
+module _ (rows shown left rest : List TreeRow) (row : TreeRow) (capacity i : ℕ) (up : IsInOrder rows) (is : shown ≡ rows) (first : left ≡ row ∷ rest) (room : length (inserted (entries_view rows) (entries_view left)) ≤ capacity) where
   puts_on : (new : List TreeRow) → entries_view new ≡ finmap.put path_cmp row.path (row.label, row.ends) (entries_view rows) → PutsOn rows new left rest capacity
   puts_on new put =
-      let same : puts (entries_view new) (entries_view rest) ≡ puts (entries_view rows) (entries_view left) = ap (λ es. puts es (entries_view rest)) put ∙ ap (λ rs. puts (entries_view rows) (entries_view rs)) (sym first) in
+      let same : inserted (entries_view new) (entries_view rest) ≡ inserted (entries_view rows) (entries_view left) = ap (λ es. inserted es (entries_view rest)) put ∙ ap (λ rs. inserted (entries_view rows) (entries_view rs)) (sym first) in
       record {
         in_order = subst (λ es. T (finmap.is_sorted path_cmp es)) (sym put) (put_sorted row.path (row.label, row.ends) (entries_view rows) up);
         room = let e = ap length same in omega (arith, e, room);
@@ -43,7 +43,7 @@ module _ (rows shown left rest : List TreeRow) (row : TreeRow) (capacity i : ℕ
         let new = length-map (insert rows i row) entry_of in
         let long = length-insert rows i row (let e = ap length is in omega (arith, e, le)) in
         let all = puts_longer (finmap.put path_cmp row.path (row.label, row.ends) (entries_view rows)) (entries_view rest) in
-        let same = ap (λ rs. length (puts (entries_view rows) (entries_view rs))) first in
+        let same = ap (λ rs. length (inserted (entries_view rows) (entries_view rs))) first in
         let put = ap length put_there in
         omega (arith, new, long, all, same, put, room)
 

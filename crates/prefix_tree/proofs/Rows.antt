@@ -9,7 +9,7 @@ use Rattle.std.specs.FinMap as finmap
 use Rattle.rank_set.specs.Ranks.{has-union}
 use Rattle.call_path.specs.Path.{Path, path_cmp, is_path, path_cmp_total, path_cmp_exact}
 use Rattle.prefix_tree.specs.Tree.{Marks}
-use Rattle.prefix_tree.specs.Joined.{Below, both_marks, put_row, put_rows, in_rows, if_some, seen, labelled, ended}
+use Rattle.prefix_tree.specs.Joined.{Below, both_marks, put_row, insert_rows, in_rows, if_some, seen, labelled, ended}
 
 -- a test that holds of marks put together where it holds of either
 abbrev pub Spreads : (Marks → Bool) → Type 0
@@ -53,9 +53,9 @@ module _ (test : Marks → Bool) (spreads : Spreads test) where
       ] refl
 
   -- what is seen after rows are united
-  pub seen-put_rows : (b : Below) (es : List (Path × Marks)) (q : Path) → seen test (put_rows b es) q ≡ (seen test b q || in_rows test es q)
-  seen-put_rows b [] q = sym (or_false (seen test b q))
-  seen-put_rows b (e ∷ es) q = seen-put_rows (put_row b e.0 e.1) es q ∙ ap (λ x. x || in_rows test es q) (seen-put_row b e.0 e.1 q) ∙ or_assoc (seen test b q) (is_path q e.0 && test e.1) (in_rows test es q)
+  pub seen-insert_rows : (b : Below) (es : List (Path × Marks)) (q : Path) → seen test (insert_rows b es) q ≡ (seen test b q || in_rows test es q)
+  seen-insert_rows b [] q = sym (or_false (seen test b q))
+  seen-insert_rows b (e ∷ es) q = seen-insert_rows (put_row b e.0 e.1) es q ∙ ap (λ x. x || in_rows test es q) (seen-put_row b e.0 e.1 q) ∙ or_assoc (seen test b q) (is_path q e.0 && test e.1) (in_rows test es q)
 
 -- two tests at once
 pub both : (a b : Bool) → T a → T b → T (a && b)

@@ -11,8 +11,8 @@ use Rattle.rank_set.specs.Ranks.{Ranks, none, has, in_order, size, union, has-un
 use Rattle.call_path.specs.Path.{Path, path_cmp, is_path, is_prefix, path_cmp_total, path_cmp_exact}
 use Rattle.prefix_tree.specs.Pairs.{Pairs, pairs_at, is_pair, passes, label, ends, IsWithin}
 use Rattle.prefix_tree.specs.Tree.{Marks, Tree, marks_of, row_at, prefixes, prefixes_of, with_row, rows_at, tree_of, pairs_of, IsTree, merged, covered, added, Unites, Covers}
-use Rattle.prefix_tree.specs.Joined.{put_rows, in_rows, if_some, seen, labelled, ended, is_below, path_rows, AreRowsOf, IsTreeOf, AreSamePairs}
-use Rattle.prefix_tree.proofs.Rows.{labelled_spreads, ended_spreads, is_path-exact, seen-put_rows, in_rows-entries}
+use Rattle.prefix_tree.specs.Joined.{insert_rows, in_rows, if_some, seen, labelled, ended, is_below, path_rows, AreRowsOf, IsTreeOf, AreSamePairs}
+use Rattle.prefix_tree.proofs.Rows.{labelled_spreads, ended_spreads, is_path-exact, seen-insert_rows, in_rows-entries}
 use Rattle.prefix_tree.proofs.PairLemmas.{passes-append, is_pair-append, pair_from_passes, passes-from_pair, passes_within, is_pair-pairs_of, any-prefixes, any-flat_map, and_false, rows_of_path, pairs_within}
 
 -- what both show, where each is within its own ranks
@@ -36,24 +36,24 @@ every_spreads a b = refl
 
 module _ (P Q : Pairs) (A B : Ranks) (in_A : IsWithin P A) (in_B : IsWithin Q B) (t : Tree) (of_P : IsTreeOf P A t) (es : List (Path × Marks)) (of_Q : AreRowsOf Q B es) where
   -- rows put into a tree make the tree of the pairs of both, over the ranks of both
-  pub put_together : IsTreeOf (P ++ Q) (union A B) (record { coverage = union t.coverage B; below = put_rows t.below es })
+  pub put_together : IsTreeOf (P ++ Q) (union A B) (record { coverage = union t.coverage B; below = insert_rows t.below es })
   put_together = record {
     coverage = ap (λ s. union s B) of_P.coverage;
     labels = λ p r.
-        seen-put_rows (labelled r) (labelled_spreads r) t.below es p
+        seen-insert_rows (labelled r) (labelled_spreads r) t.below es p
         ∙ (λ i. of_P.labels p r i || of_Q.labels p r i)
         ∙ spread (is_below p) (has A r) (has B r) (passes P r p) (passes Q r p) (passes_within P A in_A r p) (passes_within Q B in_B r p)
         ∙ sym (λ i. is_below p && (has-union A B r i && passes-append P Q r p i));
     ends = λ p r.
-        seen-put_rows (ended r) (ended_spreads r) t.below es p
+        seen-insert_rows (ended r) (ended_spreads r) t.below es p
         ∙ (λ i. of_P.ends p r i || of_Q.ends p r i)
         ∙ spread (is_below p) (has A r) (has B r) (is_pair P r p) (is_pair Q r p) (in_A r p) (in_B r p)
         ∙ sym (λ i. is_below p && (has-union A B r i && is_pair-append P Q r p i));
     used = λ p there.
         or_true_cases (seen (λ m. true) t.below p) (in_rows (λ m. true) es p) _
-        (λ old. let some = of_P.used p old in (some.0, seen-put_rows (labelled some.0) (labelled_spreads some.0) t.below es p ∙ ap (λ b. b || in_rows (labelled some.0) es p) some.1))
-        (λ new. let some = of_Q.used p new in (some.0, seen-put_rows (labelled some.0) (labelled_spreads some.0) t.below es p ∙ ap (λ b. seen (labelled some.0) t.below p || b) some.1 ∙ or_any_true (seen (labelled some.0) t.below p)))
-        (sym (seen-put_rows (λ m. true) every_spreads t.below es p) ∙ there);
+        (λ old. let some = of_P.used p old in (some.0, seen-insert_rows (labelled some.0) (labelled_spreads some.0) t.below es p ∙ ap (λ b. b || in_rows (labelled some.0) es p) some.1))
+        (λ new. let some = of_Q.used p new in (some.0, seen-insert_rows (labelled some.0) (labelled_spreads some.0) t.below es p ∙ ap (λ b. seen (labelled some.0) t.below p || b) some.1 ∙ or_any_true (seen (labelled some.0) t.below p)))
+        (sym (seen-insert_rows (λ m. true) every_spreads t.below es p) ∙ there);
   }
     where
       or_any_true : (a : Bool) → (a || true) ≡ true
@@ -310,11 +310,11 @@ module _ (t : Tree) (is : IsTree t) where
   -- rows put into a tree
   module _ (Q : Pairs) (B : Ranks) (within : IsWithin Q B) (es : List (Path × Marks)) (of_Q : AreRowsOf Q B es) where
     -- they make the tree of the pairs of both
-    pub tree_with_rows : record { coverage = union t.coverage B; below = put_rows t.below es } ≡ tree_of (pairs_of t ++ Q) (union t.coverage B)
+    pub tree_with_rows : record { coverage = union t.coverage B; below = insert_rows t.below es } ≡ tree_of (pairs_of t ++ Q) (union t.coverage B)
     tree_with_rows = tree_of-is (pairs_of t ++ Q) (union t.coverage B) _ (put_together (pairs_of t) Q t.coverage B own_within within t own es of_Q)
 
   -- the rows of another tree make the merged tree
-  pub tree_merged : (u : Tree) → IsTree u → record { coverage = union t.coverage u.coverage; below = put_rows t.below (finmap.entries u.below) } ≡ merged t u
+  pub tree_merged : (u : Tree) → IsTree u → record { coverage = union t.coverage u.coverage; below = insert_rows t.below (finmap.entries u.below) } ≡ merged t u
   tree_merged u is_u =
       let of_u = IsTreeOf-from_equal (pairs_of u) u.coverage u is_u in
       tree_with_rows (pairs_of u) u.coverage (pairs_of_within (pairs_of u) u.coverage u of_u) (finmap.entries u.below) (rows_of_tree (pairs_of u) u.coverage u of_u)
@@ -324,10 +324,10 @@ module _ (t : Tree) (is : IsTree t) where
   tree_covered C = tree_with_rows [] C (λ r p one. absurd (true≢false (sym one))) [] (no_rows C) ∙ ap (λ P. tree_of P (union t.coverage C)) (append-nil (pairs_of t))
 
   -- the rows of a path make the tree with it
-  pub tree_added : (C : Ranks) (p : Path) (r : ℕ) → has C r ≡ true → ((q : ℕ) → has C q ≡ true → has t.coverage q ≡ true) → record { coverage = t.coverage; below = put_rows t.below (path_rows C p) } ≡ added t C p
+  pub tree_added : (C : Ranks) (p : Path) (r : ℕ) → has C r ≡ true → ((q : ℕ) → has C q ≡ true → has t.coverage q ≡ true) → record { coverage = t.coverage; below = insert_rows t.below (path_rows C p) } ≡ added t C p
   tree_added C p r some lies =
       let same : union t.coverage C ≡ t.coverage = same_ranks _ _ (λ q. has-union t.coverage C q ∙ swallow (has t.coverage q) (has C q) (lies q)) in
-      (λ i. record { coverage = sym same i; below = put_rows t.below (path_rows C p) })
+      (λ i. record { coverage = sym same i; below = insert_rows t.below (path_rows C p) })
       ∙ tree_with_rows (pairs_at (in_order C) p) C (pairs_within C C p (λ q h. h)) (path_rows C p) (rows_of_path C r some p)
       ∙ ap (tree_of (pairs_of t ++ pairs_at (in_order C) p)) same
     where
@@ -344,7 +344,7 @@ merged_unites t u P Q A B in_A in_B is_t is_u =
     let of_t = IsTreeOf-from_equal P A t is_t in
     let of_u = IsTreeOf-from_equal Q B u is_u in
     sym (tree_merged t tree_t u tree_u)
-    ∙ (λ i. record { coverage = union t.coverage (of_u.coverage i); below = put_rows t.below (finmap.entries u.below) })
+    ∙ (λ i. record { coverage = union t.coverage (of_u.coverage i); below = insert_rows t.below (finmap.entries u.below) })
     ∙ tree_of-is (P ++ Q) (union A B) _ (put_together P Q A B in_A in_B t of_t (finmap.entries u.below) (rows_of_tree Q B u of_u))
 
 -- the same pairs over more ranks

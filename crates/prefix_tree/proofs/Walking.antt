@@ -107,7 +107,7 @@ module _ (P : Pairs) (C : Ranks) (t : Tree) (h : IsTreeOf P C t) where
       | inl here ↦ inr (ap is_gt ((Equal-is (path_cmp q e.0)).0 ((and_parts (is_path q e.0) true here).0)))
       | inr later ↦ inl later
     ]
-    | inr behind ↦ inr (upto path_cmp_total q before e.0 behind (not_greater _ step))
+    | inr tail ↦ inr (upto path_cmp_total q before e.0 tail (not_greater _ step))
   ]
 
   parent_follows : (before : Path) (e : Path × Marks) (rest : List (Path × Marks)) (n : ℕ) → n < length e.0 → is_below (take n e.0) ≡ true → T (finmap.is_sorted path_cmp (e ∷ rest)) → path_cmp before e.0 ≡ Less → Known before (e ∷ rest) → seen each t.below e.0 ≡ true → take n e.0 ≡ take n before
@@ -116,8 +116,8 @@ module _ (P : Pairs) (C : Ranks) (t : Tree) (h : IsTreeOf P C t) where
       let long : length q ≡ n = length-take-le n e.0 (omega arith) in
       elim (known q (shorter_there n e.0 there below)) [
         | inl ahead ↦ absurd (true≢false (sym ahead ∙ none_from each q e rest (fewer_less n e.0 lt) up))
-        | inr behind ↦
-            prefix_is_take q before (between q (drop n e.0) before behind (ap (path_cmp before) (take-append-drop n e.0) ∙ step))
+        | inr tail ↦
+            prefix_is_take q before (between q (drop n e.0) before tail (ap (path_cmp before) (take-append-drop n e.0) ∙ step))
             ∙ ap (λ k. take k before) long
       ]
 

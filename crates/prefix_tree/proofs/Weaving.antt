@@ -1,4 +1,4 @@
--- Rows put among others from the last on: those behind a row's place stay as they are.
+-- Rows put among others from the last on: those tail a row's place stay as they are.
 use Rattle.std.proofs.Common.{◌≡◌, ℕ, zero, suc, ◌+◌, ◌-◌, ◌<◌, ◌≤◌, List, [], ◌∷◌, ◌++◌, Result, Ok, Err, refl, sym, ap, ◌∙◌, subst, T, length, take, drop, reverse, arith}
 use Rattle.std.specs.Ordering.{is_lt}
 use Rattle.std.specs.declared.cmp.Ordering.{Ordering}
@@ -11,25 +11,25 @@ use Rattle.call_path.specs.Path.{Path, path_cmp, path_cmp_total, path_cmp_exact}
 use Rattle.prefix_tree.specs.Tree.{Marks}
 use Rattle.prefix_tree.specs.declared.owned.TreeRow.{TreeRow}
 use Rattle.prefix_tree.specs.Owned.{by_order, next_place, place_of, entry_of, entries_view, IsInOrder}
-use Rattle.prefix_tree.specs.Changes.{puts}
+use Rattle.prefix_tree.specs.Changes.{inserted}
 use Rattle.prefix_tree.proofs.Rows.{both, first, second, less, turned}
 
--- rows of which the last one went behind others
+-- rows of which the last one went tail others
 pub record IsMovedOn {A : Type 0} (all others new new_behind : List A) : Type 0 where
   pub rows : new ≡ take (length new) all
-  pub behind : reverse new_behind ≡ drop (length new) all ++ reverse others
+  pub tail : reverse new_behind ≡ drop (length new) all ++ reverse others
 
--- the last of the first rows goes behind those that went before it
-pub moved_on : {A : Type 0} (all behind rows new set_aside new_behind : List A) (row : A) → rows ≡ take (length rows) all → reverse set_aside ≡ drop (length rows) all ++ reverse behind → rows ≡ new ++ row ∷ [] → new_behind ≡ set_aside ++ row ∷ [] → IsMovedOn all behind new new_behind
-moved_on all behind rows new set_aside new_behind row front back last more =
+-- the last of the first rows goes tail those that went before it
+pub moved_on : {A : Type 0} (all tail rows new set_aside new_behind : List A) (row : A) → rows ≡ take (length rows) all → reverse set_aside ≡ drop (length rows) all ++ reverse tail → rows ≡ new ++ row ∷ [] → new_behind ≡ set_aside ++ row ∷ [] → IsMovedOn all tail new new_behind
+moved_on all tail rows new set_aside new_behind row front back last more =
     let rest = drop (length rows) all in
     let whole : all ≡ new ++ row ∷ rest =
     sym (take-append-drop (length rows) all) ∙ ap (λ r. r ++ rest) (sym front ∙ last) ∙ append_assoc new (row ∷ []) rest in
     record {
       rows = sym (ap (take (length new)) whole ∙ take-append_seam new (row ∷ rest));
-      behind =
+      tail =
           ap reverse more ∙ reverse-append set_aside (row ∷ []) ∙ ap (λ r. row ∷ r) back
-          ∙ ap (λ r. r ++ reverse behind) (sym (ap (drop (length new)) whole ∙ drop-append_seam new (row ∷ rest)));
+          ∙ ap (λ r. r ++ reverse tail) (sym (ap (drop (length new)) whole ∙ drop-append_seam new (row ∷ rest)));
     }
 
 -- a path is above each of some rows
@@ -48,20 +48,20 @@ AreBefore [] es = Unit {0}
 AreBefore (c ∷ cs) es = IsBefore c.0 es × AreBefore cs es
 
 -- a put before some rows leaves them as they are
-put_front : (p : Path) (w : Marks) (es behind : List (Path × Marks)) → IsBefore p behind → finmap.put path_cmp p w (es ++ behind) ≡ finmap.put path_cmp p w es ++ behind
+put_front : (p : Path) (w : Marks) (es tail : List (Path × Marks)) → IsBefore p tail → finmap.put path_cmp p w (es ++ tail) ≡ finmap.put path_cmp p w es ++ tail
 put_front p w [] [] before = refl
 put_front p w [] (t ∷ ts) before = rw before
-put_front p w (e ∷ es) behind before = by_place (path_cmp p e.0) (put_front p w es behind before)
+put_front p w (e ∷ es) tail before = by_place (path_cmp p e.0) (put_front p w es tail before)
   where
-    by_place : (o : Ordering) → finmap.put path_cmp p w (es ++ behind) ≡ finmap.put path_cmp p w es ++ behind → by_order o ((p, w) ∷ e ∷ (es ++ behind)) ((e.0, w) ∷ (es ++ behind)) (e ∷ finmap.put path_cmp p w (es ++ behind)) ≡ by_order o ((p, w) ∷ e ∷ es) ((e.0, w) ∷ es) (e ∷ finmap.put path_cmp p w es) ++ behind
+    by_place : (o : Ordering) → finmap.put path_cmp p w (es ++ tail) ≡ finmap.put path_cmp p w es ++ tail → by_order o ((p, w) ∷ e ∷ (es ++ tail)) ((e.0, w) ∷ (es ++ tail)) (e ∷ finmap.put path_cmp p w (es ++ tail)) ≡ by_order o ((p, w) ∷ e ∷ es) ((e.0, w) ∷ es) (e ∷ finmap.put path_cmp p w es) ++ tail
     by_place Less h = refl
     by_place Equal h = refl
     by_place Greater h = ap (λ fs. e ∷ fs) h
 
--- so do puts
-puts_front : (es cs behind : List (Path × Marks)) → AreBefore cs behind → puts (es ++ behind) cs ≡ puts es cs ++ behind
-puts_front es [] behind before = refl
-puts_front es (c ∷ cs) behind before = ap (λ fs. puts fs cs) (put_front c.0 c.1 es behind before.0) ∙ puts_front (finmap.put path_cmp c.0 c.1 es) cs behind before.1
+-- so do inserted
+puts_front : (es cs tail : List (Path × Marks)) → AreBefore cs tail → inserted (es ++ tail) cs ≡ inserted es cs ++ tail
+puts_front es [] tail before = refl
+puts_front es (c ∷ cs) tail before = ap (λ fs. inserted fs cs) (put_front c.0 c.1 es tail before.0) ∙ puts_front (finmap.put path_cmp c.0 c.1 es) cs tail before.1
 
 -- a path above the rows and a new one is above them all
 put_keeps : (p q : Path) (w : Marks) (es : List (Path × Marks)) → path_cmp p q ≡ Greater → IsAbove p es → IsAbove p (finmap.put path_cmp q w es)
@@ -73,19 +73,19 @@ put_keeps p q w (e ∷ es) above h = by_place (path_cmp q e.0) (put_keeps p q w 
     by_place Equal k = h
     by_place Greater k = (h.0, k)
 
-puts_keep : (p : Path) (es cs : List (Path × Marks)) → IsAbove p cs → IsAbove p es → IsAbove p (puts es cs)
+puts_keep : (p : Path) (es cs : List (Path × Marks)) → IsAbove p cs → IsAbove p es → IsAbove p (inserted es cs)
 puts_keep p es [] above h = h
 puts_keep p es (c ∷ cs) above h = puts_keep p (finmap.put path_cmp c.0 c.1 es) cs above.1 (put_keeps p c.0 c.1 es above.0 h)
 
 -- a put above some rows leaves them as they are
-put_behind : (p : Path) (w : Marks) (es behind : List (Path × Marks)) → IsAbove p es → finmap.put path_cmp p w (es ++ behind) ≡ es ++ finmap.put path_cmp p w behind
-put_behind p w [] behind above = refl
-put_behind p w (e ∷ es) behind above =
-    ap (λ o. by_order o ((p, w) ∷ e ∷ (es ++ behind)) ((e.0, w) ∷ (es ++ behind)) (e ∷ finmap.put path_cmp p w (es ++ behind))) above.0
-    ∙ ap (λ fs. e ∷ fs) (put_behind p w es behind above.1)
+put_behind : (p : Path) (w : Marks) (es tail : List (Path × Marks)) → IsAbove p es → finmap.put path_cmp p w (es ++ tail) ≡ es ++ finmap.put path_cmp p w tail
+put_behind p w [] tail above = refl
+put_behind p w (e ∷ es) tail above =
+    ap (λ o. by_order o ((p, w) ∷ e ∷ (es ++ tail)) ((e.0, w) ∷ (es ++ tail)) (e ∷ finmap.put path_cmp p w (es ++ tail))) above.0
+    ∙ ap (λ fs. e ∷ fs) (put_behind p w es tail above.1)
 
--- the last of puts comes last
-puts_last : (es cs : List (Path × Marks)) (c : Path × Marks) → puts es (cs ++ c ∷ []) ≡ finmap.put path_cmp c.0 c.1 (puts es cs)
+-- the last of inserted comes last
+puts_last : (es cs : List (Path × Marks)) (c : Path × Marks) → inserted es (cs ++ c ∷ []) ≡ finmap.put path_cmp c.0 c.1 (inserted es cs)
 puts_last es [] c = refl
 puts_last es (d ∷ cs) c = puts_last (finmap.put path_cmp d.0 d.1 es) cs c
 
@@ -122,13 +122,13 @@ module _ (p : Path) (w : Marks) where
   all_before (c ∷ cs) es above before = (before c.0 (turned p c.0 Greater above.0), all_before cs es above.1 before)
 
   -- the last of rows in order is put in its place, and the others go before it
-  pub put_last : (es cs : List (Path × Marks)) (i j : ℕ) → IsCut es i j → IsAbove p cs → puts es (cs ++ (p, w) ∷ []) ≡ puts (take i es) cs ++ (p, w) ∷ drop j es
+  pub put_last : (es cs : List (Path × Marks)) (i j : ℕ) → IsCut es i j → IsAbove p cs → inserted es (cs ++ (p, w) ∷ []) ≡ inserted (take i es) cs ++ (p, w) ∷ drop j es
   put_last es cs i j h above =
       puts_last es cs (p, w)
-      ∙ ap (λ fs. finmap.put path_cmp p w (puts fs cs)) (sym (take-append-drop i es))
+      ∙ ap (λ fs. finmap.put path_cmp p w (inserted fs cs)) (sym (take-append-drop i es))
       ∙ ap (finmap.put path_cmp p w) (puts_front (take i es) cs (drop i es) (all_before cs (drop i es) above h.before))
-      ∙ put_behind p w (puts (take i es) cs) (drop i es) (puts_keep p (take i es) cs above h.above)
-      ∙ ap (λ fs. puts (take i es) cs ++ fs) h.put
+      ∙ put_behind p w (inserted (take i es) cs) (drop i es) (puts_keep p (take i es) cs above h.above)
+      ∙ ap (λ fs. inserted (take i es) cs ++ fs) h.put
 
 below_last : (p : Path) (es : List (Path × Marks)) (c : Path × Marks) → T (below_all path_cmp p (es ++ c ∷ [])) → T (below_all path_cmp p es) × (path_cmp p c.0 ≡ Less)
 below_last p [] c up = (tt, less _ (first _ _ up))
@@ -155,7 +155,7 @@ sorted_take zero es up = tt
 sorted_take (suc i) [] up = tt
 sorted_take (suc i) (e ∷ es) up = both (below_all path_cmp e.0 (take i es)) (finmap.is_sorted path_cmp (take i es)) (below_take e.0 i es (first _ _ up)) (sorted_take i es (second _ _ up))
 
--- a row goes between those before one place and those from another on, which went behind others
+-- a row goes between those before one place and those from another on, which went tail others
 pub record GoesBetween (rows others : List TreeRow) (row : TreeRow) (new set_aside : List TreeRow) : Type 0 where
   pub from : ℕ
   pub to : ℕ
@@ -201,7 +201,7 @@ pub record WeavesOn (rows left others new rest set_aside : List TreeRow) : Type 
   pub in_order : IsInOrder new
   pub rising : IsInOrder rest
   pub room : length set_aside + (length new + length rest) ≤ length others + (length rows + length left)
-  pub woven : puts (entries_view new) (entries_view rest) ++ entries_view (reverse set_aside) ≡ puts (entries_view rows) (entries_view left) ++ entries_view (reverse others)
+  pub woven : inserted (entries_view new) (entries_view rest) ++ entries_view (reverse set_aside) ≡ inserted (entries_view rows) (entries_view left) ++ entries_view (reverse others)
 
 pub weaves_on : (rows left others new rest set_aside new_set_aside : List TreeRow) (row : TreeRow) → IsInOrder rows → IsInOrder left → left ≡ rest ++ row ∷ [] → GoesBetween rows others row new set_aside → new_set_aside ≡ set_aside ++ row ∷ [] → WeavesOn rows left others new rest new_set_aside
 weaves_on rows left others new rest set_aside new_set_aside row up rising last h more =
@@ -225,8 +225,8 @@ weaves_on rows left others new rest set_aside new_set_aside row up rising last h
       rising = parts.0;
       room = let o = h.order in let i = h.inside in omega (arith, o, i, fewer, one_less, moved, one_more);
       woven =
-          (λ k. puts (front k) cs ++ back k)
-          ∙ sym (append_assoc (puts (take h.from es) cs) (c ∷ drop h.to es) (entries_view (reverse others)))
+          (λ k. inserted (front k) cs ++ back k)
+          ∙ sym (append_assoc (inserted (take h.from es) cs) (c ∷ drop h.to es) (entries_view (reverse others)))
           ∙ ap (λ xs. xs ++ entries_view (reverse others)) (sym (put_last row.path (row.label, row.ends) es cs h.from h.to h.cut parts.1))
-          ∙ ap (λ xs. puts es xs ++ entries_view (reverse others)) (sym all);
+          ∙ ap (λ xs. inserted es xs ++ entries_view (reverse others)) (sym all);
     }

@@ -19,6 +19,6 @@ new_among b [] = 0
 new_among b (e ∷ es) = cond (is_new b e) 1 0 + new_among b es
 
 -- the rows after each of the others is put in its place
-abbrev pub puts : List (Path × Marks) → List (Path × Marks) → List (Path × Marks)
-puts es [] = es
-puts es (c ∷ cs) = puts (finmap.put path_cmp c.0 c.1 es) cs
+abbrev pub inserted : List (Path × Marks) → List (Path × Marks) → List (Path × Marks)
+inserted es [] = es
+inserted es (c ∷ cs) = inserted (finmap.put path_cmp c.0 c.1 es) cs

@@ -21,9 +21,9 @@ abbrev pub put_row : Below → Path → Marks → Below
 put_row b p m = finmap.insert b p (both_marks (finmap.get b p) m)
 
 -- each of the rows united into those at its prefix
-abbrev pub put_rows : Below → List (Path × Marks) → Below
-put_rows b [] = b
-put_rows b (e ∷ es) = put_rows (put_row b e.0 e.1) es
+abbrev pub insert_rows : Below → List (Path × Marks) → Below
+insert_rows b [] = b
+insert_rows b (e ∷ es) = insert_rows (put_row b e.0 e.1) es
 
 -- the marks at the end of a path, and above it
 abbrev pub last_marks : Path → Ranks → Marks

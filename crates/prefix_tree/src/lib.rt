@@ -109,7 +109,7 @@ pub trait PrefixTree: Sized + Drop + Send {
         ensures good { 0 < i → IsGoodRow result };
 }
 
-/// A law of trees: each row's prefix is one frame behind a front of the prefix of the row before
+/// A law of trees: each row's prefix is one frame tail a front of the prefix of the row before
 /// it, so that a reader of depths and frames knows the prefixes.
 pub fn rows_follow()
     ensures { (t : Tree) → IsTree t → Follows [] (finmap.entries t.below) }

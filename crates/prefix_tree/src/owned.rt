@@ -6,7 +6,7 @@ ghost use Rattle.call_path.specs.Good.{IsGoodPath};
 ghost use Rattle.prefix_tree.specs.Joined.{path_rows};
 ghost use Rattle.prefix_tree.specs.Shown.{Shows, IsGoodRow};
 ghost use Rattle.prefix_tree.specs.Owned.{IsInOrder, entries_view, below_in, place_of};
-ghost use Rattle.prefix_tree.specs.Changes.{changed, is_new, new_among, puts};
+ghost use Rattle.prefix_tree.specs.Changes.{changed, is_new, new_among, inserted};
 
 use crate::{PREFIX_LIMIT, PrefixTree, Row, TreeError};
 use call_path::CallPath;
@@ -27,8 +27,8 @@ struct TreeRow {
 #[derive(Drop)]
 pub struct OwnedTree {
     coverage: RankSet,
-    // Stays empty: the ends of the root.
-    nobody: RankSet,
+    // The empty set, lent for the ends of the root.
+    no_ranks: RankSet,
     rows: Vec<TreeRow>,
 }
 
@@ -45,7 +45,7 @@ impl Model for OwnedTree {
 
     ghost view = { λ a. tree_in a.coverage a.rows.items };
 
-    ghost invariant = { λ a. record { tree : AreTreeRows a.coverage a.rows.items; nobody : a.nobody ≡ none } };
+    ghost invariant = { λ a. record { tree : AreTreeRows a.coverage a.rows.items; no_ranks : a.no_ranks ≡ none } };
 }
 
 impl PrefixTree for OwnedTree {
@@ -54,7 +54,7 @@ impl PrefixTree for OwnedTree {
     fn empty(alloc: Global) -> OwnedTree {
         OwnedTree {
             coverage: RankSet::new(alloc),
-            nobody: RankSet::new(alloc),
+            no_ranks: RankSet::new(alloc),
             rows: Vec::new(alloc),
         }
     }
@@ -70,13 +70,13 @@ impl PrefixTree for OwnedTree {
             &self.rows,
             ranks,
             path,
-            &self.nobody,
+            &self.no_ranks,
         )?;
         if !has_room(&self.rows, changes.added) {
             return Err(TreeError::TooManyPrefixes);
         }
         self.rows.reserve(changes.added)?;
-        put_rows(&mut self.rows, changes.rows);
+        insert_rows(&mut self.rows, changes.rows);
         Ok(())
     }
 
@@ -86,7 +86,7 @@ impl PrefixTree for OwnedTree {
             return Err(TreeError::TooManyPrefixes);
         }
         let coverage = united(&self.coverage, &other.coverage)?;
-        put_changes(&mut self.rows, changes)?;
+        apply_changes(&mut self.rows, changes)?;
         self.coverage = coverage;
         Ok(())
     }
@@ -94,7 +94,7 @@ impl PrefixTree for OwnedTree {
     fn copy(&self) -> Result<OwnedTree, AllocError> {
         Ok(OwnedTree {
             coverage: self.coverage.copy()?,
-            nobody: self.nobody.copy()?,
+            no_ranks: self.no_ranks.copy()?,
             rows: copy_rows(*self.rows.allocator(), &self.rows)?,
         })
     }
@@ -109,7 +109,7 @@ impl PrefixTree for OwnedTree {
                 depth: 0,
                 frame: "/",
                 label: &self.coverage,
-                ends: &self.nobody,
+                ends: &self.no_ranks,
             };
         }
         shown(&self.rows, i - 1)
@@ -144,12 +144,12 @@ fn next_probe(low: usize, high: usize, hint: usize) -> usize
     }
 }
 
-// Where the row of a path is, or where it would go. It is looked for from the hint on, in strides
-// that double, and halfway between as soon as it lies between two rows that were looked at: so the
-// cost grows with the logarithm of how far the hint was off.
-fn place(rows: &[TreeRow], path: &CallPath, hint: usize) -> Result<usize, usize>
+// The index of a path's row, or where it would go: a galloping (exponential) search from the hint on, in strides that
+// double, and a binary search as soon as the row lies between two probes. The cost grows with the logarithm of how far
+// the hint was off.
+fn find_row(rows: &[TreeRow], path: &CallPath, hint: usize) -> Result<usize, usize>
     requires { IsInOrder rows.now }
-    ensures place { result ≡ place_of path.now (entries_view rows.now) }
+    ensures index { result ≡ place_of path.now (entries_view rows.now) }
     ensures found { IfOk result (λ at. at < length rows.now) }
     ensures absent { IfErr result (λ at. at ≤ length rows.now) }
 {
@@ -197,8 +197,8 @@ fn united(set: &RankSet, more: &RankSet) -> Result<RankSet, AllocError>
     Ok(all)
 }
 
-// The marks of a path as they will be once these are united into them, and whether its row is new.
-// The hint is where its row may be, and then where that of the next path may be.
+// The marks of a path once these are united into them, and whether its row is new. The hint is where its row may be, and
+// afterwards where that of the next path may be.
 fn united_marks(
     rows: &[TreeRow],
     hint: &mut usize,
@@ -211,7 +211,7 @@ fn united_marks(
         (λ m. (path.now, (m.0, m.1)) ≡ changed (below_in rows.now) (path.now, (label.now, ends.now))) }
     ensures new { IfOk result (λ m. m.2 ≡ is_new (below_in rows.now) (path.now, (label.now, ends.now))) }
 {
-    match place(rows, path, *hint) {
+    match find_row(rows, path, *hint) {
         Ok(at) => {
             *hint = at + 1;
             let row = &rows[at];
@@ -224,7 +224,7 @@ fn united_marks(
     }
 }
 
-// Rows as they will stand, and how many of them are new.
+// Rows as they will be, and how many of them are new.
 #[derive(Drop)]
 struct Changes {
     rows: Vec<TreeRow>,
@@ -234,7 +234,7 @@ struct Changes {
 }
 
 impl Changes {
-    // Notes the row of a path of a tree, with the marks united into its own.
+    // Appends the row of a path, with the marks united into its own.
     fn note(
         &mut self,
         rows: &[TreeRow],
@@ -260,7 +260,7 @@ impl Changes {
     }
 }
 
-// The changes that other rows make, put to these.
+// The changes that merging other rows makes to these.
 fn row_changes(alloc: Global, rows: &[TreeRow], others: &[TreeRow]) -> Result<Changes, AllocError>
     requires { IsInOrder rows.now }
     ensures rows { IfOk result
@@ -278,16 +278,16 @@ fn row_changes(alloc: Global, rows: &[TreeRow], others: &[TreeRow]) -> Result<Ch
     Ok(changes)
 }
 
-// The changes that the rows of a path make, put to these.
+// The changes that adding a path makes to these rows.
 fn path_changes(
     alloc: Global,
     rows: &[TreeRow],
     ranks: &RankSet,
     path: &CallPath,
-    nobody: &RankSet,
+    no_ranks: &RankSet,
 ) -> Result<Changes, AllocError>
     requires in_order { IsInOrder rows.now }
-    requires nobody { nobody.now ≡ none }
+    requires no_ranks { no_ranks.now ≡ none }
     ensures rows { IfOk result
         (λ all. entries_view all.rows.items ≡ map (changed (below_in rows.now)) (path_rows ranks.now path.now)) }
     ensures added { IfOk result (λ all. all.added ≡ new_among (below_in rows.now) (path_rows ranks.now path.now)) }
@@ -299,13 +299,13 @@ fn path_changes(
         hint: 0,
     };
     for depth in 1..path.len() {
-        changes.note(rows, path.prefix(depth)?, ranks, nobody)?;
+        changes.note(rows, path.prefix(depth)?, ranks, no_ranks)?;
     }
     changes.note(rows, path.copy()?, ranks, ranks)?;
     Ok(changes)
 }
 
-// Whether there may be so many rows more.
+// Whether this many rows more stay within the limit.
 fn has_room(rows: &[TreeRow], added: usize) -> bool
     requires { length rows.now ≤ PREFIX_LIMIT }
     ensures { result ≡ nat_le (length rows.now + added) PREFIX_LIMIT }
@@ -313,16 +313,16 @@ fn has_room(rows: &[TreeRow], added: usize) -> bool
     added <= PREFIX_LIMIT - rows.len()
 }
 
-// Puts each row in its place, for which there is room.
-fn put_rows(rows: &mut Vec<TreeRow>, changes: Vec<TreeRow>)
+// Inserts each row at its place, for which there is capacity.
+fn insert_rows(rows: &mut Vec<TreeRow>, changes: Vec<TreeRow>)
     requires in_order { IsInOrder rows.old.items }
-    requires capacity { length (puts (entries_view rows.old.items) (entries_view changes.items))
+    requires capacity { length (inserted (entries_view rows.old.items) (entries_view changes.items))
         ≤ vec_capacity rows.old }
-    ensures { entries_view rows.new.items ≡ puts (entries_view rows.old.items) (entries_view changes.items) }
+    ensures { entries_view rows.new.items ≡ inserted (entries_view rows.old.items) (entries_view changes.items) }
 {
     let mut hint = 0;
     for row in changes {
-        match place(rows, &row.path, hint) {
+        match find_row(rows, &row.path, hint) {
             Ok(at) => {
                 hint = at + 1;
                 rows[at] = row;
@@ -335,74 +335,64 @@ fn put_rows(rows: &mut Vec<TreeRow>, changes: Vec<TreeRow>)
     }
 }
 
-// Puts a row behind others, for which there is room.
-fn push_row(rows: &mut Vec<TreeRow>, row: TreeRow)
-    requires { length rows.old.items < vec_capacity rows.old }
-    ensures rows { rows.new.items ≡ rows.old.items ++ row ∷ [] }
-    ensures capacity { vec_capacity rows.old ≤ vec_capacity rows.new }
-{
-    let _ = rows.push(row);
-}
-
-// Moves the rows from a place on behind others, the last one first.
-fn move_behind(rows: &mut Vec<TreeRow>, place: usize, behind: &mut Vec<TreeRow>)
-    requires within { place ≤ length rows.old.items }
-    requires capacity { length behind.old.items + (length rows.old.items - place) ≤ vec_capacity behind.old }
-    ensures rows { rows.new.items ≡ take place rows.old.items }
-    ensures behind { reverse behind.new.items ≡ drop place rows.old.items ++ reverse behind.old.items }
-    ensures count { length behind.new.items + place ≡ length behind.old.items + length rows.old.items }
+// Moves the rows from an index on to the end of others, the last one first.
+fn move_tail(rows: &mut Vec<TreeRow>, start: usize, tail: &mut Vec<TreeRow>)
+    requires within { start ≤ length rows.old.items }
+    requires capacity { length tail.old.items + (length rows.old.items - start) ≤ vec_capacity tail.old }
+    ensures rows { rows.new.items ≡ take start rows.old.items }
+    ensures tail { reverse tail.new.items ≡ drop start rows.old.items ++ reverse tail.old.items }
+    ensures count { length tail.new.items + start ≡ length tail.old.items + length rows.old.items }
     ensures capacity { vec_capacity rows.new ≡ vec_capacity rows.old }
-    ensures room_behind { vec_capacity behind.old ≤ vec_capacity behind.new }
+    ensures tail_capacity { vec_capacity tail.old ≤ vec_capacity tail.new }
 {
-    while rows.len() > place {
+    while rows.len() > start {
         if let Some(row) = rows.pop() {
-            push_row(behind, row);
+            tail.push_reserved(row);
         }
     }
 }
 
-// Puts rows in order in their places in one pass, for which there is room: the rows behind each are set aside, from the last
-// on, and come back at the end. A refusal leaves the rows as they were.
-fn weave_rows(rows: &mut Vec<TreeRow>, mut changes: Vec<TreeRow>) -> Result<(), AllocError>
+// Inserts sorted rows in one pass, for which there is capacity: the rows behind each are set aside, from the last
+// on, and come back at the end. On failure the rows are unchanged.
+fn merge_rows(rows: &mut Vec<TreeRow>, mut changes: Vec<TreeRow>) -> Result<(), AllocError>
     requires in_order { IsInOrder rows.old.items }
     requires rising { IsInOrder changes.items }
-    requires capacity { length (puts (entries_view rows.old.items) (entries_view changes.items))
+    requires capacity { length (inserted (entries_view rows.old.items) (entries_view changes.items))
         ≤ vec_capacity rows.old }
     ensures ok { OnOk result
-        (entries_view rows.new.items ≡ puts (entries_view rows.old.items) (entries_view changes.items)) }
+        (entries_view rows.new.items ≡ inserted (entries_view rows.old.items) (entries_view changes.items)) }
     ensures err { OnErr result (rows.new.items ≡ rows.old.items) }
 {
-    let mut behind = Vec::with_capacity(*rows.allocator(), rows.len() + changes.len())?;
+    let mut tail = Vec::with_capacity(*rows.allocator(), rows.len() + changes.len())?;
     while let Some(change) = changes.pop() {
-        match place(rows, &change.path, rows.len()) {
+        match find_row(rows, &change.path, rows.len()) {
             Ok(at) => {
-                move_behind(rows, at + 1, &mut behind);
+                move_tail(rows, at + 1, &mut tail);
                 rows.truncate(at);
             }
-            Err(at) => move_behind(rows, at, &mut behind),
+            Err(at) => move_tail(rows, at, &mut tail),
         }
-        push_row(&mut behind, change);
+        tail.push_reserved(change);
     }
-    behind.as_mut_slice().reverse();
-    let _ = rows.append(&mut behind);
+    tail.as_mut_slice().reverse();
+    let _ = rows.append(&mut tail);
     Ok(())
 }
 
-// Puts each of the changes in its place. One new row is put by itself, several are woven in. A refusal leaves the rows as they
-// were.
-fn put_changes(rows: &mut Vec<TreeRow>, changes: Changes) -> Result<(), AllocError>
+// Puts each of the changes in its place: one new row by itself, several in one pass. On failure the rows are unchanged.
+fn apply_changes(rows: &mut Vec<TreeRow>, changes: Changes) -> Result<(), AllocError>
     requires in_order { IsInOrder rows.old.items }
     requires rising { IsInOrder changes.rows.items }
-    requires added { length (puts (entries_view rows.old.items) (entries_view changes.rows.items))
+    requires added { length (inserted (entries_view rows.old.items) (entries_view changes.rows.items))
         ≤ length rows.old.items + changes.added }
     ensures ok { OnOk result
-        (entries_view rows.new.items ≡ puts (entries_view rows.old.items) (entries_view changes.rows.items)) }
+        (entries_view rows.new.items ≡ inserted (entries_view rows.old.items) (entries_view changes.rows.items)) }
     ensures err { OnErr result (rows.new.items ≡ rows.old.items) }
 {
     rows.reserve(changes.added)?;
     if changes.added > 1 {
-        return weave_rows(rows, changes.rows);
+        return merge_rows(rows, changes.rows);
     }
-    put_rows(rows, changes.rows);
+    insert_rows(rows, changes.rows);
     Ok(())
 }

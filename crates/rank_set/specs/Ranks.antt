@@ -142,16 +142,16 @@ those test s = record { list = filter test s.list; rises = to_T _ (filter_rises 
 abbrev pub is_subset : Ranks → Ranks → Bool
 is_subset s t = list_all (has t) (in_order s)
 
-T_alike : (b : Bool) (x y : T b) → x ≡ y
-T_alike true x y = refl
-T_alike false x y = absurd x
+T_unique : (b : Bool) (x y : T b) → x ≡ y
+T_unique true x y = refl
+T_unique false x y = absurd x
 
 -- two sets with the same ascending list are equal
 pub same_list : (s t : Ranks) → in_order s ≡ in_order t → s ≡ t
 same_list s t e = go (in_order t) e t.rises
   where
     go : (ys : List ℕ) → in_order s ≡ ys → (h : T (is_strictly_increasing ys)) → s ≡ record { list = ys; rises = h }
-    go ys e = subst (λ zs. (h : T (is_strictly_increasing zs)) → s ≡ record { list = zs; rises = h }) e (λ h. ap (λ k. record { list = s.list; rises = k }) (T_alike _ s.rises h))
+    go ys e = subst (λ zs. (h : T (is_strictly_increasing zs)) → s ≡ record { list = zs; rises = h }) e (λ h. ap (λ k. record { list = s.list; rises = k }) (T_unique _ s.rises h))
 
 -- how a set is stored as a ghost value: as its list
 abbrev pub coded_ranks : Coded Ranks

@@ -19,12 +19,12 @@ loop-depth-preserved c =
     let here : Path × Marks = (take c.loop-depth.depth c.args.path.now, (c.args.ranks.now, none)) in
     record {
       rows =
-          ap (λ es. es ++ map (changed b) rest) (c.in_ok-note.ensures.rows ∙ (λ k. entries_view c.loop-depth.changes.rows.items ++ changed b (c.in_ok-prefix.ensures k, (c.args.ranks.now, c.requires.nobody k)) ∷ []))
+          ap (λ es. es ++ map (changed b) rest) (c.in_ok-note.ensures.rows ∙ (λ k. entries_view c.loop-depth.changes.rows.items ++ changed b (c.in_ok-prefix.ensures k, (c.args.ranks.now, c.requires.no_ranks k)) ∷ []))
           ∙ append_assoc (entries_view c.loop-depth.changes.rows.items) (changed b here ∷ []) (map (changed b) rest)
           ∙ ap (λ es. entries_view c.loop-depth.changes.rows.items ++ map (changed b) es) (sym step)
           ∙ c.loop-depth.invariant.rows;
       added =
-          let now = c.in_ok-note.ensures.added ∙ (λ k. c.loop-depth.changes.added + new_among b ((c.in_ok-prefix.ensures k, (c.args.ranks.now, c.requires.nobody k)) ∷ [])) in
+          let now = c.in_ok-note.ensures.added ∙ (λ k. c.loop-depth.changes.added + new_among b ((c.in_ok-prefix.ensures k, (c.args.ranks.now, c.requires.no_ranks k)) ∷ [])) in
           let left = ap (new_among b) step in
           let all = c.loop-depth.invariant.added in
           omega (arith, now, left, all);

@@ -19,23 +19,23 @@ returns-then-not-has_room-clause-full c _ =
     let new = c.in_ok-changes.ensures.added ∙ (λ i. new_among (below_in (c.deref.ensures.value i)) (entries_view (c.deref-2.ensures.value i))) in
     omega (arith, count, new, ap length c.deref-3.ensures.value, leb-false _ _ (sym c.has_room.ensures ∙ c.if-not-has_room.true))
 
-pub put_changes-requires-clause-rising : goal.put_changes-requires-clause-rising
-put_changes-requires-clause-rising c =
+pub apply_changes-requires-clause-rising : goal.apply_changes-requires-clause-rising
+apply_changes-requires-clause-rising c =
     subst (λ es. T (finmap.is_sorted path_cmp es)) (sym (c.in_ok-changes.ensures.rows ∙ (λ i. map (changed (below_in (c.deref.ensures.value i))) (entries_view (c.deref-2.ensures.value i)))))
     (changed_sorted (below_in c.self.inside.rows.items) (entries_view c.other.inside.rows.items) c.other.invariant.tree.in_order)
 
-pub put_changes-requires-clause-added : goal.put_changes-requires-clause-added
-put_changes-requires-clause-added c =
+pub apply_changes-requires-clause-added : goal.apply_changes-requires-clause-added
+apply_changes-requires-clause-added c =
     let count = puts_count c.self.inside.rows.items c.self.inside.rows.items c.in_ok-changes.changes.rows.items (entries_view c.other.inside.rows.items) c.self.invariant.tree.in_order (apart_from_order (entries_view c.other.inside.rows.items) c.other.invariant.tree.in_order) (c.in_ok-changes.ensures.rows ∙ (λ i. map (changed (below_in (c.deref.ensures.value i))) (entries_view (c.deref-2.ensures.value i)))) in
     let new = c.in_ok-changes.ensures.added ∙ (λ i. new_among (below_in (c.deref.ensures.value i)) (entries_view (c.deref-2.ensures.value i))) in
     omega (arith, count, new)
 
-makes : (c : Joined-self-coverage) → MakesTree c.in_ok-coverage.coverage c.put_changes.new.rows.items (merged c.args.self.now c.args.other.now)
+makes : (c : Joined-self-coverage) → MakesTree c.in_ok-coverage.coverage c.apply_changes.new.rows.items (merged c.args.self.now c.args.other.now)
 makes c =
     from_equal_ranks _ _ _ _ c.in_ok-coverage.ensures
-    (makes_merged c.self.inside.coverage c.other.inside.coverage c.self.inside.rows.items c.other.inside.rows.items c.put_changes.new.rows.items c.args.self.now c.args.other.now c.self.view_is c.other.view_is c.self.invariant.tree c.other.invariant.tree
-    (puts_in_order c.self.inside.rows.items c.put_changes.new.rows.items c.in_ok-changes.changes.rows.items (entries_view c.other.inside.rows.items) c.self.invariant.tree.in_order (apart_from_order (entries_view c.other.inside.rows.items) c.other.invariant.tree.in_order) (c.in_ok-changes.ensures.rows ∙ (λ i. map (changed (below_in (c.deref.ensures.value i))) (entries_view (c.deref-2.ensures.value i)))) c.in_ok-put_changes.ensures.ok)
-    (puts_are_united c.self.inside.rows.items c.put_changes.new.rows.items c.in_ok-changes.changes.rows.items (entries_view c.other.inside.rows.items) c.self.invariant.tree.in_order (apart_from_order (entries_view c.other.inside.rows.items) c.other.invariant.tree.in_order) (c.in_ok-changes.ensures.rows ∙ (λ i. map (changed (below_in (c.deref.ensures.value i))) (entries_view (c.deref-2.ensures.value i)))) c.in_ok-put_changes.ensures.ok))
+    (makes_merged c.self.inside.coverage c.other.inside.coverage c.self.inside.rows.items c.other.inside.rows.items c.apply_changes.new.rows.items c.args.self.now c.args.other.now c.self.view_is c.other.view_is c.self.invariant.tree c.other.invariant.tree
+    (puts_in_order c.self.inside.rows.items c.apply_changes.new.rows.items c.in_ok-changes.changes.rows.items (entries_view c.other.inside.rows.items) c.self.invariant.tree.in_order (apart_from_order (entries_view c.other.inside.rows.items) c.other.invariant.tree.in_order) (c.in_ok-changes.ensures.rows ∙ (λ i. map (changed (below_in (c.deref.ensures.value i))) (entries_view (c.deref-2.ensures.value i)))) c.in_ok-apply_changes.ensures.ok)
+    (puts_are_united c.self.inside.rows.items c.apply_changes.new.rows.items c.in_ok-changes.changes.rows.items (entries_view c.other.inside.rows.items) c.self.invariant.tree.in_order (apart_from_order (entries_view c.other.inside.rows.items) c.other.invariant.tree.in_order) (c.in_ok-changes.ensures.rows ∙ (λ i. map (changed (below_in (c.deref.ensures.value i))) (entries_view (c.deref-2.ensures.value i)))) c.in_ok-apply_changes.ensures.ok))
 
 pub returns-clause-fits : goal.returns-clause-fits
 returns-clause-fits c =
@@ -50,7 +50,7 @@ invariant_of-self-2 c =
     let count = count_merged c.self.inside.coverage c.other.inside.coverage c.self.inside.rows.items c.other.inside.rows.items c.args.self.now c.args.other.now c.self.view_is c.other.view_is c.self.invariant.tree c.other.invariant.tree in
     let new = c.in_ok-changes.ensures.added ∙ (λ i. new_among (below_in (c.deref.ensures.value i)) (entries_view (c.deref-2.ensures.value i))) in
     let few = c.self.invariant.tree.few in
-    record { tree = (makes c).tree (omega (arith, size, count, new, few, ap length c.deref-3.ensures.value, leb-true _ _ (sym c.has_room.ensures ∙ c.if-not-has_room.false))); nobody = c.self.invariant.nobody }
+    record { tree = (makes c).tree (omega (arith, size, count, new, few, ap length c.deref-3.ensures.value, leb-true _ _ (sym c.has_room.ensures ∙ c.if-not-has_room.false))); no_ranks = c.self.invariant.no_ranks }
 
 pub returns-clause-ok : goal.returns-clause-ok
 returns-clause-ok c = (makes c).is
