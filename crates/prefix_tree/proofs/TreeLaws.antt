@@ -32,7 +32,7 @@ module _ (P : Pairs) (C : Ranks) where
       ∙ ap (λ b. is_below q && (has C r && b)) (sym (is_pair-append P (pairs_at (in_order D) p) r q)))
 
 -- what a tree's pairs are
-pair_of_tree : (S : Pairs) (A : Ranks) (q : Path) (r : ℕ) → is_pair (pairs_of (tree_of S A)) r q ≡ (is_below q && (has A r && is_pair S r q))
+pub pair_of_tree : (S : Pairs) (A : Ranks) (q : Path) (r : ℕ) → is_pair (pairs_of (tree_of S A)) r q ≡ (is_below q && (has A r && is_pair S r q))
 pair_of_tree S A q r = is_pair-pairs_of (tree_of S A) r q ∙ (IsTreeOf-tree_of S A).ends q r
 
 -- the same pairs over the ranks of both

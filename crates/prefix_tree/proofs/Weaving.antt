@@ -1,4 +1,4 @@
--- Rows put among others from the last on: those tail a row's place stay as they are.
+-- Rows put among others from the last on: those behind a row's place stay as they are.
 use Rattle.std.proofs.Common.{◌≡◌, ℕ, zero, suc, ◌+◌, ◌-◌, ◌<◌, ◌≤◌, List, [], ◌∷◌, ◌++◌, Result, Ok, Err, refl, sym, ap, ◌∙◌, subst, T, length, take, drop, reverse, arith}
 use Rattle.std.specs.Ordering.{is_lt}
 use Rattle.std.specs.declared.cmp.Ordering.{Ordering}
@@ -14,12 +14,12 @@ use Rattle.prefix_tree.specs.Owned.{by_order, next_place, place_of, entry_of, en
 use Rattle.prefix_tree.specs.Changes.{inserted}
 use Rattle.prefix_tree.proofs.Rows.{both, first, second, less, turned}
 
--- rows of which the last one went tail others
+-- rows of which the last one went behind others
 pub record IsMovedOn {A : Type 0} (all others new new_behind : List A) : Type 0 where
   pub rows : new ≡ take (length new) all
   pub tail : reverse new_behind ≡ drop (length new) all ++ reverse others
 
--- the last of the first rows goes tail those that went before it
+-- the last of the first rows goes behind those that went before it
 pub moved_on : {A : Type 0} (all tail rows new set_aside new_behind : List A) (row : A) → rows ≡ take (length rows) all → reverse set_aside ≡ drop (length rows) all ++ reverse tail → rows ≡ new ++ row ∷ [] → new_behind ≡ set_aside ++ row ∷ [] → IsMovedOn all tail new new_behind
 moved_on all tail rows new set_aside new_behind row front back last more =
     let rest = drop (length rows) all in
@@ -155,7 +155,7 @@ sorted_take zero es up = tt
 sorted_take (suc i) [] up = tt
 sorted_take (suc i) (e ∷ es) up = both (below_all path_cmp e.0 (take i es)) (finmap.is_sorted path_cmp (take i es)) (below_take e.0 i es (first _ _ up)) (sorted_take i es (second _ _ up))
 
--- a row goes between those before one place and those from another on, which went tail others
+-- a row goes between those before one place and those from another on, which went behind others
 pub record GoesBetween (rows others : List TreeRow) (row : TreeRow) (new set_aside : List TreeRow) : Type 0 where
   pub from : ℕ
   pub to : ℕ

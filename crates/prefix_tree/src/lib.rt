@@ -5,9 +5,12 @@
 //! it, and its ends have those whose path it is.
 #![tactic(auto)]
 
-ghost use Rattle.std.specs.Prelude.{◌≡◌, ◌≢◌, ◌<◌, ◌≤◌, IsTrue, OnOk, OnErr, IfOk, IfSome, slice_get, length, []};
-ghost use Rattle.rank_set.specs.Ranks.{none, is_subset};
-ghost use Rattle.prefix_tree.specs.Tree.{Tree, tree_of, merged, covered, added, Unites, count_below, rows_of, IsTree, IsLawful, Covers, Adds};
+ghost use Rattle.std.specs.Prelude.{ℕ, ◌&&◌, ◌≡◌, ◌≢◌, ◌<◌, ◌≤◌, IsTrue, OnOk, OnErr, IfOk, IfSome, slice_get, length, []};
+ghost use Rattle.rank_set.specs.Ranks.{Ranks, none, has, is_subset};
+ghost use Rattle.call_path.specs.Path.{Path};
+ghost use Rattle.prefix_tree.specs.Joined.{IsTreeOf, is_below};
+ghost use Rattle.prefix_tree.specs.Pairs.{Pairs, is_pair};
+ghost use Rattle.prefix_tree.specs.Tree.{Tree, tree_of, merged, covered, added, pairs_of, Unites, count_below, rows_of, IsTree, IsLawful, Covers, Adds};
 ghost use Rattle.std.specs.FinMap as finmap;
 ghost use Rattle.prefix_tree.specs.Shown.{Shows, IsGoodRow};
 ghost use Rattle.prefix_tree.specs.Walk.{Follows};
@@ -29,7 +32,7 @@ pub const PREFIX_LIMIT: usize = 2_048;
 pub enum TreeError {
     /// It would have more than 2,048 rows besides the root.
     TooManyPrefixes,
-    /// There was no memory for the change.
+    /// Out of memory.
     OutOfMemory,
 }
 
@@ -66,14 +69,14 @@ pub trait PrefixTree: Sized + Drop + Send {
     fn empty(alloc: Global) -> Self
         ensures { tree result ≡ tree_of [] none };
 
-    /// Unites the ranks into the coverage. A refusal leaves the tree as it was.
+    /// Unites the ranks into the coverage. On failure the tree is unchanged.
     fn cover(&mut self, ranks: &RankSet) -> Result<(), AllocError>
         ensures ok { OnOk result (tree self.new ≡ covered (tree self.old) ranks.now) }
         ensures pairs { OnOk result (Covers (tree self.old) ranks.now (tree self.new)) }
         ensures err { OnErr result (tree self.new ≡ tree self.old) };
 
     /// Adds a path that each of the ranks was seen in. The ranks are covered, and there are some.
-    /// A refusal leaves the tree as it was.
+    /// On failure the tree is unchanged.
     fn add(&mut self, ranks: &RankSet, path: &CallPath) -> Result<(), TreeError>
         requires not_empty { ranks.now ≢ none }
         requires in_coverage { IsTrue (is_subset ranks.now (tree self.old).coverage) }
@@ -84,7 +87,7 @@ pub trait PrefixTree: Sized + Drop + Send {
             → PREFIX_LIMIT < count_below (added (tree self.old) ranks.now path.now) }
         ensures err { OnErr result (tree self.new ≡ tree self.old) };
 
-    /// Unites another tree into it, row by row. A refusal leaves the tree as it was.
+    /// Unites another tree into it, row by row. On failure the tree is unchanged.
     fn merge(&mut self, other: &Self) -> Result<(), TreeError>
         ensures ok { OnOk result (tree self.new ≡ merged (tree self.old) (tree other.now)) }
         ensures pairs { OnOk result (Unites (tree self.old) (tree other.now) (tree self.new)) }
@@ -109,8 +112,16 @@ pub trait PrefixTree: Sized + Drop + Send {
         ensures good { 0 < i → IsGoodRow result };
 }
 
-/// A law of trees: each row's prefix is one frame tail a front of the prefix of the row before
-/// it, so that a reader of depths and frames knows the prefixes.
+/// A law of trees: each row's prefix is a prefix of the row before, with one frame more, so that depths and frames alone
+/// determine all prefixes.
 pub fn rows_follow()
     ensures { (t : Tree) → IsTree t → Follows [] (finmap.entries t.below) }
+{}
+
+/// A law of trees: there is a row exactly at the prefixes that some covered rank passes; its label is the covered ranks
+/// that pass there, and its ends are those whose path it is. So the pairs of the tree are those of the covered ranks.
+pub fn rows_tell_who_passes()
+    ensures rows { (P : Pairs) (C : Ranks) → IsTreeOf P C (tree_of P C) }
+    ensures pairs { (P : Pairs) (C : Ranks) (r : ℕ) (p : Path)
+        → is_pair (pairs_of (tree_of P C)) r p ≡ (is_below p && (has C r && is_pair P r p)) }
 {}

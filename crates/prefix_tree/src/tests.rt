@@ -94,7 +94,7 @@ fn of_paths<T: PrefixTree>(
     Ok(tree)
 }
 
-// New rows go before, between and tail the rows that stand, and one stands already.
+// New rows go before, between and behind the rows that stand, and one stands already.
 fn weaves<T: PrefixTree>(rt: &impl Abort, alloc: Global) -> Result<(), TreeError> {
     let mut left = of_paths::<T>(rt, alloc, 0, &["e", "b", "d"])?;
     let right = of_paths::<T>(rt, alloc, 1, &["f", "d;x", "c;y;z", "a"])?;

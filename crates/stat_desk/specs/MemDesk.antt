@@ -1,5 +1,5 @@
 -- The desk in memory, as its callers see it.
-use Rattle.std.specs.Prelude.{◌≡◌, ◌==◌, nat_lt, ℕ, length, List, [], ◌∷◌, map, Option, Some, None, Result, Ok, Err, if◌then◌else◌, string_bytes, Vec}
+use Rattle.std.specs.Prelude.{◌≡◌, ◌==◌, nat_lt, ℕ, ◌+◌, ◌++◌, length, List, [], ◌∷◌, map, Option, Some, None, Result, Ok, Err, if◌then◌else◌, string_bytes, Vec}
 use Rattle.std.specs.List.{list_any}
 use Rattle.std.specs.Str.{bytes_eq}
 use Rattle.stat_desk.specs.Faults.{next_count}
@@ -13,8 +13,8 @@ pub record MemDeskView : Type 0 where
   pub files : List (List ℕ × List ℕ)
   -- the numbers of the reads that are to fail
   pub failing : List ℕ
-  -- how many reads there were
-  pub calls : ℕ
+  -- the names of the reads so far, in order
+  pub reads : List (List ℕ)
   -- how many of them were faults, and the name at the last one
   pub faults : ℕ
   pub last_fault : Option (List ℕ)
@@ -33,21 +33,21 @@ abbrev pub whole_file : Option (List ℕ) → ℕ → Result (List ℕ) DeskErro
 whole_file None max = Err Failed
 whole_file (Some bytes) max = if nat_lt max (length bytes) then Err TooLong else Ok bytes
 
--- what the next read gives, if memory is there: it fails where it is told to
+-- what the next read returns, unless it runs out of memory: it fails where it is told to
 abbrev pub read_answer : MemDeskView → List ℕ → ℕ → Result (List ℕ) DeskError
 read_answer d name max =
-    if list_any (λ call. call == next_count d.calls) d.failing then Err Failed else whole_file (file_of d.files name) max
+    if list_any (λ call. call == length d.reads + 1) d.failing then Err Failed else whole_file (file_of d.files name) max
 
--- a read gives this, or memory ran out
+-- a read returns this, or runs out of memory
 abbrev pub Gives : {A : Type 0} → Result (List ℕ) DeskError → Result (Vec ℕ A) DeskError → Type 0
 Gives answer (Ok bytes) = answer ≡ Ok bytes.items
 Gives answer (Err OutOfMemory) = Unit {0}
 Gives answer (Err e) = answer ≡ Err e
 
--- the desk after a read: a fault is counted with its name, and want of memory leaves all as it was
+-- the desk after a read: the name is the last of its reads, and a fault is counted with it. Out of memory, it is unchanged.
 abbrev pub after_read : {T : Type 0} → MemDeskView → List ℕ → Result T DeskError → MemDeskView
-after_read d name (Ok bytes) = record d { calls = next_count d.calls }
-after_read d name (Err TooLong) = record d { calls = next_count d.calls }
+after_read d name (Ok bytes) = record d { reads = d.reads ++ name ∷ [] }
+after_read d name (Err TooLong) = record d { reads = d.reads ++ name ∷ [] }
 after_read d name (Err Failed) =
-    record d { calls = next_count d.calls; faults = next_count d.faults; last_fault = Some name }
+    record d { reads = d.reads ++ name ∷ []; faults = next_count d.faults; last_fault = Some name }
 after_read d name (Err OutOfMemory) = d

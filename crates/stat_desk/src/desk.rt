@@ -1,15 +1,15 @@
 //! A desk gives whole files by name.
 ghost use Rattle.std.specs.Prelude.{◌≡◌, ◌<◌, ◌^◌, ℕ, List, Option, IfOk, IsErrOf};
-ghost use Rattle.stat_desk.specs.Desk.{CountsAt, FailedAt, IsLonger, IsWhole};
+ghost use Rattle.stat_desk.specs.Desk.{CountsAt, FailedAt, IsAsked, IsLonger, IsWhole, SameFaults};
 
-/// Why a read gave nothing.
+/// Why a read returned no bytes.
 #[derive(Clone, Copy, Debug, PartialEq, Eq)]
 pub enum DeskError {
     /// The outside failed, as for a file that is not there. The desk counted it.
     Failed,
-    /// The file has more bytes than the caller asked for at most.
+    /// The file has more bytes than the caller allows.
     TooLong,
-    /// Memory ran out.
+    /// Out of memory.
     OutOfMemory,
 }
 
@@ -21,12 +21,18 @@ pub trait Desk {
     /// The name of the last read at which that count rose, if it ever did.
     ghost last_fault: { Self → Option (List ℕ) };
 
-    /// The bytes of the file of a name, where the desk tells them. `None` says nothing.
+    /// The names of the files that were asked for, in order.
+    ghost reads: { Self → List (List ℕ) };
+
+    /// The bytes of the file of a name, where the desk can tell them. `None` says nothing.
     ghost contents: { Self → List ℕ → Option (List ℕ) };
 
-    /// Gives all bytes of the file of that name, if they are at most `max`. Answers `Failed` only where
-    /// the desk counted a fault at this name, and `TooLong` only where the file has more than `max`
-    /// bytes. No read changes what the desk tells.
+    /// Returns all bytes of the file of that name, if they are at most `max`.
+    ///
+    /// # Errors
+    ///
+    /// `Failed` only where the desk counted a fault at this name, `TooLong` only where the file has more than `max` bytes.
+    /// No read changes the contents of a file.
     fn read(&mut self, name: &str, max: u64) -> Result<Vec<u8>, DeskError>
         ensures whole { IfOk result (λ bytes. IsWhole (contents self.old name.now) max bytes.items) }
         ensures too_long { IsErrOf result DeskError.TooLong → IsLonger (contents self.old name.now) max }
@@ -35,5 +41,8 @@ pub trait Desk {
         ensures counts { CountsAt (faults self.old) (faults self.new) (last_fault self.old)
             (last_fault self.new) name.now }
         ensures fits_u64 { faults self.new < 2 ^ 64 }
+        ensures out_of_memory { IsErrOf result DeskError.OutOfMemory → SameFaults (faults self.old) (faults self.new)
+            (last_fault self.old) (last_fault self.new) }
+        ensures reads { IsAsked (reads self.old) (reads self.new) name.now result }
         ensures contents { contents self.new ≡ contents self.old };
 }

@@ -2,7 +2,7 @@
 ghost use Rattle.std.specs.Prelude.{◌≡◌, ◌<◌, ◌^◌, ◌∷◌, ◌++◌, [], ℕ, Vec, None, Some, OnOk, OnErr, IfOk, IsErrOf, option_map, string_bytes};
 ghost use Rattle.std.specs.Borrow.{Bor};
 ghost use Rattle.std.specs.declared.alloc.Global.{Global};
-ghost use Rattle.stat_desk.specs.Desk.{CountsAt, FailedAt, IsLonger, IsWhole};
+ghost use Rattle.stat_desk.specs.Desk.{CountsAt, FailedAt, IsAsked, IsLonger, IsWhole, SameFaults};
 ghost use Rattle.stat_desk.specs.Faults.{next_count};
 ghost use Rattle.stat_desk.specs.MemDesk.{Gives, after_read, entries_of, file_of, read_answer};
 
@@ -17,20 +17,20 @@ struct StoredFile {
     bytes: Vec<u8>,
 }
 
-/// Files in memory. The desk tells what was put, and its reads fail where they are told to and at names
-/// that were not put. To a contract it is its files and how its reads have gone.
+/// Files in memory. Its contents are what was put. Its reads fail where they are told to, and at names that were not put. A
+/// contract sees its files, and how its reads have gone.
 #[derive(Drop)]
 pub struct MemDesk {
     alloc: Global,
     files: Vec<StoredFile>,
     failing: Vec<u64>,
-    calls: u64,
+    reads: Vec<String>,
     faults: u64,
     last_fault: Option<String>,
 }
 
 impl Model for MemDesk {
-    ghost use Rattle.std.specs.Prelude.{◌<◌, ◌^◌, option_map, string_bytes};
+    ghost use Rattle.std.specs.Prelude.{◌<◌, ◌^◌, map, option_map, string_bytes};
     ghost use Rattle.stat_desk.specs.MemDesk.{MemDeskView};
 
     ghost Value = { MemDeskView };
@@ -40,7 +40,7 @@ impl Model for MemDesk {
     ghost view = { λ d. record {
       files = entries_of d.files.items;
       failing = d.failing.items;
-      calls = d.calls;
+      reads = map string_bytes d.reads.items;
       faults = d.faults;
       last_fault = option_map string_bytes d.last_fault;
     } };
@@ -51,13 +51,13 @@ impl Model for MemDesk {
 impl MemDesk {
     /// A desk with no file, no read and no fault.
     pub fn new(alloc: Global) -> MemDesk
-        ensures { result ≡ record { files = []; failing = []; calls = 0; faults = 0; last_fault = None } }
+        ensures { result ≡ record { files = []; failing = []; reads = []; faults = 0; last_fault = None } }
     {
         MemDesk {
             alloc,
             files: Vec::new(alloc),
             failing: Vec::new(alloc),
-            calls: 0,
+            reads: Vec::new(alloc),
             faults: 0,
             last_fault: None,
         }
@@ -82,21 +82,25 @@ impl MemDesk {
         Ok(())
     }
 
-    // Counts a read that failed at this name.
-    fn refuse(&mut self, call: u64, name: String) -> DeskError
-        ensures refused { self.new
-            ≡ record self.old { calls = call; faults = next_count self.old.faults; last_fault = Some
-            (string_bytes name) } }
-        ensures why { result ≡ DeskError.Failed }
-        ensures counts { CountsAt self.old.faults self.new.faults self.old.last_fault self.new.last_fault
-            (string_bytes name) }
-        ensures failed { FailedAt self.old.faults self.new.faults self.new.last_fault (string_bytes name) }
-        ensures fits_u64 { self.new.faults < 2 ^ 64 }
+    // What the next read returns.
+    fn answer(&self, name: &str, max: u64) -> Result<Vec<u8>, DeskError>
+        ensures exactly { Gives (read_answer self.now name.now max) result }
+        ensures whole { IfOk result (λ bytes. IsWhole (file_of self.now.files name.now) max bytes.items) }
+        ensures too_long { IsErrOf result DeskError.TooLong → IsLonger (file_of self.now.files name.now) max }
     {
-        self.calls = call;
-        self.faults = self.faults.saturating_add(1);
-        self.last_fault = Some(name);
-        DeskError::Failed
+        if self.failing.contains(&(self.reads.len() as u64 + 1)) {
+            return Err(DeskError::Failed);
+        }
+        let Some(bytes) = bytes_of(self.files.as_slice(), name) else {
+            return Err(DeskError::Failed);
+        };
+        if bytes.len() as u64 > max {
+            return Err(DeskError::TooLong);
+        }
+        let Ok(copy) = bytes.to_vec(self.alloc) else {
+            return Err(DeskError::OutOfMemory);
+        };
+        Ok(copy)
     }
 }
 
@@ -118,10 +122,12 @@ impl Desk for MemDesk {
 
     ghost last_fault = { λ d. d.last_fault };
 
+    ghost reads = { λ d. d.reads };
+
     ghost contents = { λ d name. file_of d.files name };
 
-    // `exactly` says what each read gives, and `state` what it leaves behind. A read that ends in want of
-    // memory leaves the desk as it was, and has no number.
+    // `exactly` says what each read returns, and `state` what the desk is afterwards. A read that runs out of memory leaves
+    // the desk unchanged, and has no number.
     fn read(&mut self, name: &str, max: u64) -> Result<Vec<u8>, DeskError>
         ensures whole { IfOk result (λ bytes. IsWhole (file_of self.old.files name.now) max bytes.items) }
         ensures too_long { IsErrOf result DeskError.TooLong → IsLonger (file_of self.old.files name.now) max }
@@ -129,29 +135,30 @@ impl Desk for MemDesk {
             → FailedAt self.old.faults self.new.faults self.new.last_fault name.now }
         ensures counts { CountsAt self.old.faults self.new.faults self.old.last_fault self.new.last_fault name.now }
         ensures fits_u64 { self.new.faults < 2 ^ 64 }
+        ensures out_of_memory { IsErrOf result DeskError.OutOfMemory
+            → SameFaults self.old.faults self.new.faults self.old.last_fault self.new.last_fault }
+        ensures reads { IsAsked self.old.reads self.new.reads name.now result }
         ensures contents { self.new.files ≡ self.old.files }
         ensures state { self.new ≡ after_read self.old name.now result }
         ensures exactly { Gives (read_answer self.old name.now max) result }
     {
-        let Ok(kept) = String::from_str(self.alloc, name) else {
+        let (Ok(asked), Ok(at_fault)) = (
+            String::from_str(self.alloc, name),
+            String::from_str(self.alloc, name),
+        ) else {
             return Err(DeskError::OutOfMemory);
         };
-        let call = self.calls.saturating_add(1);
-        if self.failing.contains(&call) {
-            return Err(self.refuse(call, kept));
-        }
-        match bytes_of(self.files.as_slice(), name) {
-            None => Err(self.refuse(call, kept)),
-            Some(bytes) => {
-                if bytes.len() as u64 > max {
-                    self.calls = call;
-                    return Err(DeskError::TooLong);
-                }
-                let Ok(copy) = bytes.to_vec(self.alloc) else {
+        match self.answer(name, max) {
+            Err(DeskError::OutOfMemory) => Err(DeskError::OutOfMemory),
+            answer => {
+                if self.reads.push(asked).is_err() {
                     return Err(DeskError::OutOfMemory);
-                };
-                self.calls = call;
-                Ok(copy)
+                }
+                if matches!(answer, Err(DeskError::Failed)) {
+                    self.faults = self.faults.saturating_add(1);
+                    self.last_fault = Some(at_fault);
+                }
+                answer
             }
         }
     }

@@ -1,5 +1,5 @@
-//! The real desk and sink. They tell no content, and count each error of the system.
-ghost use Rattle.std.specs.Prelude.{◌≡◌, ◌<◌, ◌≤◌, ◌^◌, None, IfOk, vec_len, option_map, string_bytes};
+//! The real desk and sink. No contract says what the system contains; they count each of its errors.
+ghost use Rattle.std.specs.Prelude.{◌≡◌, ◌<◌, ◌≤◌, ◌^◌, [], map, None, IfOk, vec_len, option_map, string_bytes};
 ghost use Rattle.stat_desk.specs.Desk.{CountsAt, FailedAt};
 
 use crate::{Desk, DeskError, Sink, SinkError};
@@ -15,7 +15,8 @@ pub struct FileDesk<'a, R: Files> {
     alloc: Global,
     faults: u64,
     last_fault: Option<String>,
-    ghost small: { faults < 2 ^ 64 },
+    reads: Vec<String>,
+    ghost fits_u64: { faults < 2 ^ 64 },
 }
 
 impl<'a, R: Files> FileDesk<'a, R> {
@@ -23,12 +24,14 @@ impl<'a, R: Files> FileDesk<'a, R> {
     pub fn new(alloc: Global, rt: &'a R) -> FileDesk<'a, R>
         ensures faults { ⟦<FileDesk<'a, R> as Desk>⟧.faults result ≡ 0 }
         ensures last_fault { ⟦<FileDesk<'a, R> as Desk>⟧.last_fault result ≡ None }
+        ensures reads { ⟦<FileDesk<'a, R> as Desk>⟧.reads result ≡ [] }
     {
         FileDesk {
             rt,
             alloc,
             faults: 0,
             last_fault: None,
+            reads: Vec::new(alloc),
         }
     }
 
@@ -40,6 +43,7 @@ impl<'a, R: Files> FileDesk<'a, R> {
         ensures failed { FailedAt self.old.faults self.new.faults (option_map string_bytes self.new.last_fault)
             (string_bytes name) }
         ensures fits_u64 { self.new.faults < 2 ^ 64 }
+        ensures reads { self.new.reads ≡ self.old.reads }
     {
         self.faults = self.faults.saturating_add(1);
         self.last_fault = Some(name);
@@ -73,19 +77,27 @@ impl<R: Files> Desk for FileDesk<'_, R> {
 
     ghost last_fault = { λ d. option_map string_bytes d.last_fault };
 
+    ghost reads = { λ d. map string_bytes d.reads.items };
+
     ghost contents = { λ d name. None };
 
-    // The memory for the name is taken first, so that a fault can always be counted with its name.
+    // The memory for the names is taken first, so that a read is always listed, and a fault counted with its name.
     fn read(&mut self, name: &str, max: u64) -> Result<Vec<u8>, DeskError> {
-        let Ok(kept) = String::from_str(self.alloc, name) else {
+        let (Ok(asked), Ok(at_fault)) = (
+            String::from_str(self.alloc, name),
+            String::from_str(self.alloc, name),
+        ) else {
             return Err(DeskError::OutOfMemory);
         };
+        if self.reads.push(asked).is_err() {
+            return Err(DeskError::OutOfMemory);
+        }
         let Ok(mut file) = fs::open(self.rt, name) else {
-            return Err(self.refuse(kept));
+            return Err(self.refuse(at_fault));
         };
         match read_up_to(self.alloc, &mut file, max) {
             Ok(bytes) => Ok(bytes),
-            Err(DeskError::Failed) => Err(self.refuse(kept)),
+            Err(DeskError::Failed) => Err(self.refuse(at_fault)),
             Err(other) => Err(other),
         }
     }
@@ -96,7 +108,7 @@ impl<R: Files> Desk for FileDesk<'_, R> {
 pub struct StdSink<'a, R: Print> {
     rt: &'a R,
     faults: u64,
-    ghost small: { faults < 2 ^ 64 },
+    ghost fits_u64: { faults < 2 ^ 64 },
 }
 
 impl<'a, R: Print> StdSink<'a, R> {
