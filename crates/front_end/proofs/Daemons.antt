@@ -1,9 +1,7 @@
--- The daemons of a stream, and whether a node is among some.
-use Rattle.std.proofs.Common.{◌≡◌, ℕ, ◌<◌, ◌==◌, List, [], ◌∷◌, Option, Some, None, refl, sym, ap, ◌||◌}
-use Rattle.std.specs.List.{AllByRecursion, list_any}
-use Rattle.std.proofs.lemmas.Cmp.{nat_eq_equiv}
+-- The daemons of a stream.
+use Rattle.std.proofs.Common.{◌≡◌, ℕ, ◌<◌, ◌==◌, List, [], ◌∷◌, Option, Some, None, refl, sym, ap}
+use Rattle.std.specs.List.{AllByRecursion}
 use Rattle.stat_plan.specs.Invariants.{IsPlan, IsDaemon}
-use Rattle.stat_plan.specs.NodeSets.{member}
 use Rattle.stat_plan.specs.Plans.{Plan, Stream, daemons, nodes, nodes_of, stream_of}
 use Rattle.stat_plan.proofs.FirstOver.{all_in, found_in}
 
@@ -23,8 +21,3 @@ firsts p (d ∷ ds) all = (all.0.0, firsts p ds all.1)
 pub daemons_are_nodes : (p : Plan) (s : ℕ) (x : Stream) → IsPlan p → stream_of p s ≡ Some x → AllByRecursion (λ d. d < nodes p) x.daemons
 unfolding stream_of
 daemons_are_nodes p s x plan is = firsts p x.daemons (all_in (λ (x : Stream). AllByRecursion (IsDaemon (nodes_of p)) x.daemons) p.streams x plan.script_fits.daemons (found_in (λ x. x.number == s) p.streams x is))
-
--- the test of each number, one after another
-pub member-contains : (n : ℕ) (ms : List ℕ) → list_any (λ m. m == n) ms ≡ member n ms
-member-contains n [] = refl
-member-contains n (m ∷ ms) = λ i. nat_eq_equiv.symm m n i || member-contains n ms i

@@ -2,7 +2,6 @@
 ghost use Rattle.std.specs.Prelude.{◌≡◌, ◌++◌, ◌<◌, OnOk};
 ghost use Rattle.std.specs.Fmt.{decimal};
 ghost use Rattle.std.specs.List.{AllByRecursion, flat_map};
-ghost use Rattle.stat_plan.specs.NodeSets.{member};
 ghost use Rattle.stat_plan.specs.Plans.{daemons, nodes};
 ghost use Rattle.overlay_core.specs.TreeReleases.{release_view};
 ghost use Rattle.front_end.specs.ReleaseText.{heading, kind_text as text_of_kind, missing_line, missing_text as text_of_missing, release_text};
@@ -16,7 +15,7 @@ use rank_set::RankSet;
 use stat_plan::Plan;
 use std::alloc::AllocError;
 
-/// Appends all that a release says.
+/// Appends the text of a release.
 pub fn write_release<T: PrefixTree>(
     plan: &Plan,
     release: &Release<T>,
@@ -61,7 +60,7 @@ pub fn write_numbered(word: &[u8], number: usize, out: &mut Vec<u8>) -> Result<(
     write_number(number, out)
 }
 
-// Whether more of the wave can come.
+// The word for the kind of a release.
 fn kind_text(kind: Kind) -> &'static [u8]
     ensures { result.now ≡ text_of_kind kind }
 {
@@ -101,7 +100,7 @@ fn daemons_of(plan: &Plan, stream: u8) -> &[u32]
     }
 }
 
-// Appends the line of a daemon with missing ranks; nothing where all are covered.
+// Appends the line of a daemon with missing ranks, or nothing if all are covered.
 fn write_missing_line(
     plan: &Plan,
     covered: &RankSet,
@@ -116,7 +115,7 @@ fn write_missing_line(
     if missing.count() == 0 {
         return Ok(());
     }
-    out.extend_from_slice(missing_text(is_among(lost, daemon)))?;
+    out.extend_from_slice(missing_text(lost.contains(&daemon)))?;
     out.extend_from_slice(plan.name(daemon).as_bytes())?;
     out.push(b' ')?;
     missing.write_text(out)?;
@@ -124,16 +123,9 @@ fn write_missing_line(
     Ok(())
 }
 
-// What is said of missing ranks.
+// The word before a daemon with missing ranks.
 fn missing_text(is_lost: bool) -> &'static [u8]
     ensures { result.now ≡ text_of_missing is_lost }
 {
     if is_lost { b"lost " } else { b"pending " }
-}
-
-/// Whether a node is one of some nodes.
-pub fn is_among(nodes: &[u32], node: u32) -> bool
-    ensures { result ≡ member node nodes.now }
-{
-    nodes.contains(&node)
 }

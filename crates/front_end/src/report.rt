@@ -7,7 +7,7 @@ ghost use Rattle.front_end.specs.ReleaseText.{release_text};
 ghost use Rattle.front_end.specs.Report.{AreDistinct, IsInOrder, IsReport, fate_text, fault_line};
 ghost use Rattle.front_end.specs.Shown.{shown_releases};
 
-use crate::release_text::{is_among, write_numbered, write_release};
+use crate::release_text::{write_numbered, write_release};
 use overlay_core::Release;
 use prefix_tree::PrefixTree;
 use stat_plan::{Fault, Plan};
@@ -89,7 +89,7 @@ fn write_fault(plan: &Plan, lost: &[u32], fault: Fault, out: &mut Vec<u8>) -> Re
 {
     out.extend_from_slice(b"fault ")?;
     out.extend_from_slice(plan.name(fault.node).as_bytes())?;
-    write_fate(is_among(lost, fault.node), fault, out)?;
+    write_fate(lost.contains(&fault.node), fault, out)?;
     out.push(b'\n')?;
     Ok(())
 }

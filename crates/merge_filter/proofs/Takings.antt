@@ -15,9 +15,9 @@ use Rattle.prefix_tree.proofs.Rows.{is_path-exact, is_path-itself}
 use Rattle.prefix_tree.proofs.TreeLaws.{tree_of-same_pairs}
 use Rattle.stat_plan.specs.NodeSets.{In}
 use Rattle.stat_plan.specs.Samples.{SampleLine, IsWithinLimit, is_in_wave, samples_of, wave_lines}
-use Rattle.stat_plan.specs.Tables.{AreOwnLines}
+use Rattle.stat_plan.specs.Tables.{AreLinesOf}
 use Rattle.stat_plan.proofs.InLists.{in_at, in_append, in_filter, in_from_filter, any_from_in, in_from_any, place_of}
-use Rattle.stat_plan.proofs.OwnLines.{line_ranks_at}
+use Rattle.stat_plan.proofs.LineIndexing.{line_ranks_at}
 use Rattle.stat_plan.proofs.Prefixes.{count-more}
 use Rattle.merge_filter.specs.Gathering.{AreTaken, HasRoomFor, TakesLine, with_pending}
 use Rattle.merge_filter.specs.declared.own_tree.Pending.{Pending}
@@ -147,7 +147,7 @@ where_true true a b same = same refl
 where_true false a b same = refl
 
 -- all lines that have one of the ranks are taken
-pub taken_all : (lines : List SampleLine) (k w : ℕ) (own : Ranks) (paths : List Path) (numbers seen : List ℕ) (x : Pending) (t u : Tree) → AreOwnLines lines own numbers → seen ≡ numbers → (taken : AreTaken lines k w own paths seen x t) → u ≡ tree_of (with_pending taken.pairs paths x) own → u ≡ tree_of (samples_of (wave_lines k w lines)) own
+pub taken_all : (lines : List SampleLine) (k w : ℕ) (own : Ranks) (paths : List Path) (numbers seen : List ℕ) (x : Pending) (t u : Tree) → AreLinesOf lines own numbers → seen ≡ numbers → (taken : AreTaken lines k w own paths seen x t) → u ≡ tree_of (with_pending taken.pairs paths x) own → u ≡ tree_of (samples_of (wave_lines k w lines)) own
 taken_all lines k w own paths numbers seen x t u mine same taken is =
     is
     ∙ tree_of-same_pairs (with_pending taken.pairs paths x) (samples_of (wave_lines k w lines)) own

@@ -1,8 +1,8 @@
 //! What the nodes of a job know of a wave, and how it is merged.
 //!
-//! A [`Contribution`] is a stream, a wave and a tree. It stands for a plan where its tree is that of the wave's samples over
-//! the ranks that it covers. Contributions of one wave that stand for a plan can be absorbed in any order and as often as one
-//! likes: the result stands for the plan, and covers the ranks of all.
+//! A [`Contribution`] is a stream, a wave and a tree. It is a partial merge of a plan if its tree is the direct merge of the
+//! wave's samples over the ranks it covers. Partial merges of one wave can be absorbed in any order and any number of times:
+//! the result is a partial merge that covers the ranks of all.
 #![tactic(auto)]
 
 ghost use Rattle.std.specs.Prelude.{◌≡◌, IfOk, IsSome, OnOk, OnErr};
@@ -25,10 +25,7 @@ fn sample_count(plan: &Plan, s: u8) -> u8
     requires { IsSome (stream_of plan.now s) }
     ensures { result ≡ sample_count plan.now s }
 {
-    match plan.stream(s) {
-        Some(stream) => stream.samples(),
-        None => unreachable!(),
-    }
+    plan.known_stream(s).samples()
 }
 
 // The daemons of a stream.
@@ -36,10 +33,7 @@ fn daemons_of(plan: &Plan, s: u8) -> &[u32]
     requires { IsSome (stream_of plan.now s) }
     ensures { result.now ≡ daemons plan.now s }
 {
-    match plan.stream(s) {
-        Some(stream) => stream.daemons(),
-        None => unreachable!(),
-    }
+    plan.known_stream(s).daemons()
 }
 
 /// What is known of a wave: a stream, a wave, and a tree of samples of the wave.
@@ -65,8 +59,8 @@ impl<T: PrefixTree> Contribution<T> {
     pub fn none(alloc: Global, s: u8, w: u8) -> Contribution<T>
         ensures stream { result.stream ≡ s }
         ensures wave { result.wave ≡ w }
-        ensures cov { cov_of result ≡ none }
-        ensures stands { (p : Plan) → HasWave p s w → IsPartialMerge p result }
+        ensures coverage { cov_of result ≡ none }
+        ensures partial_merge { (p : Plan) → HasWave p s w → IsPartialMerge p result }
     {
         Contribution::of_tree(s, w, T::empty(alloc))
     }
@@ -83,8 +77,8 @@ impl<T: PrefixTree> Contribution<T> {
         requires wave { HasWave plan.now s w }
         ensures stream { IfOk result (λ c. c.stream ≡ s) }
         ensures wave { IfOk result (λ c. c.wave ≡ w) }
-        ensures cov { IfOk result (λ c. cov_of c ≡ ranks plan.now d) }
-        ensures stands { IfOk result (IsPartialMerge plan.now) }
+        ensures coverage { IfOk result (λ c. cov_of c ≡ ranks plan.now d) }
+        ensures partial_merge { IfOk result (IsPartialMerge plan.now) }
     {
         plan.invariant();
         let samples = sample_count(plan, s);
@@ -95,7 +89,7 @@ impl<T: PrefixTree> Contribution<T> {
         Ok(Contribution::of_tree(s, w, tree))
     }
 
-    /// Just that tree. It takes no memory.
+    /// The contribution of a tree. It allocates nothing.
     pub fn of_tree(s: u8, w: u8, tree: T) -> Contribution<T>
         ensures { result ≡ contrib s w (T.tree tree) }
     {
@@ -106,16 +100,16 @@ impl<T: PrefixTree> Contribution<T> {
         }
     }
 
-    /// Unites another part of the wave into it. A refusal leaves it as it was.
+    /// Unites another part of the wave into it. On failure it is unchanged.
     pub fn absorb(&mut self, plan: &Plan, other: &Contribution<T>) -> Result<(), AllocError>
-        requires stands { IsPartialMerge plan.now self.old }
+        requires partial_merge { IsPartialMerge plan.now self.old }
         requires other { IsPartialMerge plan.now other.now }
         requires stream { other.now.stream ≡ self.old.stream }
         requires wave { other.now.wave ≡ self.old.wave }
         ensures stream { OnOk result (self.new.stream ≡ self.old.stream) }
         ensures wave { OnOk result (self.new.wave ≡ self.old.wave) }
-        ensures stands { OnOk result (IsPartialMerge plan.now self.new) }
-        ensures cov { OnOk result (cov_of self.new ≡ union (cov_of self.old) (cov_of other.now)) }
+        ensures partial_merge { OnOk result (IsPartialMerge plan.now self.new) }
+        ensures coverage { OnOk result (cov_of self.new ≡ union (cov_of self.old) (cov_of other.now)) }
         ensures err { OnErr result (self.new ≡ self.old) }
     {
         plan.invariant();
@@ -184,8 +178,8 @@ pub fn direct<T: PrefixTree>(
     requires { HasWave plan.now s w }
     ensures stream { IfOk result (λ c. c.stream ≡ s) }
     ensures wave { IfOk result (λ c. c.wave ≡ w) }
-    ensures cov { IfOk result (λ c. cov_of c ≡ stream_ranks plan.now s) }
-    ensures stands { IfOk result (IsPartialMerge plan.now) }
+    ensures coverage { IfOk result (λ c. cov_of c ≡ stream_ranks plan.now s) }
+    ensures partial_merge { IfOk result (IsPartialMerge plan.now) }
 {
     let mut all: Contribution<T> = Contribution::none(alloc, s, w);
     for d in daemons_of(plan, s) {

@@ -6,7 +6,7 @@ ghost use Rattle.prefix_tree.specs.Pairs.{Pairs};
 ghost use Rattle.prefix_tree.specs.Tree.{tree_of};
 ghost use Rattle.stat_plan.specs.Samples.{IsWithinLimit, samples_of, wave_lines};
 ghost use Rattle.stat_plan.specs.StackLines.{PathIndicesInRange, line_of, lines_of};
-ghost use Rattle.stat_plan.specs.Tables.{AreOwnLines};
+ghost use Rattle.stat_plan.specs.Tables.{AreLinesOf};
 ghost use Rattle.merge_filter.specs.Gathering.{HasRoomFor, TakesLine, with_pending};
 
 use call_path::CallPath;
@@ -84,7 +84,7 @@ pub fn own_tree<T: PrefixTree>(
     own: &RankSet,
 ) -> Result<T, AllocError>
     requires numbered { PathIndicesInRange paths.now lines.now }
-    requires numbers { AreOwnLines (lines_of paths.now lines.now) own.now numbers.now }
+    requires numbers { AreLinesOf (lines_of paths.now lines.now) own.now numbers.now }
     requires within { IsWithinLimit (samples_of (wave_lines samples wave (lines_of paths.now lines.now))) own.now }
     ensures { IfOk result
         (λ tree. T.tree tree

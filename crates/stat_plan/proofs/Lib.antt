@@ -4,8 +4,8 @@ pub mod NameNumbers
 pub mod Leaves
 pub mod InLists
 pub mod Expecting
-pub mod Noting
-pub mod OwnLines
+pub mod Indexing
+pub mod LineIndexing
 pub mod Limiting
 pub mod FirstOver
 pub mod LookupLemmas

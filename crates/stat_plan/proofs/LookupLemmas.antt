@@ -5,6 +5,7 @@ use Rattle.std.proofs.Common.{◌⊎◌}
 use Rattle.std.specs.List.{list_any, AllByRecursion}
 use Rattle.std.specs.Ordering.{nat_cmp, eq_by_cmp, is_eq}
 use Rattle.std.specs.Cmp.{nat_cmp_total, tied_itself}
+use Rattle.std.proofs.lemmas.Cmp.{nat_eq_equiv}
 use Rattle.std.proofs.lemmas.Bool.{true≢false, cases_lt, leb-true, false_from_ne_true, or_cases, or_left, or_right}
 use Rattle.std.proofs.lemmas.List.{drop_all, take_more, length-append, get_or_append_left, get_or-append-add}
 use Rattle.std.proofs.lemmas.Option.{none-some, slice_get-get_or, slice_get_within, get_or_from_slice_get}
@@ -36,10 +37,10 @@ find-from test [] i d lt = absurd (omega arith)
 find-from test (x ∷ xs) zero d lt = refl
 find-from test (x ∷ xs) (suc i) d lt = let e : suc i + 1 ≡ suc (i + 1) = omega arith in find-from test xs i d (omega arith) ∙ ap (λ k. cond (test (get_or xs i d)) (Some (get_or xs i d)) (find test (drop k (x ∷ xs)))) (sym e)
 
--- whether a number is in a list
-pub member-any : (x : ℕ) (xs : List ℕ) → member x xs ≡ list_any (λ y. x == y) xs
-member-any x [] = refl
-member-any x (y ∷ ys) = ap (λ b. (x == y) || b) (member-any x ys)
+-- whether a list contains a number, by tests one after another
+pub member-contains : (n : ℕ) (ms : List ℕ) → list_any (λ m. m == n) ms ≡ member n ms
+member-contains n [] = refl
+member-contains n (m ∷ ms) = λ i. nat_eq_equiv.symm m n i || member-contains n ms i
 
 -- what is found at a place where the test passes
 pub find-here : {X : Type 0} (test : X → Bool) (xs : List X) (i : ℕ) (d : X) → i < length xs → find test (drop i xs) ≡ find test xs → test (get_or xs i d) ≡ true → find test xs ≡ Some (get_or xs i d)

@@ -35,7 +35,8 @@ abbrev pub RefusesAt : Option (ℕ × ℕ) → PlanError → Type 0
 RefusesAt first (TooManyPrefixes stream wave) = first ≡ Some (stream, wave)
 RefusesAt first OutOfMemory = ⊤
 
--- ---- how a wave is tested: one rank at least is marked with each path that has one
+-- ---- how a wave is tested: one rank at least is marked with each path that has one. No clause of a public call cites what
+-- follows.
 
 -- some rank of C is marked with a path
 abbrev pub HasMark : Pairs → Ranks → Path → Type 0

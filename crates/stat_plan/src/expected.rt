@@ -48,19 +48,18 @@ fn add_daemons(
     Ok(())
 }
 
-// So many empty sets.
+// `n` empty sets.
 fn empty_sets(alloc: Global, n: u32) -> Result<Vec<RankSet>, AllocError>
     ensures { IfOk result (λ sets. sets.items ≡ map (λ _. none) (up_to n)) }
 {
     let mut sets = Vec::new(alloc);
-    for i in 0..n {
-        let _ = i;
+    for _ in 0..n {
         sets.push(RankSet::new(alloc))?;
     }
     Ok(sets)
 }
 
-/// By node number, the ranks of those of some daemons that are the node or stand under it, where `above` has each node's
+/// By node number, the ranks of those of some daemons that are the node or its descendants, where `above` has each node's
 /// ancestors.
 pub fn expected_sets(
     alloc: Global,

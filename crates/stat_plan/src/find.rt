@@ -1,19 +1,11 @@
-//! Looking things up in lists.
+//! Finds streams and faults by number.
 
 ghost use Rattle.std.specs.Prelude.{◌≡◌, ◌<◌, ◌==◌, MatchOption, None, find, length, slice_get};
-ghost use Rattle.std.specs.List.{list_any};
 
 use crate::script::{Fault, StreamDef};
 
-/// Whether a node is one of some nodes.
-pub fn is_among(nodes: &[u32], n: u32) -> bool
-    ensures { result ≡ list_any (λ m. n == m) nodes.now }
-{
-    nodes.iter().any(|m| n == *m)
-}
-
-/// The place of the stream of a number, where there is one.
-pub fn stream_place(streams: &[StreamDef], s: u8) -> Option<usize>
+/// The index of the stream with a number, if there is one.
+pub fn stream_index(streams: &[StreamDef], s: u8) -> Option<usize>
     ensures { MatchOption result (find (λ x. x.number == s) streams.now ≡ None)
         (λ i. (i < length streams.now) × (find (λ x. x.number == s) streams.now ≡ slice_get streams.now i)) }
 {

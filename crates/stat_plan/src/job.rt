@@ -51,7 +51,7 @@ impl Job {
         }
     }
 
-    /// What every job is.
+    /// The invariant of a job, for the prover. It does nothing.
     pub fn invariant(&self)
         ensures { IsJob self.now }
     {

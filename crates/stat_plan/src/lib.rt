@@ -6,12 +6,6 @@
 //! for those who read what stands on them. A [`Plan`] is what the three files of a job say together, with its look-ups.
 #![tactic(auto)]
 
-ghost use Rattle.std.specs.Prelude.{◌≡◌, ◌≤◌, ℕ, true};
-ghost use Rattle.rank_set.specs.Ranks.{Ranks, has};
-ghost use Rattle.prefix_tree.specs.Pairs.{Pairs};
-ghost use Rattle.prefix_tree.specs.Tree.{tree_of, count_below};
-ghost use Rattle.stat_plan.specs.Samples.{HasNoMore};
-
 mod act;
 mod ancestors;
 mod expected;
@@ -36,9 +30,3 @@ pub use script::{
     FAULT_LIMIT, Fault, Mode, SAMPLE_LIMIT, STREAM_LIMIT, Script, StreamDef, TICK_LIMIT, WAVE_LIMIT,
 };
 pub use topology::{DEPTH_LIMIT, NODE_LIMIT, Topology};
-
-/// A law: fewer pairs over fewer ranks have no more prefixes.
-pub fn fewer_pairs_have_fewer_prefixes()
-    ensures { (P Q : Pairs) (C D : Ranks) → HasNoMore P Q → ((r : ℕ) → has C r ≡ true → has D r ≡ true)
-        → count_below (tree_of P C) ≤ count_below (tree_of Q D) }
-{}

@@ -20,8 +20,8 @@ use prefix_tree::{OwnedTree, PrefixTree, TreeError};
 use rank_set::RankSet;
 use std::alloc::{AllocError, Global};
 
-// Marks the path of a line in a tree over some ranks with those that the line has, if there are any and the path isn't the one
-// that was marked last. Gives the number of the path that was marked last.
+// Adds the path of a line to a tree over some ranks, with those that the line has, unless there are none or the path is the
+// last one added. Returns the number of the path added last.
 fn mark(
     tree: &mut OwnedTree,
     last: Option<u32>,
@@ -52,8 +52,8 @@ fn mark(
     }
 }
 
-// Whether the samples of a wave have at most 2,048 distinct prefixes with one of the ranks, by one tree in which the path of
-// each line is marked that has one of them. `numbers` are those of all lines.
+// Whether the samples of a wave have at most 2,048 distinct prefixes with one of the ranks, by one tree that has the path of
+// each line with one of them. `numbers` are those of all lines.
 fn wave_is_within(
     alloc: Global,
     lines: &[StackLine],

@@ -7,14 +7,14 @@ ghost use Rattle.stat_plan.specs.declared.samples.TheConstants.{LINE_LIMIT};
 ghost use Rattle.stat_plan.specs.Invariants.{ArePlacedOnce};
 ghost use Rattle.stat_plan.specs.Plans.{up_to};
 ghost use Rattle.stat_plan.specs.Samples.{all_ranks};
-ghost use Rattle.stat_plan.specs.Tables.{AreAllOwnLines, AreHomes, AreLineNumbers, AreNoted, IndexesLine, IndexesRun, rows_view};
+ghost use Rattle.stat_plan.specs.Tables.{IsLineIndex, AreRankNodes, AreLineNumbers, AreIndexed, IndexesLine, IndexesRun, rows_view};
 
 use crate::job::Job;
 use crate::samples::StackLine;
 use rank_set::{RANK_LIMIT, RankSet};
 use std::alloc::{AllocError, Global};
 
-// Notes the node of each of its ranks.
+// Indexes the node of each of its ranks.
 fn assign(rank_to_node: &mut [u32], ranks: &RankSet, node: u32)
     requires { length rank_to_node.old ≡ 16384 }
     ensures length { length rank_to_node.new ≡ 16384 }
@@ -31,19 +31,19 @@ fn assign(rank_to_node: &mut [u32], ranks: &RankSet, node: u32)
     }
 }
 
-// Notes the node of each placed rank.
+// Indexes the node of each placed rank.
 fn assign_all(rank_to_node: &mut [u32], placed: &[RankSet])
     requires length { length rank_to_node.old ≡ 16384 }
     requires within_limit { length placed.now < 2 ^ 32 }
     requires once { ArePlacedOnce placed.now }
-    ensures { AreHomes placed.now rank_to_node.new }
+    ensures { AreRankNodes placed.now rank_to_node.new }
 {
     for (n, ranks) in placed.iter().enumerate() {
         assign(rank_to_node, ranks, n as u32);
     }
 }
 
-// Puts a number at the end of a row, if it doesn't stand there.
+// Appends a number to a row, unless it is the last already.
 fn push_once(row: &mut Vec<u32>, number: u32) -> Result<(), AllocError>
     ensures still_in { OnOk result ((i : ℕ) → In i row.old.items → In i row.new.items) }
     ensures added { OnOk result (In number row.new.items) }
@@ -57,7 +57,7 @@ fn push_once(row: &mut Vec<u32>, number: u32) -> Result<(), AllocError>
     Ok(())
 }
 
-// The number after the run of neighbours in which a rank stands, from the rank on.
+// The end of the run of neighbours that contains a rank.
 fn after_run(ranks: &RankSet, r: u32) -> u32
     requires { Has r ranks.now }
     ensures advances { r < result }
@@ -70,7 +70,7 @@ fn after_run(ranks: &RankSet, r: u32) -> u32
     }
 }
 
-// Notes a line's number at each node that has one of the ranks from the first to the last.
+// Indexes a line's number at each node that has one of the ranks from the first to the last.
 fn index_run(
     table: &mut [Vec<u32>],
     rank_to_node: &[u32],
@@ -79,7 +79,7 @@ fn index_run(
     last: u32,
     number: u32,
 ) -> Result<(), AllocError>
-    requires rank_to_node { AreHomes placed.now rank_to_node.now }
+    requires rank_to_node { AreRankNodes placed.now rank_to_node.now }
     requires same_length { length table.old ≡ length placed.now }
     requires placed { (r : ℕ) → first ≤ r → r ≤ last → Has r (all_ranks placed.now) }
     requires not_empty { first ≤ last }
@@ -96,7 +96,7 @@ fn index_run(
     Ok(())
 }
 
-// Notes a line's number at each node that has one of its ranks. It goes by runs, of the line and of the nodes.
+// Indexes a line's number at each node that has one of its ranks. It goes by runs, of the line and of the nodes.
 fn index_line(
     table: &mut [Vec<u32>],
     rank_to_node: &[u32],
@@ -104,7 +104,7 @@ fn index_line(
     ranks: &RankSet,
     number: u32,
 ) -> Result<(), AllocError>
-    requires rank_to_node { AreHomes placed.now rank_to_node.now }
+    requires rank_to_node { AreRankNodes placed.now rank_to_node.now }
     requires same_length { length table.old ≡ length placed.now }
     requires placed { (r : ℕ) → Has r ranks.now → Has r (all_ranks placed.now) }
     ensures { OnOk result (IndexesLine placed.now ranks.now number (rows_view table.old) (rows_view table.new)) }
@@ -117,28 +117,28 @@ fn index_line(
     Ok(())
 }
 
-// The node of each placed rank, by rank. What stands at other ranks means nothing.
+// The node of each placed rank, by rank. The entries of other ranks mean nothing.
 fn rank_to_node_of(alloc: Global, placed: &[RankSet]) -> Result<Vec<u32>, AllocError>
     requires within_limit { length placed.now < 2 ^ 32 }
     requires once { ArePlacedOnce placed.now }
-    ensures { IfOk result (λ rank_to_node. AreHomes placed.now rank_to_node.items) }
+    ensures { IfOk result (λ rank_to_node. AreRankNodes placed.now rank_to_node.items) }
 {
     let mut rank_to_node = vec![in alloc; 0; RANK_LIMIT as usize]?;
     assign_all(&mut rank_to_node, placed);
     Ok(rank_to_node)
 }
 
-// Notes the numbers of lines at the nodes of their ranks.
+// Indexes the numbers of lines at the nodes of their ranks.
 fn index_lines(
     table: &mut [Vec<u32>],
     rank_to_node: &[u32],
     job: &Job,
     numbers: &[u32],
 ) -> Result<(), AllocError>
-    requires rank_to_node { AreHomes job.now.placed rank_to_node.now }
+    requires rank_to_node { AreRankNodes job.now.placed rank_to_node.now }
     requires numbers { (i : ℕ) → In i numbers.now → i < length job.now.lines }
-    requires empty { AreNoted job.now [] (rows_view table.old) }
-    ensures { OnOk result (AreNoted job.now numbers.now (rows_view table.new)) }
+    requires empty { AreIndexed job.now [] (rows_view table.old) }
+    ensures { OnOk result (AreIndexed job.now numbers.now (rows_view table.new)) }
 {
     job.invariant();
     for i in numbers {
@@ -148,13 +148,12 @@ fn index_lines(
     Ok(())
 }
 
-// So many empty rows.
+// `n` empty rows.
 fn empty_rows(alloc: Global, n: u32) -> Result<Vec<Vec<u32>>, AllocError>
     ensures { IfOk result (λ table. rows_view table.items ≡ map (λ _. []) (up_to n)) }
 {
     let mut table = Vec::new(alloc);
-    for i in 0..n {
-        let _ = i;
+    for _ in 0..n {
         table.push(Vec::new(alloc))?;
     }
     Ok(table)
@@ -163,7 +162,7 @@ fn empty_rows(alloc: Global, n: u32) -> Result<Vec<Vec<u32>>, AllocError>
 /// By node number, the numbers of the lines that have a rank of the node, in the order of the given numbers of all lines.
 pub fn line_index(alloc: Global, job: &Job, numbers: &[u32]) -> Result<Vec<Vec<u32>>, AllocError>
     requires { AreLineNumbers (length job.now.lines) numbers.now }
-    ensures { IfOk result (λ table. AreAllOwnLines job.now (rows_view table.items)) }
+    ensures { IfOk result (λ table. IsLineIndex job.now (rows_view table.items)) }
 {
     job.invariant();
     let rank_to_node = rank_to_node_of(alloc, job.placed())?;

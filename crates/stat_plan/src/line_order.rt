@@ -1,5 +1,5 @@
-//! The order in which the lines of samples are gone through: that of their paths. So lines of one path stand together, and a
-//! tree to which paths are added grows at its end. The order is for speed alone, and no clause tells it.
+//! The order in which the lines of samples are gone through: that of their paths. So equal paths are adjacent, and rows are
+//! appended at the tree's end. The order is for speed alone, and no clause fixes it.
 
 ghost use Rattle.std.specs.Prelude.{◌≡◌, ◌≤◌, IfOk, length};
 ghost use Rattle.stat_plan.specs.declared.samples.TheConstants.{LINE_LIMIT};
@@ -10,7 +10,7 @@ use crate::samples::StackLine;
 use call_path::CallPath;
 use std::alloc::{AllocError, Global};
 
-/// By path number, the place of the path among all in order.
+/// By path number, the index of the path in sorted order.
 pub fn path_places(alloc: Global, paths: &[CallPath]) -> Result<Vec<usize>, AllocError>
     ensures { IfOk result (λ places. length places.items ≡ length paths.now) }
 {

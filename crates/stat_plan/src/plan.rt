@@ -1,6 +1,6 @@
-//! A plan: what the three files of a job stand for, with tables to look things up in.
+//! A plan: what the three files of a job say together, with tables for its look-ups.
 
-ghost use Rattle.std.specs.Prelude.{◌≡◌, ◌<◌, ℕ, IfErr, IfOk, IsSome, None, [], length, slice_index_or};
+ghost use Rattle.std.specs.Prelude.{◌≡◌, ◌<◌, ℕ, IfErr, IfOk, IsSome, None, Some, [], length, slice_index_or};
 ghost use Rattle.rank_set.specs.Ranks.{none};
 ghost use Rattle.stat_plan.specs.Invariants.{IsPlan, SamplesFit, ScriptFits};
 ghost use Rattle.stat_plan.specs.Limits.{RefusesAt, first_over};
@@ -8,12 +8,12 @@ ghost use Rattle.stat_plan.specs.Names.{name_of};
 ghost use Rattle.stat_plan.specs.Plans.{ancestors, expected, fault, front, is_under, nodes, plan_of, ranks, serves, stream_of};
 ghost use Rattle.stat_plan.specs.Shown.{IsStreamOf, lines_view};
 ghost use Rattle.stat_plan.specs.StackLines.{PathIndicesInRange};
-ghost use Rattle.stat_plan.specs.Tables.{AreAllExpected, AreOwnLines, ancestors_table, rows_view};
+ghost use Rattle.stat_plan.specs.Tables.{AreAllExpected, AreLinesOf, ancestors_table, rows_view};
 ghost use Rattle.stat_plan.specs.Trees.{is_daemon};
 
 use crate::ancestors::ancestors_table;
 use crate::expected::expected_sets;
-use crate::find::{fault_of, is_among, stream_place};
+use crate::find::{fault_of, stream_index};
 use crate::job::Job;
 use crate::limit::check_limit;
 use crate::line_index::line_index;
@@ -26,7 +26,7 @@ use rank_set::RankSet;
 use std::alloc::{AllocError, Global};
 use std::marker::Model;
 
-/// What the three files of a job stand for.
+/// What the three files of a job say together.
 #[derive(Drop)]
 pub struct Plan {
     job: Job,
@@ -34,7 +34,7 @@ pub struct Plan {
     ancestors: Vec<Vec<u32>>,
     // By node number: the numbers of the lines that have a rank of the node, in the order of their paths.
     line_index: Vec<Vec<u32>>,
-    // By place of the stream, then by node number.
+    // By index of the stream, then by node number.
     expected: Vec<Vec<RankSet>>,
 }
 
@@ -54,7 +54,7 @@ impl Model for Plan {
     ghost invariant = { λ a. IsPlan a.job × AreTables a.job (rows_view a.ancestors.items) (rows_view a.line_index.items) (rows_view a.expected.items) };
 }
 
-// By place of the stream, the ranks that each node expects of it.
+// By index of the stream, the ranks that each node expects of it.
 fn expected_tables(
     alloc: Global,
     job: &Job,
@@ -90,8 +90,11 @@ fn set_at(tables: &[Vec<RankSet>], i: usize, n: u32) -> &RankSet
 }
 
 impl Plan {
-    /// The plan of three files that fit each other. The first wave, by stream and wave, of which the samples have more than
-    /// 2,048 distinct prefixes is refused; then the files are let go.
+    /// The plan of three files that fit together.
+    ///
+    /// # Errors
+    ///
+    /// `TooManyPrefixes` names the first wave, by stream and wave, whose samples have more than 2,048 distinct prefixes.
     pub fn build(
         alloc: Global,
         topology: Topology,
@@ -123,10 +126,11 @@ impl Plan {
         })
     }
 
-    /// What every plan is.
+    /// The invariant of a plan, for the prover. It does nothing.
     pub fn invariant(&self)
         ensures { IsPlan self.now }
     {
+        // for the proof: the invariant of the field
         let _ = &self.job;
     }
 
@@ -153,7 +157,7 @@ impl Plan {
         self.job.topology().name(n)
     }
 
-    /// Whether a node is a daemon: it is no node's parent.
+    /// Whether a node is a daemon: it has no children.
     pub fn is_daemon(&self, n: u32) -> bool
         requires { n < nodes self.now }
         ensures { result ≡ is_daemon self.now.parents n }
@@ -174,10 +178,10 @@ impl Plan {
         requires { n < nodes self.now }
         ensures { result ≡ is_under self.now n m }
     {
-        is_among(self.ancestors(n), m)
+        self.ancestors(n).contains(&m)
     }
 
-    /// The ranks that are placed on a node; none where it is no daemon.
+    /// The ranks that are placed on a node; empty if it is not a daemon.
     pub fn ranks(&self, n: u32) -> &RankSet
         requires { n < nodes self.now }
         ensures { result.now ≡ ranks self.now n }
@@ -197,25 +201,36 @@ impl Plan {
     pub fn stream(&self, s: u8) -> Option<&StreamDef>
         ensures { IsStreamOf self.now s result }
     {
-        match stream_place(self.streams(), s) {
+        match stream_index(self.streams(), s) {
             Some(i) => Some(&self.streams()[i]),
             None => None,
         }
     }
 
-    /// The ranks of those daemons of a stream that are the node or stand under it.
+    /// The stream of a number that the plan has.
+    pub fn known_stream(&self, s: u8) -> &StreamDef
+        requires { IsSome (stream_of self.now s) }
+        ensures { stream_of self.now s ≡ Some result.now }
+    {
+        match self.stream(s) {
+            Some(stream) => stream,
+            None => unreachable!(),
+        }
+    }
+
+    /// The ranks of those daemons of a stream that are the node or its descendants.
     pub fn expected(&self, n: u32, s: u8) -> &RankSet
         requires node { n < nodes self.now }
         requires stream { IsSome (stream_of self.now s) }
         ensures { result.now ≡ expected self.now n s }
     {
-        match stream_place(self.job.streams(), s) {
+        match stream_index(self.job.streams(), s) {
             Some(i) => set_at(&self.expected, i, n),
             None => unreachable!(),
         }
     }
 
-    /// Whether a node serves a stream: one of its daemons is the node or stands under it.
+    /// Whether a node serves a stream: one of the stream's daemons is the node or a descendant.
     pub fn serves(&self, n: u32, s: u8) -> bool
         requires { n < nodes self.now }
         ensures { result ≡ serves self.now n s }
@@ -252,7 +267,7 @@ impl Plan {
     /// The numbers of the lines that have a rank of a node, in the order of their paths.
     pub fn line_index(&self, n: u32) -> &[u32]
         requires { n < nodes self.now }
-        ensures { AreOwnLines self.now.lines (ranks self.now n) result.now }
+        ensures { AreLinesOf self.now.lines (ranks self.now n) result.now }
     {
         row_at(&self.line_index, n)
     }

@@ -93,10 +93,11 @@ impl Samples {
         }
     }
 
-    /// What all samples are.
+    /// The invariant of samples, for the prover. It does nothing.
     pub fn invariant(&self)
         ensures { AreSamples self.now }
     {
+        // for the proof: the invariant of the value
         let _ = &self.placed;
     }
 

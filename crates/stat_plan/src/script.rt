@@ -82,13 +82,6 @@ impl StreamDef {
         }
     }
 
-    /// What every stream is.
-    pub fn invariant(&self)
-        ensures { IsStream self.now }
-    {
-        let _ = &self.daemons;
-    }
-
     /// Its number, below `STREAM_LIMIT`.
     pub fn number(&self) -> u8
         ensures { result ≡ self.now.number }
@@ -154,10 +147,11 @@ impl Script {
         Script { streams, faults }
     }
 
-    /// What every script is.
+    /// The invariant of a script, for the prover. It does nothing.
     pub fn invariant(&self)
         ensures { IsScript self.now }
     {
+        // for the proof: the invariant of the value
         let _ = &self.streams;
     }
 

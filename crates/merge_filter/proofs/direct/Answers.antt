@@ -18,17 +18,17 @@ of_daemon-requires-clause-daemon g c lifetimes outlives =
 pub loop-d-preserved : goal.loop-d-preserved
 loop-d-preserved g c =
     let d = get_or c.daemons_of-d-items.result.now c.loop-d.d-index 0 in (
-      c.in_ok-absorb.ensures.stands,
+      c.in_ok-absorb.ensures.partial_merge,
       c.in_ok-absorb.ensures.stream ∙ c.loop-d.invariant.1,
       c.in_ok-absorb.ensures.wave ∙ c.loop-d.invariant.2,
-      c.in_ok-absorb.ensures.cov
-          ∙ (λ i. union (c.loop-d.invariant.3 i) (c.in_ok-own.ensures.cov i))
+      c.in_ok-absorb.ensures.coverage
+          ∙ (λ i. union (c.loop-d.invariant.3 i) (c.in_ok-own.ensures.coverage i))
           ∙ sym (ranks_on-push c.args.plan.now (take c.loop-d.d-index c.daemons_of-d-items.result.now) d)
           ∙ ap (ranks_on c.args.plan.now) (sym (take_more c.daemons_of-d-items.result.now c.loop-d.d-index 0 c.loop-d-test.true)),
     )
 
-pub returns-clause-cov : goal.returns-clause-cov
-returns-clause-cov g c =
+pub returns-clause-coverage : goal.returns-clause-coverage
+returns-clause-coverage g c =
     c.loop-d.invariant.3
     ∙ ap (ranks_on c.args.plan.now) (take_all c.loop-d.d-index c.daemons_of-d-items.result.now c.loop-d-test.false ∙ c.daemons_of-d-items.ensures)
     ∙ all_daemons c.args.plan.now c.args.s

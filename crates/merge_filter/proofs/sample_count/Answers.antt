@@ -3,4 +3,4 @@ use Rattle.merge_filter.proofs.Daemons.{samples_at}
 use Rattle.merge_filter.proofs.sample_count.Goals as goal
 
 pub returns : goal.returns
-returns c = c.samples.ensures ∙ samples_at c.args.plan.now c.args.s c.in-Some.stream.now c.in-Some.ensures
+returns c = c.samples.ensures ∙ samples_at c.args.plan.now c.args.s _ c.known_stream.ensures

@@ -4,13 +4,13 @@ use Rattle.merge_filter.proofs.Contribution.absorb.Goals as goal
 
 pub unreachable-requires : goal.unreachable-requires
 unreachable-requires g c =
-    has_room c.args.plan.now c.args.self.now c.args.other.now _ _ c.self.view_is c.other.view_is c.requires.stands c.requires.other c.requires.stream c.requires.wave c.invariant.ensures
+    has_room c.args.plan.now c.args.self.now c.args.other.now _ _ c.self.view_is c.other.view_is c.requires.partial_merge c.requires.other c.requires.stream c.requires.wave c.invariant.ensures
     (c.in-Err-TooManyPrefixes.ensures.full (ap Err c.in-Err-TooManyPrefixes.field-0-is))
 
-pub returns-clause-stands : goal.returns-clause-stands
-returns-clause-stands g c =
-    united c.args.plan.now c.args.self.now c.args.other.now _ _ c.self.view_is c.other.view_is c.requires.stands c.requires.other c.requires.stream c.requires.wave (g.T.PrefixTree.tree c.merge.new.self) c.in-Ok.ensures.ok
+pub returns-clause-partial_merge : goal.returns-clause-partial_merge
+returns-clause-partial_merge g c =
+    united c.args.plan.now c.args.self.now c.args.other.now _ _ c.self.view_is c.other.view_is c.requires.partial_merge c.requires.other c.requires.stream c.requires.wave (g.T.PrefixTree.tree c.merge.new.self) c.in-Ok.ensures.ok
 
-pub returns-clause-cov : goal.returns-clause-cov
-returns-clause-cov g c =
-    united_covers c.args.plan.now c.args.self.now c.args.other.now _ _ c.self.view_is c.other.view_is c.requires.stands c.requires.other c.requires.stream c.requires.wave (g.T.PrefixTree.tree c.merge.new.self) c.in-Ok.ensures.ok
+pub returns-clause-coverage : goal.returns-clause-coverage
+returns-clause-coverage g c =
+    united_covers c.args.plan.now c.args.self.now c.args.other.now _ _ c.self.view_is c.other.view_is c.requires.partial_merge c.requires.other c.requires.stream c.requires.wave (g.T.PrefixTree.tree c.merge.new.self) c.in-Ok.ensures.ok

@@ -22,14 +22,14 @@ pub own_tree-requires-clause-within : goal.own_tree-requires-clause-within
 own_tree-requires-clause-within g c lifetimes outlives =
     daemon_room c.args.plan.now c.args.s c.args.w c.args.d c.sample_count-samples.result (lines_of c.lines-all.result.paths.now c.lines-all.result.lines.now) c.ranks-own.result.now c.invariant.ensures c.requires.wave c.requires.daemon c.lines-all.ensures.lines c.sample_count-samples.ensures c.ranks-own.ensures
 
-pub returns-clause-cov : goal.returns-clause-cov
-returns-clause-cov g c =
+pub returns-clause-coverage : goal.returns-clause-coverage
+returns-clause-coverage g c =
     ap cov_of c.of_tree.ensures
     ∙ covers (g.T.PrefixTree.tree c.in_ok-tree.tree) (samples_of (wave_lines c.sample_count-samples.result c.args.w (lines_of c.lines-all.result.paths.now c.lines-all.result.lines.now))) c.ranks-own.result.now c.in_ok-tree.ensures
     ∙ c.ranks-own.ensures
 
-pub returns-clause-stands : goal.returns-clause-stands
-returns-clause-stands g c =
+pub returns-clause-partial_merge : goal.returns-clause-partial_merge
+returns-clause-partial_merge g c =
     subst (IsPartialMerge c.args.plan.now) (sym c.of_tree.ensures)
     (stands_from c.args.plan.now c.args.s c.args.w c.ranks-own.result.now (g.T.PrefixTree.tree c.in_ok-tree.tree)
     (c.in_ok-tree.ensures ∙ ap (λ P. tree_of P c.ranks-own.result.now) (samples_is c.args.plan.now c.args.s c.args.w c.sample_count-samples.result (lines_of c.lines-all.result.paths.now c.lines-all.result.lines.now) c.lines-all.ensures.lines c.sample_count-samples.ensures))

@@ -6,7 +6,7 @@ use Rattle.prefix_tree.specs.Tree.{tree_of}
 use Rattle.stat_plan.specs.StackLines.{line_of, lines_of}
 use Rattle.stat_plan.specs.declared.samples.StackLine.{StackLine}
 use Rattle.stat_plan.proofs.InLists.{in_at}
-use Rattle.stat_plan.proofs.OwnLines.{line_at, all_element}
+use Rattle.stat_plan.proofs.LineIndexing.{line_at, all_element}
 use Rattle.merge_filter.specs.Gathering.{AreTaken}
 use Rattle.merge_filter.proofs.Takings.{room_from, taken_none, taken_skip, taken_more, taken_all}
 use Rattle.merge_filter.proofs.own_tree.own_tree.Goals as goal

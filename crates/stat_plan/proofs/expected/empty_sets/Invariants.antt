@@ -3,5 +3,5 @@ use Rattle.rank_set.specs.Ranks.{none}
 use Rattle.stat_plan.specs.Plans.{up_to}
 use Rattle.stat_plan.proofs.expected.empty_sets.Given as goal
 
-abbrev pub invariant-loop-i : goal.invariant-loop-i
-invariant-loop-i l = l.sets.items ≡ map (λ _. none) (up_to l.i)
+abbrev pub invariant-loop : goal.invariant-loop
+invariant-loop l = l.sets.items ≡ map (λ _. none) (up_to l.counter)

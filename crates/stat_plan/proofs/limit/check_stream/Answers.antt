@@ -5,7 +5,7 @@ use Rattle.stat_plan.specs.Limits.{is_over, is_within_limit}
 use Rattle.rank_set.specs.Ranks.{Ranks}
 use Rattle.stat_plan.specs.Plans.{Plan, Stream, up_to, ranks_on}
 use Rattle.stat_plan.specs.Samples.{SampleLine, samples_of, wave_lines}
-use Rattle.stat_plan.proofs.OwnLines.{length-lines}
+use Rattle.stat_plan.proofs.LineIndexing.{length-lines}
 use Rattle.stat_plan.proofs.FirstOver.{wave_value, none_over_more, over_found}
 use Rattle.stat_plan.proofs.limit.check_stream.Goals as goal
 

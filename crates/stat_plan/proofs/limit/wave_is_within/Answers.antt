@@ -8,7 +8,7 @@ use Rattle.stat_plan.specs.declared.samples.StackLine.{StackLine}
 use Rattle.stat_plan.specs.Limits.{AreMarked}
 use Rattle.stat_plan.specs.StackLines.{line_of, lines_of}
 use Rattle.stat_plan.proofs.InLists.{in_at}
-use Rattle.stat_plan.proofs.OwnLines.{line_at, all_element}
+use Rattle.stat_plan.proofs.LineIndexing.{line_at, all_element}
 use Rattle.stat_plan.proofs.Limiting.{marked_none, marked_skip, marked_more, wave_over, wave_within}
 use Rattle.stat_plan.proofs.limit.wave_is_within.Goals as goal
 use Rattle.stat_plan.proofs.limit.wave_is_within.Goals.{then-is_in_wave+in-Ok, else-is_in_wave}

@@ -1,11 +1,11 @@
 use Rattle.std.proofs.Common.{arith}
-use Rattle.stat_plan.proofs.Noting.{homes_more, rank_to_node_all}
+use Rattle.stat_plan.proofs.Indexing.{rank_nodes_more, rank_to_node_all}
 use Rattle.stat_plan.proofs.line_index.assign_all.Goals as goal
 
 pub loop-n-preserved : goal.loop-n-preserved
 loop-n-preserved c = record {
   all = c.assign.ensures.length;
-  each = homes_more c.args.placed.now c.loop-n.rank_to_node c.assign.new.rank_to_node c.loop-n.n c.index-placed-n.result c.requires.once c.index-placed-n.is c.loop-n-test.true c.loop-n.invariant.each c.assign.ensures.ranks c.assign.ensures.others;
+  each = rank_nodes_more c.args.placed.now c.loop-n.rank_to_node c.assign.new.rank_to_node c.loop-n.n c.index-placed-n.result c.requires.once c.index-placed-n.is c.loop-n-test.true c.loop-n.invariant.each c.assign.ensures.ranks c.assign.ensures.others;
 }
 
 pub returns : goal.returns

@@ -3,5 +3,5 @@ use Rattle.stat_plan.specs.Plans.{up_to}
 use Rattle.stat_plan.specs.Tables.{rows_view}
 use Rattle.stat_plan.proofs.line_index.empty_rows.Given as goal
 
-abbrev pub invariant-loop-i : goal.invariant-loop-i
-invariant-loop-i l = rows_view l.table.items ≡ map (λ _. []) (up_to l.i)
+abbrev pub invariant-loop : goal.invariant-loop
+invariant-loop l = rows_view l.table.items ≡ map (λ _. []) (up_to l.counter)

@@ -1,6 +1,6 @@
 use Rattle.std.proofs.Common.{sym, ap, subst, ◌∙◌, length}
 use Rattle.stat_plan.specs.Tables.{AreLineNumbers, ancestors_table, rows_view}
-use Rattle.stat_plan.proofs.OwnLines.{length-lines}
+use Rattle.stat_plan.proofs.LineIndexing.{length-lines}
 use Rattle.stat_plan.proofs.LookupLemmas.{plan_from}
 use Rattle.stat_plan.proofs.plan.Plan.build.Goals as goal
 

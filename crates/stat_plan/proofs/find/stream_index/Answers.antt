@@ -2,7 +2,7 @@ use Rattle.std.proofs.Common.{◌==◌, sym, ap, ◌∙◌, eq-eqb, get_or}
 use Rattle.std.proofs.lemmas.Option.{slice_get-get_or}
 use Rattle.stat_plan.specs.Plans.{Stream}
 use Rattle.stat_plan.proofs.LookupLemmas.{find-here}
-use Rattle.stat_plan.proofs.find.stream_place.Goals as goal
+use Rattle.stat_plan.proofs.find.stream_index.Goals as goal
 
 pub returns-then-number-s : goal.returns-then-number-s
 returns-then-number-s c =

@@ -12,7 +12,7 @@ use Rattle.stat_plan.specs.Samples.{SampleLine}
 use Rattle.stat_plan.specs.StackLines.{line_of, lines_of}
 use Rattle.stat_plan.specs.declared.samples.StackLine.{StackLine}
 use Rattle.stat_plan.specs.Plans.{Plan, nodes, up_to, ranks}
-use Rattle.stat_plan.specs.Tables.{IsOwnLine, AreAllOwnLines, AreNoted, IndexesLine, line_ranks}
+use Rattle.stat_plan.specs.Tables.{IsOwnLine, IsLineIndex, AreIndexed, IndexesLine, line_ranks}
 use Rattle.stat_plan.proofs.InLists.{in_append, append_left, append_right}
 use Rattle.stat_plan.proofs.TableLemmas.{at_table, length-up_to}
 
@@ -27,9 +27,9 @@ pub line_ranks_at : (lines : List SampleLine) (i : ℕ) (line : SampleLine) → 
 line_ranks_at lines i line at =
     get_or-map (λ (l : SampleLine). l.ranks) lines i line none (slice_get_within lines i line at) ∙ ap (λ (l : SampleLine). l.ranks) (get_or_from_slice_get lines i line line at)
 
--- one number more is noted
-pub noted_more : (p : Plan) (numbers : List ℕ) (k i : ℕ) (line : SampleLine) (old new : List (List ℕ)) → i ≡ get_or numbers k 0 → k < length numbers → slice_get p.lines i ≡ Some line → AreNoted p (take k numbers) old → IndexesLine p.placed line.ranks i old new → AreNoted p (take (k + 1) numbers) new
-noted_more p numbers k i line old new is lt at so_far index_line = record {
+-- one number more is indexed
+pub indexed_more : (p : Plan) (numbers : List ℕ) (k i : ℕ) (line : SampleLine) (old new : List (List ℕ)) → i ≡ get_or numbers k 0 → k < length numbers → slice_get p.lines i ≡ Some line → AreIndexed p (take k numbers) old → IndexesLine p.placed line.ranks i old new → AreIndexed p (take (k + 1) numbers) new
+indexed_more p numbers k i line old new is lt at so_far index_line = record {
   paired = index_line.paired ∙ so_far.paired;
   own = λ n j there. elim (index_line.only n j there) [
     | (inl before) ↦ let was = so_far.own n j before in (more j (append_left j (take k numbers) (i ∷ []) was.0), was.1)
@@ -48,7 +48,7 @@ noted_more p numbers k i line old new is lt at so_far index_line = record {
     | (inr last) ↦ elim last [
       | (inl e) ↦
           subst (λ m. In m (get_or new n [])) (sym e)
-          (index_line.noted n own.rank (subst (λ m. n < m) (sym so_far.paired) below) (sym (ap (λ s. has s own.rank) (ap (line_ranks p.lines) e ∙ line_ranks_at p.lines i line at)) ∙ own.seen) own.placed)
+          (index_line.indexed n own.rank (subst (λ m. n < m) (sym so_far.paired) below) (sym (ap (λ s. has s own.rank) (ap (line_ranks p.lines) e ∙ line_ranks_at p.lines i line at)) ∙ own.seen) own.placed)
       | (inr nothing) ↦ absurd nothing
     ]
   ];
@@ -74,22 +74,22 @@ empty_row k n i there = elim (cases_lt n k) [
   | (inr outside) ↦ subst (In i) (get_or-past (map (λ (_ : ℕ). []) (up_to k)) n [] (subst (λ m. m ≤ n) (sym (length-map (up_to k) (λ (_ : ℕ). []) ∙ length-up_to k)) outside)) there
 ]
 
--- nothing is noted in empty rows
-pub noted_none : (p : Plan) (rows : List (List ℕ)) → rows ≡ map (λ (_ : ℕ). []) (up_to (nodes p)) → AreNoted p [] rows
-noted_none p rows is = record {
+-- nothing is indexed in empty rows
+pub indexed_none : (p : Plan) (rows : List (List ℕ)) → rows ≡ map (λ (_ : ℕ). []) (up_to (nodes p)) → AreIndexed p [] rows
+indexed_none p rows is = record {
   paired = ap length is ∙ length-map (up_to (nodes p)) (λ (_ : ℕ). []) ∙ length-up_to (nodes p);
   own = λ n i there. absurd (empty_row (nodes p) n i (subst (λ r. In i (get_or r n [])) is there));
   all = λ n i below there own. absurd there;
 }
 
--- all lines are noted
-pub noted_all : (p : Plan) (numbers : List ℕ) (rows : List (List ℕ)) → ((i : ℕ) → i < length p.lines → In i numbers) → AreNoted p numbers rows → AreAllOwnLines p rows
+-- all lines are indexed
+pub indexed_all : (p : Plan) (numbers : List ℕ) (rows : List (List ℕ)) → ((i : ℕ) → i < length p.lines → In i numbers) → AreIndexed p numbers rows → IsLineIndex p rows
 unfolding ranks
-noted_all p numbers rows complete noted = record {
-  paired = noted.paired;
+indexed_all p numbers rows complete indexed = record {
+  paired = indexed.paired;
   each = λ n below. record {
-    own = λ i there. (noted.own n i there).1;
-    all = λ i own. noted.all n i below (complete i own.line) own;
+    own = λ i there. (indexed.own n i there).1;
+    all = λ i own. indexed.all n i below (complete i own.line) own;
   };
 }
 
