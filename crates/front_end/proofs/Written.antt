@@ -1,5 +1,5 @@
 -- Texts that were written piece by piece.
-use Rattle.std.proofs.Common.{◌≡◌, ℕ, false, cond, inl, inr, List, [], ◌∷◌, ◌++◌, ◌==◌, sym, ap, ◌∙◌, append_assoc, eqb-true}
+use Rattle.std.proofs.Common.{◌≡◌, ℕ, Bool, false, cond, inl, inr, List, [], ◌∷◌, ◌++◌, ◌==◌, sym, ap, ◌∙◌, append_assoc, eqb-true}
 use Rattle.std.specs.Prelude.{codes}
 use Rattle.std.specs.List.{flat_map}
 use Rattle.std.proofs.lemmas.Bool.{cases_Bool}
@@ -9,11 +9,12 @@ use Rattle.call_path.specs.Path.{Path}
 use Rattle.stat_plan.specs.Names.{name_of}
 use Rattle.stat_plan.specs.NodeSets.{member}
 use Rattle.stat_plan.specs.Plans.{Plan, daemons}
+use Rattle.stat_plan.specs.declared.script.Fault.{Fault}
 use Rattle.overlay_core.specs.TreeReleases.{TreeRelease}
 use Rattle.front_end.specs.TreeText.{tree_text}
 use Rattle.front_end.specs.ClassText.{classes_text}
 use Rattle.front_end.specs.ReleaseText.{classes_in, heading, missing, missing_line, missing_text, release_text}
-use Rattle.front_end.specs.Report.{fault_line, report_text}
+use Rattle.front_end.specs.Report.{fate_text, fault_line, report_text}
 
 -- the heading of a release
 pub heading_written : (out stream wave number kind a b c d e f : List ℕ) → a ≡ out ++ codes "stream " ++ stream → b ≡ a ++ codes " wave " ++ wave → c ≡ b ++ codes " release " ++ number → d ≡ c ++ 32 ∷ [] → e ≡ d ++ kind → f ≡ e ++ 10 ∷ []
@@ -40,6 +41,17 @@ missing_written p covered lost daemon found out a b c d e is some pa pb pc pd pe
   where
     regroup : (out a b c d e : List ℕ) → ((((out ++ a) ++ b) ++ c) ++ d) ++ e ≡ out ++ ((((a ++ b) ++ c) ++ d) ++ e)
     regroup out a b c d e = simp append_assoc
+
+-- the line of a fault
+pub fault_written : (p : Plan) (lost : List ℕ) (fault : Fault) (b : Bool) (out a d e f : List ℕ) → b ≡ member fault.node lost → a ≡ out ++ codes "fault " → d ≡ a ++ name_of p.names fault.node → e ≡ d ++ fate_text b fault → f ≡ e ++ 10 ∷ []
+    → f ≡ out ++ fault_line p lost fault
+fault_written p lost fault b out a d e f is pa pd pe pf =
+    pf ∙ ap (λ ys. ys ++ 10 ∷ []) (pe ∙ ap (λ ys. ys ++ fate_text b fault) (pd ∙ ap (λ ys. ys ++ name_of p.names fault.node) pa))
+    ∙ regroup out (codes "fault ") (name_of p.names fault.node) (fate_text b fault) (10 ∷ [])
+    ∙ ap (λ b. out ++ (codes "fault " ++ name_of p.names fault.node ++ fate_text b fault ++ 10 ∷ [])) is
+  where
+    regroup : (out a b c d : List ℕ) → (((out ++ a) ++ b) ++ c) ++ d ≡ out ++ (a ++ b ++ c ++ d)
+    regroup out a b c d = simp append_assoc
 
 -- all that a release says
 pub release_written : (p : Plan) (r : TreeRelease) (covered : Ranks) (lost : List ℕ) (blocks : List (Ranks × List Path)) (out a b c d e f g h : List ℕ) → covered ≡ r.tree.coverage → lost ≡ r.lost → blocks ≡ classes_in r.tree

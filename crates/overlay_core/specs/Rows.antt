@@ -3,13 +3,15 @@ use Rattle.std.specs.Prelude.{◌≡◌, refl, codes, ℕ, true, List, [], ◌�
 use Rattle.rank_set.specs.Ranks.{Ranks, none, has, with_rank, union, those, set_of}
 use Rattle.stat_plan.specs.Plans.{Plan, stream, ancestors, is_under, is_within, is_related, front, is_front, ranks, stream_of, daemons, mode, serves, waves_at, fault}
 use Rattle.stat_plan.specs.Kin.{complete}
+use Rattle.stat_plan.specs.Waves.{Open}
+use Rattle.stat_plan.specs.declared.act.Timer.TheVariants.{Running}
 use Rattle.stat_plan.specs.declared.script.Mode.{Mode}
 use Rattle.stat_plan.specs.declared.script.Mode.TheVariants.{WaitForAll, TimeOut, DontWait}
 use Rattle.stat_plan.specs.declared.script.Fault.{Fault}
 use Rattle.stat_desk.specs.declared.event.Event.{Event}
 use Rattle.stat_desk.specs.declared.event.Event.TheVariants.{Sample, Recv, Tick, Lose}
 use Rattle.overlay_core.specs.declared.release.Kind.TheVariants.{Partial as PartialRelease, Final as FinalRelease}
-use Rattle.overlay_core.specs.Nodes.{Release, release, due_at, dones, acted, sampled, after_tick, received_up, received_done, received_attach, received_down}
+use Rattle.overlay_core.specs.Nodes.{Up, Attach, Down, Release, release, due_at, dones, acted, sampled, after_tick, received_up, received_done, received_attach, received_down}
 use Rattle.overlay_core.specs.Machine.{start, commit, with_link, lose, is_doomed, is_active, enabled_events}
 use Rattle.overlay_core.specs.Runs.{after, is_legal_from}
 use Rattle.overlay_core.specs.Pick.{next_number, picked_event, picked_from, picked}
@@ -179,6 +181,54 @@ timed_ends : Gives timed timed_journal (partial (set_of (0 ∷ 1 ∷ [])) [] ∷
 unfolding has with_rank union those ancestors is_under is_within is_related front is_front ranks stream_of daemons mode serves waves_at fault complete due_at dones acted sampled after_tick received_up received_done received_attach received_down start commit with_link lose is_doomed is_active enabled_events
 timed_ends = record { legal = refl; releases = refl; next = refl }
 
+-- two daemons of a stream with a timeout of two ticks
+abbrev pub slow : Plan
+slow =
+    job (codes "fe:0" ∷ codes "a:0" ∷ codes "b:0" ∷ []) (None ∷ Some 0 ∷ Some 0 ∷ []) (none ∷ set_of (0 ∷ 1 ∷ []) ∷ set_of (2 ∷ 3 ∷ []) ∷ []) (TimeOut 2) (1 ∷ 2 ∷ []) []
+
+-- after one tick the timer still runs
+slow_waits : Gives slow (Sample 1 0 0 ∷ Recv 0 1 ∷ Tick 0 ∷ []) [] (Tick 0 ∷ Sample 2 0 0 ∷ [])
+unfolding has with_rank union those ancestors is_under is_within is_related front is_front ranks stream_of daemons mode serves waves_at fault complete due_at dones acted sampled after_tick received_up received_done received_attach received_down start commit with_link lose is_doomed is_active enabled_events
+slow_waits = record { legal = refl; releases = refl; next = refl }
+
+-- after two it has run out
+slow_fires : Gives slow (Sample 1 0 0 ∷ Recv 0 1 ∷ Tick 0 ∷ Tick 0 ∷ []) (partial (set_of (0 ∷ 1 ∷ [])) [] ∷ []) (Sample 2 0 0 ∷ [])
+unfolding has with_rank union those ancestors is_under is_within is_related front is_front ranks stream_of daemons mode serves waves_at fault complete due_at dones acted sampled after_tick received_up received_done received_attach received_down start commit with_link lose is_doomed is_active enabled_events
+slow_fires = record { legal = refl; releases = refl; next = refl }
+
+-- three daemons of a stream that does not wait, of which one is lost
+abbrev pub eager_loss : Plan
+eager_loss =
+    job (codes "fe:0" ∷ codes "a:0" ∷ codes "b:0" ∷ codes "c:0" ∷ []) (None ∷ Some 0 ∷ Some 0 ∷ Some 0 ∷ []) (none ∷ set_of (0 ∷ []) ∷ set_of (1 ∷ []) ∷ set_of (2 ∷ []) ∷ []) DontWait (1 ∷ 2 ∷ 3 ∷ []) (losing 2 0 0 ∷ [])
+
+-- a partial release names the lost daemon
+eager_names : Gives eager_loss (Lose 2 ∷ Recv 0 2 ∷ Sample 1 0 0 ∷ Recv 0 1 ∷ []) (partial (set_of (0 ∷ [])) (2 ∷ []) ∷ []) (Sample 3 0 0 ∷ [])
+unfolding has with_rank union those ancestors is_under is_within is_related front is_front ranks stream_of daemons mode serves waves_at fault complete due_at dones acted sampled after_tick received_up received_done received_attach received_down start commit with_link lose is_doomed is_active enabled_events
+eager_names = record { legal = refl; releases = refl; next = refl }
+
+-- and is no child any more
+eager_children : ((after eager_loss (Lose 2 ∷ Recv 0 2 ∷ [])).node 0).kin.children ≡ 1 ∷ 3 ∷ []
+unfolding has with_rank union those ancestors is_under is_within is_related front is_front ranks stream_of daemons mode serves waves_at fault complete due_at dones acted sampled after_tick received_up received_done received_attach received_down start commit with_link lose is_doomed is_active enabled_events
+eager_children = refl
+
+-- an inner node that is lost after it has sent twice, of which one packet stays
+abbrev pub cut : Plan
+cut =
+    job (codes "fe:0" ∷ codes "m:0" ∷ codes "a:0" ∷ codes "b:0" ∷ []) (None ∷ Some 0 ∷ Some 1 ∷ Some 1 ∷ []) (none ∷ none ∷ set_of (0 ∷ []) ∷ set_of (1 ∷ []) ∷ []) DontWait (2 ∷ 3 ∷ []) (losing 1 2 1 ∷ [])
+
+abbrev pub cut_journal : List Event
+cut_journal = Sample 2 0 0 ∷ Recv 1 2 ∷ Sample 3 0 0 ∷ Recv 1 3 ∷ Lose 1 ∷ []
+
+-- the first of its packets stays, and then comes the word of its loss
+cut_keeps_first : (after cut cut_journal).link 1 0 ≡ Up 0 0 (set_of (0 ∷ [])) ∷ Down ∷ []
+unfolding has with_rank union those ancestors is_under is_within is_related front is_front ranks stream_of daemons mode serves waves_at fault complete due_at dones acted sampled after_tick received_up received_done received_attach received_down start commit with_link lose is_doomed is_active enabled_events
+cut_keeps_first = refl
+
+-- its child attaches to the front end before it sends again
+cut_attaches_first : (after cut (Sample 2 0 0 ∷ Recv 1 2 ∷ Sample 3 0 0 ∷ Recv 1 3 ∷ Lose 1 ∷ Recv 2 1 ∷ [])).link 2 0 ≡ Attach ∷ Up 0 0 (set_of (0 ∷ [])) ∷ []
+unfolding has with_rank union those ancestors is_under is_within is_related front is_front ranks stream_of daemons mode serves waves_at fault complete due_at dones acted sampled after_tick received_up received_done received_attach received_down start commit with_link lose is_doomed is_active enabled_events
+cut_attaches_first = refl
+
 -- the first two numbers from 0 on
 first_number : next_number 0 ≡ 1442695040888963407
 unfolding next_number
@@ -201,3 +251,18 @@ first_picks = refl
 eager_picked : picked eager 0 ≡ eager_journal
 unfolding next_number picked_event has with_rank union those ancestors is_under is_within is_related front is_front ranks stream_of daemons mode serves waves_at fault complete due_at dones acted sampled after_tick received_up received_done received_attach received_down start commit with_link lose is_doomed is_active enabled_events
 eager_picked = refl
+
+-- an inner node below one that is lost, while a timer of two ticks runs there
+abbrev pub slow_below : Plan
+slow_below =
+    job (codes "fe:0" ∷ codes "m:0" ∷ codes "x:0" ∷ codes "a:0" ∷ codes "b:0" ∷ []) (None ∷ Some 0 ∷ Some 1 ∷ Some 2 ∷ Some 2 ∷ []) (none ∷ none ∷ none ∷ set_of (0 ∷ []) ∷ set_of (1 ∷ []) ∷ []) (TimeOut 2) (3 ∷ 4 ∷ []) (losing 1 0 0 ∷ [])
+
+-- before the loss one tick is left
+slow_ticks : ((after slow_below (Sample 3 0 0 ∷ Recv 2 3 ∷ Tick 2 ∷ [])).node 2).book 0 0 ≡ Open (set_of (0 ∷ [])) none (Running 1)
+unfolding next_number picked_event has with_rank union those ancestors is_under is_within is_related front is_front ranks stream_of daemons mode serves waves_at fault complete due_at dones acted sampled after_tick received_up received_done received_attach received_down start commit with_link lose is_doomed is_active enabled_events
+slow_ticks = refl
+
+-- with a new parent the timer begins anew
+slow_begins_anew : ((after slow_below (Sample 3 0 0 ∷ Recv 2 3 ∷ Tick 2 ∷ Lose 1 ∷ Recv 2 1 ∷ [])).node 2).book 0 0 ≡ Open (set_of (0 ∷ [])) none (Running 2)
+unfolding next_number picked_event has with_rank union those ancestors is_under is_within is_related front is_front ranks stream_of daemons mode serves waves_at fault complete due_at dones acted sampled after_tick received_up received_done received_attach received_down start commit with_link lose is_doomed is_active enabled_events
+slow_begins_anew = refl

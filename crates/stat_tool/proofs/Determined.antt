@@ -8,88 +8,88 @@ use Rattle.text_lines.specs.declared.text_error.TextError.{TextError}
 use Rattle.stat_desk.specs.declared.event.Event.{Event}
 use Rattle.topology_text.specs.Whole.{topology_of}
 use Rattle.sample_text.specs.Whole.{samples_of_text}
-use Rattle.stat_tool.specs.Call.{Answered, DeskSeen, IsDetermined, SinkSeen, answer_of, given}
+use Rattle.stat_tool.specs.Call.{Answered, DeskChange, IsDetermined, SinkChange, answer_of, given}
 use Rattle.stat_tool.specs.NextStep.{Agrees, Answers, Bytes, Does, AreReadResults, ReadResult, Step, TooLong, Wants, at_samples, at_script, by_samples, by_topology, next_step, limit}
 use Rattle.stat_tool.specs.Words.{Names, in_order}
 use Rattle.stat_tool.specs.declared.status.Status.{Status}
 use Rattle.stat_tool.specs.declared.status.Status.TheVariants.{Done, BadWords, DeskFault, BadInput, OverLimit, SinkFault, OutOfMemory, NotYet}
 
--- ---- the texts that are told determine what was got
+-- ---- the texts that the desk can tell determine what is read
 
-same_got : (text : List ℕ) (g : ReadResult) → Agrees (Some text) g → g ≡ given text
-same_got text (Bytes bytes) agrees =
+same_result : (text : List ℕ) (g : ReadResult) → Agrees (Some text) g → g ≡ given text
+same_result text (Bytes bytes) agrees =
     ap Bytes agrees.whole ∙ sym (ap (λ (b : Bool). if b then Bytes text else TooLong) (le-leb (length text) limit (subst (λ (b : List ℕ). length b ≤ limit) agrees.whole agrees.within)))
-same_got text TooLong agrees = sym (ap (λ (b : Bool). if b then Bytes text else TooLong) (lt-leb (length text) limit agrees))
+same_result text TooLong agrees = sym (ap (λ (b : Bool). if b then Bytes text else TooLong) (lt-leb (length text) limit agrees))
 
-told_got : (contents : Option (List ℕ)) (text : List ℕ) (g : ReadResult) → contents ≡ Some text → Agrees contents g → g ≡ given text
-told_got contents text g is agrees = same_got text g (subst (λ (o : Option (List ℕ)). Agrees o g) is agrees)
+result_is : (contents : Option (List ℕ)) (text : List ℕ) (g : ReadResult) → contents ≡ Some text → Agrees contents g → g ≡ given text
+result_is contents text g is agrees = same_result text g (subst (λ (o : Option (List ℕ)). Agrees o g) is agrees)
 
--- one list begins another
-abbrev IsFront : List ReadResult → List ReadResult → Type 0
-IsFront [] all = Unit {0}
-IsFront (g ∷ got) [] = ⊥
-IsFront (g ∷ got) (h ∷ all) = (g ≡ h) × IsFront got all
+-- one list is the first part of another
+abbrev BeginsAs : List ReadResult → List ReadResult → Type 0
+BeginsAs [] all = Unit {0}
+BeginsAs (g ∷ results) [] = ⊥
+BeginsAs (g ∷ results) (h ∷ all) = (g ≡ h) × BeginsAs results all
 
--- ---- what more is got doesn't change an answer
+-- ---- what is read later doesn't change an answer
 
--- a course that wants no further file
+-- a step that wants no further file
 abbrev IsSettled : Step → Type 0
 IsSettled (Wants role) = ⊥
 IsSettled (Answers status) = Unit {0}
 IsSettled (Does job) = Unit {0}
 
-script_stays : (t : Nodes) (s : Sampled) (got : List ReadResult) (c : ReadResult) → IsFront got (c ∷ []) → IsSettled (at_script t s got) → at_script t s (c ∷ []) ≡ at_script t s got
+script_stays : (t : Nodes) (s : Sampled) (results : List ReadResult) (c : ReadResult) → BeginsAs results (c ∷ []) → IsSettled (at_script t s results) → at_script t s (c ∷ []) ≡ at_script t s results
 script_stays t s [] c front settled = absurd settled
 script_stays t s (g ∷ []) c front settled = ap (λ (h : ReadResult). at_script t s (h ∷ [])) (sym front.0)
-script_stays t s (g ∷ h ∷ got) c front settled = absurd front.1
+script_stays t s (g ∷ h ∷ results) c front settled = absurd front.1
 
-by_samples_stays : (t : Nodes) (s : Result Sampled TextError) (got : List ReadResult) (c : ReadResult) → IsFront got (c ∷ []) → IsSettled (by_samples t s got) → by_samples t s (c ∷ []) ≡ by_samples t s got
-by_samples_stays t (Err e) got c front settled = refl
-by_samples_stays t (Ok s) got c front settled = script_stays t s got c front settled
+by_samples_stays : (t : Nodes) (s : Result Sampled TextError) (results : List ReadResult) (c : ReadResult) → BeginsAs results (c ∷ []) → IsSettled (by_samples t s results) → by_samples t s (c ∷ []) ≡ by_samples t s results
+by_samples_stays t (Err e) results c front settled = refl
+by_samples_stays t (Ok s) results c front settled = script_stays t s results c front settled
 
-same_samples : (t : Nodes) (g : ReadResult) (got : List ReadResult) (c : ReadResult) → IsFront got (c ∷ []) → IsSettled (at_samples t (g ∷ got)) → at_samples t (g ∷ c ∷ []) ≡ at_samples t (g ∷ got)
-same_samples t TooLong got c front settled = refl
-same_samples t (Bytes bytes) got c front settled = by_samples_stays t (samples_of_text t bytes) got c front settled
+same_samples : (t : Nodes) (g : ReadResult) (results : List ReadResult) (c : ReadResult) → BeginsAs results (c ∷ []) → IsSettled (at_samples t (g ∷ results)) → at_samples t (g ∷ c ∷ []) ≡ at_samples t (g ∷ results)
+same_samples t TooLong results c front settled = refl
+same_samples t (Bytes bytes) results c front settled = by_samples_stays t (samples_of_text t bytes) results c front settled
 
-samples_stay : (t : Nodes) (got : List ReadResult) (b c : ReadResult) → IsFront got (b ∷ c ∷ []) → IsSettled (at_samples t got) → at_samples t (b ∷ c ∷ []) ≡ at_samples t got
+samples_stay : (t : Nodes) (results : List ReadResult) (b c : ReadResult) → BeginsAs results (b ∷ c ∷ []) → IsSettled (at_samples t results) → at_samples t (b ∷ c ∷ []) ≡ at_samples t results
 samples_stay t [] b c front settled = absurd settled
-samples_stay t (g ∷ got) b c front settled = ap (λ (h : ReadResult). at_samples t (h ∷ c ∷ [])) (sym front.0) ∙ same_samples t g got c front.1 settled
+samples_stay t (g ∷ results) b c front settled = ap (λ (h : ReadResult). at_samples t (h ∷ c ∷ [])) (sym front.0) ∙ same_samples t g results c front.1 settled
 
-by_topology_stays : (t : Result Nodes TextError) (got : List ReadResult) (b c : ReadResult) → IsFront got (b ∷ c ∷ []) → IsSettled (by_topology t got) → by_topology t (b ∷ c ∷ []) ≡ by_topology t got
-by_topology_stays (Err e) got b c front settled = refl
-by_topology_stays (Ok t) got b c front settled = samples_stay t got b c front settled
+by_topology_stays : (t : Result Nodes TextError) (results : List ReadResult) (b c : ReadResult) → BeginsAs results (b ∷ c ∷ []) → IsSettled (by_topology t results) → by_topology t (b ∷ c ∷ []) ≡ by_topology t results
+by_topology_stays (Err e) results b c front settled = refl
+by_topology_stays (Ok t) results b c front settled = samples_stay t results b c front settled
 
-same_course : (g : ReadResult) (got : List ReadResult) (b c : ReadResult) → IsFront got (b ∷ c ∷ []) → IsSettled (next_step (g ∷ got)) → next_step (g ∷ b ∷ c ∷ []) ≡ next_step (g ∷ got)
-same_course TooLong got b c front settled = refl
-same_course (Bytes bytes) got b c front settled = by_topology_stays (topology_of bytes) got b c front settled
+same_step : (g : ReadResult) (results : List ReadResult) (b c : ReadResult) → BeginsAs results (b ∷ c ∷ []) → IsSettled (next_step (g ∷ results)) → next_step (g ∷ b ∷ c ∷ []) ≡ next_step (g ∷ results)
+same_step TooLong results b c front settled = refl
+same_step (Bytes bytes) results b c front settled = by_topology_stays (topology_of bytes) results b c front settled
 
-course_stays : (got : List ReadResult) (a b c : ReadResult) → IsFront got (a ∷ b ∷ c ∷ []) → IsSettled (next_step got) → next_step (a ∷ b ∷ c ∷ []) ≡ next_step got
-course_stays [] a b c front settled = absurd settled
-course_stays (g ∷ got) a b c front settled = ap (λ (h : ReadResult). next_step (h ∷ b ∷ c ∷ [])) (sym front.0) ∙ same_course g got b c front.1 settled
+step_stays : (results : List ReadResult) (a b c : ReadResult) → BeginsAs results (a ∷ b ∷ c ∷ []) → IsSettled (next_step results) → next_step (a ∷ b ∷ c ∷ []) ≡ next_step results
+step_stays [] a b c front settled = absurd settled
+step_stays (g ∷ results) a b c front settled = ap (λ (h : ReadResult). next_step (h ∷ b ∷ c ∷ [])) (sym front.0) ∙ same_step g results b c front.1 settled
 
 -- ---- what the call's own words determine
 
 module _ (names : Names) (contents : List ℕ → Option (List ℕ)) (t s c : List ℕ)
     (first : contents names.topology ≡ Some t) (second : contents names.samples ≡ Some s) (third : contents names.script ≡ Some c) where
-  -- what was got begins what the texts give
-  got_front : (got : List ReadResult) → AreReadResults contents (in_order names) got → IsFront got (given t ∷ given s ∷ given c ∷ [])
-  got_front [] gave = tt
-  got_front (x ∷ []) gave = (told_got (contents names.topology) t x first gave.0, tt)
-  got_front (x ∷ y ∷ []) gave = (told_got (contents names.topology) t x first gave.0, (told_got (contents names.samples) s y second gave.1.0, tt))
-  got_front (x ∷ y ∷ z ∷ []) gave = (
-    told_got (contents names.topology) t x first gave.0,
-    (told_got (contents names.samples) s y second gave.1.0, (told_got (contents names.script) c z third gave.1.1.0, tt)),
+  -- what is read is the first part of what the texts give
+  results_begin : (results : List ReadResult) → AreReadResults contents (in_order names) results → BeginsAs results (given t ∷ given s ∷ given c ∷ [])
+  results_begin [] read = tt
+  results_begin (x ∷ []) read = (result_is (contents names.topology) t x first read.0, tt)
+  results_begin (x ∷ y ∷ []) read = (result_is (contents names.topology) t x first read.0, (result_is (contents names.samples) s y second read.1.0, tt))
+  results_begin (x ∷ y ∷ z ∷ []) read = (
+    result_is (contents names.topology) t x first read.0,
+    (result_is (contents names.samples) s y second read.1.0, (result_is (contents names.script) c z third read.1.1.0, tt)),
   )
-  got_front (x ∷ y ∷ z ∷ v ∷ got) gave = absurd gave.1.1.1
+  results_begin (x ∷ y ∷ z ∷ v ∷ results) read = absurd read.1.1.1
 
-  answers : (got : List ReadResult) (p : Step) → AreReadResults contents (in_order names) got → next_step got ≡ p → IsSettled p → answer_of p ≡ answer_of (next_step (given t ∷ given s ∷ given c ∷ []))
-  answers got p gave is settled =
-      ap answer_of (sym is) ∙ ap answer_of (sym (course_stays got (given t) (given s) (given c) (got_front got gave) (subst IsSettled (sym is) settled)))
+  answers : (results : List ReadResult) (p : Step) → AreReadResults contents (in_order names) results → next_step results ≡ p → IsSettled p → answer_of p ≡ answer_of (next_step (given t ∷ given s ∷ given c ∷ []))
+  answers results p read is settled =
+      ap answer_of (sym is) ∙ ap answer_of (sym (step_stays results (given t) (given s) (given c) (results_begin results read) (subst IsSettled (sym is) settled)))
 
 -- the texts determine the answer, where nothing fails
-pub determined : (names : Names) (desk : DeskSeen) (out : SinkSeen) (journal : List Event) (status : Status) → Answered (Some names) desk out journal status → IsDetermined names desk out status
+pub determined : (names : Names) (desk : DeskChange) (out : SinkChange) (journal : List Event) (status : Status) → Answered (Some names) desk out journal status → IsDetermined names desk out status
 determined names desk out journal Done a t s c first second third no_fault no_loss =
-    inl (answers names desk.contents t s c first second third a.0 (Does a.1.1.job) a.1.0 a.1.1.stands tt)
+    inl (answers names desk.contents t s c first second third a.0 (Does a.1.1.job) a.1.0 a.1.1.step tt)
 determined names desk out journal OutOfMemory a t s c first second third no_fault no_loss = inr refl
 determined names desk out journal (BadInput file line reason) a t s c first second third no_fault no_loss =
     inl (answers names desk.contents t s c first second third a.0 (Answers (BadInput file line reason)) a.1.0 a.1.1.0 tt)
@@ -102,6 +102,6 @@ determined names desk out journal (SinkFault target) a t s c first second third 
 determined names desk out journal (BadWords fault) a t s c first second third no_fault no_loss = absurd a.1.1.0
 
 -- the same, for any words
-pub all_determined : (names : Option Names) (desk : DeskSeen) (out : SinkSeen) (journal : List Event) (status : Status) → Answered names desk out journal status → IfSome names (λ n. IsDetermined n desk out status)
+pub all_determined : (names : Option Names) (desk : DeskChange) (out : SinkChange) (journal : List Event) (status : Status) → Answered names desk out journal status → IfSome names (λ n. IsDetermined n desk out status)
 all_determined None desk out journal status a = tt
 all_determined (Some names) desk out journal status a = determined names desk out journal status a

@@ -1,9 +1,9 @@
 -- How a run ends that loses no node.
-use Rattle.std.proofs.Common.{◌≡◌, inl, inr, ◌==◌, ◌&&◌, ℕ, Bool, true, false, List, [], ◌∷◌, ◌++◌, Option, Some, None, filter, find, refl, sym, ap, subst, ◌∙◌, eqb-true}
-use Rattle.std.specs.Prelude.{IfSome, cond}
+use Rattle.std.proofs.Common.{◌≡◌, ◌≢◌, inl, inr, ◌==◌, ◌&&◌, ℕ, Bool, true, false, List, [], ◌∷◌, ◌++◌, Option, Some, None, filter, find, refl, sym, ap, subst, ◌∙◌, eqb-true}
+use Rattle.std.specs.Prelude.{cond}
 use Rattle.std.specs.List.{AllByRecursion}
 use Rattle.std.proofs.lemmas.Bool.{and_parts, true≢false}
-use Rattle.rank_set.specs.Ranks.{Ranks, Has}
+use Rattle.rank_set.specs.Ranks.{Ranks, Has, none}
 use Rattle.prefix_tree.specs.Pairs.{HasNoEmptyPath}
 use Rattle.prefix_tree.specs.Tree.{tree_of}
 use Rattle.equiv_class.proofs.SamePairs.{classes_of_tree}
@@ -15,48 +15,48 @@ use Rattle.stat_plan.specs.declared.script.Fault.{Fault}
 use Rattle.stat_plan.proofs.LinePrefixes.{paths-samples_of}
 use Rattle.stat_desk.specs.declared.event.Event.{Event}
 use Rattle.stat_desk.specs.declared.event.Event.TheVariants.{Lose}
-use Rattle.overlay_core.specs.History.{of_wave}
+use Rattle.overlay_core.specs.History.{of_wave, ByKind, IsHistory, MissesOnlyLost}
+use Rattle.overlay_core.specs.declared.release.Kind.{Kind}
+use Rattle.overlay_core.specs.declared.release.Kind.TheVariants.{Partial, Final}
+use Rattle.stat_plan.specs.Waves.{Wave, is_open}
 use Rattle.overlay_core.specs.Losses.{IsLost}
 use Rattle.overlay_core.specs.Machine.{State, start, step, is_doomed, is_enabled, is_spent}
 use Rattle.overlay_core.specs.Nodes.{Release}
 use Rattle.overlay_core.specs.Releases.{CoversAll}
 use Rattle.overlay_core.specs.Runs.{IsLegalFrom, IsWhole, after}
-use Rattle.overlay_core.specs.TreeReleases.{TreeRelease, bare_releases}
-use Rattle.overlay_core.specs.Whole.{EndsFinally}
-use Rattle.overlay_core.proofs.Ended.{all_of_stream, whole_has_ended}
+use Rattle.overlay_core.specs.TreeReleases.{AreNumberedInOrder, TreeRelease, bare_releases}
+use Rattle.overlay_core.specs.Whole.{EndsFinally, HasOneRelease}
+use Rattle.overlay_core.proofs.Ended.{all_of_stream, whole_has_ended, waits_for_all}
+use Rattle.overlay_core.proofs.Whole.{legal_is_sound}
 use Rattle.overlay_core.proofs.PlanFacts.{plan_facts}
 use Rattle.overlay_core.proofs.Lists.{append_right, filter_from}
 use Rattle.overlay_core.proofs.Releases.{legal_log}
 use Rattle.overlay_node.specs.Packets.{ReleaseFits}
-use Rattle.stat_tool.specs.Call.{Answered, DeskSeen, Ended, EndsByPlan, Finishes, SinkSeen}
-use Rattle.stat_tool.specs.NextStep.{Does, AreReadResults, ReadResult, next_step}
-use Rattle.stat_tool.specs.Words.{Names, in_order}
-use Rattle.stat_tool.specs.RunOutput.{HasOutput, EndsWhole, EndsWithAll, HasRun, IsDirect, Job, RunJob, RunOutput}
-use Rattle.stat_tool.specs.declared.status.Status.{Status}
-use Rattle.stat_tool.specs.declared.status.Status.TheVariants.{Done, BadWords, DeskFault, BadInput, OverLimit, SinkFault, OutOfMemory, NotYet}
+use Rattle.front_end.specs.Report.{IsReport}
+use Rattle.stat_tool.specs.RunOutput.{CoveragesGrow, EndsWithAll, HasRun, IsDirect, TakesFirst}
 
 -- ---- no node is lost
 
 no_fault : (p : Plan) → p.faults ≡ [] → (n : ℕ) → fault p n ≡ None
 unfolding fault
-no_fault p safe n = ap (λ (faults : List Fault). find (λ f. f.node == n) faults) safe
+no_fault p no_faults n = ap (λ (faults : List Fault). find (λ f. f.node == n) faults) no_faults
 
 none_doomed : (p : Plan) → p.faults ≡ [] → (st : State) (n : ℕ) → is_doomed p st n ≡ false
 unfolding is_doomed
-none_doomed p safe st n = ap (λ (o : Option Fault). is_spent o (st.node n).count) (no_fault p safe n)
+none_doomed p no_faults st n = ap (λ (o : Option Fault). is_spent o (st.node n).count) (no_fault p no_faults n)
 
 no_loss_comes : (p : Plan) → p.faults ≡ [] → (st : State) (n : ℕ) → is_enabled p st (Lose n) ≡ true → ⊥
-no_loss_comes p safe st n comes = true≢false (sym (and_parts (st.alive n) (is_doomed p st n) comes).1 ∙ none_doomed p safe st n)
+no_loss_comes p no_faults st n comes = true≢false (sym (and_parts (st.alive n) (is_doomed p st n) comes).1 ∙ none_doomed p no_faults st n)
 
 none_lost_from : (p : Plan) → p.faults ≡ [] → (st : State) (es : List Event) → IsLegalFrom p st es → (n : ℕ) → IsLost es n → ⊥
-none_lost_from p safe st [] legal n lost = absurd lost
-none_lost_from p safe st (e ∷ es) legal n (inl is) = no_loss_comes p safe st n (subst (λ (e : Event). is_enabled p st e ≡ true) (sym is) legal.0)
-none_lost_from p safe st (e ∷ es) legal n (inr lost) = none_lost_from p safe (step p st e) es legal.1 n lost
+none_lost_from p no_faults st [] legal n lost = absurd lost
+none_lost_from p no_faults st (e ∷ es) legal n (inl is) = no_loss_comes p no_faults st n (subst (λ (e : Event). is_enabled p st e ≡ true) (sym is) legal.0)
+none_lost_from p no_faults st (e ∷ es) legal n (inr lost) = none_lost_from p no_faults (step p st e) es legal.1 n lost
 
 -- ---- each wave ends with all ranks of its stream
 
 ends_with_all : (p : Plan) (journal : List Event) → IsPlan p → p.faults ≡ [] → IsWhole p journal → (s w : ℕ) → In (s, w) (waves_of p.streams) → EndsWithAll p s (of_wave s w (after p journal).releases)
-ends_with_all p journal plan safe whole s w wave =
+ends_with_all p journal plan no_faults whole s w wave =
     let ended : EndsFinally p journal s (of_wave s w (after p journal).releases) = (whole_has_ended p journal (plan_facts p plan) whole).final s w wave in
     let among : In ended.final (of_wave s w (after p journal).releases) = subst (λ (rs : List Release). In ended.final rs) (sym ended.all) (append_right ended.final ended.before (ended.final ∷ []) (inl refl)) in
     let found = filter_from (λ (r : Release). (r.stream == s) && (r.wave == w)) (after p journal).releases ended.final among in
@@ -70,7 +70,7 @@ ends_with_all p journal plan safe whole s w wave =
       final = ended.kind;
       covers = all_of_stream p s ended.final.cov
           (λ r has. let from = sound.whole r has in (from.daemon, subst (λ (s : ℕ). In from.daemon (daemons p s)) own from.place.listed, from.holds))
-          (λ d there. ended.covers d there (none_lost_from p safe (start p) journal whole.0 d));
+          (λ d there. ended.covers d there (none_lost_from p no_faults (start p) journal whole.0 d));
     }
 
 -- ---- each release is of the samples
@@ -96,41 +96,51 @@ all_direct p is (r ∷ rs) fit = (
   all_direct p is rs fit.1,
 )
 
--- ---- the run, and the call
+-- ---- coverages grow
 
-ends_whole : (p : Plan) (journal : List Event) (report : List ℕ) → HasRun p journal report → EndsWhole p journal report
-ends_whole p journal report run = record {
-  whole = run.whole;
-  releases = run.releases;
-  reached = run.reached;
-  text = run.text;
-  waves = λ s w wave. subst (λ (rs : List Release). EndsWithAll p s (of_wave s w rs)) (sym run.reached) (ends_with_all p journal run.plan run.safe run.whole s w wave);
-  direct = all_direct p run.plan run.releases run.trees;
-}
+final_is_not_partial : Final ≡ Partial → ⊥
+final_is_not_partial e = absurd (subst (λ (k : Kind). ByKind k ⊥ (Unit {0})) e tt)
 
-by_plan : (names : Names) (desk : DeskSeen) (out : SinkSeen) (journal : List Event) (status : Status) (got : List ReadResult) → AreReadResults desk.contents (in_order names) got → Finishes (next_step got) out journal status → EndsByPlan names desk out journal status
-by_plan names desk out journal status got gave done = go done.job done.stands done.came
+coverages_grow : (p : Plan) (alive : ℕ → Bool) (s : ℕ) (last : Ranks) (rs : List Release) (v : Wave) → IsHistory p alive s last rs v → CoveragesGrow last rs
+coverages_grow p alive s last [] v h = tt
+coverages_grow p alive s last (r ∷ rs) v h = by r.kind refl h.1 (λ more. coverages_grow p alive s r.cov rs v more)
   where
-    go : (job : Job) → next_step got ≡ Does job → HasOutput job done.work → EndsByPlan names desk out journal status
-    go (RunJob p) stands came = record {
-      plan = p;
-      report = done.work.report;
-      read = (got, (gave, stands));
-      run = subst (λ (journal : List Event). EndsWhole p journal done.work.report) (sym done.given) (ends_whole p done.work.journal done.work.report came);
-      written = done.written;
+    by : (k : Kind) → r.kind ≡ k → ByKind k ((last ≢ r.cov) × IsHistory p alive s r.cov rs v) (MissesOnlyLost p alive s r.cov r.lost × (rs ≡ []) × (is_open v ≡ false)) → (IsHistory p alive s r.cov rs v → CoveragesGrow r.cov rs) → CoveragesGrow last (r ∷ rs)
+    by Partial is more rest = (h.0, (λ _. more.0), rest more.1)
+    by Final is more rest = (h.0, (λ e. absurd (final_is_not_partial (sym is ∙ e))), subst (λ (qs : List Release). CoveragesGrow r.cov qs) (sym more.1) tt)
+
+-- ---- the run
+
+-- what is known of a run that has ended, and of its report
+pub record RunFacts (p : Plan) (journal : List Event) (report : List ℕ) : Type 0 where
+  pub plan : IsPlan p
+  pub no_faults : p.faults ≡ []
+  pub whole : IsWhole p journal
+  pub serial : TakesFirst p (start p) journal
+  pub releases : List TreeRelease
+  pub reached : bare_releases releases ≡ (after p journal).releases
+  pub numbered : AreNumberedInOrder [] releases
+  pub trees : AllByRecursion (ReleaseFits p) releases
+  pub text : IsReport p releases [] report
+
+-- so it is a run of the plan, as the headline says
+pub whole_run : (p : Plan) (journal : List Event) (report : List ℕ) → RunFacts p journal report → HasRun p journal report
+whole_run p journal report run =
+    let facts = plan_facts p run.plan in
+    record {
+      plan = run.plan;
+      no_faults = run.no_faults;
+      whole = run.whole;
+      serial = run.serial;
+      releases = run.releases;
+      reached = run.reached;
+      numbered = run.numbered;
+      text = run.text;
+      sound = λ r there. legal_log p journal facts run.whole.0 r (subst (λ (rs : List Release). In r rs) run.reached there);
+      direct = all_direct p run.plan run.releases run.trees;
+      grow = λ s w. subst (λ (rs : List Release). CoveragesGrow none (of_wave s w rs)) (sym run.reached)
+          (coverages_grow p (after p journal).alive s none (of_wave s w (after p journal).releases) (((after p journal).node (front p)).book s w) ((legal_is_sound p journal facts run.whole.0).history.releases s w));
+      waves = λ s w wave. subst (λ (rs : List Release). EndsWithAll p s (of_wave s w rs)) (sym run.reached) (ends_with_all p journal run.plan run.no_faults run.whole s w wave);
+      once = λ s w wave waits. subst (λ (rs : List Release). HasOneRelease p s (of_wave s w rs)) (sym run.reached)
+          (waits_for_all p journal s w facts run.whole waits (λ d there. none_lost_from p run.no_faults (start p) journal run.whole.0 d) wave);
     }
-
-pub ended : (names : Names) (desk : DeskSeen) (out : SinkSeen) (journal : List Event) (status : Status) → Answered (Some names) desk out journal status → Ended names desk out journal status
-ended names desk out journal Done a = by_plan names desk out journal Done a.0 a.1.0 a.1.1
-ended names desk out journal (SinkFault target) a = by_plan names desk out journal (SinkFault target) a.0 a.1.0 a.1.1
-ended names desk out journal OutOfMemory a = tt
-ended names desk out journal (BadInput file line reason) a = tt
-ended names desk out journal (OverLimit file line what most) a = tt
-ended names desk out journal (NotYet role) a = tt
-ended names desk out journal (DeskFault role) a = tt
-ended names desk out journal (BadWords fault) a = tt
-
--- the same, for any words
-pub all_ended : (names : Option Names) (desk : DeskSeen) (out : SinkSeen) (journal : List Event) (status : Status) → Answered names desk out journal status → IfSome names (λ n. Ended n desk out journal status)
-all_ended None desk out journal status a = tt
-all_ended (Some names) desk out journal status a = ended names desk out journal status a

@@ -1,4 +1,4 @@
--- The run that takes the first of the events that may come, again and again.
+-- The run that takes the first enabled event, again and again.
 use Rattle.std.proofs.Common.{◌≡◌, ◌<◌, ◌↔◌, inl, ℕ, Bool, true, false, List, [], ◌∷◌, ◌++◌, Option, Some, None, length, refl, sym, ap, subst, ◌∙◌}
 use Rattle.std.specs.Prelude.{slice_get}
 use Rattle.std.specs.List.{AllByRecursion}
@@ -18,6 +18,7 @@ use Rattle.overlay_node.specs.Packets.{ReleaseFits}
 use Rattle.overlay_net.specs.Nets.{NetView, IsReachedBy, state_of}
 use Rattle.front_end.specs.Report.{IsReport}
 use Rattle.stat_tool.specs.RunOutput.{HasRun, TakesFirst}
+use Rattle.stat_tool.proofs.Ending.{whole_run}
 
 first_in : (es : List Event) (e : Event) → Some e ≡ slice_get es 0 → In e es
 first_in [] e is = absurd (cc)
@@ -27,7 +28,7 @@ none_there : (es : List Event) → None ≡ slice_get es 0 → es ≡ []
 none_there [] is = refl
 none_there (f ∷ es) is = absurd (cc)
 
--- what is found first may come next
+-- what is found first is enabled
 pub found_is_enabled : (p : Plan) (st : State) (e : Event) → Some e ≡ slice_get (enabled_events p st) 0 → is_enabled p st e ≡ true
 found_is_enabled p st e is = listed_enabled p st e (first_in (enabled_events p st) e is)
 
@@ -45,27 +46,27 @@ takes_more : (p : Plan) (st : State) (es : List Event) (e : Event) → TakesFirs
 takes_more p st [] e takes first = (first, tt)
 takes_more p st (f ∷ es) e takes first = (takes.0, takes_more p (step p st f) es e takes.1 first)
 
--- the first of the events that may come after a journal goes on with it
-pub goes_on : (v : NetView) (p : Plan) (journal : List Event) (e : Event) → v.plan ≡ p → IsReachedBy v journal → Some e ≡ slice_get (enabled_events v.plan (state_of v)) 0 → TakesFirst p (start p) journal → TakesFirst p (start p) (journal ++ e ∷ [])
-goes_on v p journal e same reached found takes =
+-- the first event enabled after a journal extends it
+pub extends : (v : NetView) (p : Plan) (journal : List Event) (e : Event) → v.plan ≡ p → IsReachedBy v journal → Some e ≡ slice_get (enabled_events v.plan (state_of v)) 0 → TakesFirst p (start p) journal → TakesFirst p (start p) (journal ++ e ∷ [])
+extends v p journal e same reached found takes =
     takes_more p (start p) journal e takes
     (subst (λ (p : Plan). slice_get (enabled_events p (after p journal)) 0 ≡ Some e) same
     (subst (λ (st : State). slice_get (enabled_events v.plan st) 0 ≡ Some e) reached.state (sym found)))
 
--- where none is found, none may come
+-- where none is found, none is enabled
 pub is_quiet : (v : NetView) (p : Plan) (journal : List Event) → IsPlan p → v.plan ≡ p → IsReachedBy v journal → None ≡ slice_get (enabled_events v.plan (state_of v)) 0 → IsQuiet p (after p journal)
 is_quiet v p journal is same reached found =
     subst (λ (p : Plan). IsQuiet p (after p journal)) same
     ((quiet_where_empty v.plan journal (plan_facts v.plan (subst IsPlan (sym same) is)) reached.legal).1 (none_there (enabled_events v.plan (after v.plan journal)) (subst (λ (st : State). None ≡ slice_get (enabled_events v.plan st) 0) reached.state found)))
 
--- a run that has ended, whose releases are reported, is what a run of its plan comes to
+-- a run that has ended, with the report of its releases, is a run of the plan
 pub has_run : (v : NetView) (q p : Plan) (journal : List Event) (releases : List TreeRelease) (report : List ℕ) → IsPlan p → p.faults ≡ [] → v.plan ≡ q → q ≡ p → IsReachedBy v journal → TakesFirst q (start q) journal → IsQuiet q (after q journal)
     → releases ≡ v.releases → IsReport p releases [] report → HasRun p journal report
-has_run v q p journal releases report is safe same as_given reached serial quiet given text =
+has_run v q p journal releases report is no_faults same as_given reached serial quiet given text =
     let all : v.plan ≡ p = same ∙ as_given in
-    record {
+    whole_run p journal report (record {
       plan = is;
-      safe = safe;
+      no_faults = no_faults;
       whole = (subst (λ (p : Plan). IsLegal p journal) all reached.legal, subst (λ (p : Plan). IsQuiet p (after p journal)) as_given quiet);
       serial = subst (λ (p : Plan). TakesFirst p (start p) journal) as_given serial;
       releases = v.releases;
@@ -73,4 +74,4 @@ has_run v q p journal releases report is safe same as_given reached serial quiet
       numbered = reached.numbered;
       trees = subst (λ (p : Plan). AllByRecursion (ReleaseFits p) v.releases) all reached.trees;
       text = subst (λ (rs : List TreeRelease). IsReport p rs [] report) given text;
-    }
+    })

@@ -1,5 +1,5 @@
--- What a call answers, and why.
-use Rattle.std.specs.Prelude.{◌≡◌, ◌⊎◌, if◌then◌else◌, nat_le, length, ℕ, List, [], ◌∷◌, Option, Some, None, Result, Ok, Err}
+-- What the call answers, and why.
+use Rattle.std.specs.Prelude.{◌≡◌, ◌⊎◌, if◌then◌else◌, nat_le, length, ℕ, List, [], ◌∷◌, ◌++◌, take, Option, Some, None, Result, Ok, Err}
 use Rattle.std.specs.Io.KnownBytes.{Appends}
 use Rattle.stat_desk.specs.Desk.{FailedAt, IsLonger, IsWhole}
 use Rattle.stat_desk.specs.Faults.{Rose}
@@ -10,119 +10,119 @@ use Rattle.stat_desk.specs.declared.event.Event.{Event}
 use Rattle.stat_tool.specs.Status.{refusal_of}
 use Rattle.stat_tool.specs.NextStep.{Answers, Bytes, Does, AreReadResults, ReadResult, Step, TooLong, Wants, next_step, limit, too_long}
 use Rattle.stat_tool.specs.Words.{Names, in_order, name_of}
-use Rattle.stat_tool.specs.RunOutput.{HasOutput, EndsWhole, Job, RunJob, RunOutput}
+use Rattle.stat_tool.specs.RunOutput.{HasOutput, Job, RunJob, RunOutput}
 use Rattle.stat_tool.specs.declared.status.FileRole.{FileRole}
 use Rattle.stat_tool.specs.declared.status.WordFault.TheVariants.{Options}
 use Rattle.stat_tool.specs.declared.status.Status.{Status}
 use Rattle.stat_tool.specs.declared.status.Status.TheVariants.{Done, BadWords, DeskFault, BadInput, OverLimit, SinkFault, OutOfMemory, NotYet}
 
--- a desk before and after a call: its count, the last name at which it rose, and what it told
-pub record DeskSeen : Type 0 where
+-- a desk before and after a call: its count of faults, the last name at which it rose, and the contents of its files
+pub record DeskChange : Type 0 where
   pub before : ℕ
   pub now : ℕ
   pub last_fault : Option (List ℕ)
   pub contents : List ℕ → Option (List ℕ)
 
--- a sink before and after a call: its count, and what it holds
-pub record SinkSeen : Type 0 where
+-- that of a desk which became another, by the ghosts of its trait
+abbrev pub desk_change : {D : Type 0} → (D → ℕ) → (D → Option (List ℕ)) → (D → List ℕ → Option (List ℕ)) → D → D → DeskChange
+desk_change faults last_fault contents old new =
+    record { before = faults old; now = faults new; last_fault = last_fault new; contents = contents old }
+
+-- a sink before and after a call: its count of faults, and its contents
+pub record SinkChange : Type 0 where
   pub before : ℕ
   pub now : ℕ
   pub contents_before : Option (List ℕ)
   pub contents_now : Option (List ℕ)
 
--- the sink holds what it held
-abbrev pub IsAsBefore : SinkSeen → Type 0
-IsAsBefore sink = sink.contents_now ≡ sink.contents_before
+-- that of a sink which became another, by the ghosts of its trait
+abbrev pub sink_change : {O : Type 0} → (O → ℕ) → (O → Option (List ℕ)) → O → O → SinkChange
+sink_change faults contents old new =
+    record { before = faults old; now = faults new; contents_before = contents old; contents_now = contents new }
+
+-- the names asked for, before and after: some of these were added, from the first on, in order, each once
+abbrev pub AreReadInOrder : List (List ℕ) → List (List ℕ) → List (List ℕ) → Type 0
+AreReadInOrder before now names = (n : ℕ) × (now ≡ before ++ take n names)
+
+-- the sink's contents are the same
+abbrev pub HasSameContents : SinkChange → Type 0
+HasSameContents sink = sink.contents_now ≡ sink.contents_before
 
 -- the sink took the whole text
-abbrev pub GotAll : SinkSeen → List ℕ → Type 0
-GotAll sink text = Appends sink.contents_before sink.contents_now text
+abbrev pub TookWhole : SinkChange → List ℕ → Type 0
+TookWhole sink text = Appends sink.contents_before sink.contents_now text
 
--- the sink took a front of the text, and its count rose
-pub record GotPart (sink : SinkSeen) (text : List ℕ) : Type 0 where
-  pub front : AppendsPrefix sink.contents_before sink.contents_now text
+-- the sink took a prefix of the text, and its count of faults rose
+pub record TookPrefix (sink : SinkChange) (text : List ℕ) : Type 0 where
+  pub prefix : AppendsPrefix sink.contents_before sink.contents_now text
   pub rose : Rose sink.before sink.now
 
 -- what the sink has of a report, by the status
-abbrev pub Written : List ℕ → SinkSeen → Status → Type 0
-Written report out Done = GotAll out report
-Written report out (SinkFault target) = GotPart out report
+abbrev pub Written : List ℕ → SinkChange → Status → Type 0
+Written report out Done = TookWhole out report
+Written report out (SinkFault target) = TookPrefix out report
 Written report out status = ⊥
 
--- the job was done: it came to a work, whose journal is given back and whose report was written so
-pub record Finishes (progress : Step) (out : SinkSeen) (journal : List Event) (status : Status) : Type 0 where
+-- The job was run: the files lead to it, its output is the journal that is returned and the report that was written. What
+-- the output of a run is says `HasRun`.
+pub record Finishes (next : Step) (out : SinkChange) (journal : List Event) (status : Status) : Type 0 where
   pub job : Job
   pub work : RunOutput
-  pub stands : progress ≡ Does job
-  pub came : HasOutput job work
+  pub step : next ≡ Does job
+  pub output : HasOutput job work
   pub given : journal ≡ work.journal
   pub written : Written work.report out status
 
--- Why a call stops before it writes: memory ran out; the file that it reads next did not come; or the files lead to this
--- very answer.
-abbrev pub Prevents : Names → DeskSeen → Step → Status → Type 0
-Prevents names desk progress OutOfMemory = Unit {0}
-Prevents names desk progress (DeskFault role) = (progress ≡ Wants role) × FailedAt desk.before desk.now desk.last_fault (name_of names role)
-Prevents names desk progress (BadInput file line reason) = progress ≡ Answers (BadInput file line reason)
-Prevents names desk progress (OverLimit file line what most) = progress ≡ Answers (OverLimit file line what most)
-Prevents names desk progress (NotYet role) = progress ≡ Answers (NotYet role)
-Prevents names desk progress Done = ⊥
-Prevents names desk progress (BadWords fault) = ⊥
-Prevents names desk progress (SinkFault target) = ⊥
+-- Why a call stops before it writes: it is out of memory; the file that it reads next could not be read; or the files lead to
+-- this very answer.
+abbrev pub Prevents : Names → DeskChange → Step → Status → Type 0
+Prevents names desk next OutOfMemory = Unit {0}
+Prevents names desk next (DeskFault role) = (next ≡ Wants role) × FailedAt desk.before desk.now desk.last_fault (name_of names role)
+Prevents names desk next (BadInput file line reason) = next ≡ Answers (BadInput file line reason)
+Prevents names desk next (OverLimit file line what most) = next ≡ Answers (OverLimit file line what most)
+Prevents names desk next (NotYet role) = next ≡ Answers (NotYet role)
+Prevents names desk next Done = ⊥
+Prevents names desk next (BadWords fault) = ⊥
+Prevents names desk next (SinkFault target) = ⊥
 
--- Why a call gives a status and a journal, and what it leaves in the sink: it did the job, or it stopped before it wrote.
-abbrev pub Explains : Names → DeskSeen → SinkSeen → Step → List Event → Status → Type 0
-Explains names desk out progress journal Done = Finishes progress out journal Done
-Explains names desk out progress journal (SinkFault target) = Finishes progress out journal (SinkFault target)
-Explains names desk out progress journal status = Prevents names desk progress status × IsAsBefore out × (journal ≡ [])
+-- Why a call has a status and a journal, and what it leaves in the sink: it ran the job, or it stopped before it wrote.
+abbrev pub Explains : Names → DeskChange → SinkChange → Step → List Event → Status → Type 0
+Explains names desk out next journal Done = Finishes next out journal Done
+Explains names desk out next journal (SinkFault target) = Finishes next out journal (SinkFault target)
+Explains names desk out next journal status = Prevents names desk next status × HasSameContents out × (journal ≡ [])
 
--- Good words: some files gave what the answer rests on. Bad words are told as such.
-abbrev pub Answered : Option Names → DeskSeen → SinkSeen → List Event → Status → Type 0
-Answered None desk out journal status = (status ≡ BadWords Options) × IsAsBefore out × (journal ≡ [])
+-- Good words: the answer rests on what some of the files gave, in order. Bad words are answered as such.
+abbrev pub Answered : Option Names → DeskChange → SinkChange → List Event → Status → Type 0
+Answered None desk out journal status = (status ≡ BadWords Options) × HasSameContents out × (journal ≡ [])
 Answered (Some names) desk out journal status =
-    (got : List ReadResult) × (AreReadResults desk.contents (in_order names) got × Explains names desk out (next_step got) journal status)
+    (results : List ReadResult) × (AreReadResults desk.contents (in_order names) results × Explains names desk out (next_step results) journal status)
 
--- what a read gives of a text, where nothing fails
+-- what a read of a text returns, where nothing fails
 abbrev pub given : List ℕ → ReadResult
 given text = if nat_le (length text) limit then Bytes text else TooLong
 
--- the answer at the end of a course, where nothing fails
+-- the answer that a step leads to, where nothing fails
 abbrev pub answer_of : Step → Status
 answer_of (Does job) = Done
 answer_of (Answers status) = status
 answer_of (Wants role) = OutOfMemory
 
--- Where the desk tells the three texts and nothing fails, they determine the answer, but for want of memory.
-abbrev pub IsDetermined : Names → DeskSeen → SinkSeen → Status → Type 0
+-- Where the desk can tell the three texts and nothing fails, they determine the answer, running out of memory aside.
+abbrev pub IsDetermined : Names → DeskChange → SinkChange → Status → Type 0
 IsDetermined names desk out status = (topology samples script : List ℕ)
     → desk.contents names.topology ≡ Some topology → desk.contents names.samples ≡ Some samples → desk.contents names.script ≡ Some script
     → ¬ Rose desk.before desk.now → ¬ Rose out.before out.now
     → (status ≡ answer_of (next_step (given topology ∷ given samples ∷ given script ∷ []))) ⊎ (status ≡ OutOfMemory)
 
--- the files gave what the plan of this job rests on
+-- ---- the parts of the call: no clause of a public call cites what follows
+
+-- what the files gave leads to this job
 abbrev pub IsPlanned : Names → (List ℕ → Option (List ℕ)) → Job → Type 0
-IsPlanned names contents job = (got : List ReadResult) × (AreReadResults contents (in_order names) got × (next_step got ≡ Does job))
+IsPlanned names contents job =
+    (results : List ReadResult) × (AreReadResults contents (in_order names) results × (next_step results ≡ Does job))
 
--- The files lead to a plan. The journal is whole, the report is that of its releases, each wave has ended with one final
--- release that covers all ranks of its stream, and each release's tree and classes are the direct merge of the samples of
--- exactly its covered ranks. And the report was written, by the status.
-pub record EndsByPlan (names : Names) (desk : DeskSeen) (out : SinkSeen) (journal : List Event) (status : Status) : Type 0 where
-  pub plan : Plan
-  pub report : List ℕ
-  pub read : IsPlanned names desk.contents (RunJob plan)
-  pub run : EndsWhole plan journal report
-  pub written : Written report out status
-
--- where a call has run a plan, it ends so
-abbrev pub Ended : Names → DeskSeen → SinkSeen → List Event → Status → Type 0
-Ended names desk out journal Done = EndsByPlan names desk out journal Done
-Ended names desk out journal (SinkFault target) = EndsByPlan names desk out journal (SinkFault target)
-Ended names desk out journal status = Unit {0}
-
--- ---- the parts of a call
-
--- why one file did not come
-abbrev pub Refuses : FileRole → List ℕ → DeskSeen → Status → Type 0
+-- why one file could not be read
+abbrev pub Refuses : FileRole → List ℕ → DeskChange → Status → Type 0
 Refuses role name desk OutOfMemory = Unit {0}
 Refuses role name desk (DeskFault r) = (r ≡ role) × FailedAt desk.before desk.now desk.last_fault name
 Refuses role name desk (OverLimit file line what most) = (OverLimit file line what most ≡ too_long role) × IsLonger (desk.contents name) limit
@@ -132,16 +132,16 @@ Refuses role name desk (BadInput file line reason) = ⊥
 Refuses role name desk (SinkFault target) = ⊥
 Refuses role name desk (NotYet r) = ⊥
 
--- a file that the desk tells gave what reads as this
+-- a file with these contents was read as this
 abbrev pub Tells : {A : Type 0} → Option (List ℕ) → (List ℕ → Result A TextError) → A → Type 0
 Tells contents read x = (bytes : List ℕ) × (IsWhole contents limit bytes × (read bytes ≡ Ok x))
 
--- the file gave a text whose first fault makes this status
+-- the file has a text whose first error makes this status
 abbrev pub IsRefused : {A : Type 0} → Option (List ℕ) → (List ℕ → Result A TextError) → FileRole → Status → Type 0
 IsRefused contents read role status = (bytes : List ℕ) × (IsWhole contents limit bytes × ((e : TextError) × ((read bytes ≡ Err e) × (refusal_of role e ≡ status))))
 
--- why no text of a file was read: it did not come, it is too long, or it has a fault
-abbrev pub StopsAt : {A : Type 0} → (List ℕ → Result A TextError) → FileRole → List ℕ → DeskSeen → Status → Type 0
+-- why the text of a file was not read: the file could not be read, it is too long, or it has an error
+abbrev pub StopsAt : {A : Type 0} → (List ℕ → Result A TextError) → FileRole → List ℕ → DeskChange → Status → Type 0
 StopsAt read role name desk OutOfMemory = Unit {0}
 StopsAt read role name desk (DeskFault r) = (r ≡ role) × FailedAt desk.before desk.now desk.last_fault name
 StopsAt read role name desk (BadInput file line reason) = IsRefused (desk.contents name) read role (BadInput file line reason)
@@ -152,22 +152,22 @@ StopsAt read role name desk (BadWords fault) = ⊥
 StopsAt read role name desk (SinkFault target) = ⊥
 StopsAt read role name desk (NotYet r) = ⊥
 
--- the files gave what led to this work
+-- what the files gave leads to this output
 abbrev pub Prepared : Names → (List ℕ → Option (List ℕ)) → RunOutput → Type 0
-Prepared names contents work = (got : List ReadResult) × (AreReadResults contents (in_order names) got
-    × ((job : Job) × ((next_step got ≡ Does job) × HasOutput job work)))
+Prepared names contents work = (results : List ReadResult) × (AreReadResults contents (in_order names) results
+    × ((job : Job) × ((next_step results ≡ Does job) × HasOutput job work)))
 
--- the files gave why the call stops
-abbrev pub Prevented : Names → DeskSeen → Status → Type 0
-Prevented names desk status = (got : List ReadResult) × (AreReadResults desk.contents (in_order names) got × Prevents names desk (next_step got) status)
+-- what the files gave is why the call stops
+abbrev pub Prevented : Names → DeskChange → Status → Type 0
+Prevented names desk status = (results : List ReadResult) × (AreReadResults desk.contents (in_order names) results × Prevents names desk (next_step results) status)
 
--- why the plan of three good files is not run: it passes the limit of prefixes, or it is not supported yet, or memory ran out
+-- why the plan of three good files is not run: it passes the limit of prefixes, it is not supported yet, or out of memory
 abbrev pub IsPlanRefusal : Step → Status → Type 0
-IsPlanRefusal progress OutOfMemory = Unit {0}
-IsPlanRefusal progress (OverLimit file line what most) = progress ≡ Answers (OverLimit file line what most)
-IsPlanRefusal progress (NotYet role) = progress ≡ Answers (NotYet role)
-IsPlanRefusal progress (DeskFault role) = ⊥
-IsPlanRefusal progress (BadInput file line reason) = ⊥
-IsPlanRefusal progress Done = ⊥
-IsPlanRefusal progress (BadWords fault) = ⊥
-IsPlanRefusal progress (SinkFault target) = ⊥
+IsPlanRefusal next OutOfMemory = Unit {0}
+IsPlanRefusal next (OverLimit file line what most) = next ≡ Answers (OverLimit file line what most)
+IsPlanRefusal next (NotYet role) = next ≡ Answers (NotYet role)
+IsPlanRefusal next (DeskFault role) = ⊥
+IsPlanRefusal next (BadInput file line reason) = ⊥
+IsPlanRefusal next Done = ⊥
+IsPlanRefusal next (BadWords fault) = ⊥
+IsPlanRefusal next (SinkFault target) = ⊥

@@ -1,4 +1,4 @@
--- How far a call comes by the files that it gets, one after another.
+-- What a call does next, by the files that it has read, one after another.
 use Rattle.std.specs.Prelude.{ℕ, List, [], ◌∷◌, Bool, true, false, Option, Some, None, Result, Ok, Err, if◌then◌else◌}
 use Rattle.stat_desk.specs.Desk.{IsLonger, IsWhole}
 use Rattle.stat_plan.specs.Limits.{first_over}
@@ -16,12 +16,12 @@ use Rattle.stat_tool.specs.declared.status.FileRole.TheVariants.{Topology, Sampl
 use Rattle.stat_tool.specs.declared.status.Status.{Status}
 use Rattle.stat_tool.specs.declared.status.Status.TheVariants.{OverLimit, NotYet}
 
--- what a read gave: all bytes of a file, or more than its limit
+-- what a read returned: all bytes of a file, or that it has more than the limit
 pub data ReadResult : Type 0 where
   Bytes : List ℕ → ReadResult
   TooLong : ReadResult
 
--- where a call stands: it reads this file next, it answers this, or it does this job
+-- what comes next: this file is read, this is the answer, or this job is run
 pub data Step : Type 0 where
   Wants : FileRole → Step
   Answers : Status → Step
@@ -48,17 +48,21 @@ abbrev pub by_limit : Plan → Option (ℕ × ℕ) → Step
 by_limit p None = runnable p
 by_limit p (Some v) = Answers (OverLimit Samples 0 Prefixes 2048)
 
--- with a script that is read
+-- a plan: it is run, where it is within the limit of prefixes
+abbrev pub plan_step : Plan → Step
+plan_step p = by_limit p (first_over p)
+
+-- by what the script was read as
 abbrev pub by_script : Nodes → Sampled → Result Scripted TextError → Step
 by_script t s (Err e) = Answers (refusal_of Script e)
-by_script t s (Ok c) = by_limit (plan_of t s c) (first_over (plan_of t s c))
+by_script t s (Ok c) = plan_step (plan_of t s c)
 
 abbrev pub at_script : Nodes → Sampled → List ReadResult → Step
 at_script t s [] = Wants Script
 at_script t s (TooLong ∷ rest) = Answers (too_long Script)
 at_script t s (Bytes script ∷ rest) = by_script t s (script_of t script)
 
--- with samples that are read
+-- by what the samples were read as
 abbrev pub by_samples : Nodes → Result Sampled TextError → List ReadResult → Step
 by_samples t (Err e) rest = Answers (refusal_of Samples e)
 by_samples t (Ok s) rest = at_script t s rest
@@ -68,7 +72,7 @@ at_samples t [] = Wants Samples
 at_samples t (TooLong ∷ rest) = Answers (too_long Samples)
 at_samples t (Bytes samples ∷ rest) = by_samples t (samples_of_text t samples) rest
 
--- with a topology that is read
+-- by what the topology was read as
 abbrev pub by_topology : Result Nodes TextError → List ReadResult → Step
 by_topology (Err e) rest = Answers (refusal_of Topology e)
 by_topology (Ok t) rest = at_samples t rest
@@ -79,12 +83,12 @@ next_step [] = Wants Topology
 next_step (TooLong ∷ rest) = Answers (too_long Topology)
 next_step (Bytes topology ∷ rest) = by_topology (topology_of topology) rest
 
--- a file that the desk tells gave this
+-- this is what a file with these contents gives, where the desk can tell them
 abbrev pub Agrees : Option (List ℕ) → ReadResult → Type 0
 Agrees contents (Bytes bytes) = IsWhole contents limit bytes
 Agrees contents TooLong = IsLonger contents limit
 
--- the first of these files gave these
+-- these are what the first of these files gave
 abbrev pub AreReadResults : (List ℕ → Option (List ℕ)) → List (List ℕ) → List ReadResult → Type 0
 AreReadResults contents names [] = Unit {0}
 AreReadResults contents [] (g ∷ gs) = ⊥

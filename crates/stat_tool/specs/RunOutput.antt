@@ -1,20 +1,22 @@
--- What there is to do once the files are read, and what comes of it.
-use Rattle.std.specs.Prelude.{◌≡◌, ⊤, ℕ, List, [], ◌∷◌, ◌++◌, slice_get, Some}
+-- The job that the files of a call say, and its output.
+use Rattle.std.specs.Prelude.{◌≡◌, ◌≢◌, ⊤, ℕ, List, [], ◌∷◌, ◌++◌, slice_get, Some}
 use Rattle.std.specs.List.{AllByRecursion}
 use Rattle.prefix_tree.specs.Tree.{tree_of}
 use Rattle.equiv_class.specs.Classes.{classes_of}
 use Rattle.stat_plan.specs.Invariants.{IsPlan}
 use Rattle.stat_plan.specs.NodeSets.{In}
-use Rattle.stat_plan.specs.Plans.{Plan, samples, waves_of}
+use Rattle.rank_set.specs.Ranks.{Ranks, none, IsSubset}
+use Rattle.stat_plan.specs.Plans.{Plan, mode, samples, waves_of}
+use Rattle.stat_plan.specs.declared.script.Mode.TheVariants.{WaitForAll}
 use Rattle.stat_desk.specs.declared.event.Event.{Event}
 use Rattle.overlay_core.specs.declared.release.Kind.TheVariants.{Partial, Final}
 use Rattle.overlay_core.specs.Nodes.{Release}
 use Rattle.overlay_core.specs.History.{of_wave}
 use Rattle.overlay_core.specs.Machine.{State, start, step, enabled_events}
-use Rattle.overlay_core.specs.Releases.{CoversAll}
+use Rattle.overlay_core.specs.Releases.{CoversAll, ReleaseIsSound}
+use Rattle.overlay_core.specs.Whole.{HasOneRelease}
 use Rattle.overlay_core.specs.Runs.{IsWhole, after}
 use Rattle.overlay_core.specs.TreeReleases.{AreNumberedInOrder, TreeRelease, bare_releases}
-use Rattle.overlay_node.specs.Packets.{ReleaseFits}
 use Rattle.front_end.specs.ReleaseText.{classes_in}
 use Rattle.front_end.specs.Report.{IsReport}
 use Rattle.stat_tool.specs.declared.run.Ran.{Ran}
@@ -23,37 +25,19 @@ use Rattle.stat_tool.specs.declared.run.Ran.{Ran}
 pub data Job : Type 0 where
   RunJob : Plan → Job
 
--- what a job comes to: the events of the run, and the text of its report
+-- the output of a job: the events of the run, and the text of its report
 pub record RunOutput : Type 0 where
   pub journal : List Event
   pub report : List ℕ
 
--- the work of a run that has ended
-abbrev pub work_of : Ran → RunOutput
-work_of ran = record { journal = ran.journal; report = ran.report.items }
+-- the output of a run that has ended
+abbrev pub run_output : Ran → RunOutput
+run_output ran = record { journal = ran.journal; report = ran.report.items }
 
--- from a state on, each event is the first of those that may come next
+-- from a state on, each event is the first enabled one
 abbrev pub TakesFirst : Plan → State → List Event → Type 0
 TakesFirst p st [] = ⊤
 TakesFirst p st (e ∷ es) = (slice_get (enabled_events p st) 0 ≡ Some e) × TakesFirst p (step p st e) es
-
--- What a run of a plan comes to that loses no node. The journal is whole, and each of its events is the first that may come
--- next. The front end gave out the releases of the journal, each with its number, and with the tree of the wave's samples
--- over the ranks that it covers. The text is the report of these releases.
-pub record HasRun (p : Plan) (journal : List Event) (report : List ℕ) : Type 0 where
-  pub plan : IsPlan p
-  pub safe : p.faults ≡ []
-  pub whole : IsWhole p journal
-  pub serial : TakesFirst p (start p) journal
-  pub releases : List TreeRelease
-  pub reached : bare_releases releases ≡ (after p journal).releases
-  pub numbered : AreNumberedInOrder [] releases
-  pub trees : AllByRecursion (ReleaseFits p) releases
-  pub text : IsReport p releases [] report
-
--- what a job may come to
-abbrev pub HasOutput : Job → RunOutput → Type 0
-HasOutput (RunJob p) work = HasRun p work.journal work.report
 
 -- of a wave's releases the last one is final and covers all ranks of the stream, and no other is final
 pub record EndsWithAll (p : Plan) (s : ℕ) (rs : List Release) : Type 0 where
@@ -69,12 +53,36 @@ pub record IsDirect (p : Plan) (r : TreeRelease) : Type 0 where
   pub tree : r.tree ≡ tree_of (samples p r.stream r.wave) r.tree.coverage
   pub classes : classes_in r.tree ≡ classes_of (samples p r.stream r.wave) r.tree.coverage
 
--- The journal is whole, and the report is that of its releases. Each wave has ended with one final release, its last, which
--- covers all ranks of its stream. And each release's tree and classes are the direct merge of the samples of its ranks.
-pub record EndsWhole (p : Plan) (journal : List Event) (report : List ℕ) : Type 0 where
+-- from a coverage on, each release of a wave covers what the one before covers, and a partial one more than that
+abbrev pub CoveragesGrow : Ranks → List Release → Type 0
+CoveragesGrow last [] = ⊤
+CoveragesGrow last (r ∷ rs) = IsSubset last r.cov × (r.kind ≡ Partial → last ≢ r.cov) × CoveragesGrow r.cov rs
+
+-- The headline: what a run of a plan without losses returns, its journal and its report.
+pub record HasRun (p : Plan) (journal : List Event) (report : List ℕ) : Type 0 where
+  pub plan : IsPlan p
+  pub no_faults : p.faults ≡ []
+  -- the journal is legal and leaves nothing enabled, and each of its events is the first enabled one
   pub whole : IsWhole p journal
+  pub serial : TakesFirst p (start p) journal
+  -- the releases are those of the machine after this journal, with their numbers within their waves: 1, 2, 3 and so on
   pub releases : List TreeRelease
   pub reached : bare_releases releases ≡ (after p journal).releases
+  pub numbered : AreNumberedInOrder [] releases
+  -- the text is the report of exactly these releases
   pub text : IsReport p releases [] report
-  pub waves : (s w : ℕ) → In (s, w) (waves_of p.streams) → EndsWithAll p s (of_wave s w (bare_releases releases))
+  -- each is of a wave of the plan, and covers all ranks of some daemons of its stream and no others
+  pub sound : (r : Release) → In r (bare_releases releases) → ReleaseIsSound p r
+  -- each tree and its classes are the direct merge of the wave's samples over exactly the ranks that it covers
   pub direct : AllByRecursion (IsDirect p) releases
+  -- the coverages of a wave grow, and a partial release covers more than the one before, or something if it is the first
+  pub grow : (s w : ℕ) → CoveragesGrow none (of_wave s w (bare_releases releases))
+  -- each wave ends with one final release, its last, which covers all ranks of its stream
+  pub waves : (s w : ℕ) → In (s, w) (waves_of p.streams) → EndsWithAll p s (of_wave s w (bare_releases releases))
+  -- that is the only one where the stream waits for all
+  pub once : (s w : ℕ) → In (s, w) (waves_of p.streams) → mode p s ≡ WaitForAll
+      → HasOneRelease p s (of_wave s w (bare_releases releases))
+
+-- what the output of a job may be
+abbrev pub HasOutput : Job → RunOutput → Type 0
+HasOutput (RunJob p) work = HasRun p work.journal work.report

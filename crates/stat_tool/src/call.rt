@@ -1,8 +1,8 @@
 //! From words and files to a report.
 ghost use Rattle.std.specs.Prelude.{◌≡◌, ◌≢◌, ◌↔◌, [], IfSome, IfErr, IfOk, map, string_bytes};
-ghost use Rattle.stat_tool.specs.Call.{Answered, Ended, IsDetermined, Prepared, Prevented, Written};
-ghost use Rattle.stat_tool.specs.Words.{asked, names_of};
-ghost use Rattle.stat_tool.specs.RunOutput.{work_of};
+ghost use Rattle.stat_tool.specs.Call.{Answered, AreReadInOrder, IsDetermined, Prepared, Prevented, Written, desk_change, sink_change};
+ghost use Rattle.stat_tool.specs.Words.{asked, in_order, names_of};
+ghost use Rattle.stat_tool.specs.RunOutput.{run_output};
 
 use crate::read::read_plan;
 use crate::run::{Ran, run_plan};
@@ -14,37 +14,43 @@ use std::alloc::Global;
 
 /// Reads the files that the words name, runs the overlay on their samples, and writes the report to the sink.
 ///
-/// The words are `run --topology T --samples S --script C`. The report is built whole before the
-/// first byte is written.
+/// The words are `run --topology T --samples S --script C`. The files are read each once, in this order, and each is tested
+/// before the next is read. The report is built whole before its first byte is written.
+///
+/// `answered` has the headline: where the status is Done, or the sink's fault, the files lead to a plan, and the journal and the
+/// report are a run of it, `HasRun`. Every other status has its cause there, too.
 pub fn stat<D: Desk, O: Sink>(alloc: Global, words: &[String], desk: &mut D, out: &mut O) -> Outcome
     ensures answered { Answered (asked (map string_bytes words.now))
-        (record { before = D.faults desk.old; now = D.faults desk.new; last_fault = D.last_fault desk.new; contents = D.contents desk.old })
-        (record { before = O.faults out.old; now = O.faults out.new; contents_before = O.contents out.old; contents_now = O.contents out.new })
-        result.journal result.status }
-    ensures ends { IfSome (asked (map string_bytes words.now)) (λ names. Ended names
-        (record { before = D.faults desk.old; now = D.faults desk.new; last_fault = D.last_fault desk.new; contents = D.contents desk.old })
-        (record { before = O.faults out.old; now = O.faults out.new; contents_before = O.contents out.old; contents_now = O.contents out.new })
-        result.journal result.status) }
+        (desk_change D.faults D.last_fault D.contents desk.old desk.new)
+        (sink_change O.faults O.contents out.old out.new) result.journal result.status }
     ensures determined { IfSome (asked (map string_bytes words.now)) (λ names. IsDetermined names
-        (record { before = D.faults desk.old; now = D.faults desk.new; last_fault = D.last_fault desk.new; contents = D.contents desk.old })
-        (record { before = O.faults out.old; now = O.faults out.new; contents_before = O.contents out.old; contents_now = O.contents out.new })
-        result.status) }
+        (desk_change D.faults D.last_fault D.contents desk.old desk.new)
+        (sink_change O.faults O.contents out.old out.new) result.status) }
     ensures bad_words { (result.status ≡ Status.BadWords WordFault.Options) ↔ (asked (map string_bytes words.now) ≡ None) }
-    ensures as_before { result.status ≢ Status.Done → result.status ≢ Status.SinkFault Target.Report → O.contents out.new ≡ O.contents out.old }
-    ensures journal { result.status ≢ Status.Done → result.status ≢ Status.SinkFault Target.Report → result.journal ≡ [] }
+    ensures unread { result.status ≡ Status.BadWords WordFault.Options → desk.new ≡ desk.old }
+    ensures reads { IfSome (asked (map string_bytes words.now)) (λ names.
+        AreReadInOrder (D.reads desk.old) (D.reads desk.new) (in_order names)) }
+    ensures untouched { result.status ≢ Status.Done → result.status ≢ Status.SinkFault Target.Report
+        → out.new ≡ out.old }
+    ensures journal { result.status ≢ Status.Done → result.status ≢ Status.SinkFault Target.Report
+        → result.journal ≡ [] }
 {
     run(alloc, words, desk, out)
 }
 
-/// What the call leaves.
+// The call; `stat` derives from its answer what the texts determine.
 fn run<D: Desk, O: Sink>(alloc: Global, words: &[String], desk: &mut D, out: &mut O) -> Outcome
     ensures answered { Answered (asked (map string_bytes words.now))
-        (record { before = D.faults desk.old; now = D.faults desk.new; last_fault = D.last_fault desk.new; contents = D.contents desk.old })
-        (record { before = O.faults out.old; now = O.faults out.new; contents_before = O.contents out.old; contents_now = O.contents out.new })
-        result.journal result.status }
+        (desk_change D.faults D.last_fault D.contents desk.old desk.new)
+        (sink_change O.faults O.contents out.old out.new) result.journal result.status }
     ensures bad_words { (result.status ≡ Status.BadWords WordFault.Options) ↔ (asked (map string_bytes words.now) ≡ None) }
-    ensures as_before { result.status ≢ Status.Done → result.status ≢ Status.SinkFault Target.Report → O.contents out.new ≡ O.contents out.old }
-    ensures journal { result.status ≢ Status.Done → result.status ≢ Status.SinkFault Target.Report → result.journal ≡ [] }
+    ensures unread { result.status ≡ Status.BadWords WordFault.Options → desk.new ≡ desk.old }
+    ensures reads { IfSome (asked (map string_bytes words.now)) (λ names.
+        AreReadInOrder (D.reads desk.old) (D.reads desk.new) (in_order names)) }
+    ensures untouched { result.status ≢ Status.Done → result.status ≢ Status.SinkFault Target.Report
+        → out.new ≡ out.old }
+    ensures journal { result.status ≢ Status.Done → result.status ≢ Status.SinkFault Target.Report
+        → result.journal ≡ [] }
 {
     let Some(files) = read_words(words) else {
         return stopped(alloc, Status::BadWords(WordFault::Options));
@@ -58,7 +64,7 @@ fn run<D: Desk, O: Sink>(alloc: Global, words: &[String], desk: &mut D, out: &mu
     }
 }
 
-/// What a call leaves that ends before anything is run.
+// The outcome of a call that stops before anything is run.
 fn stopped(alloc: Global, status: Status) -> Outcome
     ensures status { result.status ≡ status }
     ensures journal { result.journal ≡ [] }
@@ -69,10 +75,12 @@ fn stopped(alloc: Global, status: Status) -> Outcome
     }
 }
 
-/// The run of what the files say, before anything is written.
+// The run of what the files say, before anything is written.
 fn prepare<D: Desk>(alloc: Global, files: Files<'_>, desk: &mut D) -> Result<Ran, Status>
-    ensures ok { IfOk result (λ ran. Prepared (names_of files.entry) (D.contents desk.old) (work_of ran)) }
-    ensures err { IfErr result (Prevented (names_of files.entry) (record { before = D.faults desk.old; now = D.faults desk.new; last_fault = D.last_fault desk.new; contents = D.contents desk.old })) }
+    ensures ok { IfOk result (λ ran. Prepared (names_of files.entry) (D.contents desk.old) (run_output ran)) }
+    ensures err { IfErr result (Prevented (names_of files.entry)
+        (desk_change D.faults D.last_fault D.contents desk.old desk.new)) }
+    ensures reads { AreReadInOrder (D.reads desk.old) (D.reads desk.new) (in_order (names_of files.entry)) }
 {
     let plan = match read_plan(alloc, files, desk) {
         Ok(plan) => plan,
@@ -84,11 +92,9 @@ fn prepare<D: Desk>(alloc: Global, files: Files<'_>, desk: &mut D) -> Result<Ran
     }
 }
 
-/// Writes the report.
+// Writes the report.
 fn deliver<O: Sink>(report: &[u8], out: &mut O) -> Status
-    ensures { Written report.now
-        (record { before = O.faults out.old; now = O.faults out.new; contents_before = O.contents out.old; contents_now = O.contents out.new })
-        result }
+    ensures { Written report.now (sink_change O.faults O.contents out.old out.new) result }
 {
     match write_all_to(out, report) {
         Ok(()) => Status::Done,

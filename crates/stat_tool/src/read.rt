@@ -1,16 +1,15 @@
-//! Reads the files that the words name, each whole, and tests each before the next.
-ghost use Rattle.std.specs.Prelude.{◌≡◌, ◌≤◌, [], IfErr, IfOk};
+//! Reads the files that the words name, each whole, and tests each before the next is read.
+ghost use Rattle.std.specs.Prelude.{◌≡◌, ◌≤◌, ◌++◌, ◌∷◌, [], IfErr, IfOk, OnOk};
 ghost use Rattle.stat_desk.specs.Desk.{IsWhole};
 ghost use Rattle.stat_plan.specs.Invariants.{SamplesFit, ScriptFits};
-ghost use Rattle.stat_plan.specs.Limits.{first_over};
 ghost use Rattle.stat_plan.specs.Plans.{plan_of};
 ghost use Rattle.topology_text.specs.Whole.{topology_of};
 ghost use Rattle.sample_text.specs.Whole.{samples_of_text};
 ghost use Rattle.script_text.specs.Script.{script_of};
-ghost use Rattle.stat_tool.specs.Call.{IsPlanRefusal, IsPlanned, Prevented, Refuses, StopsAt, Tells};
-ghost use Rattle.stat_tool.specs.NextStep.{Does, by_limit, limit as limit_of};
+ghost use Rattle.stat_tool.specs.Call.{AreReadInOrder, IsPlanRefusal, IsPlanned, Prevented, Refuses, StopsAt, Tells, desk_change};
+ghost use Rattle.stat_tool.specs.NextStep.{Does, plan_step, limit as limit_of};
 ghost use Rattle.stat_tool.specs.Status.{refusal_of};
-ghost use Rattle.stat_tool.specs.Words.{names_of};
+ghost use Rattle.stat_tool.specs.Words.{in_order, names_of};
 ghost use Rattle.stat_tool.specs.RunOutput.{RunJob};
 
 use crate::status::{FileRole, Status};
@@ -27,7 +26,9 @@ const FILE_LIMIT: u64 = 33_554_432;
 /// All bytes of one file.
 fn read_file<D: Desk>(desk: &mut D, name: &str, role: FileRole) -> Result<Vec<u8>, Status>
     ensures ok { IfOk result (λ bytes. IsWhole (D.contents desk.old name.now) limit_of bytes.items) }
-    ensures err { IfErr result (Refuses role name.now (record { before = D.faults desk.old; now = D.faults desk.new; last_fault = D.last_fault desk.new; contents = D.contents desk.old })) }
+    ensures err { IfErr result (Refuses role name.now (desk_change D.faults D.last_fault D.contents desk.old desk.new)) }
+    ensures read { OnOk result (D.reads desk.new ≡ D.reads desk.old ++ name.now ∷ []) }
+    ensures reads { AreReadInOrder (D.reads desk.old) (D.reads desk.new) (name.now ∷ []) }
     ensures later { D.faults desk.old ≤ D.faults desk.new }
     ensures contents { D.contents desk.new ≡ D.contents desk.old }
 {
@@ -64,10 +65,13 @@ fn refusal(role: FileRole, error: TextError) -> Status
     }
 }
 
-/// The nodes, by the topology's file.
+/// The nodes, from the topology's file.
 fn read_topology<D: Desk>(alloc: Global, desk: &mut D, name: &str) -> Result<Topology, Status>
     ensures ok { IfOk result (λ t. Tells (D.contents desk.old name.now) topology_of t) }
-    ensures err { IfErr result (StopsAt topology_of FileRole.Topology name.now (record { before = D.faults desk.old; now = D.faults desk.new; last_fault = D.last_fault desk.new; contents = D.contents desk.old })) }
+    ensures err { IfErr result (StopsAt topology_of FileRole.Topology name.now
+        (desk_change D.faults D.last_fault D.contents desk.old desk.new)) }
+    ensures read { OnOk result (D.reads desk.new ≡ D.reads desk.old ++ name.now ∷ []) }
+    ensures reads { AreReadInOrder (D.reads desk.old) (D.reads desk.new) (name.now ∷ []) }
     ensures later { D.faults desk.old ≤ D.faults desk.new }
     ensures contents { D.contents desk.new ≡ D.contents desk.old }
 {
@@ -81,7 +85,7 @@ fn read_topology<D: Desk>(alloc: Global, desk: &mut D, name: &str) -> Result<Top
     }
 }
 
-/// The samples of these nodes, by the samples' file.
+/// The samples of these nodes, from the samples' file.
 fn read_samples<D: Desk>(
     alloc: Global,
     desk: &mut D,
@@ -90,7 +94,10 @@ fn read_samples<D: Desk>(
 ) -> Result<Samples, Status>
     ensures ok { IfOk result (λ s. Tells (D.contents desk.old name.now) (samples_of_text topology.now) s) }
     ensures fits { IfOk result (λ s. SamplesFit topology.now s) }
-    ensures err { IfErr result (StopsAt (samples_of_text topology.now) FileRole.Samples name.now (record { before = D.faults desk.old; now = D.faults desk.new; last_fault = D.last_fault desk.new; contents = D.contents desk.old })) }
+    ensures err { IfErr result (StopsAt (samples_of_text topology.now) FileRole.Samples name.now
+        (desk_change D.faults D.last_fault D.contents desk.old desk.new)) }
+    ensures read { OnOk result (D.reads desk.new ≡ D.reads desk.old ++ name.now ∷ []) }
+    ensures reads { AreReadInOrder (D.reads desk.old) (D.reads desk.new) (name.now ∷ []) }
     ensures later { D.faults desk.old ≤ D.faults desk.new }
     ensures contents { D.contents desk.new ≡ D.contents desk.old }
 {
@@ -104,7 +111,7 @@ fn read_samples<D: Desk>(
     }
 }
 
-/// The script for these nodes, by the script's file.
+/// The script for these nodes, from the script's file.
 fn read_script<D: Desk>(
     alloc: Global,
     desk: &mut D,
@@ -113,7 +120,10 @@ fn read_script<D: Desk>(
 ) -> Result<Script, Status>
     ensures ok { IfOk result (λ c. Tells (D.contents desk.old name.now) (script_of topology.now) c) }
     ensures fits { IfOk result (λ c. ScriptFits topology.now c) }
-    ensures err { IfErr result (StopsAt (script_of topology.now) FileRole.Script name.now (record { before = D.faults desk.old; now = D.faults desk.new; last_fault = D.last_fault desk.new; contents = D.contents desk.old })) }
+    ensures err { IfErr result (StopsAt (script_of topology.now) FileRole.Script name.now
+        (desk_change D.faults D.last_fault D.contents desk.old desk.new)) }
+    ensures read { OnOk result (D.reads desk.new ≡ D.reads desk.old ++ name.now ∷ []) }
+    ensures reads { AreReadInOrder (D.reads desk.old) (D.reads desk.new) (name.now ∷ []) }
     ensures later { D.faults desk.old ≤ D.faults desk.new }
     ensures contents { D.contents desk.new ≡ D.contents desk.old }
 {
@@ -136,9 +146,9 @@ fn runnable_plan(
 ) -> Result<Plan, Status>
     requires samples { SamplesFit topology samples }
     requires script { ScriptFits topology script }
-    ensures ok { IfOk result (λ plan. by_limit (plan_of topology samples script) (first_over (plan_of topology samples script)) ≡ Does (RunJob plan)) }
+    ensures ok { IfOk result (λ plan. plan_step (plan_of topology samples script) ≡ Does (RunJob plan)) }
     ensures no_faults { IfOk result (λ plan. plan.faults ≡ []) }
-    ensures err { IfErr result (IsPlanRefusal (by_limit (plan_of topology samples script) (first_over (plan_of topology samples script)))) }
+    ensures err { IfErr result (IsPlanRefusal (plan_step (plan_of topology samples script))) }
 {
     let plan = match Plan::build(alloc, topology, samples, script) {
         Ok(plan) => plan,
@@ -162,7 +172,9 @@ fn runnable_plan(
 pub fn read_plan<D: Desk>(alloc: Global, files: Files<'_>, desk: &mut D) -> Result<Plan, Status>
     ensures ok { IfOk result (λ plan. IsPlanned (names_of files.entry) (D.contents desk.old) (RunJob plan)) }
     ensures no_faults { IfOk result (λ plan. plan.faults ≡ []) }
-    ensures err { IfErr result (Prevented (names_of files.entry) (record { before = D.faults desk.old; now = D.faults desk.new; last_fault = D.last_fault desk.new; contents = D.contents desk.old })) }
+    ensures err { IfErr result (Prevented (names_of files.entry)
+        (desk_change D.faults D.last_fault D.contents desk.old desk.new)) }
+    ensures reads { AreReadInOrder (D.reads desk.old) (D.reads desk.new) (in_order (names_of files.entry)) }
 {
     let topology = match read_topology(alloc, desk, files.topology) {
         Ok(topology) => topology,

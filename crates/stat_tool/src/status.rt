@@ -12,7 +12,7 @@ use thiserror::Error;
 pub enum FileRole {
     /// Which nodes there are.
     Topology,
-    /// Where the ranks are, and what they were seen in.
+    /// Where the ranks are, and the paths that they were seen in.
     Samples,
     /// Which streams and waves there are.
     Script,
@@ -42,22 +42,22 @@ pub enum Status {
     BadWords(WordFault),
     /// A file could not be read.
     DeskFault(FileRole),
-    /// On this line of a file, from 1 on, this is wrong: its first fault. Line 0 stands for the whole file.
+    /// The first error of a file, and its line, from 1. Line 0 stands for the whole file.
     BadInput {
         file: FileRole,
         line: u64,
         reason: Reason,
     },
-    /// On this line of a file there is more of something than the limit; line 0 stands for the whole file.
+    /// On this line, from 1, a file has more of something than the limit. Line 0 stands for the whole file.
     OverLimit {
         file: FileRole,
         line: u64,
         what: Quantity,
         limit: u64,
     },
-    /// What was to be written was not taken whole.
+    /// The report could not be written whole.
     SinkFault(Target),
-    /// There was no memory.
+    /// Out of memory.
     OutOfMemory,
     /// What the file says isn't supported yet.
     NotYet(FileRole),

@@ -1,19 +1,19 @@
 use Rattle.std.proofs.Common.{sym, ap, ◌∙◌}
 use Rattle.sample_text.specs.Whole.{samples_of_text}
-use Rattle.stat_tool.specs.Call.{DeskSeen}
+use Rattle.stat_tool.specs.Call.{desk_change}
 use Rattle.stat_tool.proofs.Stopping.{stops_unread, stops_refused}
 use Rattle.stat_tool.specs.declared.status.FileRole.TheVariants.{Samples}
 use Rattle.stat_tool.proofs.read.read_samples.Goals as goal
 
 pub returns-in-Err-clause-err : goal.returns-in-Err-clause-err
 returns-in-Err-clause-err g c =
-    let seen : DeskSeen = record { before = g.D.Desk.faults c.args.desk.now; now = g.D.Desk.faults c.read_file.new.desk; last_fault = g.D.Desk.last_fault c.read_file.new.desk; contents = g.D.Desk.contents c.args.desk.now } in
-    stops_unread (samples_of_text c.args.topology.now) Samples c.args.name.now seen c.in-Err.status c.in-Err.ensures.err
+    let desk = desk_change g.D.Desk.faults g.D.Desk.last_fault g.D.Desk.contents c.args.desk.now c.read_file.new.desk in
+    stops_unread (samples_of_text c.args.topology.now) Samples c.args.name.now desk c.in-Err.status c.in-Err.ensures.err
 
 pub returns-in-Ok-read-clause-ok : goal.returns-in-Ok-read-clause-ok
 returns-in-Ok-read-clause-ok g c = (c.in-Ok.bytes.items, (c.in-Ok.ensures.ok, ap (samples_of_text c.args.topology.now) (sym c.as_slice.ensures.value) ∙ c.in-Ok-read.ensures.ok))
 
 pub returns-clause-err : goal.returns-clause-err
 returns-clause-err g c =
-    let seen : DeskSeen = record { before = g.D.Desk.faults c.args.desk.now; now = g.D.Desk.faults c.read_file.new.desk; last_fault = g.D.Desk.last_fault c.read_file.new.desk; contents = g.D.Desk.contents c.args.desk.now } in
-    stops_refused (samples_of_text c.args.topology.now) Samples c.args.name.now seen c.in-Err-read.error c.in-Ok.bytes.items c.as_slice.result.now c.refusal.result c.refusal.ensures c.in-Ok.ensures.ok c.as_slice.ensures.value c.in-Err-read.ensures.err
+    let desk = desk_change g.D.Desk.faults g.D.Desk.last_fault g.D.Desk.contents c.args.desk.now c.read_file.new.desk in
+    stops_refused (samples_of_text c.args.topology.now) Samples c.args.name.now desk c.in-Err-read.error c.in-Ok.bytes.items c.as_slice.result.now c.refusal.result c.refusal.ensures c.in-Ok.ensures.ok c.as_slice.ensures.value c.in-Err-read.ensures.err

@@ -4,7 +4,7 @@ use Rattle.overlay_core.specs.Bound.{bound}
 use Rattle.overlay_core.specs.Machine.{start}
 use Rattle.overlay_net.specs.Nets.{IsReachedBy, state_of}
 use Rattle.stat_tool.specs.RunOutput.{TakesFirst}
-use Rattle.stat_tool.proofs.Serial.{goes_on, is_quiet, not_refused, room_for}
+use Rattle.stat_tool.proofs.Serial.{extends, is_quiet, not_refused, room_for}
 use Rattle.stat_tool.proofs.run.run_to_end.Goals as goal
 
 pub loop-event-smaller : goal.loop-event-smaller
@@ -23,7 +23,7 @@ loop-event-preserved g c =
       plan = c.apply.ensures.plan ∙ old.plan;
       usable = c.in-Ok.ensures.usable;
       reached = subst (IsReachedBy c.apply.new.self) (sym c.in_ok-push-in-Ok.ensures.ok) (c.in-Ok.ensures.reached c.loop-event.journal old.reached);
-      serial = subst (TakesFirst p (start p)) (sym c.in_ok-push-in-Ok.ensures.ok) (goes_on c.loop-event.net p c.loop-event.journal c.in-Some.event old.plan old.reached c.in-Some.ensures old.serial);
+      serial = subst (TakesFirst p (start p)) (sym c.in_ok-push-in-Ok.ensures.ok) (extends c.loop-event.net p c.loop-event.journal c.in-Some.event old.plan old.reached c.in-Some.ensures old.serial);
     }
 
 pub unreachable-requires : goal.unreachable-requires
