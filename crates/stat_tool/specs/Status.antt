@@ -1,5 +1,5 @@
 -- The numbers of the statuses, with which the program ends, and what a refused text answers.
-use Rattle.std.specs.Prelude.{ℕ}
+use Rattle.std.specs.Prelude.{ℕ, Option, Some, None}
 use Rattle.text_lines.specs.declared.text_error.TextError.{TextError}
 use Rattle.text_lines.specs.declared.text_error.TextError.TheVariants.{Bad, Over, OutOfMemory as NoMemory}
 use Rattle.stat_tool.specs.declared.status.FileRole.{FileRole}
@@ -22,3 +22,14 @@ abbrev pub refusal_of : FileRole → TextError → Status
 refusal_of role (Bad line reason) = BadInput role line reason
 refusal_of role (Over line what limit) = OverLimit role line what limit
 refusal_of role NoMemory = OutOfMemory
+
+-- the status that standard error gets a line of, if there is one
+abbrev pub refusal_of_status : Status → Option Status
+refusal_of_status Done = None
+refusal_of_status (BadWords fault) = Some (BadWords fault)
+refusal_of_status (DeskFault role) = Some (DeskFault role)
+refusal_of_status (BadInput role line reason) = Some (BadInput role line reason)
+refusal_of_status (OverLimit role line what limit) = Some (OverLimit role line what limit)
+refusal_of_status (SinkFault target) = Some (SinkFault target)
+refusal_of_status OutOfMemory = Some OutOfMemory
+refusal_of_status (NotYet role) = Some (NotYet role)

@@ -2,12 +2,14 @@
 #![tactic(auto)]
 
 mod call;
+mod program;
 mod read;
 mod run;
 mod status;
 mod words;
 
 pub use call::stat;
+pub use program::{Ending, ending_of, run_program};
 pub use status::{FileRole, Outcome, Status, Target, WordFault};
 
 #[cfg(test)]

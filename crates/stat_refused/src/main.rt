@@ -1,0 +1,14 @@
+//! The program `stat`, with the line of a refusal on standard output, so that a stored run shows it: a refused job's line and
+//! exit status.
+#![tactic(auto)]
+
+use stat_tool::run_program;
+use std::process::ExitCode;
+
+fn main(rt: HostRuntime) -> ExitCode {
+    let ending = run_program(&rt);
+    if let Some(status) = ending.refusal {
+        let _ = println!(rt; "stat: {status}");
+    }
+    ExitCode::from(ending.number)
+}

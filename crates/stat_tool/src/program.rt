@@ -1,0 +1,52 @@
+//! What the program does around the top call: it takes its words, uses the real files and standard output, and ends.
+ghost use Rattle.std.specs.Prelude.{◌≡◌};
+ghost use Rattle.stat_tool.specs.Status.{number_of, refusal_of_status};
+
+use crate::call::stat;
+use crate::status::{Status, WordFault};
+use stat_desk::{FileDesk, StdSink};
+use std::env;
+use std::rt::{Env, Files};
+
+/// How the program ends.
+#[derive(Clone, Copy, Debug, PartialEq, Eq)]
+pub struct Ending {
+    /// The status that standard error gets a line of; none if all was done.
+    pub refusal: Option<Status>,
+    /// The exit status.
+    pub number: u8,
+}
+
+/// How the program ends after a call with this status.
+pub fn ending_of(status: Status) -> Ending
+    ensures refusal { result.refusal ≡ refusal_of_status status }
+    ensures number { result.number ≡ number_of status }
+{
+    let refusal = match status {
+        Status::Done => None,
+        refused => Some(refused),
+    };
+    Ending {
+        refusal,
+        number: status.number(),
+    }
+}
+
+/// The call with the program's words, the real files and standard output. Words that can't be had are bad words.
+pub fn run_program<R: Env + Files + Print + AllocGlobal>(rt: &R) -> Ending {
+    ending_of(status_of_run(rt))
+}
+
+// The status of that call.
+fn status_of_run<R: Env + Files + Print + AllocGlobal>(rt: &R) -> Status {
+    let alloc = rt.alloc();
+    let Ok(args) = env::args(rt) else {
+        return Status::BadWords(WordFault::Options);
+    };
+    let Ok(words) = args.skip(1).collect::<Vec<String>>(alloc) else {
+        return Status::OutOfMemory;
+    };
+    let mut desk = FileDesk::new(alloc, rt);
+    let mut out = StdSink::new(rt);
+    stat(alloc, words.as_slice(), &mut desk, &mut out).status
+}
