@@ -32,13 +32,13 @@ module _ (p : Path) (text ends : List ℕ) (h : AreCuts p text ends) (k : ℕ) (
   end_inside = let e = ap length here in let f = length-append (path_text (take (suc k) p)) (tail_text (drop (suc k) p)) in omega (arith, e, f, end_is)
 
 -- a text may be cut before a `;`, and at its end
-before_tail : (front : List ℕ) (q : Path) (text : List ℕ) → text ≡ front ++ tail_text q → IsCharBoundary text (length front)
-before_tail front [] text is = subst (λ t. IsCharBoundary t (length front)) (sym is) (subst (λ t. IsCharBoundary (front ++ []) t) (let e = length-append front [] in omega (arith, e)) (IsCharBoundary-end (front ++ [])))
-before_tail front (f ∷ q) text is =
-    let byte : get_or text (length front) 0 ≡ 59 = ap (λ t. get_or t (length front) 0) is ∙ get_or_at front 59 (path_text (f ∷ q)) 0 (length front) refl in
+before_tail : (prefix : List ℕ) (q : Path) (text : List ℕ) → text ≡ prefix ++ tail_text q → IsCharBoundary text (length prefix)
+before_tail prefix [] text is = subst (λ t. IsCharBoundary t (length prefix)) (sym is) (subst (λ t. IsCharBoundary (prefix ++ []) t) (let e = length-append prefix [] in omega (arith, e)) (IsCharBoundary-end (prefix ++ [])))
+before_tail prefix (f ∷ q) text is =
+    let byte : get_or text (length prefix) 0 ≡ 59 = ap (λ t. get_or t (length prefix) 0) is ∙ get_or_at prefix 59 (path_text (f ∷ q)) 0 (length prefix) refl in
     let long = ap length is in
-    let more = length-append front (59 ∷ path_text (f ∷ q)) in
-    IsCharBoundary-before_ascii text (length front) (omega (arith, long, more)) (omega (arith, byte))
+    let more = length-append prefix (59 ∷ path_text (f ∷ q)) in
+    IsCharBoundary-before_ascii text (length prefix) (omega (arith, long, more)) (omega (arith, byte))
 
 -- a text may be cut where a frame ends
 pub end_boundary : (p : Path) (text ends : List ℕ) → AreCuts p text ends → (k : ℕ) → k < length p → IsCharBoundary text (get_or ends k 0)
@@ -63,36 +63,36 @@ pub stands : (p : Path) (text ends : List ℕ) → AreCuts p text ends → (i : 
 stands [] text ends h i lt = absurd (omega arith)
 stands (f ∷ p) text ends h zero lt =
     let e = end_is (f ∷ p) text ends h 0 lt in
-    let place : get_or ends 0 0 ≡ 0 + length f = omega (arith, e) in
+    let offset : get_or ends 0 0 ≡ 0 + length f = omega (arith, e) in
     record {
       order = omega arith;
       inside = end_inside (f ∷ p) text ends h 0 lt;
-      is = ap (slice_range text 0) place ∙ frame_at f (tail_text p) [] text 0 refl (h.joined ∙ text_first f p);
+      is = ap (slice_range text 0) offset ∙ frame_at f (tail_text p) [] text 0 refl (h.joined ∙ text_first f p);
       from = λ u lt. absurd (omega arith);
       to = end_boundary (f ∷ p) text ends h 0 lt;
     }
 stands (f ∷ p) text ends h (suc j) lt =
     let q : Path = f ∷ p in
     let g = get_or q (suc j) [] in
-    let front = path_text (take (suc j) q) in
+    let prefix = path_text (take (suc j) q) in
     let rest = tail_text (drop (suc (suc j)) q) in
-    let start : get_or ends j 0 ≡ length front = end_is q text ends h j (omega arith) in
+    let start : get_or ends j 0 ≡ length prefix = end_is q text ends h j (omega arith) in
     let end = end_is q text ends h (suc j) lt in
     let next = text_next q j lt in
-    let long = ap length next ∙ length-append front (59 ∷ g) in
-    let whole : text ≡ (front ++ 59 ∷ []) ++ (g ++ rest) =
-    sym (here q text ends h (suc j) lt) ∙ ap (λ t. t ++ rest) next ∙ append_assoc front (59 ∷ g) rest ∙ sym (append_assoc front (59 ∷ []) (g ++ rest)) in
-    let at : length (front ++ 59 ∷ []) ≡ suc (get_or ends j 0) = omega (arith, length-append front (59 ∷ []), start) in
-    let place : get_or ends (suc j) 0 ≡ suc (get_or ends j 0) + length g = omega (arith, start, end, long) in
+    let long = ap length next ∙ length-append prefix (59 ∷ g) in
+    let whole : text ≡ (prefix ++ 59 ∷ []) ++ (g ++ rest) =
+    sym (here q text ends h (suc j) lt) ∙ ap (λ t. t ++ rest) next ∙ append_assoc prefix (59 ∷ g) rest ∙ sym (append_assoc prefix (59 ∷ []) (g ++ rest)) in
+    let at : length (prefix ++ 59 ∷ []) ≡ suc (get_or ends j 0) = omega (arith, length-append prefix (59 ∷ []), start) in
+    let offset : get_or ends (suc j) 0 ≡ suc (get_or ends j 0) + length g = omega (arith, start, end, long) in
     let inside = end_inside q text ends h (suc j) lt in
     record {
-      order = omega (arith, place);
+      order = omega (arith, offset);
       inside = inside;
-      is = ap (slice_range text (suc (get_or ends j 0))) place ∙ frame_at g rest (front ++ 59 ∷ []) text (suc (get_or ends j 0)) at whole;
+      is = ap (slice_range text (suc (get_or ends j 0))) offset ∙ frame_at g rest (prefix ++ 59 ∷ []) text (suc (get_or ends j 0)) at whole;
       from = λ u _.
-          let byte : get_or text (get_or ends j 0) 0 ≡ 59 = ap (λ t. get_or t (get_or ends j 0) 0) (whole ∙ append_assoc front (59 ∷ []) (g ++ rest)) ∙ get_or_at front 59 (g ++ rest) 0 (get_or ends j 0) (sym start) in
+          let byte : get_or text (get_or ends j 0) 0 ≡ 59 = ap (λ t. get_or t (get_or ends j 0) 0) (whole ∙ append_assoc prefix (59 ∷ []) (g ++ rest)) ∙ get_or_at prefix 59 (g ++ rest) 0 (get_or ends j 0) (sym start) in
           let past : get_or ends j 0 + 1 ≡ suc (get_or ends j 0) = omega arith in
-          subst (IsCharBoundary text) past (IsCharBoundary-after_ascii text (get_or ends j 0) u (omega (arith, place, inside)) (omega (arith, byte)));
+          subst (IsCharBoundary text) past (IsCharBoundary-after_ascii text (get_or ends j 0) u (omega (arith, offset, inside)) (omega (arith, byte)));
       to = end_boundary q text ends h (suc j) lt;
     }
 
@@ -122,8 +122,8 @@ module _ (self : Path) (text ends : List ℕ) (view : cut_from 0 ends text ≡ s
     front_good =
         let held = cuts_shown self text ends view h in
         let e = length-take d self in
-        let few = held.good.few in
-        record { few = omega (arith, e, few); good = All-take (λ f. IsTrue (is_good_frame f)) d self held.good.good }
+        let within_limit = held.good.within_limit in
+        record { within_limit = omega (arith, e, within_limit); good = All-take (λ f. IsTrue (is_good_frame f)) d self held.good.good }
 
     module _ (shown : List ℕ) (end : ℕ) (is : shown ≡ ends) (to : end ≡ end_in shown d) where
       -- the text may be cut where its first frames end
@@ -136,17 +136,17 @@ module _ (self : Path) (text ends : List ℕ) (view : cut_from 0 ends text ≡ s
           let held = cuts_shown self text ends view h in
           (λ i. take (to i) (held.joined i)) ∙ (λ i. take (end_in ((is ∙ held.places) i) d) (path_text self)) ∙ sym (text-take d self le)
 
-    module _ (new_text new_ends : List ℕ) (front : new_text ≡ path_text (take d self)) (few : new_ends ≡ take d ends) where
+    module _ (new_text new_ends : List ℕ) (prefix : new_text ≡ path_text (take d self)) (within_limit : new_ends ≡ take d ends) where
       first_ends : new_ends ≡ ends_from 0 (take d self)
-      first_ends = few ∙ ap (take d) (cuts_shown self text ends view h).places ∙ sym (ends-take 0 d self)
+      first_ends = within_limit ∙ ap (take d) (cuts_shown self text ends view h).places ∙ sym (ends-take 0 d self)
 
       -- the text of the first frames, with the first ends, holds the first frames
       pub first_cuts : AreCuts (cut_from 0 new_ends new_text) new_text new_ends
-      first_cuts = cuts_of (take d self) new_text new_ends front first_ends front_good
+      first_cuts = cuts_of (take d self) new_text new_ends prefix first_ends front_good
 
       -- and shows them
       pub first_is : cut_from 0 new_ends new_text ≡ take d self
-      first_is = cut_is (take d self) new_text new_ends front first_ends
+      first_is = cut_is (take d self) new_text new_ends prefix first_ends
 
 -- the text with one more frame: past a `;`, if there are frames
 abbrev pub longer : Bool → List ℕ → List ℕ → List ℕ
@@ -158,7 +158,7 @@ longer_text [] text f is = ap (λ t. t ++ f) is
 longer_text (g ∷ p) text f is = ap (λ b. longer b text f) (ne_eqb (suc (length p)) 0 (λ e. omega arith)) ∙ ap (λ t. (t ++ 59 ∷ []) ++ f) is ∙ append_assoc (path_text (g ∷ p)) (59 ∷ []) f ∙ sym (text_push g p f)
 
 module _ (self : Path) (text ends : List ℕ) (view : cut_from 0 ends text ≡ self) (h : AreCuts (cut_from 0 ends text) text ends)
-    (f new_text : List ℕ) (few : length self < 128) (good : IsTrue (is_good_frame f)) (is : new_text ≡ longer (length ends == 0) text f) where
+    (f new_text : List ℕ) (within_limit : length self < 128) (good : IsTrue (is_good_frame f)) (is : new_text ≡ longer (length ends == 0) text f) where
   pushed_text : new_text ≡ path_text (self ++ f ∷ [])
   pushed_text =
       let held = cuts_shown self text ends view h in
@@ -168,11 +168,11 @@ module _ (self : Path) (text ends : List ℕ) (view : cut_from 0 ends text ≡ s
   pushed_good =
       let held = cuts_shown self text ends view h in
       let e = length-append self (f ∷ []) in
-      record { few = omega (arith, e, few); good = All-push (λ f. IsTrue (is_good_frame f)) self f held.good.good good }
+      record { within_limit = omega (arith, e, within_limit); good = All-push (λ f. IsTrue (is_good_frame f)) self f held.good.good good }
 
   -- the length of the text with one more frame fits 32 bits
   pub push_short : length new_text < 2 ^ 32
-  push_short = let e = ap length pushed_text in let s = text_short (self ++ f ∷ []) pushed_good.good in let n = pushed_good.few in omega (arith, e, s, n)
+  push_short = let e = ap length pushed_text in let s = text_short (self ++ f ∷ []) pushed_good.good in let n = pushed_good.within_limit in omega (arith, e, s, n)
 
   module _ (end : ℕ) (new_ends : List ℕ) (to : end ≡ length new_text) (more : new_ends ≡ ends ++ end ∷ []) where
     pushed_ends : new_ends ≡ ends_from 0 (self ++ f ∷ [])

@@ -1,5 +1,5 @@
 pub mod Texts
 pub mod Held
-pub mod Faults
+pub mod Errors
 pub mod Orders
 pub mod ReadBack

@@ -8,20 +8,20 @@ use Rattle.std.proofs.lemmas.List.Splits.{slice_split_none, slice_split_at}
 use Rattle.call_path.specs.declared.read.PathError.{PathError}
 use Rattle.call_path.specs.Path.{Path, path_text}
 use Rattle.call_path.specs.Good.{is_plain, is_good_frame, AreGoodFrames, IsGoodPath}
-use Rattle.call_path.specs.Reading.{frames, frame_fault, first_fault, is_control, unless, path_of}
-use Rattle.call_path.proofs.Faults.{text-frames, good_text, frames_some}
+use Rattle.call_path.specs.Reading.{frames, frame_error, first_error, is_control, unless, path_of}
+use Rattle.call_path.proofs.Errors.{text-frames, good_text, frames_some}
 
--- a good frame has bytes, few, and plain
+-- a good frame has bytes, within_limit, and plain
 record GoodParts (f : List ℕ) : Type 0 where
   some : 0 < length f
-  few : length f ≤ 1023
+  within_limit : length f ≤ 1023
   plain : list_all is_plain f ≡ true
 
 good_parts : (f : List ℕ) → IsTrue (is_good_frame f) → GoodParts f
 good_parts f h =
     let a = and_parts (nat_lt 0 (length f)) (nat_le (length f) 1023 && list_all is_plain f) h in
     let b = and_parts (nat_le (length f) 1023) (list_all is_plain f) a.1 in
-    record { some = ltb-true 0 (length f) a.0; few = leb-true (length f) 1023 b.0; plain = b.1 }
+    record { some = ltb-true 0 (length f) a.0; within_limit = leb-true (length f) 1023 b.0; plain = b.1 }
 
 -- a plain byte is no control byte, and no `;`
 plain_control : (b : ℕ) → is_plain b ≡ true → is_control b ≡ false
@@ -50,20 +50,20 @@ no_place : (f : List ℕ) → list_all is_plain f ≡ true → position is_contr
 no_place f h =
     ap (λ n. cond (nat_lt n (length f)) (Some n) None) (no_control f h) ∙ ap (λ t. cond t (Some (length f)) None) (le-ltb (length f) (length f) (omega arith))
 
--- a good frame has no fault where it may stand
-no_fault : (i place : ℕ) (f : List ℕ) → i < 128 → IsTrue (is_good_frame f) → frame_fault i place f ≡ None
-unfolding frame_fault
-no_fault i place f lt h =
+-- a good frame has no error where it may stand
+no_fault : (i offset : ℕ) (f : List ℕ) → i < 128 → IsTrue (is_good_frame f) → frame_error i offset f ≡ None
+unfolding frame_error
+no_fault i offset f lt h =
     let parts = good_parts f h in
     let some = parts.some in
-    rw (lt-leb 128 i lt, ne_eqb (length f) 0 (λ e. omega arith), le-ltb 1023 (length f) parts.few, no_place f parts.plain) refl
+    rw (lt-leb 128 i lt, ne_eqb (length f) 0 (λ e. omega arith), le-ltb 1023 (length f) parts.within_limit, no_place f parts.plain) refl
 
-no_faults : (i place : ℕ) (p : Path) → i + length p ≤ 128 → All (λ f. IsTrue (is_good_frame f)) p → first_fault i place p ≡ None
-unfolding first_fault
-no_faults i place [] le h = refl
-no_faults i place (f ∷ p) le h =
-    rw (no_fault i place f (omega arith) (All-head (λ f. IsTrue (is_good_frame f)) f p h), first_fault)
-    (no_faults (suc i) (suc (place + length f)) p (omega arith) (All-tail (λ f. IsTrue (is_good_frame f)) f p h))
+no_faults : (i offset : ℕ) (p : Path) → i + length p ≤ 128 → All (λ f. IsTrue (is_good_frame f)) p → first_error i offset p ≡ None
+unfolding first_error
+no_faults i offset [] le h = refl
+no_faults i offset (f ∷ p) le h =
+    rw (no_fault i offset f (omega arith) (All-head (λ f. IsTrue (is_good_frame f)) f p h), first_error)
+    (no_faults (suc i) (suc (offset + length f)) p (omega arith) (All-tail (λ f. IsTrue (is_good_frame f)) f p h))
 
 -- the frames of its text are the frames of a path
 split_text : (f : List ℕ) (p : Path) → All (λ f. IsTrue (is_good_frame f)) (f ∷ p) → slice_split (λ b. b == 59) (path_text (f ∷ p)) ≡ f ∷ p
@@ -88,14 +88,14 @@ same_frames (f ∷ p) (g ∷ q) good more long e =
 -- the text of a good path is read as that path
 pub good_read : (p : Path) → IsGoodPath p → path_of (path_text p) ≡ Ok p
 good_read p h =
-    ap (λ q. unless q (first_fault 0 0 q)) (frames_text p h)
-    ∙ ap (unless p) (no_faults 0 0 p (omega (arith, h.good.few)) h.good.good)
+    ap (λ q. unless q (first_error 0 0 q)) (frames_text p h)
+    ∙ ap (unless p) (no_faults 0 0 p (omega (arith, h.good.within_limit)) h.good.good)
 
 -- what is read is a good path with that text
 pub read_good : (text : List ℕ) (p : Path) → path_of text ≡ Ok p → IsGoodPath p × (path_text p ≡ text)
-read_good text p is = by_fault (first_fault 0 0 (frames text)) refl is
+read_good text p is = by_fault (first_error 0 0 (frames text)) refl is
   where
-    by_fault : (o : Option PathError) → first_fault 0 0 (frames text) ≡ o → unless (frames text) o ≡ Ok p → IsGoodPath p × (path_text p ≡ text)
+    by_fault : (o : Option PathError) → first_error 0 0 (frames text) ≡ o → unless (frames text) o ≡ Ok p → IsGoodPath p × (path_text p ≡ text)
     by_fault None none e =
         let same : frames text ≡ p = cc in (
           subst IsGoodPath same (record { some = frames_some text; good = good_text text none }),

@@ -84,23 +84,23 @@ ends_push n (g ∷ p) f =
     longer n g [] f = let e = length-append g (59 ∷ f) in omega (arith, e)
     longer n g (h ∷ p) f = let e = length-append g (59 ∷ path_text (h ∷ (p ++ f ∷ []))) in omega (arith, e)
 
-module _ (f : List ℕ) (rest front text : List ℕ) (n : ℕ) (at : length front ≡ n) (is : text ≡ front ++ (f ++ rest)) where
+module _ (f : List ℕ) (rest prefix text : List ℕ) (n : ℕ) (at : length prefix ≡ n) (is : text ≡ prefix ++ (f ++ rest)) where
   -- a frame stands between its places
   pub frame_at : slice_range text n (n + length f) ≡ f
   frame_at =
       ap (λ t. take (n + length f - n) (drop n t)) is
-      ∙ ap (take (n + length f - n)) (drop_at front (f ++ rest) n at)
+      ∙ ap (take (n + length f - n)) (drop_at prefix (f ++ rest) n at)
       ∙ take_at f rest (n + length f - n) (omega arith)
 
 -- the frames that are cut out of their text are the frames
-pub cut_from_ends : (p : Path) (n : ℕ) (front text : List ℕ) → length front ≡ n → text ≡ front ++ path_text p → cut_from n (ends_from n p) text ≡ p
-cut_from_ends [] n front text at is = refl
-cut_from_ends (f ∷ []) n front text at is = ap (λ g. g ∷ []) (frame_at f [] front text n at (is ∙ ap (λ t. front ++ t) (text_first f [])))
-cut_from_ends (f ∷ g ∷ p) n front text at is =
-    let first = frame_at f (59 ∷ path_text (g ∷ p)) front text n at is in
-    let long : length (front ++ (f ++ 59 ∷ [])) ≡ suc (n + length f) = omega (arith, length-append front (f ++ 59 ∷ []), length-append f (59 ∷ [])) in
-    let there : text ≡ (front ++ (f ++ 59 ∷ [])) ++ path_text (g ∷ p) = is ∙ ap (λ t. front ++ t) (sym (append_assoc f (59 ∷ []) (path_text (g ∷ p)))) ∙ sym (append_assoc front (f ++ 59 ∷ []) (path_text (g ∷ p))) in
-    let rest = cut_from_ends (g ∷ p) (suc (n + length f)) (front ++ (f ++ 59 ∷ [])) text long there in
+pub cut_from_ends : (p : Path) (n : ℕ) (prefix text : List ℕ) → length prefix ≡ n → text ≡ prefix ++ path_text p → cut_from n (ends_from n p) text ≡ p
+cut_from_ends [] n prefix text at is = refl
+cut_from_ends (f ∷ []) n prefix text at is = ap (λ g. g ∷ []) (frame_at f [] prefix text n at (is ∙ ap (λ t. prefix ++ t) (text_first f [])))
+cut_from_ends (f ∷ g ∷ p) n prefix text at is =
+    let first = frame_at f (59 ∷ path_text (g ∷ p)) prefix text n at is in
+    let long : length (prefix ++ (f ++ 59 ∷ [])) ≡ suc (n + length f) = omega (arith, length-append prefix (f ++ 59 ∷ []), length-append f (59 ∷ [])) in
+    let there : text ≡ (prefix ++ (f ++ 59 ∷ [])) ++ path_text (g ∷ p) = is ∙ ap (λ t. prefix ++ t) (sym (append_assoc f (59 ∷ []) (path_text (g ∷ p)))) ∙ sym (append_assoc prefix (f ++ 59 ∷ []) (path_text (g ∷ p))) in
+    let rest = cut_from_ends (g ∷ p) (suc (n + length f)) (prefix ++ (f ++ 59 ∷ [])) text long there in
     (λ i. first i ∷ rest i)
 
 -- a good frame is short

@@ -1,17 +1,17 @@
--- How a path is held: as its text, with the place where each frame ends.
+-- How a path is held: as its text, with the offset where each frame ends.
 use Rattle.std.specs.Prelude.{◌≡◌, ℕ, zero, suc, ◌+◌, List, [], ◌∷◌, length, slice_index, slice_range}
 use Rattle.call_path.specs.Path.{Path, path_text}
 use Rattle.call_path.specs.Good.{AreGoodFrames}
 
--- where each frame ends, if the first begins at a place and the others past a `;`
+-- where each frame ends, if the first begins at a offset and the others past a `;`
 abbrev pub ends_from : ℕ → Path → List ℕ
-ends_from place [] = []
-ends_from place (f ∷ p) = (place + length f) ∷ ends_from (suc (place + length f)) p
+ends_from offset [] = []
+ends_from offset (f ∷ p) = (offset + length f) ∷ ends_from (suc (offset + length f)) p
 
--- the frames of a text that end where is said, if the first begins at a place and the others past a `;`
+-- the frames of a text that end where is said, if the first begins at a offset and the others past a `;`
 abbrev pub cut_from : ℕ → List ℕ → List ℕ → Path
-cut_from place [] text = []
-cut_from place (end ∷ ends) text = slice_range text place end ∷ cut_from (suc end) ends text
+cut_from offset [] text = []
+cut_from offset (end ∷ ends) text = slice_range text offset end ∷ cut_from (suc end) ends text
 
 -- where frame i begins
 abbrev pub start_in : List ℕ → ℕ → ℕ

@@ -13,7 +13,7 @@ is_good_frame f = nat_lt 0 (length f) && (nat_le (length f) 1023 && list_all is_
 
 -- at most 128 good frames
 pub record AreGoodFrames (p : Path) : Type 0 where
-  pub few : length p ≤ 128
+  pub within_limit : length p ≤ 128
   pub good : All (λ f. IsTrue (is_good_frame f)) p
 
 -- 1 to 128 good frames

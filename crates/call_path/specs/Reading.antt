@@ -1,4 +1,4 @@
--- How a text is read as a call path: its frames, or its first fault.
+-- How a text is read as a call path: its frames, or its first error.
 use Rattle.std.specs.Prelude.{ℕ, suc, ◌+◌, Bool, ◌||◌, ◌==◌, nat_eq, nat_lt, nat_le, not, cond, List, [], ◌∷◌, length, Option, None, Some, Result, Ok, Err}
 use Rattle.std.specs.List.{position, prefix_len, slice_split}
 use Rattle.std.specs.Option.{option_or}
@@ -14,32 +14,32 @@ frames text = slice_split (λ b. b == 59) text
 abbrev pub is_control : ℕ → Bool
 is_control b = nat_lt b 32 || nat_eq b 127
 
--- the fault of the control byte n in a frame that begins at a place
-abbrev pub control_fault : ℕ → Option ℕ → Option PathError
-control_fault place None = None
-control_fault place (Some n) = Some (ControlByte (place + n))
+-- the error of the control byte n in a frame that begins at a offset
+abbrev pub control_error : ℕ → Option ℕ → Option PathError
+control_error offset None = None
+control_error offset (Some n) = Some (ControlByte (offset + n))
 
--- the fault of frame i, which begins at a place of the text
-unfoldable pub frame_fault : ℕ → ℕ → List ℕ → Option PathError
-frame_fault i place frame =
+-- the error of frame i, which begins at a offset of the text
+unfoldable pub frame_error : ℕ → ℕ → List ℕ → Option PathError
+frame_error i offset frame =
     cond (nat_le 128 i) (Some TooDeep)
     (cond (nat_eq (length frame) 0) (Some (EmptyFrame i))
     (cond (nat_lt 1023 (length frame)) (Some (FrameTooLong i))
-    (control_fault place (position is_control frame))))
+    (control_error offset (position is_control frame))))
 
--- the first fault of frames, of which the first has number i and begins at a place
-unfoldable pub first_fault : ℕ → ℕ → Path → Option PathError
-first_fault i place [] = None
-first_fault i place (frame ∷ rest) = option_or (frame_fault i place frame) (first_fault (suc i) (suc (place + length frame)) rest)
+-- the first error of frames, of which the first has number i and begins at a offset
+unfoldable pub first_error : ℕ → ℕ → Path → Option PathError
+first_error i offset [] = None
+first_error i offset (frame ∷ rest) = option_or (frame_error i offset frame) (first_error (suc i) (suc (offset + length frame)) rest)
 
--- the path, if there is no fault
+-- the path, if there is no error
 abbrev pub unless : Path → Option PathError → Result Path PathError
 unless path None = Ok path
-unless path (Some fault) = Err fault
+unless path (Some error) = Err error
 
--- what a text is read as: the path of its frames, or its first fault
+-- what a text is read as: the path of its frames, or its first error
 abbrev pub path_of : List ℕ → Result Path PathError
-path_of text = unless (frames text) (first_fault 0 0 (frames text))
+path_of text = unless (frames text) (first_error 0 0 (frames text))
 
 -- how many bytes there are before the first `;`
 abbrev pub frame_len : List ℕ → ℕ

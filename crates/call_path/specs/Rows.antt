@@ -3,26 +3,26 @@ use Rattle.std.specs.Prelude.{◌≡◌, refl, [], ◌∷◌, ◌++◌, false, O
 use Rattle.std.specs.declared.cmp.Ordering.TheVariants.{Less}
 use Rattle.call_path.specs.declared.read.PathError.TheVariants.{EmptyFrame, ControlByte}
 use Rattle.call_path.specs.Path.{path_cmp, is_prefix, path_text}
-use Rattle.call_path.specs.Reading.{path_of, first_fault, frame_fault, frames}
+use Rattle.call_path.specs.Reading.{path_of, first_error, frame_error, frames}
 
 -- two frames
 two : path_of (codes "main;a") ≡ Ok (codes "main" ∷ codes "a" ∷ [])
-unfolding first_fault frame_fault frames
+unfolding first_error frame_error frames
 two = refl
 
 -- the frame between two `;` is empty
 empty_frame : path_of (codes "a;;b") ≡ Err (EmptyFrame 1)
-unfolding first_fault frame_fault frames
+unfolding first_error frame_error frames
 empty_frame = refl
 
 -- no bytes are one empty frame
 no_bytes : path_of [] ≡ Err (EmptyFrame 0)
-unfolding first_fault frame_fault frames
+unfolding first_error frame_error frames
 no_bytes = refl
 
--- a place is counted from the start of the text
+-- a offset is counted from the start of the text
 control : path_of (codes "a;b" ++ 9 ∷ codes "c") ≡ Err (ControlByte 3)
-unfolding first_fault frame_fault frames
+unfolding first_error frame_error frames
 control = refl
 
 -- the texts of these paths stand in the other order

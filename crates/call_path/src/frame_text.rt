@@ -1,4 +1,4 @@
-//! Frames held as one text, with the place where each ends.
+//! Frames as one text, with the offset where each ends.
 
 ghost use Rattle.std.specs.Prelude.{◌≡◌, ◌<◌, ◌≤◌, ◌+◌, ◌^◌, ◌++◌, [], ◌∷◌, length, IfOk, OnOk, OnErr, IsTrue, take, slice_get, Some};
 ghost use Rattle.call_path.specs.Path.{path_cmp, is_prefix, path_text};
@@ -11,7 +11,7 @@ use std::alloc::{AllocError, Global};
 use std::cmp::Ordering;
 use std::marker::Model;
 
-/// None up to 128 good frames, joined by `;`.
+/// 0 to 128 good frames, joined by `;`.
 #[derive(Drop)]
 pub struct FrameText {
     text: String,
@@ -52,7 +52,7 @@ impl FrameText {
         Ok(FrameText { text, ends })
     }
 
-    /// How many frames.
+    /// The number of frames.
     pub fn len(&self) -> usize
         ensures len { result ≡ length self.now }
         ensures within_limit { length self.now ≤ FRAME_LIMIT }
@@ -85,7 +85,7 @@ impl FrameText {
     {
         let shared = self.len().min(other.len());
         // Most paths that are compared share frames, and one test of whole texts is cheap.
-        if self.front(shared) != other.front(shared) {
+        if self.prefix_text(shared) != other.prefix_text(shared) {
             for i in 0..shared {
                 let frame = self.frame(i);
                 let other_frame = other.frame(i);
@@ -113,7 +113,7 @@ impl FrameText {
     }
 
     // The text of the first `depth` frames.
-    fn front(&self, depth: usize) -> &str
+    fn prefix_text(&self, depth: usize) -> &str
         requires { depth ≤ length self.now }
         ensures text { result.now ≡ path_text (take depth self.now) }
         ensures good { AreGoodFrames (take depth self.now) }
@@ -126,7 +126,7 @@ impl FrameText {
         requires { depth ≤ length self.now }
         ensures { IfOk result (λ first. first ≡ take depth self.now) }
     {
-        let text = String::from_str(*self.ends.allocator(), self.front(depth))?;
+        let text = String::from_str(*self.ends.allocator(), self.prefix_text(depth))?;
         let ends = Vec::from_slice(*self.ends.allocator(), &self.ends[..depth])?;
         Ok(FrameText { text, ends })
     }
@@ -141,7 +141,7 @@ impl FrameText {
         }
     }
 
-    /// Puts a frame at the end.
+    /// Appends a frame.
     pub fn push(&mut self, frame: &str) -> Result<(), AllocError>
         requires below_limit { length self.old < FRAME_LIMIT }
         requires good { IsTrue (is_good_frame frame.now) }
@@ -187,9 +187,9 @@ fn frame_ends(alloc: Global, text: &[u8]) -> Result<Vec<u32>, AllocError>
     ensures { IfOk result (λ ends. ends.items ≡ ends_from 0 (frames text.now)) }
 {
     let mut ends = Vec::new(alloc);
-    for (place, byte) in text.iter().enumerate() {
+    for (offset, byte) in text.iter().enumerate() {
         if *byte == b';' {
-            ends.push(place as u32)?;
+            ends.push(offset as u32)?;
         }
     }
     ends.push(text.len() as u32)?;

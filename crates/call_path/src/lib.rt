@@ -1,7 +1,7 @@
 //! Call paths: the frames of a call stack, root first.
 //!
 //! A path has 1 to 128 frames. A frame is a text of 1 to 1,023 bytes without control bytes and
-//! without `;`, and so the frames joined by `;` are a text that gives the path back.
+//! without `;`, so the frames joined by `;` are a text from which the path can be read back.
 #![tactic(auto)]
 
 ghost use Rattle.std.specs.Prelude.{List, ℕ, ◌≡◌, ◌≢◌, ◌<◌, ◌≤◌, ◌++◌, [], ◌∷◌, length, IfOk, IfErr, OnOk, OnErr, Ok, Err, IsTrue, take, slice_get, Some};
@@ -50,14 +50,14 @@ impl CallPath {
         ensures ok { IfOk result (λ path. path_of text.now ≡ Ok path) }
         ensures err { IfErr result (λ e. e ≢ OutOfMemory → path_of text.now ≡ Err e) }
     {
-        if let Some(fault) = read::first_fault(text.as_bytes()) {
-            return Err(fault);
+        if let Some(error) = read::first_error(text.as_bytes()) {
+            return Err(error);
         }
         let frames = FrameText::of(alloc, text)?;
         Ok(CallPath { frames })
     }
 
-    /// How many frames.
+    /// The number of frames.
     pub fn len(&self) -> usize
         ensures len { result ≡ length self.now }
         ensures not_empty { 0 < length self.now }
@@ -100,7 +100,7 @@ impl CallPath {
         Ok(CallPath { frames })
     }
 
-    /// The same path once more.
+    /// A copy of the path.
     pub fn copy(&self) -> Result<CallPath, AllocError>
         ensures { IfOk result (λ copy. copy ≡ self.now) }
     {
@@ -117,7 +117,7 @@ impl CallPath {
     }
 }
 
-/// The frames of a path that is being built, root first: none up to 128.
+/// The frames of a path that is being built, root first: 0 to 128.
 #[derive(Drop)]
 pub struct PathBuilder {
     frames: FrameText,
@@ -132,7 +132,7 @@ impl Model for PathBuilder {
 }
 
 impl PathBuilder {
-    /// No frames.
+    /// The empty list of frames.
     pub fn new(alloc: Global) -> PathBuilder
         ensures { result ≡ [] }
     {
@@ -141,7 +141,7 @@ impl PathBuilder {
         }
     }
 
-    /// How many frames.
+    /// The number of frames.
     pub fn len(&self) -> usize
         ensures len { result ≡ length self.now }
         ensures within_limit { length self.now ≤ FRAME_LIMIT }
@@ -150,7 +150,7 @@ impl PathBuilder {
         self.frames.len()
     }
 
-    /// Puts a frame at the end.
+    /// Appends a frame.
     pub fn push(&mut self, frame: &str) -> Result<(), AllocError>
         requires below_limit { length self.old < FRAME_LIMIT }
         requires good { IsTrue (is_good_frame frame.now) }

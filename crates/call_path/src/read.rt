@@ -1,23 +1,23 @@
-//! The faults of a text of a call path.
+//! The errors in the text of a call path.
 
 ghost use Rattle.std.specs.Prelude.{◌≡◌, ◌<◌, ◌≤◌, ◌+◌, ◌^◌, length, position, IfSome};
-ghost use Rattle.call_path.specs.Reading.{frames, first_fault, frame_fault, frame_len, is_control};
+ghost use Rattle.call_path.specs.Reading.{frames, first_error, frame_error, frame_len, is_control};
 
 use crate::{FRAME_BYTES, FRAME_LIMIT};
 use std::alloc::AllocError;
 
-/// Why a text of a call path was refused. Frames and bytes are counted from 0.
+/// Why the text of a call path is refused. Frames and byte offsets count from 0.
 #[derive(Debug, PartialEq, Eq, Clone, Copy)]
 pub enum PathError {
     /// The frame with this number has no bytes.
     EmptyFrame(usize),
-    /// At this place of the text is a byte below 0x20, or 0x7F.
+    /// At this offset there is a byte below 0x20, or 0x7F.
     ControlByte(usize),
     /// The frame with this number has more than 1,023 bytes.
     FrameTooLong(usize),
     /// There are more than 128 frames.
     TooDeep,
-    /// There was no memory for the path.
+    /// Out of memory.
     OutOfMemory,
 }
 
@@ -38,7 +38,7 @@ fn is_control(b: u8) -> bool
     b < 0x20 || b == 0x7f
 }
 
-// The place of the first control byte.
+// The index of the first control byte.
 fn control_at(frame: &[u8]) -> Option<usize>
     ensures value { result ≡ position is_control frame.now }
     ensures within { IfSome result (λ n. n < length frame.now) }
@@ -46,11 +46,11 @@ fn control_at(frame: &[u8]) -> Option<usize>
     frame.iter().position(|b| is_control(*b))
 }
 
-// The fault of frame `i`, which begins at a place of the text.
-#[tactic(auto, unfolding(crate::specs::Reading::frame_fault))]
-fn frame_fault(i: usize, place: usize, frame: &[u8]) -> Option<PathError>
-    requires { place + length frame.now < 2 ^ 64 }
-    ensures { result ≡ frame_fault i place frame.now }
+// The error of frame `i`, which begins at a offset of the text.
+#[tactic(auto, unfolding(crate::specs::Reading::frame_error))]
+fn frame_error(i: usize, offset: usize, frame: &[u8]) -> Option<PathError>
+    requires { offset + length frame.now < 2 ^ 64 }
+    ensures { result ≡ frame_error i offset frame.now }
 {
     if i >= FRAME_LIMIT {
         return Some(PathError::TooDeep);
@@ -62,12 +62,12 @@ fn frame_fault(i: usize, place: usize, frame: &[u8]) -> Option<PathError>
         return Some(PathError::FrameTooLong(i));
     }
     match control_at(frame) {
-        Some(n) => Some(PathError::ControlByte(place + n)),
+        Some(n) => Some(PathError::ControlByte(offset + n)),
         None => None,
     }
 }
 
-// How many bytes are before the first `;`.
+// The number of bytes before the first `;`.
 fn frame_len(text: &[u8]) -> usize
     ensures value { result ≡ frame_len text.now }
     ensures within { result ≤ length text.now }
@@ -75,23 +75,23 @@ fn frame_len(text: &[u8]) -> usize
     text.iter().take_while(|b| **b != b';').count()
 }
 
-/// The first fault of a text.
-pub fn first_fault(text: &[u8]) -> Option<PathError>
-    ensures { result ≡ first_fault 0 0 (frames text.now) }
+/// The first error of a text.
+pub fn first_error(text: &[u8]) -> Option<PathError>
+    ensures { result ≡ first_error 0 0 (frames text.now) }
 {
     let mut i = 0;
-    let mut place = 0;
+    let mut offset = 0;
     let mut rest = text;
     loop {
         let (frame, after) = rest.split_at(frame_len(rest));
-        if let Some(fault) = frame_fault(i, place, frame) {
-            return Some(fault);
+        if let Some(error) = frame_error(i, offset, frame) {
+            return Some(error);
         }
         let Some((_, next)) = after.split_first() else {
             return None;
         };
         i += 1;
-        place += frame.len() + 1;
+        offset += frame.len() + 1;
         rest = next;
     }
 }

@@ -17,7 +17,7 @@ fn repeated(alloc: Global, part: &str, times: usize) -> Result<String, AllocErro
     Ok(text)
 }
 
-fn fault(alloc: Global, text: &str) -> Option<PathError> {
+fn error(alloc: Global, text: &str) -> Option<PathError> {
     CallPath::read(alloc, text).err()
 }
 
@@ -38,7 +38,7 @@ const REFUSALS: [(&str, Option<PathError>); 11] = [
 #[test]
 fn refuses_with_places(rt: HostRuntime) {
     for (text, want) in REFUSALS {
-        assert_eq!(rt; fault(rt.alloc(), text), want, "{text:?}");
+        assert_eq!(rt; error(rt.alloc(), text), want, "{text:?}");
     }
 }
 
@@ -61,7 +61,7 @@ fn refuses_past_limits(rt: HostRuntime) -> Result<(), Fail> {
         let mut text = repeated(rt.alloc(), part, times)?;
         text.push_str(end)?;
         assert_eq!(rt;
-            fault(rt.alloc(), &text),
+            error(rt.alloc(), &text),
             want,
             "{times} times {part:?} and {end:?}"
         );

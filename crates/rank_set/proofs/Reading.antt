@@ -23,41 +23,41 @@ capped_step limit n m d i ds lt here is =
     ∙ sym (ap (λ xs. min limit (value_after n xs)) (drop-cons ds i 0 lt))
 
 -- an item by its parts
-module _ (place : ℕ) (item : List ℕ) where
+module _ (offset : ℕ) (item : List ℕ) where
   -- an item whose first number is refused
-  pub item_bad : (e : RanksError) → number_at place item ≡ Err e → item_at place item ≡ Err e
+  pub item_bad : (e : RanksError) → number_at offset item ≡ Err e → item_at offset item ≡ Err e
   unfolding item_at
-  item_bad e bad = ap (item_from place item) bad
+  item_bad e bad = ap (item_from offset item) bad
 
-  module _ (first : ℕ) (good : number_at place item ≡ Ok first) where
+  module _ (first : ℕ) (good : number_at offset item ≡ Ok first) where
     -- an item that is one number
-    pub item_alone : drop (digits_len item) item ≡ [] → item_at place item ≡ Ok (first, first)
+    pub item_alone : drop (digits_len item) item ≡ [] → item_at offset item ≡ Ok (first, first)
     unfolding item_at
-    item_alone rest = ap (item_from place item) good ∙ ap (after_first first (place + digits_len item)) rest
+    item_alone rest = ap (item_from offset item) good ∙ ap (after_first first (offset + digits_len item)) rest
 
     -- an item in which a number is followed by what is no `-`
-    pub item_stray : (b : ℕ) (text : List ℕ) → drop (digits_len item) item ≡ b ∷ text → nat_eq b 45 ≡ false → item_at place item ≡ Err (BadNumber (place + digits_len item))
+    pub item_stray : (b : ℕ) (text : List ℕ) → drop (digits_len item) item ≡ b ∷ text → nat_eq b 45 ≡ false → item_at offset item ≡ Err (BadNumber (offset + digits_len item))
     unfolding item_at
-    item_stray b text rest other = ap (item_from place item) good ∙ ap (after_first first (place + digits_len item)) rest ∙ rw other refl
+    item_stray b text rest other = ap (item_from offset item) good ∙ ap (after_first first (offset + digits_len item)) rest ∙ rw other refl
 
     -- an item with a `-` after its first number
-    pub item_run : (b : ℕ) (text : List ℕ) → drop (digits_len item) item ≡ b ∷ text → nat_eq b 45 ≡ true → item_at place item ≡ second_at first (place + digits_len item + 1) text (number_at (place + digits_len item + 1) text)
+    pub item_run : (b : ℕ) (text : List ℕ) → drop (digits_len item) item ≡ b ∷ text → nat_eq b 45 ≡ true → item_at offset item ≡ second_at first (offset + digits_len item + 1) text (number_at (offset + digits_len item + 1) text)
     unfolding item_at
-    item_run b text rest dash = ap (item_from place item) good ∙ ap (after_first first (place + digits_len item)) rest ∙ rw dash refl
+    item_run b text rest dash = ap (item_from offset item) good ∙ ap (after_first first (offset + digits_len item)) rest ∙ rw dash refl
 
 -- a second number that is less than the first
-pub second_backward : (first second place : ℕ) (text : List ℕ) → second < first → second_at first place text (Ok second) ≡ Err (Backward place)
-second_backward first second place text lt = rw (lt-ltb second first lt) refl
+pub second_backward : (first second offset : ℕ) (text : List ℕ) → second < first → second_at first offset text (Ok second) ≡ Err (Backward offset)
+second_backward first second offset text lt = rw (lt-ltb second first lt) refl
 
 -- a second number at the end of the item
-pub second_ends : (first second place : ℕ) (text : List ℕ) → first ≤ second → drop (digits_len text) text ≡ [] → second_at first place text (Ok second) ≡ Ok (first, second)
-second_ends first second place text le end = rw (le-ltb second first le) (ap (λ t. ends_at (place + digits_len text) t (first, second)) end)
+pub second_ends : (first second offset : ℕ) (text : List ℕ) → first ≤ second → drop (digits_len text) text ≡ [] → second_at first offset text (Ok second) ≡ Ok (first, second)
+second_ends first second offset text le end = rw (le-ltb second first le) (ap (λ t. ends_at (offset + digits_len text) t (first, second)) end)
 
 -- a second number that something follows
-pub second_stray : (first second place : ℕ) (text : List ℕ) → first ≤ second → 0 < length (drop (digits_len text) text) → second_at first place text (Ok second) ≡ Err (BadNumber (place + digits_len text))
-second_stray first second place text le more = rw (le-ltb second first le) (by (drop (digits_len text) text) more)
+pub second_stray : (first second offset : ℕ) (text : List ℕ) → first ≤ second → 0 < length (drop (digits_len text) text) → second_at first offset text (Ok second) ≡ Err (BadNumber (offset + digits_len text))
+second_stray first second offset text le more = rw (le-ltb second first le) (by (drop (digits_len text) text) more)
   where
-    by : (t : List ℕ) → 0 < length t → ends_at (place + digits_len text) t (first, second) ≡ Err (BadNumber (place + digits_len text))
+    by : (t : List ℕ) → 0 < length t → ends_at (offset + digits_len text) t (first, second) ≡ Err (BadNumber (offset + digits_len text))
     by [] h = absurd (omega arith)
     by (b ∷ t) h = refl
 
@@ -84,19 +84,19 @@ items_first [] = refl
 items_first (b ∷ rest) = first_by b rest (item_len rest) (items_first rest) (nat_eq b 44)
 
 -- an item that is refused refuses all
-pub item_bad_ranks : (place : ℕ) (s : Ranks) (item : List ℕ) (rest : List (List ℕ)) (e : RanksError) → item_at place item ≡ Err e → ranks_at place s (item ∷ rest) ≡ Err e
+pub item_bad_ranks : (offset : ℕ) (s : Ranks) (item : List ℕ) (rest : List (List ℕ)) (e : RanksError) → item_at offset item ≡ Err e → ranks_at offset s (item ∷ rest) ≡ Err e
 unfolding ranks_at
-item_bad_ranks place s item rest e bad = rw (bad, ranks_at) refl
+item_bad_ranks offset s item rest e bad = rw (bad, ranks_at) refl
 
 -- an item that is read adds its ranks
-pub item_good_ranks : (place : ℕ) (s : Ranks) (item : List ℕ) (rest : List (List ℕ)) (range : ℕ × ℕ) → item_at place item ≡ Ok range → ranks_at place s (item ∷ rest) ≡ ranks_at (place + length item + 1) (union s (ranks_between range.0 range.1)) rest
+pub item_good_ranks : (offset : ℕ) (s : Ranks) (item : List ℕ) (rest : List (List ℕ)) (range : ℕ × ℕ) → item_at offset item ≡ Ok range → ranks_at offset s (item ∷ rest) ≡ ranks_at (offset + length item + 1) (union s (ranks_between range.0 range.1)) rest
 unfolding ranks_at
-item_good_ranks place s item rest range good = rw (good, ranks_at) refl
+item_good_ranks offset s item rest range good = rw (good, ranks_at) refl
 
 -- with no item left the ranks are read
-pub no_items : (place : ℕ) (s : Ranks) → ranks_at place s [] ≡ Ok s
+pub no_items : (offset : ℕ) (s : Ranks) → ranks_at offset s [] ≡ Ok s
 unfolding ranks_at
-no_items place s = refl
+no_items offset s = refl
 
 -- an error that `?` hands on
 pub handed_on : {A : Type 0} (r : Result A RanksError) (x : RanksError) (P : RanksError → Type 0) → IsErr r × IsErrAnd r (λ e. e ≡ x) → P x → IfErr r P
@@ -104,22 +104,22 @@ handed_on (Ok a) x P h p = tt
 handed_on (Err e) x P h p = subst P (sym h.1) p
 
 -- the first item of what is left
-module _ (place len : ℕ) (s : Ranks) (rest item after : List ℕ) (is : len ≡ item_len rest) (front : item ≡ take len rest) (back : after ≡ drop len rest) where
+module _ (offset len : ℕ) (s : Ranks) (rest item after : List ℕ) (is : len ≡ item_len rest) (front : item ≡ take len rest) (back : after ≡ drop len rest) where
   first_item : items rest ≡ item ∷ items_after after
   first_item = items_first rest ∙ ap (λ n. take n rest ∷ items_after (drop n rest)) (sym is) ∙ (λ k. sym front k ∷ items_after (sym back k))
 
   -- the first item is refused
-  pub first_bad : (e : RanksError) → item_at place item ≡ Err e → ranks_at place s (items rest) ≡ Err e
-  first_bad e bad = ap (ranks_at place s) first_item ∙ item_bad_ranks place s item (items_after after) e bad
+  pub first_bad : (e : RanksError) → item_at offset item ≡ Err e → ranks_at offset s (items rest) ≡ Err e
+  first_bad e bad = ap (ranks_at offset s) first_item ∙ item_bad_ranks offset s item (items_after after) e bad
 
-  module _ (range : ℕ × ℕ) (good : item_at place item ≡ Ok range) where
-    first_good : ranks_at place s (items rest) ≡ ranks_at (place + length item + 1) (union s (ranks_between range.0 range.1)) (items_after after)
-    first_good = ap (ranks_at place s) first_item ∙ item_good_ranks place s item (items_after after) range good
+  module _ (range : ℕ × ℕ) (good : item_at offset item ≡ Ok range) where
+    first_good : ranks_at offset s (items rest) ≡ ranks_at (offset + length item + 1) (union s (ranks_between range.0 range.1)) (items_after after)
+    first_good = ap (ranks_at offset s) first_item ∙ item_good_ranks offset s item (items_after after) range good
 
     -- the first item is read, and is the last
-    pub last_good : length after ≡ 0 → ranks_at place s (items rest) ≡ Ok (union s (ranks_between range.0 range.1))
-    last_good none = first_good ∙ ap (λ t. ranks_at (place + length item + 1) (union s (ranks_between range.0 range.1)) (items_after t)) (nothing_left after none) ∙ no_items _ _
+    pub last_good : length after ≡ 0 → ranks_at offset s (items rest) ≡ Ok (union s (ranks_between range.0 range.1))
+    last_good none = first_good ∙ ap (λ t. ranks_at (offset + length item + 1) (union s (ranks_between range.0 range.1)) (items_after t)) (nothing_left after none) ∙ no_items _ _
 
     -- the first item is read, and others follow
-    pub next_good : (b : ℕ) (next : List ℕ) (t : Ranks) (there : ℕ) → after ≡ b ∷ next → t ≡ union s (ranks_between range.0 range.1) → there ≡ place + length item + 1 → ranks_at there t (items next) ≡ ranks_at place s (items rest)
+    pub next_good : (b : ℕ) (next : List ℕ) (t : Ranks) (there : ℕ) → after ≡ b ∷ next → t ≡ union s (ranks_between range.0 range.1) → there ≡ offset + length item + 1 → ranks_at there t (items next) ≡ ranks_at offset s (items rest)
     next_good b next t there parts is_run is_there = (λ k. ranks_at (is_there k) (is_run k) (items_after (sym parts k))) ∙ sym first_good

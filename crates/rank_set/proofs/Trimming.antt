@@ -8,7 +8,7 @@ use Rattle.std.proofs.lemmas.List.FromFn.{length-map-range_with_len}
 use Rattle.std.proofs.lemmas.Nat.{le_or_l, le_or_r}
 use Rattle.rank_set.specs.declared.TheConstants.{WORD_LIMIT}
 use Rattle.rank_set.specs.Ranks.{Ranks}
-use Rattle.rank_set.specs.Words.{word_at, ranks_in, AreWords, Covers}
+use Rattle.rank_set.specs.Words.{word_at, ranks_in, AreWords, ExtendsTo}
 use Rattle.rank_set.proofs.Changes.{or_at}
 use Rattle.rank_set.proofs.WordSets.{word_at-below, word_at-from, word_at-beyond, word_at-words, ranks_in-same}
 
@@ -21,11 +21,11 @@ pub last_word : (o : ℕ) (ws : List ℕ) → 0 < length ws → word_at o ws (o 
 last_word o ws some = let e : (o + length ws - 1) - o ≡ length ws - 1 = omega arith in word_at-from o ws (o + length ws - 1) (omega arith) ∙ ap (λ i. get_or ws i 0) e
 
 -- trimmed words that reach far enough
-pub covers_itself : (o : ℕ) (ws : List ℕ) (low high : ℕ) → AreWords o ws → low < high → o ≤ low → high ≤ o + length ws → Covers o ws low high o ws
+pub covers_itself : (o : ℕ) (ws : List ℕ) (low high : ℕ) → AreWords o ws → low < high → o ≤ low → high ≤ o + length ws → ExtendsTo o ws low high o ws
 covers_itself o ws low high h some begins stops =
     let more : 0 < length ws = elim (cases_lt 0 (length ws)) [ inl lt ↦ lt | inr none ↦ let z : o ≡ 0 = h.nothing (omega arith) in absurd (omega arith) ] in
     record {
-      few = h.few;
+      within_limit = h.within_limit;
       same = λ k. refl;
       begins = begins;
       stops = stops;
@@ -35,8 +35,8 @@ covers_itself o ws low high h some begins stops =
 
 -- trimmed words, with words before and after them
 pub covers_wider : (o : ℕ) (ws : List ℕ) (low high start stop : ℕ) (xs : List ℕ) → AreWords o ws → low < high → high ≤ WORD_LIMIT → (length ws ≡ 0 → start ≡ low) → (0 < length ws → start ≡ min low o) → stop ≡ max high (o + length ws)
-    → xs ≡ map (word_at o ws) (range_with_len start (stop - start)) → Covers o ws low high start xs
-covers_wider o ws low high start stop xs h some few alone beside end is =
+    → xs ≡ map (word_at o ws) (range_with_len start (stop - start)) → ExtendsTo o ws low high start xs
+covers_wider o ws low high start stop xs h some within_limit alone beside end is =
     let begins : start ≤ low = elim (cases_lt 0 (length ws)) [ inl more ↦ let e : start ≡ min low o = beside more in omega arith | inr none ↦ let e : start ≡ low = alone (omega arith) in omega arith ] in
     let long : start + length xs ≡ stop = omega (arith, ap length is, length-map-range_with_len (word_at o ws) start (stop - start)) in
     let before : (k : ℕ) → k < start → word_at o ws k ≡ 0 = λ k lt. elim (cases_lt k o) [
@@ -44,9 +44,9 @@ covers_wider o ws low high start stop xs h some few alone beside end is =
       | inr up ↦ word_at-beyond o ws k (elim (cases_lt 0 (length ws)) [ inl more ↦ let e : start ≡ min low o = beside more in absurd (omega arith) | inr none ↦ omega arith ])
     ] in
     let same : (k : ℕ) → word_at start xs k ≡ word_at o ws k = λ k. ap (λ ys. word_at start ys k) is ∙ word_at-words (word_at o ws) start (stop - start) before (λ q le. word_at-beyond o ws q (omega arith)) k in
-    let fits : o + length ws ≤ WORD_LIMIT = h.few in
+    let fits : o + length ws ≤ WORD_LIMIT = h.within_limit in
     record {
-      few = omega arith;
+      within_limit = omega arith;
       same = same;
       begins = begins;
       stops = omega arith;
@@ -61,14 +61,14 @@ covers_wider o ws low high start stop xs h some few alone beside end is =
     }
 
 -- words that reach far enough are trimmed once bits are set in the first and in the last that is asked for
-pub covered_trimmed : (o : ℕ) (ws : List ℕ) (low high a : ℕ) (xs new : List ℕ) (f : ℕ → ℕ) → Covers o ws low high a xs → low < high → length new ≡ length xs → ((k : ℕ) → word_at a new k ≡ bit_or (word_at a xs k) (f k)) → 0 < f low → 0 < f (high - 1) → AreWords a new
+pub covered_trimmed : (o : ℕ) (ws : List ℕ) (low high a : ℕ) (xs new : List ℕ) (f : ℕ → ℕ) → ExtendsTo o ws low high a xs → low < high → length new ≡ length xs → ((k : ℕ) → word_at a new k ≡ bit_or (word_at a xs k) (f k)) → 0 < f low → 0 < f (high - 1) → AreWords a new
 covered_trimmed o ws low high a xs new f c some long each at_low at_high =
     let begins : a ≤ low = c.begins in
     let stops : high ≤ a + length xs = c.stops in
-    let fits : a + length xs ≤ WORD_LIMIT = c.few in
+    let fits : a + length xs ≤ WORD_LIMIT = c.within_limit in
     let more : 0 < length new = omega arith in
     record {
-      few = omega arith;
+      within_limit = omega arith;
       nothing = λ e. absurd (omega arith);
       first = λ _. elim (cases_lt a low) [
         | inl lt ↦ omega (arith, first_word a new, each a, le_or_l (word_at a xs a) (f a), c.first lt)
@@ -86,7 +86,7 @@ pub record HasBits (o : ℕ) (ws : List ℕ) (f : ℕ → ℕ) (a : ℕ) (new : 
   pub each : (k : ℕ) → word_at a new k ≡ bit_or (word_at o ws k) (f k)
 
 -- bits are set in words that reach far enough
-pub covered_bits : (o : ℕ) (ws : List ℕ) (low high a : ℕ) (xs seen new : List ℕ) (f : ℕ → ℕ) → Covers o ws low high a xs → low < high → seen ≡ xs → length new ≡ length seen → ((j : ℕ) → get_or new j 0 ≡ bit_or (get_or seen j 0) (f (a + j)))
+pub covered_bits : (o : ℕ) (ws : List ℕ) (low high a : ℕ) (xs seen new : List ℕ) (f : ℕ → ℕ) → ExtendsTo o ws low high a xs → low < high → seen ≡ xs → length new ≡ length seen → ((j : ℕ) → get_or new j 0 ≡ bit_or (get_or seen j 0) (f (a + j)))
     → ((k : ℕ) → k < low → f k ≡ 0) → 0 < f low → 0 < f (high - 1) → HasBits o ws f a new
 covered_bits o ws low high a xs seen new f c some is long each zeros at_low at_high =
     let begins : a ≤ low = c.begins in
@@ -119,7 +119,7 @@ pub record MakesSet (o : ℕ) (ws : List ℕ) (s : Ranks) : Type 0 where
 
 -- the part without the zeros at both ends is trimmed, and makes the same set
 pub part_words : (o : ℕ) (ws new : List ℕ) (front end : ℕ) → o + length ws ≤ WORD_LIMIT → 0 < end → IsPart ws new front end → MakesSet (o + front) new (ranks_in o ws)
-part_words o ws new front end few some h =
+part_words o ws new front end within_limit some h =
     let lt : front < end = front_before_end ws front end h.front_zeros h.stops some in
     let within : end ≤ length ws = h.within in
     let part : new ≡ take (end - front) (drop front ws) = h.is ∙ take-append-le (end - front) (drop front ws) (take front ws) (omega (arith, length-drop front ws)) in
@@ -127,7 +127,7 @@ part_words o ws new front end few some h =
     let at : (j : ℕ) → j < end - front → get_or new j 0 ≡ get_or ws (front + j) 0 = λ j l. ap (λ xs. get_or xs j 0) part ∙ get_or-take (end - front) (drop front ws) j 0 l ∙ get_or-drop front ws j 0 in
     record {
       words = record {
-        few = omega arith;
+        within_limit = omega arith;
         nothing = λ e. absurd (omega arith);
         first = λ _. (let e : front + 0 ≡ front = omega arith in omega (arith, at 0 (omega arith), ap (λ i. get_or ws i 0) e, h.begins (omega arith)));
         last = λ _. (let e : front + (length new - 1) ≡ end - 1 = omega (arith, long) in omega (arith, at (length new - 1) (omega (arith, long)), ap (λ i. get_or ws i 0) e, h.stops some));

@@ -23,7 +23,7 @@ ranks_in o ws = those (bit_in o ws) (set_of (range_with_len 0 (64 * (o + length 
 
 -- words within the limit that are trimmed at both ends
 pub record AreWords (o : ℕ) (ws : List ℕ) : Type 0 where
-  pub few : o + length ws ≤ WORD_LIMIT
+  pub within_limit : o + length ws ≤ WORD_LIMIT
   pub nothing : length ws ≡ 0 → o ≡ 0
   pub first : 0 < length ws → 0 < get_or ws 0 0
   pub last : 0 < length ws → 0 < get_or ws (length ws - 1) 0
@@ -43,8 +43,8 @@ run_word first last k = 2 ^ min 64 (suc last - 64 * k) - 2 ^ (first - 64 * k)
 
 -- Words xs from a on are the words ws from o on, and reach from word low to below word high. They begin or end elsewhere
 -- only where a word stands that is not 0.
-pub record Covers (o : ℕ) (ws : List ℕ) (low high a : ℕ) (xs : List ℕ) : Type 0 where
-  pub few : a + length xs ≤ WORD_LIMIT
+pub record ExtendsTo (o : ℕ) (ws : List ℕ) (low high a : ℕ) (xs : List ℕ) : Type 0 where
+  pub within_limit : a + length xs ≤ WORD_LIMIT
   pub same : (k : ℕ) → word_at a xs k ≡ word_at o ws k
   pub begins : a ≤ low
   pub stops : high ≤ a + length xs

@@ -23,18 +23,18 @@ use std::marker::Model;
 use text::{write_number, write_runs};
 use words::Words;
 
-/// How many words a set spans at most.
+/// The most words that a set spans.
 pub const WORD_LIMIT: u32 = 256;
 
 /// Ranks are below this.
 pub const RANK_LIMIT: u32 = 64 * WORD_LIMIT;
 
-/// Why ranks were not added.
+/// Why ranks could not be added.
 #[derive(Debug, PartialEq, Eq, Clone, Copy)]
 pub enum RankError {
     /// A rank is `RANK_LIMIT` or more.
     OverLimit,
-    /// There was no memory.
+    /// Out of memory.
     OutOfMemory,
 }
 
@@ -59,7 +59,7 @@ pub struct Run {
 /// A set of ranks, each below `RANK_LIMIT`.
 #[derive(Drop)]
 pub struct RankSet {
-    // The place of the first word among all words: bit i of word k stands for rank 64 * k + i.
+    // The index of the first word among all words: bit i of word k stands for rank 64 * k + i.
     offset: u32,
     // Neither the first nor the last is 0, and with no words the offset is 0.
     words: Words,
@@ -79,7 +79,7 @@ impl Model for RankSet {
 }
 
 impl RankSet {
-    /// The empty set, which takes no memory.
+    /// The empty set. It allocates nothing.
     pub fn new(alloc: Global) -> RankSet
         ensures { result ≡ none }
     {
@@ -89,7 +89,7 @@ impl RankSet {
         }
     }
 
-    /// The set of trimmed words, the first of which is word `offset` of all. It takes no memory.
+    /// The set of trimmed words, the first of which is word `offset` of all. It allocates nothing.
     pub fn from_words(offset: u32, words: Vec<u64>) -> RankSet
         requires { AreWords offset words.items }
         ensures { result ≡ ranks_in offset words.items }
@@ -100,7 +100,7 @@ impl RankSet {
         }
     }
 
-    /// Another set of the same ranks.
+    /// A copy of the set.
     pub fn copy(&self) -> Result<RankSet, AllocError>
         ensures { IfOk result (λ copy. copy ≡ self.now) }
     {
@@ -110,7 +110,7 @@ impl RankSet {
         })
     }
 
-    /// Adds a rank. A refusal leaves the set as it was.
+    /// Adds a rank. On failure the set is unchanged.
     pub fn insert(&mut self, r: u32) -> Result<(), RankError>
         ensures ok { OnOk result (self.new ≡ with_rank self.old r) }
         ensures over { (result ≡ Err RankError.OverLimit) ↔ (RANK_LIMIT ≤ r) }
@@ -123,7 +123,7 @@ impl RankSet {
         Ok(())
     }
 
-    /// Adds the ranks from `first` to `last`, none where `last` is less. A refusal leaves the set as it was.
+    /// Adds the ranks from `first` to `last`, or nothing if `last` is less. On failure the set is unchanged.
     pub fn insert_run(&mut self, first: u32, last: u32) -> Result<(), RankError>
         ensures ok { OnOk result (self.new ≡ union self.old (ranks_between first last)) }
         ensures over { (result ≡ Err RankError.OverLimit) ↔ (RANK_LIMIT ≤ last) }
@@ -148,7 +148,7 @@ impl RankSet {
         words::add_run(&mut self.offset, &mut self.words, first, last)
     }
 
-    /// Adds the ranks of the other set. A refusal leaves the set as it was.
+    /// Adds the ranks of the other set. On failure the set is unchanged.
     pub fn union_into(&mut self, other: &RankSet) -> Result<(), AllocError>
         ensures ok { OnOk result (self.new ≡ union self.old other.now) }
         ensures err { OnErr result (self.new ≡ self.old) }
@@ -161,11 +161,11 @@ impl RankSet {
         )
     }
 
-    /// Leaves the ranks alone that the other set has too. It takes no memory.
+    /// Keeps the ranks that the other set has, too. It allocates nothing.
     pub fn intersect_with(&mut self, other: &RankSet)
         ensures { self.new ≡ those (λ r. has other.now r) self.old }
     {
-        words::keep_words(
+        words::intersect_words(
             self.words.as_mut_slice(),
             self.offset,
             other.offset,
@@ -174,7 +174,7 @@ impl RankSet {
         words::trim(&mut self.offset, &mut self.words);
     }
 
-    /// Takes the ranks of the other set away. It takes no memory.
+    /// Removes the ranks of the other set. It allocates nothing.
     pub fn subtract(&mut self, other: &RankSet)
         ensures { self.new ≡ those (λ r. not (has other.now r)) self.old }
     {
@@ -227,7 +227,7 @@ impl RankSet {
         )
     }
 
-    /// How many ranks the set has.
+    /// The number of ranks in the set.
     pub fn count(&self) -> u32
         ensures count { result ≡ size self.now }
         ensures within_limit { result ≤ RANK_LIMIT }
@@ -253,7 +253,7 @@ impl RankSet {
         words::next_run(self.offset, self.words.as_slice(), from)
     }
 
-    /// Appends the set's text, as `4:[0-2,7]`. A refusal leaves `out` as it was.
+    /// Appends the set's text, as `4:[0-2,7]`. On failure `out` is unchanged.
     pub fn write_text(&self, out: &mut Vec<u8>) -> Result<(), AllocError>
         ensures ok { OnOk result (out.new.items ≡ out.old.items ++ text_of self.now) }
         ensures err { OnErr result (out.new.items ≡ out.old.items) }
@@ -274,7 +274,7 @@ impl RankSet {
         Ok(text)
     }
 
-    /// Which word of all the first one is: the least rank / 64, 0 for the empty set.
+    /// The index of the first word among all words: the least rank / 64, or 0 for the empty set.
     pub fn word_offset(&self) -> u32
         ensures { result ≡ offset_of self.now }
     {

@@ -1,19 +1,19 @@
-//! Rank sets as words of 64 bits: functions over the place of the first word among all words, and the words.
+//! Rank sets as words of 64 bits: functions over the index of the first word among all words, and the words.
 
 ghost use Rattle.std.specs.Prelude.{◌≡◌, ℕ, ◌<◌, ◌≤◌, ◌+◌, ◌-◌, ◌*◌, ◌/◌, ◌↔◌, true, false, OnOk, OnErr, IfOk, IfSome, IfNone, Some, slice_get, not, length, get_or, map, bit_or};
 ghost use Rattle.std.specs.List.{range_with_len};
 ghost use Rattle.rank_set.specs.Ranks.{none, has, those, union, in_order, is_subset, size};
 ghost use Rattle.rank_set.specs.Runs.{ranks_between, IsRun};
-ghost use Rattle.rank_set.specs.Words.{word_at, bit_in, ranks_in, AreWords, Covers, IsNext, offset_of, run_word};
+ghost use Rattle.rank_set.specs.Words.{word_at, bit_in, ranks_in, AreWords, ExtendsTo, IsNext, offset_of, run_word};
 
 use crate::{RANK_LIMIT, Run, WORD_LIMIT};
 use smallvec::SmallVec;
 use std::alloc::{AllocError, Global};
 
-/// The words of a set: a single one stands in the set itself, and takes no memory.
+/// The words of a set: a single one is stored in the set itself, without an allocation.
 pub(crate) type Words = SmallVec<u64, 1>;
 
-// Word k, 0 where none is held.
+// Word k, or 0 outside the stored words.
 pub(crate) fn word_of(offset: u32, words: &[u64], k: u32) -> u64
     ensures { result ≡ word_at offset words.now k }
 {
@@ -26,7 +26,7 @@ pub(crate) fn word_of(offset: u32, words: &[u64], k: u32) -> u64
     }
 }
 
-// The words from one place up to another.
+// The words from one index up to another.
 fn words_between(
     alloc: Global,
     offset: u32,
@@ -44,12 +44,12 @@ fn words_between(
     Ok(all)
 }
 
-// Makes the words reach from one place up to another. A refusal leaves them as they were.
-fn cover(offset: &mut u32, words: &mut Words, low: u32, high: u32) -> Result<(), AllocError>
+// Extends the words to reach from one index up to another. On failure they are unchanged.
+fn extend_to(offset: &mut u32, words: &mut Words, low: u32, high: u32) -> Result<(), AllocError>
     requires trimmed { AreWords offset.old words.old.items }
     requires not_empty { low < high }
     requires within_limit { high ≤ WORD_LIMIT }
-    ensures ok { OnOk result (Covers offset.old words.old.items low high offset.new words.new.items) }
+    ensures ok { OnOk result (ExtendsTo offset.old words.old.items low high offset.new words.new.items) }
     ensures err_offset { OnErr result (offset.new ≡ offset.old) }
     ensures err_words { OnErr result (words.new.items ≡ words.old.items) }
 {
@@ -106,7 +106,7 @@ fn or_run(words: &mut [u64], offset: u32, first: u32, last: u32)
     }
 }
 
-// Adds the ranks of the other words. A refusal leaves the words as they were.
+// Adds the ranks of the other words. On failure the words are unchanged.
 pub(crate) fn add_words(
     offset: &mut u32,
     words: &mut Words,
@@ -124,7 +124,7 @@ pub(crate) fn add_words(
     if others.is_empty() {
         return Ok(());
     }
-    cover(
+    extend_to(
         offset,
         words,
         other_offset,
@@ -134,7 +134,7 @@ pub(crate) fn add_words(
     Ok(())
 }
 
-// Adds the ranks from the first to the last. A refusal leaves the words as they were.
+// Adds the ranks from the first to the last. On failure the words are unchanged.
 pub(crate) fn add_run(
     offset: &mut u32,
     words: &mut Words,
@@ -150,12 +150,12 @@ pub(crate) fn add_run(
         ≡ union (ranks_in offset.old words.old.items) (ranks_between first last)) }
     ensures err { OnErr result (ranks_in offset.new words.new.items ≡ ranks_in offset.old words.old.items) }
 {
-    cover(offset, words, first / 64, last / 64 + 1)?;
+    extend_to(offset, words, first / 64, last / 64 + 1)?;
     or_run(words.as_mut_slice(), *offset, first, last);
     Ok(())
 }
 
-// Clears the bits that the second words have.
+// Clears the bits that the other words have.
 pub(crate) fn clear_words(words: &mut [u64], offset: u32, other_offset: u32, others: &[u64])
     requires { offset + length words.old ≤ WORD_LIMIT }
     ensures { ranks_in offset words.new
@@ -166,8 +166,8 @@ pub(crate) fn clear_words(words: &mut [u64], offset: u32, other_offset: u32, oth
     }
 }
 
-// Clears the bits that the second words do not have.
-pub(crate) fn keep_words(words: &mut [u64], offset: u32, other_offset: u32, others: &[u64])
+// Clears the bits that the other words do not have.
+pub(crate) fn intersect_words(words: &mut [u64], offset: u32, other_offset: u32, others: &[u64])
     requires { offset + length words.old ≤ WORD_LIMIT }
     ensures { ranks_in offset words.new
         ≡ those (λ r. has (ranks_in other_offset others.now) r) (ranks_in offset words.old) }
@@ -177,7 +177,7 @@ pub(crate) fn keep_words(words: &mut [u64], offset: u32, other_offset: u32, othe
     }
 }
 
-// How many zeros are in front.
+// The number of leading zero words.
 fn zeros_in_front(words: &[u64]) -> usize
     ensures within { result ≤ length words.now }
     ensures zeros { (j : ℕ) → j < result → get_or words.now j 0 ≡ 0 }
@@ -191,7 +191,7 @@ fn zeros_in_front(words: &[u64]) -> usize
     words.len()
 }
 
-// How many are left without the zeros at the end.
+// The number of words without the trailing zeros.
 fn without_zeros_at_end(words: &[u64]) -> usize
     ensures within { result ≤ length words.now }
     ensures zeros { (j : ℕ) → result ≤ j → get_or words.now j 0 ≡ 0 }
@@ -204,7 +204,7 @@ fn without_zeros_at_end(words: &[u64]) -> usize
     n
 }
 
-// Takes away the words at both ends that are 0.
+// Removes the zero words at both ends.
 pub(crate) fn trim(offset: &mut u32, words: &mut Words)
     requires { offset.old + length words.old.items ≤ WORD_LIMIT }
     ensures trimmed { AreWords offset.new words.new.items }
@@ -277,7 +277,7 @@ pub(crate) fn least(offset: u32, words: &[u64]) -> Option<u32>
     Some(offset * 64 + words[0].trailing_zeros())
 }
 
-// Which word of all the least rank is in, 0 for no ranks.
+// The index of the word with the least rank, or 0 for no ranks.
 pub(crate) fn offset_in(offset: u32, words: &[u64]) -> u32
     requires { AreWords offset words.now }
     ensures { result ≡ offset_of (ranks_in offset words.now) }
@@ -294,7 +294,7 @@ pub(crate) fn words_in(offset: u32, words: &[u64]) -> &[u64]
     words
 }
 
-// The least place from the given one on, within the words, that is a rank, or with `gap` is none.
+// The first number from the given one on, within the words, that is a rank, or with `gap` is not.
 fn next_bit(offset: u32, words: &[u64], from: u32, gap: bool) -> Option<u32>
     requires { offset + length words.now ≤ WORD_LIMIT }
     ensures run { IfSome result (IsNext offset words.now gap from) }

@@ -7,13 +7,13 @@ use Rattle.rank_set.proofs.read.read_items.Goals as goal
 pub returns-in_err-run-clause-err : goal.returns-in_err-run-clause-err
 returns-in_err-run-clause-err c =
     handed_on c.from_residual.result c.in_err-run.field-0.0 (λ e. e ≢ OutOfMemory → ranks_at 0 c.args.ranks.now (items c.args.text.now) ≡ Err e) c.from_residual.ensures
-    (λ _. sym c.loop-run.invariant.ranks ∙ first_bad c.loop-run.place c.item_len-len.result c.loop-run.ranks c.loop-run.rest.now c.split_at.result.0.now c.split_at.result.1.now c.item_len-len.ensures.value c.split_at.ensures.front c.split_at.ensures.back c.in_err-run.field-0.0 c.in_err-run.ensures.err)
+    (λ _. sym c.loop-run.invariant.ranks ∙ first_bad c.loop-run.offset c.item_len-len.result c.loop-run.ranks c.loop-run.rest.now c.split_at.result.0.now c.split_at.result.1.now c.item_len-len.ensures.value c.split_at.ensures.front c.split_at.ensures.back c.in_err-run.field-0.0 c.in_err-run.ensures.err)
 
 pub returns-in_default-clause-ok : goal.returns-in_default-clause-ok
-returns-in_default-clause-ok c = sym c.loop-run.invariant.ranks ∙ last_good c.loop-run.place c.item_len-len.result c.loop-run.ranks c.loop-run.rest.now c.split_at.result.0.now c.split_at.result.1.now c.item_len-len.ensures.value c.split_at.ensures.front c.split_at.ensures.back (c.in_ok-run.run'.first, c.in_ok-run.run'.last) c.in_ok-run.ensures.ok c.in_default.ensures.cases ∙ ap Ok (sym c.in_ok-put_run.ensures.ok)
+returns-in_default-clause-ok c = sym c.loop-run.invariant.ranks ∙ last_good c.loop-run.offset c.item_len-len.result c.loop-run.ranks c.loop-run.rest.now c.split_at.result.0.now c.split_at.result.1.now c.item_len-len.ensures.value c.split_at.ensures.front c.split_at.ensures.back (c.in_ok-run.run'.first, c.in_ok-run.run'.last) c.in_ok-run.ensures.ok c.in_default.ensures.cases ∙ ap Ok (sym c.in_ok-put_run.ensures.ok)
 
 pub loop-run-preserved : goal.loop-run-preserved
 loop-run-preserved c = record {
-  place = omega (arith, c.loop-run.invariant.place, c.in-Some.ensures.cases.1, c.split_at.ensures.back_len);
-  ranks = next_good c.loop-run.place c.item_len-len.result c.loop-run.ranks c.loop-run.rest.now c.split_at.result.0.now c.split_at.result.1.now c.item_len-len.ensures.value c.split_at.ensures.front c.split_at.ensures.back (c.in_ok-run.run'.first, c.in_ok-run.run'.last) c.in_ok-run.ensures.ok c.in-Some.field-0-0.now c.in-Some.next.now c.put_run.new.self (c.loop-run.place + (c.item_len-len.result + 1)) c.in-Some.ensures.cases.0 c.in_ok-put_run.ensures.ok (omega (arith, c.split_at.ensures.front_len)) ∙ c.loop-run.invariant.ranks;
+  offset = omega (arith, c.loop-run.invariant.offset, c.in-Some.ensures.cases.1, c.split_at.ensures.back_len);
+  ranks = next_good c.loop-run.offset c.item_len-len.result c.loop-run.ranks c.loop-run.rest.now c.split_at.result.0.now c.split_at.result.1.now c.item_len-len.ensures.value c.split_at.ensures.front c.split_at.ensures.back (c.in_ok-run.run'.first, c.in_ok-run.run'.last) c.in_ok-run.ensures.ok c.in-Some.field-0-0.now c.in-Some.next.now c.put_run.new.self (c.loop-run.offset + (c.item_len-len.result + 1)) c.in-Some.ensures.cases.0 c.in_ok-put_run.ensures.ok (omega (arith, c.split_at.ensures.front_len)) ∙ c.loop-run.invariant.ranks;
 }

@@ -4,8 +4,8 @@ use Rattle.rank_set.proofs.read.read_items.Given as goal
 
 abbrev pub invariant-loop-run : goal.invariant-loop-run
 invariant-loop-run l = record {
-  place : l.place + length l.rest ≡ length l.text;
-  ranks : ranks_at l.place l.ranks (items l.rest) ≡ ranks_at 0 l.fn.ranks (items l.text);
+  offset : l.offset + length l.rest ≡ length l.text;
+  ranks : ranks_at l.offset l.ranks (items l.rest) ≡ ranks_at 0 l.fn.ranks (items l.text);
 }
 
 abbrev pub decreases-loop-run : goal.decreases-loop-run

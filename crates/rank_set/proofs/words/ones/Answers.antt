@@ -10,7 +10,7 @@ use Rattle.rank_set.proofs.words.ones.Goals as goal
 pub loop-word-preserved : goal.loop-word-preserved
 loop-word-preserved c = record {
   ones = (λ i. c.loop-word.invariant.ones i + count_ones (get_or c.args.words.now c.loop-word.word-index 0)) ∙ sym (sum_by_more count_ones c.args.words.now c.loop-word.word-index 0 c.loop-word-test.true);
-  few = few_more c.loop-word.total c.loop-word.word-index (get_or c.args.words.now c.loop-word.word-index 0) c.loop-word.invariant.few (omega (arith, c.type_inv.words c.loop-word.word-index));
+  within_limit = few_more c.loop-word.total c.loop-word.word-index (get_or c.args.words.now c.loop-word.word-index 0) c.loop-word.invariant.within_limit (omega (arith, c.type_inv.words c.loop-word.word-index));
 }
 
 pub returns-clause-ones : goal.returns-clause-ones

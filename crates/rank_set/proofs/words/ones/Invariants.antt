@@ -6,5 +6,5 @@ use Rattle.rank_set.proofs.words.ones.Given as goal
 abbrev pub invariant-loop-word : goal.invariant-loop-word
 invariant-loop-word l = record {
   ones : l.total ≡ sum_by count_ones (take l.word-index l.words);
-  few : l.total ≤ 64 * l.word-index;
+  within_limit : l.total ≤ 64 * l.word-index;
 }

@@ -33,8 +33,8 @@ returns c =
           let at : w.loop-i.i ≡ shared = omega (arith, w.loop-i.auto.i-end, w.loop-i-test.false) in
           ap (λ i. path_cmp (drop i p) (drop i q)) (sym at) ∙ w.loop-i.invariant
       | else-ne w ↦
-          let texts = same_text c.front.result.now c.front-2.result.now (sym (not-false _ (sym c.ne.ensures ∙ w.if-ne.false))) in
+          let texts = same_text c.prefix_text.result.now c.prefix_text-2.result.now (sym (not-false _ (sym c.ne.ensures ∙ w.if-ne.false))) in
           let long = length-take-le shared p within ∙ sym (length-take-le shared q inside) in
-          sym (cmp_after p q shared within inside (same_frames (take shared p) (take shared q) c.front.ensures.good c.front-2.ensures.good long (sym c.front.ensures.text ∙ texts ∙ c.front-2.ensures.text)))
+          sym (cmp_after p q shared within inside (same_frames (take shared p) (take shared q) c.prefix_text.ensures.good c.prefix_text-2.ensures.good long (sym c.prefix_text.ensures.text ∙ texts ∙ c.prefix_text-2.ensures.text)))
     ] in
     c.cmp-2.ensures ∙ (λ k. nat_cmp (c.len-3.ensures.len k) (c.len-4.ensures.len k)) ∙ sym (cmp_end p q shared least) ∙ rest

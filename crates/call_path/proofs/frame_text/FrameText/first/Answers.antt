@@ -10,8 +10,8 @@ slice_bounds-from_slice-end c =
 
 pub invariant_of-result : goal.invariant_of-result
 invariant_of-result c =
-    first_cuts c.args.self.now (string_bytes c.self.inside.text) c.self.inside.ends.items c.self.view_is c.self.invariant c.args.depth c.requires (string_bytes c.in_ok-text.text) c.in_ok-ends.ends.items (c.in_ok-text.ensures.ok ∙ c.front.ensures.text) (c.in_ok-ends.ensures.items ∙ ap (take c.args.depth) c.deref.ensures.value)
+    first_cuts c.args.self.now (string_bytes c.self.inside.text) c.self.inside.ends.items c.self.view_is c.self.invariant c.args.depth c.requires (string_bytes c.in_ok-text.text) c.in_ok-ends.ends.items (c.in_ok-text.ensures.ok ∙ c.prefix_text.ensures.text) (c.in_ok-ends.ensures.items ∙ ap (take c.args.depth) c.deref.ensures.value)
 
 pub returns : goal.returns
 returns c =
-    first_is c.args.self.now (string_bytes c.self.inside.text) c.self.inside.ends.items c.self.view_is c.self.invariant c.args.depth c.requires (string_bytes c.in_ok-text.text) c.in_ok-ends.ends.items (c.in_ok-text.ensures.ok ∙ c.front.ensures.text) (c.in_ok-ends.ensures.items ∙ ap (take c.args.depth) c.deref.ensures.value)
+    first_is c.args.self.now (string_bytes c.self.inside.text) c.self.inside.ends.items c.self.view_is c.self.invariant c.args.depth c.requires (string_bytes c.in_ok-text.text) c.in_ok-ends.ends.items (c.in_ok-text.ensures.ok ∙ c.prefix_text.ensures.text) (c.in_ok-ends.ensures.items ∙ ap (take c.args.depth) c.deref.ensures.value)

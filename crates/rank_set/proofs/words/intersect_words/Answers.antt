@@ -2,7 +2,7 @@ use Rattle.std.proofs.Common.{ℕ, ◌+◌, get_or, refl, arith}
 use Rattle.std.specs.Prelude.{bit_and}
 use Rattle.rank_set.specs.Words.{word_at}
 use Rattle.rank_set.proofs.Changes.{changed_start, changed_step, kept}
-use Rattle.rank_set.proofs.words.keep_words.Goals as goal
+use Rattle.rank_set.proofs.words.intersect_words.Goals as goal
 
 pub loop-i-init : goal.loop-i-init
 loop-i-init c = changed_start c.args.words.now (λ j w. bit_and w (word_at c.args.other_offset c.args.others.now (c.args.offset + j))) 0 (λ j lt. absurd (omega arith))

@@ -3,8 +3,8 @@ use Rattle.std.specs.List.{range_with_len}
 use Rattle.std.proofs.lemmas.Bool.{eqb-true, eqb-false}
 use Rattle.rank_set.specs.Words.{word_at}
 use Rattle.rank_set.proofs.Trimming.{covers_itself, covers_wider}
-use Rattle.rank_set.proofs.words.cover.Goals.{then-is_empty, else-is_empty}
-use Rattle.rank_set.proofs.words.cover.Goals as goal
+use Rattle.rank_set.proofs.words.extend_to.Goals.{then-is_empty, else-is_empty}
+use Rattle.rank_set.proofs.words.extend_to.Goals as goal
 
 pub returns-then-high-end-clause-ok : goal.returns-then-high-end-clause-ok
 returns-then-high-end-clause-ok c =

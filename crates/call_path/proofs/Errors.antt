@@ -1,4 +1,4 @@
--- The frames of a text, and their first fault.
+-- The frames of a text, and their first error.
 use Rattle.std.proofs.Common.{◌≡◌, ℕ, suc, ◌+◌, ◌<◌, ◌≤◌, Bool, true, false, not, cond, List, [], ◌∷◌, ◌++◌, length, drop, take, get_or, refl, sym, ap, ◌∙◌, arith}
 use Rattle.std.specs.Prelude.{Option, None, Some, All, IsTrue, nat_eq, nat_lt, nat_le, ◌&&◌, ◌==◌, position}
 use Rattle.std.specs.List.{slice_split, onto_first, list_all, position_or_len}
@@ -12,7 +12,7 @@ use Rattle.call_path.specs.declared.read.PathError.{PathError}
 use Rattle.call_path.specs.declared.read.PathError.TheVariants.{EmptyFrame, ControlByte, FrameTooLong, TooDeep}
 use Rattle.call_path.specs.Path.{Path, path_text}
 use Rattle.call_path.specs.Good.{is_plain, is_good_frame, AreGoodFrames}
-use Rattle.call_path.specs.Reading.{frames, frame_len, frame_fault, first_fault, control_fault, is_control}
+use Rattle.call_path.specs.Reading.{frames, frame_len, frame_error, first_error, control_error, is_control}
 use Rattle.call_path.specs.Cuts.{ends_from}
 
 -- the frames joined again are the text
@@ -37,29 +37,29 @@ frames_first [] = refl
 frames_first (b ∷ rest) = first_by b rest (frame_len rest) (frames_first rest) (nat_eq b 59)
 
 -- the first frame of what is left, as a reader cuts it
-module _ (i place len : ℕ) (rest frame after : List ℕ) (is : len ≡ frame_len rest) (front : frame ≡ take len rest) (back : after ≡ drop len rest) where
+module _ (i offset len : ℕ) (rest frame after : List ℕ) (is : len ≡ frame_len rest) (prefix : frame ≡ take len rest) (back : after ≡ drop len rest) where
   first_frame : frames rest ≡ frame ∷ frames_after after
-  first_frame = frames_first rest ∙ ap (λ n. take n rest ∷ frames_after (drop n rest)) (sym is) ∙ (λ k. sym front k ∷ frames_after (sym back k))
+  first_frame = frames_first rest ∙ ap (λ n. take n rest ∷ frames_after (drop n rest)) (sym is) ∙ (λ k. sym prefix k ∷ frames_after (sym back k))
 
-  -- its fault is the first
-  pub frame_bad : (e : PathError) → frame_fault i place frame ≡ Some e → first_fault i place (frames rest) ≡ Some e
-  unfolding first_fault
-  frame_bad e bad = ap (first_fault i place) first_frame ∙ rw (bad, first_fault) refl
+  -- its error is the first
+  pub frame_bad : (e : PathError) → frame_error i offset frame ≡ Some e → first_error i offset (frames rest) ≡ Some e
+  unfolding first_error
+  frame_bad e bad = ap (first_error i offset) first_frame ∙ rw (bad, first_error) refl
 
-  -- without one, the first fault is that of the frames after it
-  pub frame_good : frame_fault i place frame ≡ None → first_fault i place (frames rest) ≡ first_fault (i + 1) (place + (length frame + 1)) (frames_after after)
-  unfolding first_fault
+  -- without one, the first error is that of the frames after it
+  pub frame_good : frame_error i offset frame ≡ None → first_error i offset (frames rest) ≡ first_error (i + 1) (offset + (length frame + 1)) (frames_after after)
+  unfolding first_error
   frame_good good =
       let e : suc i ≡ i + 1 = omega arith in
-      let f : suc (place + length frame) ≡ place + (length frame + 1) = omega arith in
-      ap (first_fault i place) first_frame ∙ rw (good, first_fault) (λ k. first_fault (e k) (f k) (frames_after after))
+      let f : suc (offset + length frame) ≡ offset + (length frame + 1) = omega arith in
+      ap (first_error i offset) first_frame ∙ rw (good, first_error) (λ k. first_error (e k) (f k) (frames_after after))
 
   -- and where no text is left there is none
-  pub frame_last : frame_fault i place frame ≡ None → length after ≡ 0 → first_fault i place (frames rest) ≡ None
-  unfolding first_fault
+  pub frame_last : frame_error i offset frame ≡ None → length after ≡ 0 → first_error i offset (frames rest) ≡ None
+  unfolding first_error
   frame_last good none = frame_good good ∙ ended after none
     where
-      ended : (t : List ℕ) → length t ≡ 0 → first_fault (i + 1) (place + (length frame + 1)) (frames_after t) ≡ None
+      ended : (t : List ℕ) → length t ≡ 0 → first_error (i + 1) (offset + (length frame + 1)) (frames_after t) ≡ None
       ended [] e = refl
       ended (b ∷ t) e = absurd (omega arith)
 
@@ -120,38 +120,38 @@ or_none : (o r : Option PathError) → option_or o r ≡ None → (o ≡ None) �
 or_none None r e = (refl, e)
 or_none (Some x) r e = absurd (none-some x (sym e))
 
-control_none : (place : ℕ) (o : Option ℕ) → control_fault place o ≡ None → o ≡ None
-control_none place None e = refl
-control_none place (Some n) e = absurd (none-some (ControlByte (place + n)) (sym e))
+control_none : (offset : ℕ) (o : Option ℕ) → control_error offset o ≡ None → o ≡ None
+control_none offset None e = refl
+control_none offset (Some n) e = absurd (none-some (ControlByte (offset + n)) (sym e))
 
--- a frame without a fault is good, and not too deep
-good_frame : (i place : ℕ) (f : List ℕ) → frame_fault i place f ≡ None → is_whole f ≡ true → (i < 128) × IsTrue (is_good_frame f)
-unfolding frame_fault
-good_frame i place f none whole =
+-- a frame without a error is good, and not too deep
+good_frame : (i offset : ℕ) (f : List ℕ) → frame_error i offset f ≡ None → is_whole f ≡ true → (i < 128) × IsTrue (is_good_frame f)
+unfolding frame_error
+good_frame i offset f none whole =
     let deep = unless_none (nat_le 128 i) TooDeep _ none in
     let empty = unless_none (nat_eq (length f) 0) (EmptyFrame i) _ deep.1 in
-    let long = unless_none (nat_lt 1023 (length f)) (FrameTooLong i) (control_fault place (position is_control f)) empty.1 in
-    let bytes = plain f (no_place is_control f (control_none place (position is_control f) long.1)) whole in
+    let long = unless_none (nat_lt 1023 (length f)) (FrameTooLong i) (control_error offset (position is_control f)) empty.1 in
+    let bytes = plain f (no_place is_control f (control_none offset (position is_control f) long.1)) whole in
     let ne = eqb-false (length f) 0 empty.0 in (
       leb-false 128 i deep.0,
       and_from (nat_lt 0 (length f)) (nat_le (length f) 1023 && list_all is_plain f) (lt-ltb 0 (length f) (omega (arith, ne)))
           (and_from (nat_le (length f) 1023) (list_all is_plain f) (le-leb (length f) 1023 (ltb-false 1023 (length f) long.0)) bytes),
     )
 
-good_frames : (i place : ℕ) (fs : Path) → first_fault i place fs ≡ None → list_all is_whole fs ≡ true → i ≤ 128 → (i + length fs ≤ 128) × All (λ f. IsTrue (is_good_frame f)) fs
-unfolding first_fault
-good_frames i place [] none whole le = (omega arith, All-nil (λ f. IsTrue (is_good_frame f)))
-good_frames i place (f ∷ fs) none whole le =
-    let parts = or_none (frame_fault i place f) (first_fault (suc i) (suc (place + length f)) fs) none in
+good_frames : (i offset : ℕ) (fs : Path) → first_error i offset fs ≡ None → list_all is_whole fs ≡ true → i ≤ 128 → (i + length fs ≤ 128) × All (λ f. IsTrue (is_good_frame f)) fs
+unfolding first_error
+good_frames i offset [] none whole le = (omega arith, All-nil (λ f. IsTrue (is_good_frame f)))
+good_frames i offset (f ∷ fs) none whole le =
+    let parts = or_none (frame_error i offset f) (first_error (suc i) (suc (offset + length f)) fs) none in
     let w = and_parts (is_whole f) (list_all is_whole fs) whole in
-    let here = good_frame i place f parts.0 w.0 in
-    let rest = good_frames (suc i) (suc (place + length f)) fs parts.1 w.1 (omega (arith, here.0)) in
+    let here = good_frame i offset f parts.0 w.0 in
+    let rest = good_frames (suc i) (suc (offset + length f)) fs parts.1 w.1 (omega (arith, here.0)) in
     (omega (arith, rest.0), All-cons (λ f. IsTrue (is_good_frame f)) f fs here.1 rest.1)
 
--- a text without a fault has good frames
-pub good_text : (text : List ℕ) → first_fault 0 0 (frames text) ≡ None → AreGoodFrames (frames text)
+-- a text without a error has good frames
+pub good_text : (text : List ℕ) → first_error 0 0 (frames text) ≡ None → AreGoodFrames (frames text)
 unfolding frames
-good_text text none = let h = good_frames 0 0 (frames text) none (frames_whole text) (omega arith) in record { few = omega (arith, h.0); good = h.1 }
+good_text text none = let h = good_frames 0 0 (frames text) none (frames_whole text) (omega arith) in record { within_limit = omega (arith, h.0); good = h.1 }
 
 -- some frames, as a reader finds them
 pub frames_some : (text : List ℕ) → 0 < length (frames text)

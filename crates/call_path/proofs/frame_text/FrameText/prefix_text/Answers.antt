@@ -4,7 +4,7 @@ use Rattle.std.specs.Str.{IsCharBoundary}
 use Rattle.std.proofs.lemmas.Str.{IsUtf8-string_bytes}
 use Rattle.call_path.proofs.Texts.{length-cut}
 use Rattle.call_path.proofs.Held.{front_boundary, front_text, front_good}
-use Rattle.call_path.proofs.frame_text.FrameText.front.Goals as goal
+use Rattle.call_path.proofs.frame_text.FrameText.prefix_text.Goals as goal
 
 pub end_in-requires : goal.end_in-requires
 end_in-requires c = omega (arith, c.requires, ap length c.self.view_is, length-cut 0 c.self.inside.ends.items (string_bytes c.self.inside.text), ap length c.deref.ensures.value)
