@@ -16,7 +16,6 @@
 #include <sys/prctl.h>
 #include <sys/wait.h>
 #include <unistd.h>
-#include <vector>
 
 static int ranks = 8;
 static int stuck = 5;
@@ -46,12 +45,12 @@ extern "C" int MPI_Barrier() {
 
 namespace app {
 template <typename T, int D> class Solver {
-  std::vector<T> grid = std::vector<T>(64);
+  T grid[64] = {};
 
   // A loop that should end and doesn't.
   void smooth(unsigned long sweeps) {
     for (volatile unsigned long i = 0; i != sweeps; i = i + 1)
-      grid[i % grid.size()] = grid[(i + 1) % grid.size()];
+      grid[i % 64] = grid[(i + D) % 64];
   }
 
 public:
