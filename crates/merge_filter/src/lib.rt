@@ -12,6 +12,8 @@ ghost use Rattle.stat_plan.specs.Plans.{Plan, daemons, ranks, sample_count, stre
 ghost use Rattle.merge_filter.specs.Contributions.{HasWave, IsPartialMerge, contrib, cov_of};
 
 mod own_tree;
+#[cfg(test)]
+mod tests;
 
 use own_tree::own_tree;
 use prefix_tree::{PrefixTree, TreeError};

@@ -68,5 +68,5 @@ pub path_rows_good : (C : Ranks) (r : ℕ) → has C r ≡ true → (p : Path) �
 path_rows_good C r some p good = all_good (path_rows C p) (λ q there.
     let tests = and_parts (is_below q) (has C r && is_prefix q p) (sym (label-path_rows C r p q) ∙ sym (used-path_rows C r some p q) ∙ there) in
     let frames = prefix_frames q p (and_parts (has C r) (is_prefix q p) tests.1).1 good.good.good in
-    let few = good.good.few in
-    record { some = below_some q tests.0; good = record { few = omega (arith, frames.0); good = frames.1 } })
+    let few = good.good.within_limit in
+    record { some = below_some q tests.0; good = record { within_limit = omega (arith, frames.0); good = frames.1 } })

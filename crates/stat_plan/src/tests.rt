@@ -1,5 +1,6 @@
-//! What no clause says: in what order lines are gone through.
+//! What no clause says: in what order lines are gone through, and that threads may share a plan.
 
+use crate::Plan;
 use crate::line_order::path_places;
 use call_path::CallPath;
 use std::test::Fail;
@@ -17,4 +18,13 @@ fn places_paths_in_their_order(rt: HostRuntime) -> Result<(), Fail> {
     let places = path_places(alloc, &paths)?;
     assert_eq!(rt; places.as_slice(), [3, 2, 1, 0].as_slice());
     Ok(())
+}
+
+fn is_shared<T: Sync>() -> bool {
+    true
+}
+
+#[test]
+fn threads_may_share_a_plan(rt: HostRuntime) {
+    assert!(rt; is_shared::<Plan>());
 }

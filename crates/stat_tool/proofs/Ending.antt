@@ -81,7 +81,7 @@ kept_paths placed test [] good = tt
 kept_paths placed test (line ∷ lines) good = by (test line) (kept_paths placed test lines good.1)
   where
     by : (b : Bool) → AreNoDeeper 128 (filter test lines) → AreNoDeeper 128 (cond b (line ∷ filter test lines) (filter test lines))
-    by true rest = ((good.0.path.some, good.0.path.good.few), rest)
+    by true rest = ((good.0.path.some, good.0.path.good.within_limit), rest)
     by false rest = rest
 
 -- no sample of a wave has an empty path
