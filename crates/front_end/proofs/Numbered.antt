@@ -1,4 +1,4 @@
--- Releases that have their numbers are apart.
+-- Releases that are numbered in order are distinct.
 use Rattle.std.proofs.Common.{◌≡◌, ℕ, suc, ◌+◌, ◌≤◌, ◌==◌, inl, inr, Bool, true, false, ◌&&◌, List, [], ◌∷◌, ◌++◌, map, length, refl, sym, ap, subst, ◌∙◌, arith, length-append, eq-eqb, eqb-true}
 use Rattle.std.specs.List.{AllByRecursion, IsDistinct}
 use Rattle.std.specs.Cmp.{unsigned_tied}
@@ -75,6 +75,6 @@ numbered_apart earlier (r ∷ rs) numbered =
     let later : AreNumberedInOrder (earlier ++ bare_release r ∷ []) rs = rest_numbered earlier r rs numbered in
     (none_is_it r (earlier ++ bare_release r ∷ []) rs later (omega arith), numbered_apart (earlier ++ bare_release r ∷ []) rs later)
 
--- releases that have their numbers are apart
+-- releases that are numbered in order are distinct
 pub apart_where_numbered : (releases : List TreeRelease) → AreNumberedInOrder [] releases → AreDistinct releases
 apart_where_numbered releases numbered = numbered_apart [] releases numbered

@@ -98,7 +98,7 @@ sorted_map f lt (x ∷ xs) up k d low high =
     let here : get_or (map f (x ∷ xs)) k d ≡ f (get_or (x ∷ xs) k x) = get_or-map f (x ∷ xs) k x d (omega arith) in
     (λ i. lt (later i) (here i)) ∙ up k x (omega arith) within
 
--- what references show is in order where what they were made of is apart, and a sort by stream, wave and number moved them
+-- what references show is in order where what they refer to is distinct, and a sort by stream, wave and number moved them
 pub in_order_from_sort : {X : Type 0} (tree : X → Tree) (given : List (Release X)) (all sorted : List (Bor (Release X))) → AreDistinct (releases_view tree given) → map (λ r. r.now) all ≡ given → IsPermutation all sorted
     → IsSortedBy (λ (a b : Bor (Release X)). is_lt (release_cmp (release_view tree a.now) (release_view tree b.now))) sorted → IsInOrder (releases_view tree given) (shown_releases tree sorted)
 in_order_from_sort {X} tree given all sorted apart shows moved up =

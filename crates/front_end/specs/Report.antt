@@ -25,7 +25,7 @@ pub record IsInOrder (given ordered : List TreeRelease) : Type 0 where
   pub same : IsPermutation given ordered
   pub rises : IsStrictlySortedBy release_cmp ordered
 
--- a fault came to pass after so many events of its node, or the node had fewer events
+-- a fault happened after this many events of its node, or the node had fewer events
 abbrev pub fate_text : Bool → Fault → List ℕ
 fate_text true fault = codes " lost after " ++ decimal fault.after
 fate_text false fault = codes " not reached"

@@ -1,4 +1,5 @@
-//! Laws of reports. The bodies are empty; what a law says is its contract, and who needs it calls its function.
+//! Laws of reports. The bodies are empty: what a law says is its contract. A crate above calls its function, or imports the
+//! lemma that is its answer.
 ghost use Rattle.std.specs.Prelude.{◌≡◌, ℕ, List, []};
 ghost use Rattle.std.specs.List.Sorted.{IsStrictlySortedBy};
 ghost use Rattle.rank_set.specs.Ranks.{Ranks};
@@ -16,7 +17,7 @@ pub fn reports_are_one()
         → IsReport p given lost other → text ≡ other }
 {}
 
-/// A law: no two releases that have their numbers have the same stream, wave and number.
+/// A law: no two releases that are numbered in order have the same stream, wave and number.
 pub fn numbered_releases_are_distinct()
     ensures { (releases : List TreeRelease) → AreNumberedInOrder [] releases → AreDistinct releases }
 {}
@@ -26,7 +27,7 @@ pub fn ordered_releases_are_in_order()
     ensures { (releases : List TreeRelease) → IsStrictlySortedBy release_cmp releases → IsInOrder releases releases }
 {}
 
-/// A law: the classes that a report has of a tree are those of the samples that the tree was made of, whatever they were.
+/// A law: the classes depend on the tree alone, not on the samples without an empty path that it was built from.
 pub fn classes_of_a_tree()
     ensures { (P : Pairs) (C : Ranks) (t : Tree) → HasNoEmptyPath P → t ≡ tree_of P C → classes_in t ≡ classes_of P C }
 {}

@@ -1,4 +1,4 @@
--- Contributions that stand for a plan.
+-- Contributions that are partial merges of a plan.
 use Rattle.std.proofs.Common.{◌≡◌, ℕ, ◌<◌, inl, inr, [], sym, ap, subst, ◌∙◌, arith}
 use Rattle.std.proofs.lemmas.Bool.{true≢false, or_cases}
 use Rattle.rank_set.specs.Ranks.{Ranks, none, has, Has, IsSubset, has-none, union, has-union}
@@ -70,7 +70,7 @@ module _ (p : Plan) (a b v u : Contrib) (va : v ≡ a) (ub : u ≡ b) (first : I
   waves : u.wave ≡ v.wave
   waves = ap (λ (c : Contrib). c.wave) ub ∙ one_wave ∙ sym (ap (λ (c : Contrib). c.wave) va)
 
-  -- the merged tree stands for the plan
+  -- the merged tree is a partial merge
   pub united : (t : Tree) → t ≡ merged v.tree u.tree → IsPartialMerge p (contrib v.stream v.wave t)
   united t is = both_stand p v u v_stands u_stands streams waves t is
 

@@ -100,7 +100,7 @@ grown_test cov sent ne = elim (cases_Bool (is_same cov sent)) [ inl e ↦ absurd
 pub ne_from_grown : (cov sent : Ranks) → not (is_same cov sent) ≡ true → cov ≢ sent
 ne_from_grown cov sent e k = let t : is_same cov sent ≡ true = subst (λ z. is_same cov z ≡ true) k (test_from_same cov) in true≢false (sym e ∙ not_from_true _ t)
 
--- the wave that was acted on is calm
+-- nothing is due for the wave that was acted on
 acted_settled : (p : Plan) (n : ℕ) (kin : Kin) (s w : ℕ) (cov sent : Ranks) (timer : Timer) (k : Effects) (a : Act) → HasPlanFacts p → k.book s w ≡ Open cov sent timer → TimerFits p s cov sent timer → due_at p n kin.lost s cov sent timer ≡ a → WaveIsSettled p n kin.lost s ((acted p kin s w cov sent timer k a).book s w)
 unfolding acted due_at
 acted_settled p n kin s w cov sent timer k Hold plan ev fit e = subst (WaveIsSettled p n kin.lost s) (sym ev) (e, held timer fit e)
@@ -154,7 +154,7 @@ act_as_else p n kin s w k Closed a b e = refl
 pub act_else : (p : Plan) (n : ℕ) (kin : Kin) (s w : ℕ) (k : Effects) (a b : ℕ) → ((a == s) && (b == w)) ≡ false → (act p n kin s w k).book a b ≡ k.book a b
 act_else p n kin s w k a b e = act_as_else p n kin s w k (k.book s w) a b e
 
--- acts make each wave of theirs calm, and leave the others
+-- after acts nothing is due for their waves, and the others are unchanged
 pub act_each_settled : (p : Plan) (n : ℕ) (kin : Kin) (vs : List (ℕ × ℕ)) (k : Effects) (s w : ℕ) → HasPlanFacts p → WaveFits p s (k.book s w) → In (s, w) vs ⊎ WaveIsSettled p n kin.lost s (k.book s w) → WaveIsSettled p n kin.lost s ((act_each p n kin vs k).book s w)
 act_each_settled p n kin [] k s w plan fit (inl i) = absurd i
 act_each_settled p n kin [] k s w plan fit (inr h) = h

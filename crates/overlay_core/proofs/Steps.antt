@@ -1,4 +1,4 @@
--- Each enabled event keeps a state sound, and so does each legal journal.
+-- A sound state is sound after each enabled event, and so after each legal journal.
 use Rattle.std.proofs.Common.{◌≡◌, ◌⊎◌, ◌<◌, inl, inr, ℕ, Bool, true, false, not, ◌&&◌, ◌==◌, nat_lt, List, [], ◌∷◌, map, refl, sym, ap, subst, ◌∙◌, eqb-true, eq-eqb, Option, Some, None, lt-ltb, zero-le}
 use Rattle.std.proofs.lemmas.Bool.{cond_both, cond-true, and_parts, and_from, not-true}
 use Rattle.stat_plan.specs.NodeSets.{In}

@@ -1,4 +1,4 @@
--- What holds of each node and each link of a state that a legal journal leaves: of kin, of links, of told losses, of what the
+-- What holds of each node and each link of a state that a legal journal leaves: of kin, of links, of losses that are known, of what the
 -- books cover, and of counts.
 use Rattle.rank_set.specs.Ranks.{Ranks, none, Has, IsSubset}
 use Rattle.std.specs.Prelude.{ℕ, ◌≡◌, ◌≢◌, ◌≤◌, ◌⊎◌, Bool, true, false, ⊤, List, [], ◌∷◌, Some}

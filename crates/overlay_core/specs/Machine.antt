@@ -1,4 +1,4 @@
--- The machine: its state, the events that may come next, and what each does.
+-- The machine: its state, the events that are enabled, and what each does.
 use Rattle.std.specs.Prelude.{ℕ, zero, suc, Bool, true, false, ◌&&◌, not, ◌==◌, nat_lt, cond, List, [], ◌∷◌, ◌++◌, map, filter, take, find, Option, Some, None}
 use Rattle.std.specs.List.{list_any}
 use Rattle.rank_set.specs.Ranks.{none, is_empty}
@@ -70,7 +70,7 @@ keep_of None = 0
 keep_of (Some f) = f.keep
 
 -- n is lost: what is on the way to it is gone, of what is on the way from it the first packets stay, and each living
--- original ancestor and descendant is told
+-- original ancestor and descendant is notified
 unfoldable pub lose : Plan → State → ℕ → State
 lose p st n = record {
   alive = put_at st.alive n false;
@@ -126,7 +126,7 @@ abbrev pub is_pending : List Packet → Bool
 is_pending [] = false
 is_pending (q ∷ qs) = true
 
--- whether an event may come next
+-- whether an event is enabled
 abbrev pub is_enabled : Plan → State → Event → Bool
 is_enabled p st (Sample n s w) = is_active p st n && member n (daemons p s) && is_wave (next_sample p (st.node n) s) w
 is_enabled p st (Recv n m) = is_active p st n && is_pending (st.link m n)
@@ -148,6 +148,6 @@ abbrev pub events_below : Plan → ℕ → List Event
 events_below p zero = []
 events_below p (suc n) = events_below p n ++ events_of p n
 
--- the events that may come next, in order
+-- the events that are enabled, in order
 unfoldable pub enabled_events : Plan → State → List Event
 enabled_events p st = filter (is_enabled p st) (events_below p (nodes p))

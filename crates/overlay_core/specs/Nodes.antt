@@ -124,7 +124,7 @@ received_up p n x s w set = record {
   work = act p n x.kin s w (begin (set_wave x.book s w (growing set (x.book s w))));
 }
 
--- a wave that stands so ends, and the children are told
+-- a wave in this state ends, and the children are notified
 abbrev pub done_work : Plan → Kin → ℕ → ℕ → Book → Wave → Effects
 done_work p kin s w book Closed = begin book
 done_work p kin s w book (Open cov sent timer) = record { book = set_wave book s w Closed; sends = dones p kin s w; releases = [] }
@@ -133,7 +133,7 @@ done_work p kin s w book (Open cov sent timer) = record { book = set_wave book s
 unfoldable pub received_done : Plan → ℕ → Node → ℕ → ℕ → Outcome
 received_done p n x s w = record { kin = x.kin; work = done_work p x.kin s w x.book (x.book s w) }
 
--- m is a child from now on; it is told which of its waves have ended
+-- m is a child from now on, and is notified which of its waves have ended
 unfoldable pub received_attach : Plan → ℕ → Node → ℕ → Outcome
 received_attach p n x m = record {
   kin = record { parent = x.kin.parent; children = with_number m x.kin.children; lost = x.kin.lost };

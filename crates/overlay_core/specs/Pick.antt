@@ -10,11 +10,11 @@ use Rattle.overlay_core.specs.Runs.{after}
 unfoldable pub next_number : ℕ → ℕ
 next_number x = (x * 6364136223846793005 + 1442695040888963407) % 2 ^ 64
 
--- the event that x picks of those that may come next, if there is one
+-- the event that x picks of those that are enabled, if there is one
 unfoldable pub picked_event : Plan → State → ℕ → Option Event
 picked_event p st x = slice_get (enabled_events p st) (x / 2 ^ 33 % length (enabled_events p st))
 
--- the events that the numbers after x pick from a state on, so many at most
+-- the events that the numbers after x pick from a state on, at most this many
 abbrev pub picked_from : Plan → ℕ → ℕ → State → List Event
 picked_from p zero x st = []
 picked_from p (suc most) x st = elim (picked_event p st (next_number x)) [ None ↦ [] | Some e ↦ e ∷ picked_from p most (next_number x) (step p st e) ]

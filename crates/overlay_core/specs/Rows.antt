@@ -206,7 +206,7 @@ eager_names : Gives eager_loss (Lose 2 ∷ Recv 0 2 ∷ Sample 1 0 0 ∷ Recv 0 
 unfolding has with_rank union those ancestors is_under is_within is_related front is_front ranks stream_of daemons mode serves waves_at fault complete due_at dones acted sampled after_tick received_up received_done received_attach received_down start commit with_link lose is_doomed is_active enabled_events
 eager_names = record { legal = refl; releases = refl; next = refl }
 
--- and is no child any more
+-- and is not a child any more
 eager_children : ((after eager_loss (Lose 2 ∷ Recv 0 2 ∷ [])).node 0).kin.children ≡ 1 ∷ 3 ∷ []
 unfolding has with_rank union those ancestors is_under is_within is_related front is_front ranks stream_of daemons mode serves waves_at fault complete due_at dones acted sampled after_tick received_up received_done received_attach received_down start commit with_link lose is_doomed is_active enabled_events
 eager_children = refl

@@ -22,7 +22,7 @@ after p journal = run p (start p) journal
 abbrev pub IsLegal : Plan → List Event → Type 0
 IsLegal p journal = IsLegalFrom p (start p) journal
 
--- no event may come next
+-- no event is enabled
 abbrev pub IsQuiet : Plan → State → Type 0
 IsQuiet p st = (e : Event) → is_enabled p st e ≡ false
 

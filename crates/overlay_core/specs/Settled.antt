@@ -25,6 +25,6 @@ WaveIsSettled p n lost s Closed = ⊤
 abbrev pub NodeIsSettled : Plan → ℕ → Node → Type 0
 NodeIsSettled p n x = (s w : ℕ) → In (s, w) (waves_at p n) → WaveIsSettled p n x.kin.lost s (x.book s w)
 
--- each living node is calm
+-- at each living node nothing is due
 abbrev pub NodesAreSettled : Plan → State → Type 0
 NodesAreSettled p st = (n : ℕ) → st.alive n ≡ true → NodeIsSettled p n (st.node n)

@@ -16,7 +16,7 @@ use Rattle.overlay_core.specs.Settled.{NodesAreSettled}
 use Rattle.overlay_core.specs.History.{of_wave, HistoryIsSound}
 use Rattle.overlay_core.specs.Releases.{CoversAll}
 
--- nodes and links, joined pairs, calm, and the history of each wave
+-- nodes and links, parents and children, nothing due, and the history of each wave
 pub record IsSound (p : Plan) (st : State) : Type 0 where
   pub base : LinkInvariant p st
   pub pairs : ParentChildInvariant p st

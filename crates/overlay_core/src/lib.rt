@@ -1,8 +1,9 @@
 //! The machine of the overlay: nodes that stand in a tree, pass the ranks of each wave up to the front end, and may be lost on
 //! the way.
 //!
-//! What the machine is stands in `specs/`: a state, the events that may come next, and what each leaves. The functions here
-//! are laws of it. Their bodies are empty; what each says is its contract, and who needs a law calls its function.
+//! What the machine is stands in `specs/`: a state, the events that are enabled, and the state after each. The functions here
+//! are laws of it. Their bodies are empty: what a law says is its contract. A crate above calls its function, or imports the
+//! lemma that is its answer.
 #![tactic(auto)]
 
 ghost use Rattle.overlay_core.specs.Independent.{outcome, AreIndependent};
@@ -80,7 +81,7 @@ pub fn releases_are_sound()
         → ReleasesAreSound p (after p journal) }
 {}
 
-/// A law: the list of enabled events has just the events that may come next, and is empty just where the state is quiet.
+/// A law: the list of enabled events has exactly the events that are enabled, and is empty exactly if the state is quiet.
 pub fn enabled_events_are_listed()
     ensures listed { (p : Plan) (journal : List Event) (e : Event) → IsPlan p → IsLegal p journal
         → (is_enabled p (after p journal) e ≡ true) ↔ In e (enabled_events p (after p journal)) }

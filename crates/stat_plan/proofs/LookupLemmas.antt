@@ -161,7 +161,7 @@ within_limit : (p : Plan) (s w : ℕ) → is_over p (s, w) ≡ false → IsWithi
 unfolding wave_is_within
 within_limit p s w e = leb-true (count_below (tree_of (wave_samples p s w) (stream_ranks p s))) 2048 (not_false (nat_le (count_below (tree_of (wave_samples p s w) (stream_ranks p s))) 2048) e)
 
--- what every plan keeps, from what every job keeps and no wave over the limit
+-- the invariant of a plan, from that of a job and no wave over the limit
 pub plan_from : (p : Plan) → IsJob p → first_over p ≡ None → IsPlan p
 plan_from p job none = record {
   topology = job.topology;

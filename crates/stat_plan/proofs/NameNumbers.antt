@@ -1,4 +1,4 @@
--- Names and their numbers, where a set keeps the names as keys.
+-- Names and their numbers, where the names are the keys of a set.
 use Rattle.std.proofs.Common.{◌≡◌, ℕ, suc, ◌+◌, Bool, true, false, not, cond, nat_lt, List, [], ◌∷◌, length, map, Option, None, Some, refl, sym, ap, ◌∙◌, subst, arith, String, Global, string_bytes}
 use Rattle.std.specs.List.{prefix_len, position}
 use Rattle.std.specs.Str.{bytes_eq, IsUtf8}
@@ -37,7 +37,7 @@ differs name bad key = by (bytes_eq name (string_bytes key)) refl
     by true e = absurd (bad (subst IsUtf8 (sym ((bytes_eq-Decides name (string_bytes key)).0 e)) (IsUtf8-string_bytes key)))
     by false e = refl
 
--- bytes that are not UTF-8 are no name
+-- bytes that are not UTF-8 are not a name
 pub no_name : (name : List ℕ) (keys : List (String Global)) → (IsUtf8 name → ⊥) → number_of name (map string_bytes keys) ≡ None
 no_name name keys bad =
     number_of_keys string_bytes name keys None

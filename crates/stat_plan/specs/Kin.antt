@@ -25,7 +25,7 @@ abbrev pub is_parent : Option ℕ → ℕ → Bool
 is_parent None m = false
 is_parent (Some a) m = a == m
 
--- m is lost, and is no child any more
+-- m is lost, and is not a child any more
 abbrev pub without_child : Kin → ℕ → Kin
 without_child kin m = record { parent = kin.parent; children = without_number m kin.children; lost = with_number m kin.lost }
 

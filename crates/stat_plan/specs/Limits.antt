@@ -1,4 +1,4 @@
--- The limit of distinct prefixes, which each wave of a plan keeps.
+-- The limit of distinct prefixes in each wave of a plan.
 use Rattle.std.specs.Prelude.{ℕ, ◌≡◌, ◌⊎◌, ◌≤◌, ◌<◌, ⊤, Bool, true, not, nat_le, find, map, List, [], slice_get, slice_index_or, Option, Some, None}
 use Rattle.rank_set.specs.Ranks.{Ranks, Has}
 use Rattle.call_path.specs.Path.{Path, is_prefix}

@@ -108,7 +108,7 @@ is_within p n m = (n == m) || is_under p n m
 unfoldable pub is_related : Plan → ℕ → ℕ → Bool
 is_related p n m = is_under p n m || is_under p m n
 
--- the ranks that are placed on a node; none where it is no daemon
+-- the ranks that are placed on a node; none if it is not a daemon
 unfoldable pub ranks : Plan → ℕ → Ranks
 ranks p n = slice_index_or p.placed n none
 

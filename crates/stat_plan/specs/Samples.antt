@@ -33,7 +33,7 @@ ranks_with ranks (more ∷ sets) = ranks_with (union ranks more) sets
 abbrev pub all_ranks : List Ranks → Ranks
 all_ranks sets = ranks_with none sets
 
--- each line's path has a frame, and at most so many
+-- each line's path has a frame, and at most this many
 abbrev pub AreNoDeeper : ℕ → List SampleLine → Type 0
 AreNoDeeper depth lines = AllByRecursion (λ line. (0 < length line.path) × (length line.path ≤ depth)) lines
 

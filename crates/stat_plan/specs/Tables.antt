@@ -78,7 +78,7 @@ pub record IndexesRun (placed : List Ranks) (first last past number : ℕ) (old 
   pub indexed : (n r : ℕ) → n < length old → first ≤ r → r < past → Has r (slice_index_or placed n none) → In number (slice_index_or new n [])
   pub only : (n i : ℕ) → In i (slice_index_or new n []) → In i (slice_index_or old n []) ⊎ ((i ≡ number) × ((r : ℕ) × ((first ≤ r) × ((r ≤ last) × Has r (slice_index_or placed n none)))))
 
--- these are the numbers of so many lines, in any order
+-- these are the numbers of n lines, in any order
 abbrev pub AreLineNumbers : ℕ → List ℕ → Type 0
 AreLineNumbers n numbers = (i : ℕ) → In i numbers ↔ (i < n)
 

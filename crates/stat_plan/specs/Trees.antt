@@ -7,7 +7,7 @@ use Rattle.stat_plan.specs.declared.topology.TheConstants.{DEPTH_LIMIT}
 abbrev pub parent_of : List (Option ℕ) → ℕ → Option ℕ
 parent_of parents n = slice_index_or parents n None
 
--- a node's ancestors, nearest first, as far as so many links
+-- a node's ancestors, nearest first, as far as this many links
 abbrev pub climb : List (Option ℕ) → ℕ → ℕ → List ℕ
 climb parents zero n = []
 climb parents (suc links) n = elim (parent_of parents n) [ None ↦ [] | (Some p) ↦ p ∷ climb parents links p ]
@@ -27,7 +27,7 @@ abbrev pub is_other : ℕ → Option ℕ → Bool
 is_other n None = true
 is_other n (Some p) = not (nat_eq p n)
 
--- whether a node is no node's parent
+-- whether a node has no children
 abbrev pub is_daemon : List (Option ℕ) → ℕ → Bool
 is_daemon parents n = list_all (is_other n) parents
 

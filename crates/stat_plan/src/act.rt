@@ -5,7 +5,7 @@
 pub enum Timer {
     /// It doesn't run.
     Off,
-    /// It runs for so many ticks more, at least one.
+    /// It runs for this many more ticks, at least one.
     Running(u16),
     /// It has run out.
     Fired,

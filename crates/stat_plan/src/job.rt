@@ -38,7 +38,7 @@ impl Model for Job {
 }
 
 impl Job {
-    /// The job of what three files say. It takes no memory.
+    /// The job of what three files say. It allocates nothing.
     pub fn new(topology: Topology, samples: Samples, script: Script) -> Job
         requires samples { SamplesFit topology samples }
         requires script { ScriptFits topology script }

@@ -1,9 +1,10 @@
-//! What the files of a job stand for: its nodes, which ranks there are, what they were seen in, and what a text of a job is
-//! refused for.
+//! The plan of a job: what its three files say together, and the look-ups of it.
 //!
-//! A [`Topology`] is a tree of named nodes, as a contract sees it a value of `Nodes`: the names in order of number, and each
-//! node's parent. What every topology of a job is, `IsTopology` says. The module [`lines`] cuts a text into lines and words
-//! for those who read what stands on them. A [`Plan`] is what the three files of a job say together, with its look-ups.
+//! A [`Topology`] is a tree of named nodes, [`Samples`] are where the ranks are and the paths that they were seen in, and a
+//! [`Script`] is the streams of a job and the nodes that are to be lost. Each type has an invariant (`specs/Invariants.antt`).
+//! A [`Plan`] is made of the three, and refuses waves with too many prefixes.
+//!
+//! The words of the overlay's machine that several crates need stand apart, in the module `machine` and in `specs/Machine/`.
 #![tactic(auto)]
 
 mod act;

@@ -1,4 +1,4 @@
-//! The limit of distinct prefixes, which each wave keeps.
+//! The limit of distinct prefixes in each wave.
 
 ghost use Rattle.std.specs.Prelude.{◌≡◌, ◌<◌, ℕ, IfOk, IfErr, OnOk, length, [], Err, None, Some, find};
 ghost use Rattle.prefix_tree.specs.Pairs.{Pairs};

@@ -7,7 +7,7 @@ use std::alloc::{AllocError, AllocFailed};
 pub enum PlanError {
     /// The samples of a wave have more than 2,048 distinct prefixes. It is the first such wave, by stream and wave.
     TooManyPrefixes { stream: u8, wave: u8 },
-    /// There was no memory.
+    /// Out of memory.
     OutOfMemory,
 }
 

@@ -1,4 +1,4 @@
-//! What a samples text says: where the ranks are, and what they were seen in.
+//! What a samples text says: where the ranks are, and the paths that they were seen in.
 
 ghost use Rattle.std.specs.Prelude.{◌≡◌, ◌<◌, Some, length, slice_get};
 ghost use Rattle.stat_plan.specs.Samples.{is_in_wave};
@@ -45,7 +45,7 @@ pub struct Lines<'a> {
     pub paths: &'a [CallPath],
 }
 
-/// Whether a time is one of a wave's: wave `wave`, from 0 on, of so many sample times each.
+/// Whether a time is one of those of wave `wave`, from 0, where each wave has `samples` sample times.
 pub fn is_in_wave(samples: u8, wave: u8, time: u32) -> bool
     ensures { result ≡ is_in_wave samples wave time }
 {
@@ -80,7 +80,7 @@ impl Model for Samples {
 impl Samples {
     ghost use Rattle.stat_plan.specs.StackLines.{lines_of, PathIndicesInRange, line_of};
 
-    /// The samples of these ranks by node number, and these lines, whose paths stand by their numbers. It takes no memory.
+    /// The samples of these ranks by node number, and these lines, whose paths stand by their numbers. It allocates nothing.
     pub fn new(placed: Vec<RankSet>, paths: Vec<CallPath>, lines: Vec<StackLine>) -> Samples
         requires numbered { PathIndicesInRange paths.items lines.items }
         requires samples { AreSamples (sampled placed.items (lines_of paths.items lines.items)) }
@@ -101,7 +101,7 @@ impl Samples {
         let _ = &self.placed;
     }
 
-    /// The ranks of each node, by node number; none where it is no daemon.
+    /// The ranks of each node, by node number; empty if it is not a daemon.
     pub fn placed(&self) -> &[RankSet]
         ensures { result.now ≡ self.now.placed }
     {

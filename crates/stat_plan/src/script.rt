@@ -26,7 +26,7 @@ pub const FAULT_LIMIT: u32 = 256;
 pub enum Mode {
     /// Once all daemons below have come in.
     WaitForAll,
-    /// Once all daemons below have come in, or so many ticks after something came in: 1 to `TICK_LIMIT`.
+    /// Once all daemons below have come in, or this many ticks after something came in: 1 to `TICK_LIMIT`.
     TimeOut(u16),
     /// At once.
     DontWait,
@@ -39,7 +39,7 @@ pub struct Fault {
     pub node: u32,
     /// After how many events of its own it is lost.
     pub after: u32,
-    /// How many of the first frames on each link out of it stay.
+    /// How many of the first packets on each link out of it stay.
     pub keep: u32,
 }
 
@@ -67,8 +67,8 @@ impl Model for StreamDef {
 impl StreamDef {
     ghost use Rattle.stat_plan.specs.Plans.{stream};
 
-    /// The stream of this number and mode with so many waves of so many sample times each, and these daemons in ascending
-    /// order. It takes no memory.
+    /// The stream with this number, mode, number of waves, number of sample times of each wave, and daemons in ascending order.
+    /// It allocates nothing.
     pub fn new(number: u8, mode: Mode, waves: u8, samples: u8, daemons: Vec<u32>) -> StreamDef
         requires { IsStream (stream number mode waves samples daemons.items) }
         ensures { result ≡ stream number mode waves samples daemons.items }
@@ -139,7 +139,7 @@ impl Model for Script {
 impl Script {
     ghost use Rattle.stat_plan.specs.Plans.{scripted};
 
-    /// The script of these streams, ascending and at least one, and these faults, ascending by node. It takes no memory.
+    /// The script of these streams, ascending and at least one, and these faults, ascending by node. It allocates nothing.
     pub fn new(streams: Vec<StreamDef>, faults: Vec<Fault>) -> Script
         requires { IsScript (scripted streams.items faults.items) }
         ensures { result ≡ scripted streams.items faults.items }

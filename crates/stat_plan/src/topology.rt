@@ -110,7 +110,7 @@ impl Topology {
             .count() as u32
     }
 
-    /// Whether a node is a daemon: it is no node's parent.
+    /// Whether a node is a daemon: it has no children.
     pub fn is_daemon(&self, n: u32) -> bool
         requires { n < length self.now.parents }
         ensures value { result ≡ is_daemon self.now.parents n }

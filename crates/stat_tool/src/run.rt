@@ -1,4 +1,4 @@
-//! The run of a plan: the overlay does one event after another, and what it releases is told in a report.
+//! The run of a plan: the overlay does one event after another, and a report has what it releases.
 ghost use Rattle.std.specs.Prelude.{◌≡◌, [], false, IfOk, OnOk};
 ghost use Rattle.stat_plan.specs.Invariants.{IsPlan};
 ghost use Rattle.overlay_core.specs.Machine.{start};
@@ -14,7 +14,7 @@ use stat_desk::Journal;
 use stat_plan::Plan;
 use std::alloc::{AllocError, Global};
 
-/// What a run leaves.
+/// What a run returns.
 #[derive(Drop)]
 pub struct Ran {
     /// The events, in the order in which they happened.
@@ -50,7 +50,7 @@ pub fn report_of<T: PrefixTree>(
     report_text(alloc, plan, net.releases(), &[])
 }
 
-/// Does the first of the events that may come next, again and again, until none may.
+// Does the first enabled event, again and again, until none is enabled.
 fn run_to_end<T: PrefixTree>(net: &mut Net<'_, T>, journal: &mut Journal) -> Result<(), AllocError>
     requires plan { IsPlan net.old.plan }
     requires usable { net.old.failed ≡ false }

@@ -233,7 +233,7 @@ fn runs_scripts_that_lose_no_node(rt: HostRuntime) -> Result<(), AllocError> {
     Ok(())
 }
 
-// The script of so many streams of so many waves each.
+// A script of this many streams, of this many waves each.
 fn script_of(alloc: Global, streams: u32, waves: u32) -> Result<String, AllocError> {
     let mut script = String::new(alloc);
     for stream in 0..streams {
@@ -245,7 +245,7 @@ fn script_of(alloc: Global, streams: u32, waves: u32) -> Result<String, AllocErr
     Ok(script)
 }
 
-// The report of so many streams of so many waves each, of one rank that was never seen.
+// The report of this many streams, of this many waves each, of one rank that was never seen.
 fn report_of(alloc: Global, streams: u32, waves: u32) -> Result<String, AllocError> {
     let mut report = String::new(alloc);
     for stream in 0..streams {
@@ -342,7 +342,7 @@ fn prints_the_number_of_any_stream(rt: HostRuntime) -> Result<(), AllocError> {
     Ok(())
 }
 
-// Samples of a rank that has so many paths of one frame at each of so many times, no path twice.
+// Samples of a rank that has this many paths of one frame at each of this many times, no path twice.
 fn one_frame_paths(alloc: Global, times: u32, paths: u32) -> Result<String, AllocError> {
     let mut samples = String::from_str(alloc, "daemon a:0 0\n")?;
     for time in 0..times {
@@ -379,7 +379,7 @@ fn counts_the_prefixes_of_a_wave(rt: HostRuntime) -> Result<(), AllocError> {
     Ok(())
 }
 
-// The status of a run whose topology is this text and so many blanks after it.
+// The status of a run whose topology is this text, filled up with blanks to this length.
 fn status_of_length(alloc: Global, text: &str, length: usize) -> Result<Status, AllocError> {
     let mut topology = text.as_bytes().to_vec(alloc)?;
     topology.resize(length, b' ')?;
