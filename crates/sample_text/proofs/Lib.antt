@@ -1,7 +1,7 @@
-pub mod Words
+pub mod LineWords
 pub mod Sets
 pub mod Steps
 pub mod Texts
 pub mod SomeRank
-pub mod Kept
+pub mod InvariantLemmas
 pub mod Lines

@@ -1,5 +1,5 @@
--- Lines one after another, and the check of the whole text.
-use Rattle.std.proofs.Common.{◌≡◌, ◌∙◌, ℕ, suc, ◌+◌, ◌<◌, ◌≤◌, Bool, true, false, ◌&&◌, ◌||◌, not, nat_eq, eq-eqb, List, [], ◌∷◌, length, drop, drop-cons, get_or, Option, Ok, Err, refl, sym, ap, subst, arith}
+-- The check of the whole text.
+use Rattle.std.proofs.Common.{◌≡◌, ◌∙◌, ℕ, suc, ◌+◌, ◌<◌, ◌≤◌, Bool, true, false, ◌&&◌, ◌||◌, not, nat_eq, eq-eqb, List, length, drop, drop-cons, get_or, Option, Ok, Err, refl, sym, ap, subst, arith}
 use Rattle.std.proofs.lemmas.Bool.Decides.{nat_tests}
 use Rattle.std.proofs.lemmas.List.{drop_all}
 use Rattle.rank_set.specs.Ranks.{Ranks, size, is_empty}
@@ -9,21 +9,10 @@ use Rattle.stat_plan.specs.Trees.{is_daemon}
 use Rattle.text_lines.specs.declared.text_error.TextError.{TextError}
 use Rattle.text_lines.specs.declared.text_error.TextError.TheVariants.{Bad}
 use Rattle.text_lines.specs.declared.text_error.Reason.TheVariants.{DaemonWithoutRank}
-use Rattle.sample_text.specs.Steps.{and_then, if_holds, with_line}
-use Rattle.sample_text.specs.Whole.{with_lines, lacks_rank, whole}
-
-module _ (t : Nodes) (s : Sampled) (number : ℕ) where
-  pub no_lines_left : with_lines t s number [] ≡ Ok s
-  unfolding with_lines
-  no_lines_left = refl
-
-  pub next_bad : (line : List ℕ) (rest : List (List ℕ)) (e : TextError) → with_line t s number line ≡ Err e → with_lines t s number (line ∷ rest) ≡ Err e
-  unfolding with_lines
-  next_bad line rest e is = ap (λ r. and_then r (λ more. with_lines t more (suc number) rest)) is
-
-  pub next_good : (line : List ℕ) (rest : List (List ℕ)) (more : Sampled) → with_line t s number line ≡ Ok more → with_lines t s number (line ∷ rest) ≡ with_lines t more (number + 1) rest
-  unfolding with_lines
-  next_good line rest more is = ap (λ r. and_then r (λ more. with_lines t more (suc number) rest)) is ∙ (let e : suc number ≡ number + 1 = omega arith in ap (λ n. with_lines t more n rest) e)
+use Rattle.sample_text.specs.Steps.{if_holds, with_line}
+use Rattle.sample_text.specs.Whole.{lacks_rank, whole, nothing_parsed, samples_of_text}
+use Rattle.text_lines.specs.Lines.{lines}
+use Rattle.text_lines.specs.Parsing.{and_then, parsed_lines}
 
 module _ (parents : List (Option ℕ)) (sets : List Ranks) (n : ℕ) where
   pub lacks_none_left : length sets ≤ n → lacks_rank parents n (drop n sets) ≡ false
@@ -68,3 +57,11 @@ whole_bad t s e = ap (λ b. if_holds (not b) (Bad 0 DaemonWithoutRank) (Ok s)) e
 
 pub whole_good : (t : Nodes) (s : Sampled) → lacks_rank t.parents 0 s.placed ≡ false → whole t s ≡ Ok s
 whole_good t s e = ap (λ b. if_holds (not b) (Bad 0 DaemonWithoutRank) (Ok s)) e
+
+-- a whole text, where its lines are parsed
+module _ (t : Nodes) (text : List ℕ) where
+  pub samples_bad : (e : TextError) → parsed_lines (with_line t) (nothing_parsed t) 1 (lines text) ≡ Err e → samples_of_text t text ≡ Err e
+  samples_bad e bad = ap (λ r. and_then r (whole t)) bad
+
+  pub samples_good : (s : Sampled) → parsed_lines (with_line t) (nothing_parsed t) 1 (lines text) ≡ Ok s → samples_of_text t text ≡ whole t s
+  samples_good s good = ap (λ r. and_then r (whole t)) good

@@ -11,7 +11,7 @@ use Rattle.rank_set.specs.RanksText.{number_at, ends_at, second_at, after_first,
 use Rattle.rank_set.proofs.RunSets.{has-ranks_between}
 use Rattle.rank_set.proofs.Reading.{items_first, item_bad_ranks, item_good_ranks, no_items}
 use Rattle.text_lines.specs.declared.text_error.TextError.{TextError}
-use Rattle.sample_text.specs.Steps.{ranks_or_fault, ranks_on}
+use Rattle.sample_text.specs.Steps.{ranks_or_error, ranks_on}
 use Rattle.sample_text.proofs.Sets.{or_first, or_second}
 
 -- a range doesn't go backward
@@ -93,13 +93,13 @@ abbrev WritesSome : Result Ranks TextError → Type 0
 WritesSome (Err e) = Unit {0}
 WritesSome (Ok ranks) = (x : ℕ) × Has x ranks
 
-or_fault_some : (number : ℕ) (r : Result Ranks RanksError) → HasSome r → WritesSome (ranks_or_fault number r)
-or_fault_some number (Err e) h = tt
-or_fault_some number (Ok ranks) h = h
+or_error_some : (number : ℕ) (r : Result Ranks RanksError) → HasSome r → WritesSome (ranks_or_error number r)
+or_error_some number (Err e) h = tt
+or_error_some number (Ok ranks) h = h
 
 word_some : (number : ℕ) (word : List ℕ) → WritesSome (ranks_on number word)
 unfolding ranks_on
-word_some number word = or_fault_some number (ranks_text word) (text_some word)
+word_some number word = or_error_some number (ranks_text word) (text_some word)
 
 -- ranks that a word writes are not none
 pub not_none : (number : ℕ) (word : List ℕ) (ranks : Ranks) → ranks_on number word ≡ Ok ranks → ranks ≢ none

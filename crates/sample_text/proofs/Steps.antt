@@ -1,9 +1,5 @@
--- One line more, by the fault or the step that it is.
-use Rattle.std.proofs.Common.{◌≡◌, ℕ, ◌<◌, ◌≤◌, true, false, List, [], ◌∷◌, ◌++◌, length, Some, Result, Ok, Err, refl, sym, ap, subst, le-ltb, lt-ltb}
-use Rattle.std.specs.Str.{bytes_eq}
-use Rattle.std.proofs.lemmas.List.Quantifiers.{position-Some}
-use Rattle.stat_plan.specs.Names.{number_of}
-use Rattle.std.specs.Result.{IfErr, IsErr, IsErrAnd}
+-- One line more, by its error or the step that it is.
+use Rattle.std.proofs.Common.{◌≡◌, ℕ, ◌<◌, ◌≤◌, true, false, List, [], ◌∷◌, ◌++◌, length, Ok, Err, refl, ap, le-ltb, lt-ltb}
 use Rattle.rank_set.specs.Ranks.{Ranks, is_subset}
 use Rattle.call_path.specs.Path.{Path}
 use Rattle.stat_plan.specs.Plans.{Sampled}
@@ -13,16 +9,17 @@ use Rattle.text_lines.specs.declared.text_error.TextError.{TextError}
 use Rattle.text_lines.specs.declared.text_error.TextError.TheVariants.{Bad, Over}
 use Rattle.text_lines.specs.declared.text_error.Reason.TheVariants.{PlacedTwice, Unplaced}
 use Rattle.text_lines.specs.declared.text_error.Quantity.TheVariants.{Lines}
-use Rattle.sample_text.specs.Said.{Said, line_said}
-use Rattle.sample_text.specs.Steps.{daemon_named, ranks_on, time_on, path_on, are_disjoint, add_at, sample, with_daemon, with_stack, with_said, with_line, and_then}
+use Rattle.sample_text.specs.Words.{LineView, read_line}
+use Rattle.sample_text.specs.Steps.{daemon_on, ranks_on, time_on, path_on, are_disjoint, add_at, sample, with_daemon, with_stack, with_line_view, with_line}
+use Rattle.text_lines.specs.Parsing.{and_then}
 
 -- a line `daemon NAME RANKS`
 module _ (t : Nodes) (s : Sampled) (number : ℕ) (name word : List ℕ) where
-  pub daemon_unnamed : (e : TextError) → daemon_named t number name ≡ Err e → with_daemon t s number name word ≡ Err e
+  pub daemon_unnamed : (e : TextError) → daemon_on t number name ≡ Err e → with_daemon t s number name word ≡ Err e
   unfolding with_daemon
   daemon_unnamed e named = rw (named, with_daemon) refl
 
-  module _ (n : ℕ) (named : daemon_named t number name ≡ Ok n) where
+  module _ (n : ℕ) (named : daemon_on t number name ≡ Ok n) where
     pub daemon_bad_ranks : (e : TextError) → ranks_on number word ≡ Err e → with_daemon t s number name word ≡ Err e
     unfolding with_daemon
     daemon_bad_ranks e read = rw (named, read, with_daemon) refl
@@ -66,19 +63,9 @@ module _ (s : Sampled) (number : ℕ) (time_word word text : List ℕ) where
           unfolding with_stack
           stack_good path walked = rw (lt-ltb (length s.lines) 262144 few, timed, read, placed, walked, with_stack) refl
 
--- an error that is handed on unchanged
-pub handed_on : {A : Type 0} (r : Result A TextError) (x : TextError) (P : TextError → Type 0) → IsErr r × IsErrAnd r (λ e. e ≡ x) → P x → IfErr r P
-handed_on (Ok a) x P h p = tt
-handed_on (Err e) x P h p = subst P (sym h.1) p
-
 -- a line, by what it says
-pub line_bad : (t : Nodes) (s : Sampled) (number : ℕ) (line : List ℕ) (e : TextError) → line_said number line ≡ Err e → with_line t s number line ≡ Err e
-line_bad t s number line e is = ap (λ r. and_then r (with_said t s number)) is
+pub line_bad : (t : Nodes) (s : Sampled) (number : ℕ) (line : List ℕ) (e : TextError) → read_line number line ≡ Err e → with_line t s number line ≡ Err e
+line_bad t s number line e is = ap (λ r. and_then r (with_line_view t s number)) is
 
-pub line_good : (t : Nodes) (s : Sampled) (number : ℕ) (line : List ℕ) (said : Said) → line_said number line ≡ Ok said → with_line t s number line ≡ with_said t s number said
-line_good t s number line said is = ap (λ r. and_then r (with_said t s number)) is
-
--- the number of a name is one of the names' numbers
-pub number_below : (name : List ℕ) (names : List (List ℕ)) (n : ℕ) → number_of name names ≡ Some n → n < length names
-unfolding number_of
-number_below name names n e = (position-Some (bytes_eq name) names n [] e).0
+pub line_good : (t : Nodes) (s : Sampled) (number : ℕ) (line : List ℕ) (view : LineView) → read_line number line ≡ Ok view → with_line t s number line ≡ with_line_view t s number view
+line_good t s number line view is = ap (λ r. and_then r (with_line_view t s number)) is

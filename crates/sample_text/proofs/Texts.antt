@@ -10,8 +10,8 @@ use Rattle.call_path.specs.Path.{Path}
 use Rattle.call_path.specs.Reading.{path_of}
 use Rattle.stat_plan.specs.StackLines.{line_of, lines_of, PathIndicesInRange}
 use Rattle.stat_plan.specs.declared.samples.StackLine.{StackLine}
-use Rattle.sample_text.specs.Steps.{path_or_fault, path_on}
-use Rattle.sample_text.specs.Parsers.{AreRead}
+use Rattle.sample_text.specs.Steps.{path_or_error, path_on}
+use Rattle.sample_text.specs.ParserViews.{AreRead}
 
 read_at : (texts : List (String Global)) (paths : List Path) (i : ℕ) (d : String Global) → AreRead texts paths → i < length texts → (path_of (string_bytes (get_or texts i d)) ≡ Ok (get_or paths i [])) × (i < length paths)
 read_at [] paths i d read lt = absurd (omega arith)
@@ -69,4 +69,4 @@ numbered_more old new (l ∷ lines) line le all here = let lt = all.0 in (omega 
 -- a path that is read on a line
 pub path_good : (number : ℕ) (text : List ℕ) (path : Path) → path_of text ≡ Ok path → path_on number text ≡ Ok path
 unfolding path_on
-path_good number text path e = ap (path_or_fault number) e
+path_good number text path e = ap (path_or_error number) e

@@ -9,7 +9,7 @@ use Rattle.stat_plan.specs.Trees.{is_daemon}
 use Rattle.stat_plan.specs.declared.samples.TheConstants.{LINE_LIMIT}
 
 -- ranks that are placed once, and on daemons alone; and samples of them, within the limit
-pub record IsKept (t : Nodes) (s : Sampled) : Type 0 where
+pub record ParserInvariant (t : Nodes) (s : Sampled) : Type 0 where
   pub paired : length s.placed ≡ length t.parents
   pub nowhere_else : (n : ℕ) → n < length t.parents → is_daemon t.parents n ≡ false → slice_index_or s.placed n none ≡ none
   pub once : ArePlacedOnce s.placed

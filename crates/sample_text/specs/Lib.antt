@@ -1,7 +1,7 @@
-pub mod Said
+pub mod Words
 pub mod Steps
 pub mod Whole
 pub mod Invariants
 pub mod LineViews
-pub mod Parsers
+pub mod ParserViews
 pub mod Rows

@@ -12,11 +12,13 @@ use Rattle.stat_plan.specs.Names.{number_of}
 use Rattle.rank_set.specs.Ranks.{has, those, union, with_rank}
 use Rattle.rank_set.specs.Runs.{ranks_between}
 use Rattle.rank_set.specs.RanksText.{items, item_at, ranks_at}
-use Rattle.call_path.specs.Reading.{first_fault, frame_fault, frames}
+use Rattle.call_path.specs.Reading.{first_error, frame_error, frames}
 use Rattle.std.specs.Str.{is_utf8, chars}
-use Rattle.sample_text.specs.Said.{line_said}
-use Rattle.sample_text.specs.Steps.{daemon_named, ranks_on, time_on, path_on, are_disjoint, sample, with_daemon, with_stack}
-use Rattle.sample_text.specs.Whole.{with_lines, samples_of_text}
+use Rattle.sample_text.specs.Words.{read_line}
+use Rattle.sample_text.specs.Steps.{daemon_on, ranks_on, time_on, path_on, are_disjoint, sample, with_daemon, with_stack}
+use Rattle.text_lines.specs.Parsing.{parsed_lines}
+use Rattle.stat_plan.specs.Daemons.{daemon_named}
+use Rattle.sample_text.specs.Whole.{samples_of_text}
 
 -- `fe:0 => a:0 b:0 ;`
 abbrev job : Nodes
@@ -26,61 +28,61 @@ abbrev line : List ℕ → List ℕ
 line text = text ++ 10 ∷ []
 
 -- what a text says
-abbrev said : List ℕ → Result Sampled TextError
-said text = samples_of_text job text
+abbrev parsed : List ℕ → Result Sampled TextError
+parsed text = samples_of_text job text
 
-two_daemons : said (line (codes "daemon a:0 1,0") ++ line (codes "# x") ++ line (codes "daemon b:0 2") ++ line (codes "stack 007 0-1  m ;a ")) ≡ Ok (sampled (none ∷ set_of (0 ∷ 1 ∷ []) ∷ set_of (2 ∷ []) ∷ []) (sample 7 (set_of (0 ∷ 1 ∷ [])) (codes "m " ∷ codes "a " ∷ []) ∷ []))
-unfolding pieces words number_of has those union with_rank ranks_between items item_at ranks_at first_fault frame_fault frames is_utf8 chars line_said daemon_named ranks_on time_on path_on are_disjoint with_daemon with_stack with_lines lib.Utf8.encode
+two_daemons : parsed (line (codes "daemon a:0 1,0") ++ line (codes "# x") ++ line (codes "daemon b:0 2") ++ line (codes "stack 007 0-1  m ;a ")) ≡ Ok (sampled (none ∷ set_of (0 ∷ 1 ∷ []) ∷ set_of (2 ∷ []) ∷ []) (sample 7 (set_of (0 ∷ 1 ∷ [])) (codes "m " ∷ codes "a " ∷ []) ∷ []))
+unfolding pieces words number_of has those union with_rank ranks_between items item_at ranks_at first_error frame_error frames is_utf8 chars read_line daemon_on daemon_named ranks_on time_on path_on are_disjoint with_daemon with_stack parsed_lines lib.Utf8.encode
 two_daemons = refl
 
-no_text : said [] ≡ Err (Bad 0 DaemonWithoutRank)
-unfolding pieces with_lines
+no_text : parsed [] ≡ Err (Bad 0 DaemonWithoutRank)
+unfolding pieces parsed_lines
 no_text = refl
 
-one_daemon : said (codes "daemon a:0 1") ≡ Err (Bad 0 DaemonWithoutRank)
-unfolding pieces words number_of has those union with_rank ranks_between items item_at ranks_at is_utf8 chars line_said daemon_named ranks_on are_disjoint with_daemon with_lines lib.Utf8.encode
+one_daemon : parsed (codes "daemon a:0 1") ≡ Err (Bad 0 DaemonWithoutRank)
+unfolding pieces words number_of has those union with_rank ranks_between items item_at ranks_at is_utf8 chars read_line daemon_on daemon_named ranks_on are_disjoint with_daemon parsed_lines lib.Utf8.encode
 one_daemon = refl
 
-not_utf8 : said (line [] ++ 255 ∷ []) ≡ Err (Bad 2 NotUtf8)
-unfolding pieces words is_utf8 chars line_said with_lines lib.Utf8.encode
+not_utf8 : parsed (line [] ++ 255 ∷ []) ≡ Err (Bad 2 NotUtf8)
+unfolding pieces words is_utf8 chars read_line parsed_lines lib.Utf8.encode
 not_utf8 = refl
 
-few_words : said (codes "stack 0 1 ") ≡ Err (Bad 1 BadDirective)
-unfolding pieces words is_utf8 chars line_said with_lines lib.Utf8.encode
+few_words : parsed (codes "stack 0 1 ") ≡ Err (Bad 1 BadDirective)
+unfolding pieces words is_utf8 chars read_line parsed_lines lib.Utf8.encode
 few_words = refl
 
-many_words : said (codes "daemon a:0 1 2") ≡ Err (Bad 1 BadDirective)
-unfolding pieces words is_utf8 chars line_said with_lines lib.Utf8.encode
+many_words : parsed (codes "daemon a:0 1 2") ≡ Err (Bad 1 BadDirective)
+unfolding pieces words is_utf8 chars read_line parsed_lines lib.Utf8.encode
 many_words = refl
 
-front_end : said (codes "daemon fe:0 1") ≡ Err (Bad 1 NotADaemon)
-unfolding pieces words number_of is_utf8 chars line_said daemon_named with_daemon with_lines lib.Utf8.encode
+front_end : parsed (codes "daemon fe:0 1") ≡ Err (Bad 1 NotADaemon)
+unfolding pieces words number_of is_utf8 chars read_line daemon_on daemon_named with_daemon parsed_lines lib.Utf8.encode
 front_end = refl
 
-unknown : said (codes "daemon c:0 1") ≡ Err (Bad 1 NotADaemon)
-unfolding pieces words number_of is_utf8 chars line_said daemon_named with_daemon with_lines lib.Utf8.encode
+unknown : parsed (codes "daemon c:0 1") ≡ Err (Bad 1 NotADaemon)
+unfolding pieces words number_of is_utf8 chars read_line daemon_on daemon_named with_daemon parsed_lines lib.Utf8.encode
 unknown = refl
 
-bad_ranks : said (codes "daemon a:0 1-") ≡ Err (Bad 1 BadRanks)
-unfolding pieces words number_of items item_at ranks_at is_utf8 chars line_said daemon_named ranks_on with_daemon with_lines lib.Utf8.encode
+bad_ranks : parsed (codes "daemon a:0 1-") ≡ Err (Bad 1 BadRanks)
+unfolding pieces words number_of items item_at ranks_at is_utf8 chars read_line daemon_on daemon_named ranks_on with_daemon parsed_lines lib.Utf8.encode
 bad_ranks = refl
 
-over_ranks : said (codes "daemon a:0 16384") ≡ Err (Over 1 Ranks 16384)
-unfolding pieces words number_of items item_at ranks_at is_utf8 chars line_said daemon_named ranks_on with_daemon with_lines lib.Utf8.encode
+over_ranks : parsed (codes "daemon a:0 16384") ≡ Err (Over 1 Ranks 16384)
+unfolding pieces words number_of items item_at ranks_at is_utf8 chars read_line daemon_on daemon_named ranks_on with_daemon parsed_lines lib.Utf8.encode
 over_ranks = refl
 
-placed_twice : said (line (codes "daemon a:0 1,1") ++ codes "daemon a:0 1") ≡ Err (Bad 2 PlacedTwice)
-unfolding pieces words number_of has those union with_rank ranks_between items item_at ranks_at is_utf8 chars line_said daemon_named ranks_on are_disjoint with_daemon with_lines lib.Utf8.encode
+placed_twice : parsed (line (codes "daemon a:0 1,1") ++ codes "daemon a:0 1") ≡ Err (Bad 2 PlacedTwice)
+unfolding pieces words number_of has those union with_rank ranks_between items item_at ranks_at is_utf8 chars read_line daemon_on daemon_named ranks_on are_disjoint with_daemon parsed_lines lib.Utf8.encode
 placed_twice = refl
 
-bad_time : said (codes "stack 65536 x x") ≡ Err (Bad 1 BadTime)
-unfolding pieces words is_utf8 chars line_said time_on with_stack with_lines lib.Utf8.encode
+bad_time : parsed (codes "stack 65536 x x") ≡ Err (Bad 1 BadTime)
+unfolding pieces words is_utf8 chars read_line time_on with_stack parsed_lines lib.Utf8.encode
 bad_time = refl
 
-unplaced : said (codes "stack 65535 1 ;") ≡ Err (Bad 1 Unplaced)
-unfolding pieces words has union with_rank ranks_between items item_at ranks_at is_utf8 chars line_said ranks_on time_on with_stack with_lines lib.Utf8.encode
+unplaced : parsed (codes "stack 65535 1 ;") ≡ Err (Bad 1 Unplaced)
+unfolding pieces words has union with_rank ranks_between items item_at ranks_at is_utf8 chars read_line ranks_on time_on with_stack parsed_lines lib.Utf8.encode
 unplaced = refl
 
-bad_path : said (line (codes "daemon a:0 1") ++ codes "stack 0 1 ;") ≡ Err (Bad 2 BadPath)
-unfolding pieces words number_of has those union with_rank ranks_between items item_at ranks_at first_fault frame_fault frames is_utf8 chars line_said daemon_named ranks_on time_on path_on are_disjoint with_daemon with_stack with_lines lib.Utf8.encode
+bad_path : parsed (line (codes "daemon a:0 1") ++ codes "stack 0 1 ;") ≡ Err (Bad 2 BadPath)
+unfolding pieces words number_of has those union with_rank ranks_between items item_at ranks_at first_error frame_error frames is_utf8 chars read_line daemon_on daemon_named ranks_on time_on path_on are_disjoint with_daemon with_stack parsed_lines lib.Utf8.encode
 bad_path = refl

@@ -1,4 +1,4 @@
--- What was said so far with one line more, or the line's first fault.
+-- Samples with one line more, or the line's first error.
 use Rattle.std.specs.Prelude.{ℕ, zero, suc, Bool, nat_le, nat_lt, cond, List, [], ◌∷◌, ◌++◌, length, Option, None, Some, Result, Ok, Err}
 use Rattle.rank_set.specs.Ranks.{Ranks, has, those, union, is_empty, is_subset}
 use Rattle.rank_set.specs.RanksText.{ranks_text}
@@ -10,78 +10,68 @@ use Rattle.call_path.specs.Reading.{path_of}
 use Rattle.call_path.specs.declared.read.PathError.{PathError}
 use Rattle.call_path.specs.declared.read.PathError.TheVariants as path_error
 use Rattle.text_lines.specs.Lines.{number_in}
-use Rattle.stat_plan.specs.Names.{number_of}
+use Rattle.text_lines.specs.Parsing.{and_then, some_or}
+use Rattle.stat_plan.specs.Daemons.{daemon_named}
 use Rattle.stat_plan.specs.Plans.{Sampled}
 use Rattle.stat_plan.specs.Samples.{SampleLine, all_ranks}
 use Rattle.stat_plan.specs.Topologies.{Nodes}
-use Rattle.stat_plan.specs.Trees.{is_daemon}
 use Rattle.stat_plan.specs.declared.samples.TheConstants.{TIME_LIMIT, LINE_LIMIT}
 use Rattle.text_lines.specs.declared.text_error.TextError.{TextError}
 use Rattle.text_lines.specs.declared.text_error.TextError.TheVariants.{Bad, Over, OutOfMemory}
 use Rattle.text_lines.specs.declared.text_error.Reason.TheVariants.{NotADaemon, BadRanks, PlacedTwice, BadTime, Unplaced, BadPath}
 use Rattle.text_lines.specs.declared.text_error.Quantity.TheVariants as quantity
-use Rattle.sample_text.specs.Said.{Said, Nothing, Daemon, Stack, bad, line_said}
+use Rattle.sample_text.specs.Words.{LineView, Nothing, Daemon, Stack, read_line}
 
--- a second step where the first finds no fault
-abbrev pub and_then : {A B : Type 0} → Result A TextError → (A → Result B TextError) → Result B TextError
-and_then (Err e) f = Err e
-and_then (Ok x) f = f x
-
--- a second step where a test holds, else a fault
+-- a second step where a test holds, else a error
 abbrev pub if_holds : {A : Type 0} → Bool → TextError → Result A TextError → Result A TextError
-if_holds test fault next = cond test next (Err fault)
-
--- the daemon with a number
-abbrev pub daemon_at : Nodes → ℕ → Option ℕ → Result ℕ TextError
-daemon_at t number None = bad number NotADaemon
-daemon_at t number (Some n) = if_holds (is_daemon t.parents n) (Bad number NotADaemon) (Ok n)
+if_holds test error next = cond test next (Err error)
 
 -- the daemon that NAME names
-unfoldable pub daemon_named : Nodes → ℕ → List ℕ → Result ℕ TextError
-daemon_named t number name = daemon_at t number (number_of name t.names)
+unfoldable pub daemon_on : Nodes → ℕ → List ℕ → Result ℕ TextError
+daemon_on t line_number name = some_or (Bad line_number NotADaemon) (daemon_named name t)
 
--- the fault of a line whose RANKS are refused
-abbrev pub ranks_fault : ℕ → RanksError → TextError
-ranks_fault number ranks_error.Empty = Bad number BadRanks
-ranks_fault number (ranks_error.BadNumber place) = Bad number BadRanks
-ranks_fault number (ranks_error.Backward place) = Bad number BadRanks
-ranks_fault number (ranks_error.OverLimit place) = Over number quantity.Ranks RANK_LIMIT
-ranks_fault number ranks_error.OutOfMemory = OutOfMemory
+-- the error of a line whose RANKS are refused
+abbrev pub error_of_ranks : ℕ → RanksError → TextError
+error_of_ranks line_number ranks_error.Empty = Bad line_number BadRanks
+error_of_ranks line_number (ranks_error.BadNumber place) = Bad line_number BadRanks
+error_of_ranks line_number (ranks_error.Backward place) = Bad line_number BadRanks
+error_of_ranks line_number (ranks_error.OverLimit place) = Over line_number quantity.Ranks RANK_LIMIT
+error_of_ranks line_number ranks_error.OutOfMemory = OutOfMemory
 
 -- RANKS as they are read
-abbrev pub ranks_or_fault : ℕ → Result Ranks RanksError → Result Ranks TextError
-ranks_or_fault number (Err e) = Err (ranks_fault number e)
-ranks_or_fault number (Ok ranks) = Ok ranks
+abbrev pub ranks_or_error : ℕ → Result Ranks RanksError → Result Ranks TextError
+ranks_or_error line_number (Err e) = Err (error_of_ranks line_number e)
+ranks_or_error line_number (Ok ranks) = Ok ranks
 
 -- the ranks that RANKS write
 unfoldable pub ranks_on : ℕ → List ℕ → Result Ranks TextError
-ranks_on number word = ranks_or_fault number (ranks_text word)
+ranks_on line_number word = ranks_or_error line_number (ranks_text word)
 
 -- the number that TIME writes, none where it writes no number
 abbrev pub time_at : ℕ → Option ℕ → Result ℕ TextError
-time_at number None = bad number BadTime
-time_at number (Some time) = if_holds (nat_le time TIME_LIMIT) (Bad number BadTime) (Ok time)
+time_at line_number None = Err (Bad line_number BadTime)
+time_at line_number (Some time) = if_holds (nat_le time TIME_LIMIT) (Bad line_number BadTime) (Ok time)
 
 -- the time that TIME writes
 unfoldable pub time_on : ℕ → List ℕ → Result ℕ TextError
-time_on number word = time_at number (number_in word)
+time_on line_number word = time_at line_number (number_in word)
 
--- the fault of a line whose PATH is refused
-abbrev pub path_fault : ℕ → PathError → TextError
-path_fault number (path_error.EmptyFrame frame) = Bad number BadPath
-path_fault number (path_error.ControlByte place) = Bad number BadPath
-path_fault number (path_error.FrameTooLong frame) = Bad number BadPath
-path_fault number path_error.TooDeep = Bad number BadPath
-path_fault number path_error.OutOfMemory = OutOfMemory
+-- the error of a line whose PATH is refused
+abbrev pub error_of_path : ℕ → PathError → TextError
+error_of_path line_number (path_error.EmptyFrame frame) = Bad line_number BadPath
+error_of_path line_number (path_error.ControlByte place) = Bad line_number BadPath
+error_of_path line_number (path_error.FrameTooLong frame) = Bad line_number BadPath
+error_of_path line_number path_error.TooDeep = Bad line_number BadPath
+error_of_path line_number path_error.OutOfMemory = OutOfMemory
 
 -- PATH as it is read
-abbrev pub path_or_fault : ℕ → Result Path PathError → Result Path TextError
-path_or_fault number (Err e) = Err (path_fault number e)
-path_or_fault number (Ok path) = Ok path
+abbrev pub path_or_error : ℕ → Result Path PathError → Result Path TextError
+path_or_error line_number (Err e) = Err (error_of_path line_number e)
+path_or_error line_number (Ok path) = Ok path
 
 -- the path that PATH writes
 unfoldable pub path_on : ℕ → List ℕ → Result Path TextError
-path_on number text = path_or_fault number (path_of text)
+path_on line_number text = path_or_error line_number (path_of text)
 
 -- whether none of some ranks is one of others
 unfoldable pub are_disjoint : Ranks → Ranks → Bool
@@ -99,28 +89,28 @@ sample time ranks path = record { time = time; ranks = ranks; path = path }
 
 -- a line `daemon NAME RANKS`
 unfoldable pub with_daemon : Nodes → Sampled → ℕ → List ℕ → List ℕ → Result Sampled TextError
-with_daemon t s number name word =
-    and_then (daemon_named t number name) (λ n.
-    and_then (ranks_on number word) (λ ranks.
-    if_holds (are_disjoint ranks (all_ranks s.placed)) (Bad number PlacedTwice)
+with_daemon t s line_number name word =
+    and_then (daemon_on t line_number name) (λ n.
+    and_then (ranks_on line_number word) (λ ranks.
+    if_holds (are_disjoint ranks (all_ranks s.placed)) (Bad line_number PlacedTwice)
     (Ok (record s { placed = add_at s.placed n ranks }))))
 
 -- a line `stack TIME RANKS PATH`
 unfoldable pub with_stack : Sampled → ℕ → List ℕ → List ℕ → List ℕ → Result Sampled TextError
-with_stack s number time word text =
-    if_holds (nat_lt (length s.lines) LINE_LIMIT) (Over number quantity.Lines LINE_LIMIT)
-    (and_then (time_on number time) (λ time.
-    and_then (ranks_on number word) (λ ranks.
-    if_holds (is_subset ranks (all_ranks s.placed)) (Bad number Unplaced)
-    (and_then (path_on number text) (λ path.
+with_stack s line_number time word text =
+    if_holds (nat_lt (length s.lines) LINE_LIMIT) (Over line_number quantity.Lines LINE_LIMIT)
+    (and_then (time_on line_number time) (λ time.
+    and_then (ranks_on line_number word) (λ ranks.
+    if_holds (is_subset ranks (all_ranks s.placed)) (Bad line_number Unplaced)
+    (and_then (path_on line_number text) (λ path.
     Ok (record s { lines = s.lines ++ sample time ranks path ∷ [] }))))))
 
 -- what a line says
-abbrev pub with_said : Nodes → Sampled → ℕ → Said → Result Sampled TextError
-with_said t s number Nothing = Ok s
-with_said t s number (Daemon name ranks) = with_daemon t s number name ranks
-with_said t s number (Stack time ranks path) = with_stack s number time ranks path
+abbrev pub with_line_view : Nodes → Sampled → ℕ → LineView → Result Sampled TextError
+with_line_view t s line_number Nothing = Ok s
+with_line_view t s line_number (Daemon name ranks) = with_daemon t s line_number name ranks
+with_line_view t s line_number (Stack time ranks path) = with_stack s line_number time ranks path
 
 -- a line with its number
 abbrev pub with_line : Nodes → Sampled → ℕ → List ℕ → Result Sampled TextError
-with_line t s number line = and_then (line_said number line) (with_said t s number)
+with_line t s line_number line = and_then (read_line line_number line) (with_line_view t s line_number)

@@ -1,4 +1,4 @@
--- What a samples text says: where the ranks are and the samples, or its first fault.
+-- What a samples text says: where the ranks are and the samples, or its first error.
 use Rattle.std.specs.Prelude.{ℕ, zero, suc, Bool, false, ◌&&◌, ◌||◌, not, List, [], ◌∷◌, ◌++◌, length, Option, Result, Ok}
 use Rattle.rank_set.specs.Ranks.{Ranks, none, is_empty}
 use Rattle.text_lines.specs.Lines.{lines}
@@ -8,7 +8,8 @@ use Rattle.stat_plan.specs.Trees.{is_daemon}
 use Rattle.text_lines.specs.declared.text_error.TextError.{TextError}
 use Rattle.text_lines.specs.declared.text_error.TextError.TheVariants.{Bad}
 use Rattle.text_lines.specs.declared.text_error.Reason.TheVariants.{DaemonWithoutRank}
-use Rattle.sample_text.specs.Steps.{and_then, if_holds, with_line}
+use Rattle.text_lines.specs.Parsing.{and_then, parsed_lines}
+use Rattle.sample_text.specs.Steps.{if_holds, with_line}
 
 -- so many sets without a rank
 abbrev pub nones : ℕ → List Ranks
@@ -16,23 +17,18 @@ nones zero = []
 nones (suc n) = nones n ++ none ∷ []
 
 -- before the first line
-abbrev pub nothing_said : Nodes → Sampled
-nothing_said t = sampled (nones (length t.parents)) []
-
--- what lines say one after another, of which the first has a number, or their first fault
-unfoldable pub with_lines : Nodes → Sampled → ℕ → List (List ℕ) → Result Sampled TextError
-with_lines t s number [] = Ok s
-with_lines t s number (line ∷ rest) = and_then (with_line t s number line) (λ more. with_lines t more (suc number) rest)
+abbrev pub nothing_parsed : Nodes → Sampled
+nothing_parsed t = sampled (nones (length t.parents)) []
 
 -- whether a daemon has no rank, where these are the ranks of the nodes from n on
 abbrev pub lacks_rank : List (Option ℕ) → ℕ → List Ranks → Bool
 lacks_rank parents n [] = false
 lacks_rank parents n (ranks ∷ sets) = (is_daemon parents n && is_empty ranks) || lacks_rank parents (suc n) sets
 
--- what is said, after the check of the whole text
+-- samples, after the check of the whole text
 abbrev pub whole : Nodes → Sampled → Result Sampled TextError
 whole t s = if_holds (not (lacks_rank t.parents 0 s.placed)) (Bad 0 DaemonWithoutRank) (Ok s)
 
--- what a samples text says for some nodes, or its first fault
+-- what a samples text says for some nodes, or its first error
 abbrev pub samples_of_text : Nodes → List ℕ → Result Sampled TextError
-samples_of_text t text = and_then (with_lines t (nothing_said t) 1 (lines text)) (whole t)
+samples_of_text t text = and_then (parsed_lines (with_line t) (nothing_parsed t) 1 (lines text)) (whole t)

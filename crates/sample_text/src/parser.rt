@@ -2,35 +2,26 @@
 
 ghost use Rattle.std.specs.Prelude.{◌≡◌, ◌≢◌, ◌<◌, length, IfOk, IfErr, OnOk, Ok, Err};
 ghost use Rattle.rank_set.specs.Ranks.{none};
-ghost use Rattle.text_lines.specs.declared.text_error.TextError.TheVariants.{Bad, Over, OutOfMemory};
-ghost use Rattle.sample_text.specs.Steps.{daemon_named, ranks_on, time_on, are_disjoint, add_at};
+ghost use Rattle.text_lines.specs.Parsing.{IsValueOf, IsErrorOf};
+ghost use Rattle.sample_text.specs.Steps.{daemon_on, ranks_on, time_on, are_disjoint, add_at};
 ghost use Rattle.sample_text.specs.Whole.{nones, lacks_rank};
 
-use crate::line::{Line, read_line};
+use crate::words::{Line, read_line};
 use crate::paths::Paths;
 use rank_set::{RANK_LIMIT, RankSet, RanksError, read_ranks};
 use stat_plan::{LINE_LIMIT, Samples, StackLine, TIME_LIMIT, Topology};
 use std::alloc::{AllocError, Global};
-use text_lines::{Quantity, Reason, TextError, number_in};
+use text_lines::{LineParser, Quantity, Reason, TextError, number_in};
 
 /// The ranks by node number, and the samples.
 #[derive(Drop)]
-pub struct Parser {
+pub struct Parser<'t> {
+    topology: &'t Topology,
     placed: Vec<RankSet>,
     // All ranks that are placed.
     all: RankSet,
     paths: Paths,
     lines: Vec<StackLine>,
-}
-
-// A fault on a line.
-fn bad(number: u64, reason: Reason) -> TextError
-    ensures { result ≡ Bad number reason }
-{
-    TextError::Bad {
-        line: number,
-        reason,
-    }
 }
 
 // So many sets without a rank.
@@ -44,54 +35,51 @@ fn nones(alloc: Global, count: u32) -> Result<Vec<RankSet>, AllocError>
     Ok(sets)
 }
 
-// The number of the daemon of this name.
-#[tactic(auto, unfolding(crate::specs::Steps::daemon_named))]
-fn daemon_named(topology: &Topology, number: u64, name: &[u8]) -> Result<u32, TextError>
-    ensures ok { IfOk result (λ n. daemon_named topology.now number name.now ≡ Ok n) }
+// The number of the daemon with this name.
+#[tactic(auto, unfolding(crate::specs::Steps::daemon_on))]
+fn daemon_on(topology: &Topology, line_number: u64, name: &[u8]) -> Result<u32, TextError>
+    ensures ok { IsValueOf result (daemon_on topology.now line_number name.now) }
     ensures node { IfOk result (λ n. n < length topology.now.parents) }
-    ensures err { IfErr result (λ e. daemon_named topology.now number name.now ≡ Err e) }
+    ensures err { IfErr result (λ e. daemon_on topology.now line_number name.now ≡ Err e) }
 {
-    topology.invariant();
-    match topology.number_of(name) {
-        Some(n) if topology.is_daemon(n) => Ok(n),
-        _ => Err(bad(number, Reason::NotADaemon)),
+    match topology.daemon_named(name) {
+        Some(n) => Ok(n),
+        None => Err(TextError::bad(line_number, Reason::NotADaemon)),
     }
 }
 
 // The ranks that a word writes.
 #[tactic(auto, unfolding(crate::specs::Steps::ranks_on))]
-fn ranks_on(alloc: Global, number: u64, word: &[u8]) -> Result<RankSet, TextError>
-    ensures ok { IfOk result (λ ranks. ranks_on number word.now ≡ Ok ranks) }
-    ensures err { IfErr result (λ e. e ≢ OutOfMemory → ranks_on number word.now ≡ Err e) }
+fn ranks_on(alloc: Global, line_number: u64, word: &[u8]) -> Result<RankSet, TextError>
+    ensures ok { IsValueOf result (ranks_on line_number word.now) }
+    ensures err { IsErrorOf result (ranks_on line_number word.now) }
 {
     match read_ranks(alloc, word) {
         Ok(ranks) => Ok(ranks),
         Err(RanksError::OutOfMemory) => Err(TextError::OutOfMemory),
-        Err(RanksError::OverLimit(_)) => Err(TextError::Over {
-            line: number,
-            what: Quantity::Ranks,
-            limit: u64::from(RANK_LIMIT),
-        }),
-        Err(_) => Err(bad(number, Reason::BadRanks)),
+        Err(RanksError::OverLimit(_)) => {
+            Err(TextError::over(line_number, Quantity::Ranks, RANK_LIMIT))
+        }
+        Err(_) => Err(TextError::bad(line_number, Reason::BadRanks)),
     }
 }
 
 // The time that a word writes.
 #[tactic(auto, unfolding(crate::specs::Steps::time_on))]
-fn time_on(number: u64, word: &[u8]) -> Result<u32, TextError>
-    ensures ok { IfOk result (λ time. time_on number word.now ≡ Ok time) }
-    ensures err { IfErr result (λ e. time_on number word.now ≡ Err e) }
+fn time_on(line_number: u64, word: &[u8]) -> Result<u32, TextError>
+    ensures ok { IsValueOf result (time_on line_number word.now) }
+    ensures err { IfErr result (λ e. time_on line_number word.now ≡ Err e) }
 {
     match number_in(word, TIME_LIMIT + 1) {
         Some(time) if time <= TIME_LIMIT => Ok(time),
-        _ => Err(bad(number, Reason::BadTime)),
+        _ => Err(TextError::bad(line_number, Reason::BadTime)),
     }
 }
 
 // Whether none of some ranks is one of others.
 #[tactic(auto, unfolding(crate::specs::Steps::are_disjoint))]
 fn are_disjoint(ranks: &RankSet, others: &RankSet) -> Result<bool, AllocError>
-    ensures { IfOk result (λ apart. apart ≡ are_disjoint ranks.now others.now) }
+    ensures { IfOk result (λ disjoint. disjoint ≡ are_disjoint ranks.now others.now) }
 {
     let mut common = ranks.copy()?;
     common.intersect_with(others);
@@ -120,20 +108,21 @@ fn lacks_rank(topology: &Topology, placed: &[RankSet]) -> bool
     false
 }
 
-impl Parser {
-    ghost use Rattle.sample_text.specs.Steps.{with_daemon, with_stack, with_line};
-    ghost use Rattle.sample_text.specs.Whole.{nothing_said, whole};
-    ghost use Rattle.sample_text.specs.Invariants.{IsKept};
-    ghost use Rattle.sample_text.specs.Parsers.{parser_view, IsInStep};
+impl<'t> Parser<'t> {
+    ghost use Rattle.sample_text.specs.Steps.{with_daemon, with_stack};
+    ghost use Rattle.sample_text.specs.Whole.{nothing_parsed, whole};
+    ghost use Rattle.sample_text.specs.Invariants.{ParserInvariant};
+    ghost use Rattle.sample_text.specs.ParserViews.{parser_view, parser_nodes, IsConsistent};
     ghost use Rattle.stat_plan.specs.Invariants.{SamplesFit};
 
-    /// Nothing said yet.
-    pub fn new(alloc: Global, topology: &Topology) -> Result<Parser, AllocError>
-        ensures nothing { IfOk result (λ parser. parser_view parser ≡ nothing_said topology.now) }
-        ensures in_step { IfOk result (λ parser. IsInStep parser) }
-        ensures paired { IfOk result (λ parser. length parser.placed.items ≡ length topology.now.parents) }
+    /// A parser before the first line.
+    pub fn new(alloc: Global, topology: &'t Topology) -> Result<Parser<'t>, AllocError>
+        ensures view { IfOk result (λ parser. parser_view parser ≡ nothing_parsed topology.now) }
+        ensures nodes { IfOk result (λ parser. parser_nodes parser ≡ topology.now) }
+        ensures consistent { IfOk result (λ parser. IsConsistent parser) }
     {
         Ok(Parser {
+            topology,
             placed: nones(alloc, topology.nodes())?,
             all: RankSet::new(alloc),
             paths: Paths::new(alloc),
@@ -142,25 +131,23 @@ impl Parser {
     }
 
     // A line `daemon NAME RANKS`.
-    fn daemon(
-        &mut self,
-        topology: &Topology,
-        number: u64,
-        name: &[u8],
-        word: &[u8],
-    ) -> Result<(), TextError>
-        requires in_step { IsInStep self.old }
-        requires paired { length self.old.placed.items ≡ length topology.now.parents }
-        ensures ok { OnOk result (with_daemon topology.now (parser_view self.old) number name.now word.now ≡ Ok (parser_view self.new)) }
-        ensures in_step { OnOk result (IsInStep self.new) }
-        ensures paired { OnOk result (length self.new.placed.items ≡ length self.old.placed.items) }
-        ensures err { IfErr result (λ e. e ≢ OutOfMemory → with_daemon topology.now (parser_view self.old) number name.now word.now ≡ Err e) }
+    fn daemon(&mut self, line_number: u64, name: &[u8], word: &[u8]) -> Result<(), TextError>
+        requires { IsConsistent self.old }
+        ensures ok { OnOk result (
+            with_daemon (parser_nodes self.old) (parser_view self.old) line_number name.now word.now
+            ≡ Ok (parser_view self.new)
+        ) }
+        ensures nodes { parser_nodes self.new ≡ parser_nodes self.old }
+        ensures consistent { OnOk result (IsConsistent self.new) }
+        ensures err { IsErrorOf result (
+            with_daemon (parser_nodes self.old) (parser_view self.old) line_number name.now word.now
+        ) }
     {
-        let n = daemon_named(topology, number, name)?;
-        let ranks = ranks_on(*self.placed.allocator(), number, word)?;
-        let apart = are_disjoint(&ranks, &self.all)?;
-        if !apart {
-            return Err(bad(number, Reason::PlacedTwice));
+        let n = daemon_on(self.topology, line_number, name)?;
+        let ranks = ranks_on(*self.placed.allocator(), line_number, word)?;
+        let disjoint = are_disjoint(&ranks, &self.all)?;
+        if !disjoint {
+            return Err(TextError::bad(line_number, Reason::PlacedTwice));
         }
         self.all.union_into(&ranks)?;
         add_at(&mut self.placed, n, &ranks)?;
@@ -168,58 +155,60 @@ impl Parser {
     }
 
     // A line `stack TIME RANKS PATH`.
-    fn stack(&mut self, number: u64, time: &[u8], word: &[u8], text: &str) -> Result<(), TextError>
-        requires { IsInStep self.old }
-        ensures ok { OnOk result (with_stack (parser_view self.old) number time.now word.now text.now ≡ Ok (parser_view self.new)) }
-        ensures in_step { OnOk result (IsInStep self.new) }
-        ensures paired { OnOk result (length self.new.placed.items ≡ length self.old.placed.items) }
-        ensures err { IfErr result (λ e. e ≢ OutOfMemory → with_stack (parser_view self.old) number time.now word.now text.now ≡ Err e) }
+    fn stack(&mut self, line_number: u64, time: &[u8], word: &[u8], text: &str) -> Result<(), TextError>
+        requires { IsConsistent self.old }
+        ensures ok { OnOk result (
+            with_stack (parser_view self.old) line_number time.now word.now text.now ≡ Ok (parser_view self.new)
+        ) }
+        ensures nodes { parser_nodes self.new ≡ parser_nodes self.old }
+        ensures consistent { OnOk result (IsConsistent self.new) }
+        ensures err { IsErrorOf result (with_stack (parser_view self.old) line_number time.now word.now text.now) }
     {
         if self.lines.len() >= LINE_LIMIT as usize {
-            return Err(TextError::Over {
-                line: number,
-                what: Quantity::Lines,
-                limit: u64::from(LINE_LIMIT),
-            });
+            return Err(TextError::over(line_number, Quantity::Lines, LINE_LIMIT));
         }
-        let time = time_on(number, time)?;
-        let ranks = ranks_on(*self.placed.allocator(), number, word)?;
+        let time = time_on(line_number, time)?;
+        let ranks = ranks_on(*self.placed.allocator(), line_number, word)?;
         if !ranks.is_subset(&self.all) {
-            return Err(bad(number, Reason::Unplaced));
+            return Err(TextError::bad(line_number, Reason::Unplaced));
         }
-        let path = self.paths.number(number, text)?;
+        let path = self.paths.number(line_number, text)?;
         self.lines.push(StackLine { time, ranks, path })?;
         Ok(())
     }
 
-    /// One line more.
-    pub fn take(&mut self, topology: &Topology, number: u64, line: &[u8]) -> Result<(), TextError>
-        requires in_step { IsInStep self.old }
-        requires paired { length self.old.placed.items ≡ length topology.now.parents }
-        ensures ok { OnOk result (with_line topology.now (parser_view self.old) number line.now ≡ Ok (parser_view self.new)) }
-        ensures in_step { OnOk result (IsInStep self.new) }
-        ensures paired { OnOk result (length self.new.placed.items ≡ length self.old.placed.items) }
-        ensures err { IfErr result (λ e. e ≢ OutOfMemory → with_line topology.now (parser_view self.old) number line.now ≡ Err e) }
-    {
-        match read_line(number, line)? {
-            Line::Nothing => Ok(()),
-            Line::Daemon { name, ranks } => self.daemon(topology, number, name, ranks),
-            Line::Stack { time, ranks, path } => self.stack(number, time, ranks, path),
-        }
-    }
-
     /// The samples, after the check of the whole text.
-    pub fn finished(self, topology: &Topology) -> Result<Samples, TextError>
-        requires in_step { IsInStep self }
-        requires kept { IsKept topology.now (parser_view self) }
-        ensures ok { IfOk result (λ s. whole topology.now (parser_view self) ≡ Ok s) }
-        ensures fits { IfOk result (λ s. SamplesFit topology.now s) }
-        ensures err { IfErr result (λ e. whole topology.now (parser_view self) ≡ Err e) }
+    pub fn finish(self) -> Result<Samples, TextError>
+        requires consistent { IsConsistent self }
+        requires invariant { ParserInvariant (parser_nodes self) (parser_view self) }
+        ensures ok { IsValueOf result (whole (parser_nodes self.entry) (parser_view self.entry)) }
+        ensures fits { IfOk result (λ samples. SamplesFit (parser_nodes self.entry) samples) }
+        ensures err { IfErr result (λ e. whole (parser_nodes self.entry) (parser_view self.entry) ≡ Err e) }
     {
-        if lacks_rank(topology, &self.placed) {
-            return Err(bad(0, Reason::DaemonWithoutRank));
+        if lacks_rank(self.topology, &self.placed) {
+            return Err(TextError::bad(0, Reason::DaemonWithoutRank));
         }
         let paths = self.paths.into_paths();
         Ok(Samples::new(self.placed, paths, self.lines))
+    }
+}
+
+impl LineParser for Parser<'_> {
+    ghost use Rattle.text_lines.specs.Parsing.{TakesBy, RefusesBy};
+    ghost use Rattle.sample_text.specs.ParserViews.{parser_view, parser_nodes, IsConsistent};
+    ghost use Rattle.sample_text.specs.Steps.{with_line};
+
+    ghost is_ready = { IsConsistent };
+
+    ghost takes = { TakesBy parser_nodes parser_view with_line };
+
+    ghost refuses = { RefusesBy parser_nodes parser_view with_line };
+
+    fn take(&mut self, line_number: u64, line: &[u8]) -> Result<(), TextError> {
+        match read_line(line_number, line)? {
+            Line::Nothing => Ok(()),
+            Line::Daemon { name, ranks } => self.daemon(line_number, name, ranks),
+            Line::Stack { time, ranks, path } => self.stack(line_number, time, ranks, path),
+        }
     }
 }

@@ -3,7 +3,7 @@
 ghost use Rattle.std.specs.Prelude.{◌≡◌, ◌≢◌, ◌≤◌, ◌<◌, ◌+◌, ℕ, length, IfOk, IfErr, OnOk, Ok, Err};
 ghost use Rattle.call_path.specs.Reading.{path_of};
 ghost use Rattle.stat_plan.specs.declared.samples.TheConstants.{LINE_LIMIT};
-ghost use Rattle.text_lines.specs.declared.text_error.TextError.TheVariants.{OutOfMemory};
+ghost use Rattle.text_lines.specs.Parsing.{IsValueOf, IsErrorOf};
 ghost use Rattle.sample_text.specs.Steps.{path_on};
 
 use call_path::{CallPath, PathError};
@@ -20,23 +20,20 @@ pub struct Paths {
 
 // The path that a text on a line writes.
 #[tactic(auto, unfolding(crate::specs::Steps::path_on))]
-fn path_on(alloc: Global, number: u64, text: &str) -> Result<CallPath, TextError>
-    ensures ok { IfOk result (λ path. path_on number text.now ≡ Ok path) }
+fn path_on(alloc: Global, line_number: u64, text: &str) -> Result<CallPath, TextError>
+    ensures ok { IsValueOf result (path_on line_number text.now) }
     ensures read { IfOk result (λ path. path_of text.now ≡ Ok path) }
-    ensures err { IfErr result (λ e. e ≢ OutOfMemory → path_on number text.now ≡ Err e) }
+    ensures err { IsErrorOf result (path_on line_number text.now) }
 {
     match CallPath::read(alloc, text) {
         Ok(path) => Ok(path),
         Err(PathError::OutOfMemory) => Err(TextError::OutOfMemory),
-        Err(_) => Err(TextError::Bad {
-            line: number,
-            reason: Reason::BadPath,
-        }),
+        Err(_) => Err(TextError::bad(line_number, Reason::BadPath)),
     }
 }
 
 impl Paths {
-    ghost use Rattle.sample_text.specs.Parsers.{HoldsPaths, path_at};
+    ghost use Rattle.sample_text.specs.ParserViews.{HoldsPaths, path_at};
 
     /// No paths.
     pub fn new(alloc: Global) -> Paths
@@ -51,23 +48,25 @@ impl Paths {
 
     /// The number of the path that a text on a line writes. A text that was here before has the number that it had, and is
     /// not read again.
-    pub fn number(&mut self, line: u64, text: &str) -> Result<u32, TextError>
+    pub fn number(&mut self, line_number: u64, text: &str) -> Result<u32, TextError>
         requires holds { HoldsPaths self.old }
         requires few { length self.old.paths.items < LINE_LIMIT }
-        ensures ok { IfOk result (λ n. path_on line text.now ≡ Ok (path_at self.new n)) }
+        ensures ok { IfOk result (λ n. path_on line_number text.now ≡ Ok (path_at self.new n)) }
         ensures within { IfOk result (λ n. n < length self.new.paths.items) }
         ensures holds { OnOk result (HoldsPaths self.new) }
-        ensures same { OnOk result ((n : ℕ) → n < length self.old.paths.items → path_at self.new n ≡ path_at self.old n) }
+        ensures same { OnOk result (
+            (n : ℕ) → n < length self.old.paths.items → path_at self.new n ≡ path_at self.old n
+        ) }
         ensures more { OnOk result (length self.old.paths.items ≤ length self.new.paths.items) }
         ensures one { OnOk result (length self.new.paths.items ≤ length self.old.paths.items + 1) }
-        ensures err { IfErr result (λ e. e ≢ OutOfMemory → path_on line text.now ≡ Err e) }
+        ensures err { IsErrorOf result (path_on line_number text.now) }
     {
         if let Some(number) = self.texts.get_index_of(text) {
             return Ok(number as u32);
         }
         let number = self.paths.len();
         let alloc = *self.paths.allocator();
-        let path = path_on(alloc, line, text)?;
+        let path = path_on(alloc, line_number, text)?;
         self.paths.push(path)?;
         let _ = self.texts.insert_full(String::from_str(alloc, text)?)?;
         Ok(number as u32)

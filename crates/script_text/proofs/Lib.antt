@@ -1,12 +1,10 @@
-pub mod Steps
 pub mod Forms
 pub mod Ranges
-pub mod NodeNumbers
 pub mod Streams
 pub mod Losses
 pub mod Placing
 pub mod Marking
-pub mod Script
+pub mod WholeScript
 pub mod SomeDaemon
 pub mod NodeLists
-pub mod Kept
+pub mod InvariantLemmas

@@ -12,7 +12,8 @@ use Rattle.text_lines.specs.declared.text_error.TextError.TheVariants.{Bad, Over
 use Rattle.text_lines.specs.declared.text_error.Reason.TheVariants.{BadDirective, BadNumber, SecondStream}
 use Rattle.text_lines.specs.declared.text_error.Quantity.TheVariants.{Streams, Waves}
 use Rattle.script_text.specs.Words.{WaitForAll, TimeOut, DontWait, StreamWords}
-use Rattle.script_text.specs.Numbers.{and_then, number_from}
+use Rattle.text_lines.specs.Parsing.{and_then}
+use Rattle.script_text.specs.Numbers.{number_from}
 use Rattle.script_text.specs.Streams.{new_number, stream_number, mode_of, daemon_of, with_named, all_daemons, daemons_of, stream_of}
 
 module _ (streams : List Stream) (line : ℕ) (word : List ℕ) where

@@ -3,7 +3,8 @@ pub mod Numbers
 pub mod Order
 pub mod Streams
 pub mod Losses
-pub mod Script
+pub mod Whole
+pub mod Invariants
 pub mod Marks
 pub mod ParserViews
 pub mod Rows

@@ -1,8 +1,8 @@
 -- What a stream line says.
-use Rattle.std.specs.Prelude.{ℕ, ◌-◌, ◌==◌, if◌then◌else◌, List, [], ◌∷◌, length, filter, Option, None, Some, Result, Ok, Err, codes}
+use Rattle.std.specs.Prelude.{ℕ, ◌-◌, ◌==◌, if◌then◌else◌, List, [], ◌∷◌, length, filter, Result, Ok, Err, codes}
 use Rattle.std.specs.List.{list_any}
 use Rattle.std.specs.Str.{bytes_eq}
-use Rattle.stat_plan.specs.Names.{number_of}
+use Rattle.stat_plan.specs.Daemons.{daemon_named}
 use Rattle.stat_plan.specs.NodeSets.{with_number}
 use Rattle.stat_plan.specs.Plans.{Stream, stream, up_to}
 use Rattle.stat_plan.specs.Topologies.{Nodes}
@@ -16,35 +16,31 @@ use Rattle.text_lines.specs.declared.text_error.Reason.TheVariants.{BadDirective
 use Rattle.text_lines.specs.declared.text_error.Quantity.TheVariants.{Streams, Waves}
 use Rattle.script_text.specs.Order.{with_item}
 use Rattle.script_text.specs.Words.{ModeWords, WaitForAll, TimeOut, DontWait, StreamWords}
-use Rattle.script_text.specs.Numbers.{and_then, number_from}
+use Rattle.text_lines.specs.Parsing.{and_then, some_or}
+use Rattle.script_text.specs.Numbers.{number_from}
 
 -- a number of a stream, unless an earlier line has defined it
 unfoldable pub new_number : List Stream → ℕ → ℕ → Result ℕ TextError
-new_number streams line n = if list_any (λ x. x.number == n) streams then Err (Bad line SecondStream) else Ok n
+new_number streams line_number n = if list_any (λ x. x.number == n) streams then Err (Bad line_number SecondStream) else Ok n
 
 -- the number of a new stream
 unfoldable pub stream_number : List Stream → ℕ → List ℕ → Result ℕ TextError
-stream_number streams line word = and_then (number_from line 0 (STREAM_LIMIT - 1) (Over line Streams STREAM_LIMIT) word) (new_number streams line)
+stream_number streams line_number word = and_then (number_from line_number 0 (STREAM_LIMIT - 1) (Over line_number Streams STREAM_LIMIT) word) (new_number streams line_number)
 
 -- a mode as it is written
 unfoldable pub mode_of : ℕ → ModeWords → Result Mode TextError
-mode_of line WaitForAll = Ok mode.WaitForAll
-mode_of line (TimeOut ticks) = and_then (number_from line 1 TICK_LIMIT (Bad line BadNumber) ticks) (λ t. Ok (mode.TimeOut t))
-mode_of line DontWait = Ok mode.DontWait
-
--- a node that has to be a daemon
-abbrev pub as_daemon : Nodes → ℕ → Option ℕ → Result ℕ TextError
-as_daemon t line None = Err (Bad line NotADaemon)
-as_daemon t line (Some n) = if is_daemon t.parents n then Ok n else Err (Bad line NotADaemon)
+mode_of line_number WaitForAll = Ok mode.WaitForAll
+mode_of line_number (TimeOut ticks) = and_then (number_from line_number 1 TICK_LIMIT (Bad line_number BadNumber) ticks) (λ t. Ok (mode.TimeOut t))
+mode_of line_number DontWait = Ok mode.DontWait
 
 -- the daemon with a name
 unfoldable pub daemon_of : Nodes → ℕ → List ℕ → Result ℕ TextError
-daemon_of t line name = as_daemon t line (number_of name t.names)
+daemon_of t line_number name = some_or (Bad line_number NotADaemon) (daemon_named name t)
 
 -- some daemons with those that are named more, each once
 unfoldable pub with_named : Nodes → ℕ → List ℕ → List (List ℕ) → Result (List ℕ) TextError
-with_named t line daemons [] = Ok daemons
-with_named t line daemons (name ∷ names) = and_then (daemon_of t line name) (λ n. with_named t line (with_number n daemons) names)
+with_named t line_number daemons [] = Ok daemons
+with_named t line_number daemons (name ∷ names) = and_then (daemon_of t line_number name) (λ n. with_named t line_number (with_number n daemons) names)
 
 -- all daemons of a job
 unfoldable pub all_daemons : Nodes → List ℕ
@@ -52,17 +48,17 @@ all_daemons t = filter (is_daemon t.parents) (up_to (length t.parents))
 
 -- the daemons that stand after `on`, where something does
 unfoldable pub daemons_of : Nodes → ℕ → List (List ℕ) → Result (List ℕ) TextError
-daemons_of t line [] = Err (Bad line BadDirective)
-daemons_of t line (name ∷ names) = if bytes_eq name (codes "all") then Ok (all_daemons t) else with_named t line [] (name ∷ names)
+daemons_of t line_number [] = Err (Bad line_number BadDirective)
+daemons_of t line_number (name ∷ names) = if bytes_eq name (codes "all") then Ok (all_daemons t) else with_named t line_number [] (name ∷ names)
 
 -- the stream that the words of a line define, where earlier lines have defined others
 unfoldable pub stream_of : Nodes → List Stream → ℕ → StreamWords → Result Stream TextError
-stream_of t streams line w =
-    and_then (stream_number streams line w.number) (λ number.
-    and_then (mode_of line w.mode) (λ mode.
-    and_then (number_from line 1 WAVE_LIMIT (Over line Waves WAVE_LIMIT) w.waves) (λ waves.
-    and_then (number_from line 1 SAMPLE_LIMIT (Bad line BadNumber) w.samples) (λ samples.
-    and_then (daemons_of t line w.names) (λ daemons.
+stream_of t streams line_number w =
+    and_then (stream_number streams line_number w.number) (λ number.
+    and_then (mode_of line_number w.mode) (λ mode.
+    and_then (number_from line_number 1 WAVE_LIMIT (Over line_number Waves WAVE_LIMIT) w.waves) (λ waves.
+    and_then (number_from line_number 1 SAMPLE_LIMIT (Bad line_number BadNumber) w.samples) (λ samples.
+    and_then (daemons_of t line_number w.names) (λ daemons.
     Ok (stream number mode waves samples daemons))))))
 
 -- streams ascending by number, with one more

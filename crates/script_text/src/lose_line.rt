@@ -1,8 +1,9 @@
 //! What a lose line says.
 
+ghost use Rattle.text_lines.specs.Parsing.{IsValueOf, IsErrorOf};
 ghost use Rattle.std.specs.Prelude.{◌≡◌, IfErr, IfOk, Ok, Err, nat_eq};
 ghost use Rattle.std.specs.List.{list_any};
-ghost use Rattle.script_text.specs.ParserViews.{meant_lose};
+ghost use Rattle.script_text.specs.ParserViews.{lose_view};
 ghost use Rattle.script_text.specs.Losses.{lost_node, fault_of};
 
 use crate::numbers::number_from;
@@ -25,23 +26,23 @@ fn is_lost(faults: &[Fault], node: u32) -> bool
 fn lost_node(
     topology: &Topology,
     faults: &[Fault],
-    line: u64,
+    line_number: u64,
     name: &[u8],
 ) -> Result<u32, TextError>
-    ensures ok { IfOk result (λ n. lost_node topology.now faults.now line name.now ≡ Ok n) }
-    ensures err { IfErr result (λ e. lost_node topology.now faults.now line name.now ≡ Err e) }
+    ensures ok { IsValueOf result (lost_node topology.now faults.now line_number name.now) }
+    ensures err { IfErr result (λ e. lost_node topology.now faults.now line_number name.now ≡ Err e) }
 {
     if faults.len() >= FAULT_LIMIT as usize {
-        return Err(TextError::over(line, Quantity::Faults, FAULT_LIMIT));
+        return Err(TextError::over(line_number, Quantity::Faults, FAULT_LIMIT));
     }
     let Some(n) = topology.number_of(name) else {
-        return Err(TextError::bad(line, Reason::UnknownNode));
+        return Err(TextError::bad(line_number, Reason::UnknownNode));
     };
     if n == topology.front() {
-        return Err(TextError::bad(line, Reason::LosesFront));
+        return Err(TextError::bad(line_number, Reason::LosesFront));
     }
     if is_lost(faults, n) {
-        return Err(TextError::bad(line, Reason::SecondLoss));
+        return Err(TextError::bad(line_number, Reason::SecondLoss));
     }
     Ok(n)
 }
@@ -50,25 +51,25 @@ fn lost_node(
 pub fn fault_of(
     topology: &Topology,
     faults: &[Fault],
-    line: u64,
+    line_number: u64,
     words: &LoseLine<'_>,
 ) -> Result<Fault, TextError>
-    ensures ok { IfOk result (λ f. fault_of topology.now faults.now line (meant_lose words.now) ≡ Ok f) }
-    ensures err { IfErr result (λ e. fault_of topology.now faults.now line (meant_lose words.now) ≡ Err e) }
+    ensures ok { IsValueOf result (fault_of topology.now faults.now line_number (lose_view words.now)) }
+    ensures err { IfErr result (λ e. fault_of topology.now faults.now line_number (lose_view words.now) ≡ Err e) }
 {
-    let node = lost_node(topology, faults, line, words.name)?;
+    let node = lost_node(topology, faults, line_number, words.name)?;
     let after = number_from(
-        line,
+        line_number,
         0,
         COUNT_LIMIT,
-        TextError::bad(line, Reason::BadNumber),
+        TextError::bad(line_number, Reason::BadNumber),
         words.after,
     )?;
     let keep = number_from(
-        line,
+        line_number,
         0,
         COUNT_LIMIT,
-        TextError::bad(line, Reason::BadNumber),
+        TextError::bad(line_number, Reason::BadNumber),
         words.keep,
     )?;
     Ok(Fault { node, after, keep })

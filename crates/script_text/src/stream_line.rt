@@ -1,12 +1,13 @@
 //! What a stream line says.
 
+ghost use Rattle.text_lines.specs.Parsing.{IsValueOf, IsErrorOf};
 ghost use Rattle.std.specs.Prelude.{◌≡◌, ◌≢◌, ◌<◌, ◌++◌, [], ◌∷◌, IfErr, OnOk, IfOk, Ok, Err, length, ℕ, nat_eq, ◌^◌};
 ghost use Rattle.std.specs.List.{list_any};
 ghost use Rattle.stat_plan.specs.Invariants.{IsMode, IsStream};
 ghost use Rattle.text_lines.specs.Lines.{words};
 ghost use Rattle.stat_plan.specs.Topologies.{IsTopology};
 ghost use Rattle.text_lines.specs.declared.text_error.TextError.TheVariants.{OutOfMemory};
-ghost use Rattle.script_text.specs.ParserViews.{mode_words, meant_stream};
+ghost use Rattle.script_text.specs.ParserViews.{mode_view, stream_view};
 ghost use Rattle.script_text.specs.Marks.{marked_from};
 ghost use Rattle.script_text.specs.Streams.{new_number, stream_number, mode_of, daemon_of, with_named, all_daemons, daemons_of, stream_of};
 
@@ -26,29 +27,29 @@ fn is_defined(streams: &[StreamDef], number: u32) -> bool
 }
 
 // The number of a new stream, where earlier lines have defined these.
-fn stream_number(streams: &[StreamDef], line: u64, word: &[u8]) -> Result<u32, TextError>
-    ensures ok { IfOk result (λ n. stream_number streams.now line word.now ≡ Ok n) }
+fn stream_number(streams: &[StreamDef], line_number: u64, word: &[u8]) -> Result<u32, TextError>
+    ensures ok { IsValueOf result (stream_number streams.now line_number word.now) }
     ensures small { IfOk result (λ n. n < 8) }
-    ensures err { IfErr result (λ e. stream_number streams.now line word.now ≡ Err e) }
+    ensures err { IfErr result (λ e. stream_number streams.now line_number word.now ≡ Err e) }
 {
-    let more = TextError::over(line, Quantity::Streams, STREAM_LIMIT);
-    let number = number_from(line, 0, STREAM_LIMIT - 1, more, word)?;
+    let more = TextError::over(line_number, Quantity::Streams, STREAM_LIMIT);
+    let number = number_from(line_number, 0, STREAM_LIMIT - 1, more, word)?;
     if is_defined(streams, number) {
-        return Err(TextError::bad(line, Reason::SecondStream));
+        return Err(TextError::bad(line_number, Reason::SecondStream));
     }
     Ok(number)
 }
 
 // A mode as it is written.
-fn mode_of(line: u64, mode: ModeText<'_>) -> Result<Mode, TextError>
-    ensures ok { IfOk result (λ m. mode_of line (mode_words mode.entry) ≡ Ok m) }
-    ensures err { IfErr result (λ e. mode_of line (mode_words mode.entry) ≡ Err e) }
+fn mode_of(line_number: u64, mode: ModeText<'_>) -> Result<Mode, TextError>
+    ensures ok { IsValueOf result (mode_of line_number (mode_view mode.entry)) }
+    ensures err { IfErr result (λ e. mode_of line_number (mode_view mode.entry) ≡ Err e) }
 {
     match mode {
         ModeText::WaitForAll => Ok(Mode::WaitForAll),
         ModeText::TimeOut(ticks) => {
-            let bad_number = TextError::bad(line, Reason::BadNumber);
-            let ticks = number_from(line, 1, TICK_LIMIT, bad_number, ticks)?;
+            let bad_number = TextError::bad(line_number, Reason::BadNumber);
+            let ticks = number_from(line_number, 1, TICK_LIMIT, bad_number, ticks)?;
             Ok(Mode::TimeOut(ticks as u16))
         }
         ModeText::DontWait => Ok(Mode::DontWait),
@@ -57,19 +58,15 @@ fn mode_of(line: u64, mode: ModeText<'_>) -> Result<Mode, TextError>
 
 // The daemon with a name.
 #[tactic(auto, unfolding(crate::specs::Streams::daemon_of))]
-fn daemon_of(topology: &Topology, line: u64, name: &[u8]) -> Result<u32, TextError>
-    requires { IsTopology topology.now }
-    ensures ok { IfOk result (λ n. daemon_of topology.now line name.now ≡ Ok n) }
+fn daemon_of(topology: &Topology, line_number: u64, name: &[u8]) -> Result<u32, TextError>
+    ensures ok { IsValueOf result (daemon_of topology.now line_number name.now) }
     ensures node { IfOk result (λ n. n < length topology.now.parents) }
-    ensures err { IfErr result (λ e. daemon_of topology.now line name.now ≡ Err e) }
+    ensures err { IfErr result (λ e. daemon_of topology.now line_number name.now ≡ Err e) }
 {
-    let Some(n) = topology.number_of(name) else {
-        return Err(TextError::bad(line, Reason::NotADaemon));
-    };
-    if !topology.is_daemon(n) {
-        return Err(TextError::bad(line, Reason::NotADaemon));
+    match topology.daemon_named(name) {
+        Some(n) => Ok(n),
+        None => Err(TextError::bad(line_number, Reason::NotADaemon)),
     }
-    Ok(n)
 }
 
 // All daemons of a job.
@@ -100,15 +97,15 @@ fn marked(alloc: Global, marks: &[bool]) -> Result<Vec<u32>, AllocError>
 }
 
 // The daemons with these names. Each name is looked up once, and marks its node.
-fn named(alloc: Global, topology: &Topology, line: u64, names: &[u8]) -> Result<Vec<u32>, TextError>
+fn named(alloc: Global, topology: &Topology, line_number: u64, names: &[u8]) -> Result<Vec<u32>, TextError>
     requires { IsTopology topology.now }
-    ensures ok { IfOk result (λ daemons. with_named topology.now line [] (words names.now) ≡ Ok daemons.items) }
-    ensures err { IfErr result (λ e. e ≢ OutOfMemory → with_named topology.now line [] (words names.now) ≡ Err e) }
+    ensures ok { IfOk result (λ daemons. with_named topology.now line_number [] (words names.now) ≡ Ok daemons.items) }
+    ensures err { IsErrorOf result (with_named topology.now line_number [] (words names.now)) }
 {
     let mut marks = vec![in alloc; false; topology.nodes() as usize]?;
     let mut rest = names;
     while let Some((name, after)) = next_word(rest) {
-        let daemon = daemon_of(topology, line, name)?;
+        let daemon = daemon_of(topology, line_number, name)?;
         marks[daemon as usize] = true;
         rest = after;
     }
@@ -119,21 +116,21 @@ fn named(alloc: Global, topology: &Topology, line: u64, names: &[u8]) -> Result<
 fn daemons_of(
     alloc: Global,
     topology: &Topology,
-    line: u64,
+    line_number: u64,
     names: &[u8],
 ) -> Result<Vec<u32>, TextError>
     requires { IsTopology topology.now }
-    ensures ok { IfOk result (λ daemons. daemons_of topology.now line (words names.now) ≡ Ok daemons.items) }
-    ensures err { IfErr result (λ e. e ≢ OutOfMemory → daemons_of topology.now line (words names.now) ≡ Err e) }
+    ensures ok { IfOk result (λ daemons. daemons_of topology.now line_number (words names.now) ≡ Ok daemons.items) }
+    ensures err { IsErrorOf result (daemons_of topology.now line_number (words names.now)) }
 {
     match next_word(names) {
         Some((name, _)) => {
             if is_word(name, b"all") {
                 return Ok(all_daemons(alloc, topology)?);
             }
-            named(alloc, topology, line, names)
+            named(alloc, topology, line_number, names)
         }
-        None => Err(TextError::bad(line, Reason::BadDirective)),
+        None => Err(TextError::bad(line_number, Reason::BadDirective)),
     }
 }
 
@@ -142,19 +139,19 @@ pub fn stream_of(
     alloc: Global,
     topology: &Topology,
     streams: &[StreamDef],
-    line: u64,
+    line_number: u64,
     words: &StreamLine<'_>,
 ) -> Result<StreamDef, TextError>
     requires { IsTopology topology.now }
-    ensures ok { IfOk result (λ x. stream_of topology.now streams.now line (meant_stream words.now) ≡ Ok x) }
-    ensures err { IfErr result (λ e. e ≢ OutOfMemory → stream_of topology.now streams.now line (meant_stream words.now) ≡ Err e) }
+    ensures ok { IsValueOf result (stream_of topology.now streams.now line_number (stream_view words.now)) }
+    ensures err { IsErrorOf result (stream_of topology.now streams.now line_number (stream_view words.now)) }
 {
-    let number = stream_number(streams, line, words.number)?;
-    let mode = mode_of(line, words.mode)?;
-    let more = TextError::over(line, Quantity::Waves, WAVE_LIMIT);
-    let waves = number_from(line, 1, WAVE_LIMIT, more, words.waves)?;
-    let bad_number = TextError::bad(line, Reason::BadNumber);
-    let samples = number_from(line, 1, SAMPLE_LIMIT, bad_number, words.samples)?;
-    let daemons = daemons_of(alloc, topology, line, words.names)?;
+    let number = stream_number(streams, line_number, words.number)?;
+    let mode = mode_of(line_number, words.mode)?;
+    let more = TextError::over(line_number, Quantity::Waves, WAVE_LIMIT);
+    let waves = number_from(line_number, 1, WAVE_LIMIT, more, words.waves)?;
+    let bad_number = TextError::bad(line_number, Reason::BadNumber);
+    let samples = number_from(line_number, 1, SAMPLE_LIMIT, bad_number, words.samples)?;
+    let daemons = daemons_of(alloc, topology, line_number, words.names)?;
     Ok(StreamDef::new(number as u8, mode, waves as u8, samples as u8, daemons))
 }

@@ -5,7 +5,7 @@ ghost use Rattle.std.specs.Prelude.{◌≡◌, ◌<◌, ◌∷◌, length, IfNon
 ghost use Rattle.std.specs.Str.{bytes_eq};
 ghost use Rattle.text_lines.specs.Lines.{words};
 ghost use Rattle.script_text.specs.Words.{are_names, after_mode, stream_words, lose_words};
-ghost use Rattle.script_text.specs.ParserViews.{mode_words, meant_stream, meant_lose};
+ghost use Rattle.script_text.specs.ParserViews.{mode_view, stream_view, lose_view};
 
 use text_lines::{is_word, next_word};
 
@@ -97,7 +97,7 @@ fn is_lose_end(five: &FiveWords<'_>) -> bool
 
 // The words of a stream line, of which these stand after the mode.
 fn after_mode<'t>(number: &'t [u8], mode: ModeText<'t>, line: &'t [u8]) -> Option<StreamLine<'t>>
-    ensures { option_map meant_stream result ≡ after_mode number.now (mode_words mode.entry) (words line.now) }
+    ensures { option_map stream_view result ≡ after_mode number.now (mode_view mode.entry) (words line.now) }
 {
     let five = five_words(line)?;
     if !is_stream_end(&five) {
@@ -114,7 +114,7 @@ fn after_mode<'t>(number: &'t [u8], mode: ModeText<'t>, line: &'t [u8]) -> Optio
 
 /// The words of a stream line, of which these stand after `stream`; none where the line is no stream line.
 pub fn stream_words(line: &[u8]) -> Option<StreamLine<'_>>
-    ensures { option_map meant_stream result ≡ stream_words (words line.now) }
+    ensures { option_map stream_view result ≡ stream_words (words line.now) }
 {
     let (number, rest) = next_word(line)?;
     let (mode, rest) = next_word(rest)?;
@@ -133,7 +133,7 @@ pub fn stream_words(line: &[u8]) -> Option<StreamLine<'_>>
 
 /// The words of a lose line, of which these stand after `lose`; none where the line is no lose line.
 pub fn lose_words(line: &[u8]) -> Option<LoseLine<'_>>
-    ensures { option_map meant_lose result ≡ lose_words (words line.now) }
+    ensures { option_map lose_view result ≡ lose_words (words line.now) }
 {
     let five = five_words(line)?;
     if next_word(five.rest).is_some() {

@@ -1,6 +1,7 @@
 pub mod Prefixes
 pub mod LinePrefixes
 pub mod NameNumbers
+pub mod DaemonNames
 pub mod Leaves
 pub mod InLists
 pub mod Expecting

@@ -4,6 +4,7 @@ ghost use Rattle.std.specs.Prelude.{◌≡◌, ◌≢◌, ◌<◌, ◌↔◌, �
 ghost use Rattle.stat_plan.specs.Names.{name_of, number_of};
 ghost use Rattle.stat_plan.specs.Trees.{parent_of, root_of, is_daemon, AreDaemonFlags};
 ghost use Rattle.stat_plan.specs.Topologies.{IsTopology, topology};
+ghost use Rattle.stat_plan.specs.Daemons.{daemon_named, IsDaemonNamed};
 
 use indexmap::IndexSet;
 use std::alloc::{AllocError, Global};
@@ -117,6 +118,19 @@ impl Topology {
         ensures leaf { IsTrue result ↔ ((m : ℕ) → parent_of self.now.parents m ≢ Some n) }
     {
         self.daemons[n as usize]
+    }
+
+    /// The number of the daemon with this name. It is none where no node has the name, or the node is not a daemon.
+    #[tactic(auto, unfolding(crate::specs::Daemons::daemon_named))]
+    pub fn daemon_named(&self, name: &[u8]) -> Option<u32>
+        ensures value { result ≡ daemon_named name.now self.now }
+        ensures exact { (n : ℕ) → (result ≡ Some n) ↔ IsDaemonNamed self.now name.now n }
+    {
+        self.invariant();
+        match self.number_of(name) {
+            Some(n) if self.is_daemon(n) => Some(n),
+            _ => None,
+        }
     }
 }
 

@@ -9,7 +9,7 @@ use Rattle.stat_plan.specs.Topologies.{Nodes}
 use Rattle.stat_plan.specs.Plans.{Plan, Sampled, Scripted, plan_of}
 use Rattle.topology_text.specs.Whole.{topology_of}
 use Rattle.sample_text.specs.Whole.{samples_of_text}
-use Rattle.script_text.specs.Script.{script_of}
+use Rattle.script_text.specs.Whole.{script_of}
 use Rattle.stat_tool.specs.Status.{refusal_of}
 use Rattle.stat_tool.specs.Call.{AreReadInOrder, DeskChange, IsPlanRefusal, IsPlanned, IsRefused, Prevented, Refuses, StopsAt, Tells}
 use Rattle.stat_tool.specs.NextStep.{Agrees, Answers, Bytes, Does, AreReadResults, ReadResult, TooLong, Wants, at_samples, at_script, by_samples, by_script, by_topology, next_step, plan_step, limit, too_long}

@@ -8,7 +8,7 @@ use Rattle.text_lines.specs.declared.text_error.TextError.{TextError}
 use Rattle.text_lines.specs.declared.text_error.Quantity.TheVariants.{Bytes as TheBytes, Prefixes}
 use Rattle.topology_text.specs.Whole.{topology_of}
 use Rattle.sample_text.specs.Whole.{samples_of_text}
-use Rattle.script_text.specs.Script.{script_of}
+use Rattle.script_text.specs.Whole.{script_of}
 use Rattle.stat_tool.specs.Status.{refusal_of}
 use Rattle.stat_tool.specs.RunOutput.{Job, RunJob}
 use Rattle.stat_tool.specs.declared.status.FileRole.{FileRole}

@@ -5,7 +5,7 @@ ghost use Rattle.stat_plan.specs.Invariants.{SamplesFit, ScriptFits};
 ghost use Rattle.stat_plan.specs.Plans.{plan_of};
 ghost use Rattle.topology_text.specs.Whole.{topology_of};
 ghost use Rattle.sample_text.specs.Whole.{samples_of_text};
-ghost use Rattle.script_text.specs.Script.{script_of};
+ghost use Rattle.script_text.specs.Whole.{script_of};
 ghost use Rattle.stat_tool.specs.Call.{AreReadInOrder, IsPlanRefusal, IsPlanned, Prevented, Refuses, StopsAt, Tells, desk_change};
 ghost use Rattle.stat_tool.specs.NextStep.{Does, plan_step, limit as limit_of};
 ghost use Rattle.stat_tool.specs.Status.{refusal_of};

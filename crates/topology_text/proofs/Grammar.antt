@@ -1,6 +1,5 @@
--- A text without a fault is written as statements.
+-- A text without an error is written as statements.
 use Rattle.std.proofs.Common.{◌≡◌, ℕ, zero, suc, ◌+◌, ◌-◌, Bool, true, false, cond, nat_eq, List, [], ◌∷◌, ◌++◌, map, length, drop, take, Option, None, Some, Ok, Err, Result, refl, sym, ap, ◌∙◌, subst, ◌⊎◌, inl, inr, ◌<◌, ◌≤◌, rules, slice_get}
-use Rattle.std.specs.Result.{IfOk}
 use Rattle.stat_plan.specs.Names.{number_of, begins}
 use Rattle.text_lines.specs.declared.text_error.TextError.{TextError}
 use Rattle.topology_text.specs.declared.parser.ParserState.{ParserState}
@@ -8,81 +7,81 @@ use Rattle.topology_text.specs.declared.parser.ParserState.TheVariants.{Outside,
 use Rattle.topology_text.specs.Tokens.{Piece, Arrow, Semicolon, Name, End, NoToken, host_len, is_space, is_name, name_after, name_at, piece_at, piece_len, pieces}
 use Rattle.rank_set.specs.Digits.{digits_len}
 use Rattle.text_lines.specs.Lines.{line_len}
-use Rattle.topology_text.specs.Statements.{Seen, nothing_seen, appear, number_or_0, begin, adopt, is_begun, is_child, name_stands, arrow_stands, semicolon_stands, end_stands, with_piece, with_pieces}
+use Rattle.topology_text.specs.Statements.{Parsed, nothing_parsed, appear, number_or_0, add_parent, add_child, is_parent, is_child, take_name, take_arrow, take_semicolon, take_end, with_piece, with_pieces}
 use Rattle.topology_text.specs.Grammar.{Statement, written, IsWritten}
 use Rattle.topology_text.proofs.Numbers.{appear_known, appear_over, appear_new}
-use Rattle.topology_text.proofs.Nodes.{begin_bad, begin_good, adopt_bad, adopt_good, piece_bad, piece_good, none_left}
+use Rattle.topology_text.proofs.Nodes.{parent_bad, parent_good, child_bad, child_good, piece_bad, piece_good, none_left}
 
 -- what may be left of a text, by where the next token stands
-abbrev Goes : ParserState → List Piece → Type 0
-Goes Outside ps = (statements : List Statement) × (ps ≡ written statements)
-Goes (AfterParent n) ps = (c : List ℕ) × (cs : List (List ℕ)) × (statements : List Statement) × (ps ≡ Arrow ∷ Name c ∷ map Name cs ++ Semicolon ∷ written statements)
-Goes (AfterArrow n) ps = (c : List ℕ) × (cs : List (List ℕ)) × (statements : List Statement) × (ps ≡ Name c ∷ map Name cs ++ Semicolon ∷ written statements)
-Goes (AfterChild n) ps = (cs : List (List ℕ)) × (statements : List Statement) × (ps ≡ map Name cs ++ Semicolon ∷ written statements)
+abbrev Continues : ParserState → List Piece → Type 0
+Continues Outside ps = (statements : List Statement) × (ps ≡ written statements)
+Continues (AfterParent n) ps = (c : List ℕ) × (cs : List (List ℕ)) × (statements : List Statement) × (ps ≡ Arrow ∷ Name c ∷ map Name cs ++ Semicolon ∷ written statements)
+Continues (AfterArrow n) ps = (c : List ℕ) × (cs : List (List ℕ)) × (statements : List Statement) × (ps ≡ Name c ∷ map Name cs ++ Semicolon ∷ written statements)
+Continues (AfterChild n) ps = (cs : List (List ℕ)) × (statements : List Statement) × (ps ≡ map Name cs ++ Semicolon ∷ written statements)
 
 -- a token may stand before a rest that may follow it
-abbrev Steps : ParserState → Piece → List Piece → Result Seen TextError → Type 0
-Steps place p rest (Err e) = Unit {0}
-Steps place p rest (Ok t) = Goes t.place rest → Goes place (p ∷ rest)
+abbrev Steps : ParserState → Piece → List Piece → Result Parsed TextError → Type 0
+Steps state p rest (Err e) = Unit {0}
+Steps state p rest (Ok t) = Continues t.state rest → Continues state (p ∷ rest)
 
-arrow_steps : (s : Seen) (line : ℕ) (rest : List Piece) (place : ParserState) → Steps place Arrow rest (arrow_stands s line place)
+arrow_steps : (s : Parsed) (line : ℕ) (rest : List Piece) (state : ParserState) → Steps state Arrow rest (take_arrow s line state)
 arrow_steps s line rest Outside = tt
 arrow_steps s line rest (AfterParent p) = λ h. (h.0, h.1, h.2, ap (λ t. Arrow ∷ t) h.3)
 arrow_steps s line rest (AfterArrow p) = tt
 arrow_steps s line rest (AfterChild p) = tt
 
-semicolon_steps : (s : Seen) (line : ℕ) (rest : List Piece) (place : ParserState) → Steps place Semicolon rest (semicolon_stands s line place)
+semicolon_steps : (s : Parsed) (line : ℕ) (rest : List Piece) (state : ParserState) → Steps state Semicolon rest (take_semicolon s line state)
 semicolon_steps s line rest Outside = tt
 semicolon_steps s line rest (AfterParent p) = tt
 semicolon_steps s line rest (AfterArrow p) = tt
 semicolon_steps s line rest (AfterChild p) = λ h. ([], h.0, ap (λ t. Semicolon ∷ t) h.1)
 
-module _ (s : Seen) (line n : ℕ) (name : List ℕ) (rest : List Piece) where
-  begin_by : (b : Bool) → is_begun (slice_get s.nodes n) ≡ b → Steps Outside (Name name) rest (begin s line n)
-  begin_by true e = subst (Steps Outside (Name name) rest) (sym (begin_bad s line n e)) tt
-  begin_by false e = subst (Steps Outside (Name name) rest) (sym (begin_good s line n e)) (λ h. (record { parent = name; child = h.0; others = h.1 } ∷ h.2, ap (λ t. Name name ∷ t) h.3))
+module _ (s : Parsed) (line n : ℕ) (name : List ℕ) (rest : List Piece) where
+  parent_by : (b : Bool) → is_parent (slice_get s.nodes n) ≡ b → Steps Outside (Name name) rest (add_parent s line n)
+  parent_by true e = subst (Steps Outside (Name name) rest) (sym (parent_bad s line n e)) tt
+  parent_by false e = subst (Steps Outside (Name name) rest) (sym (parent_good s line n e)) (λ h. (record { parent = name; child = h.0; others = h.1 } ∷ h.2, ap (λ t. Name name ∷ t) h.3))
 
-  first_by : (p : ℕ) (b : Bool) → is_child (slice_get s.nodes n) ≡ b → Steps (AfterArrow p) (Name name) rest (adopt s line p n)
-  first_by p true e = subst (Steps (AfterArrow p) (Name name) rest) (sym (adopt_bad s line n p e)) tt
-  first_by p false e = subst (Steps (AfterArrow p) (Name name) rest) (sym (adopt_good s line n p e)) (λ h. (name, h.0, h.1, ap (λ t. Name name ∷ t) h.2))
+  first_by : (p : ℕ) (b : Bool) → is_child (slice_get s.nodes n) ≡ b → Steps (AfterArrow p) (Name name) rest (add_child s line p n)
+  first_by p true e = subst (Steps (AfterArrow p) (Name name) rest) (sym (child_bad s line n p e)) tt
+  first_by p false e = subst (Steps (AfterArrow p) (Name name) rest) (sym (child_good s line n p e)) (λ h. (name, h.0, h.1, ap (λ t. Name name ∷ t) h.2))
 
-  other_by : (p : ℕ) (b : Bool) → is_child (slice_get s.nodes n) ≡ b → Steps (AfterChild p) (Name name) rest (adopt s line p n)
-  other_by p true e = subst (Steps (AfterChild p) (Name name) rest) (sym (adopt_bad s line n p e)) tt
-  other_by p false e = subst (Steps (AfterChild p) (Name name) rest) (sym (adopt_good s line n p e)) (λ h. (name ∷ h.0, h.1, ap (λ t. Name name ∷ t) h.2))
+  other_by : (p : ℕ) (b : Bool) → is_child (slice_get s.nodes n) ≡ b → Steps (AfterChild p) (Name name) rest (add_child s line p n)
+  other_by p true e = subst (Steps (AfterChild p) (Name name) rest) (sym (child_bad s line n p e)) tt
+  other_by p false e = subst (Steps (AfterChild p) (Name name) rest) (sym (child_good s line n p e)) (λ h. (name ∷ h.0, h.1, ap (λ t. Name name ∷ t) h.2))
 
-  stands_steps : (place : ParserState) → Steps place (Name name) rest (name_stands s line place n)
-  stands_steps Outside = begin_by (is_begun (slice_get s.nodes n)) refl
-  stands_steps (AfterParent p) = tt
-  stands_steps (AfterArrow p) = first_by p (is_child (slice_get s.nodes n)) refl
-  stands_steps (AfterChild p) = other_by p (is_child (slice_get s.nodes n)) refl
+  take_steps : (state : ParserState) → Steps state (Name name) rest (take_name s line state n)
+  take_steps Outside = parent_by (is_parent (slice_get s.nodes n)) refl
+  take_steps (AfterParent p) = tt
+  take_steps (AfterArrow p) = first_by p (is_child (slice_get s.nodes n)) refl
+  take_steps (AfterChild p) = other_by p (is_child (slice_get s.nodes n)) refl
 
--- a name that appears moves no place
-abbrev Stays : ParserState → Result Seen TextError → Type 0
-Stays place (Err e) = Unit {0}
-Stays place (Ok t) = t.place ≡ place
+-- a name that appears moves no state
+abbrev Stays : ParserState → Result Parsed TextError → Type 0
+Stays state (Err e) = Unit {0}
+Stays state (Ok t) = t.state ≡ state
 
-module _ (s : Seen) (line : ℕ) (name : List ℕ) where
+module _ (s : Parsed) (line : ℕ) (name : List ℕ) where
   either : (n m : ℕ) → (n < m) ⊎ (m ≤ n)
   either n m = search rules
 
-  new_stays : number_of name s.names ≡ None → (length s.names < 512) ⊎ (512 ≤ length s.names) → Stays s.place (appear s line name)
-  new_stays e (inl few) = subst (Stays s.place) (sym (appear_new s line name e few)) refl
-  new_stays e (inr many) = subst (Stays s.place) (sym (appear_over s line name e many)) tt
+  new_stays : number_of name s.names ≡ None → (length s.names < 512) ⊎ (512 ≤ length s.names) → Stays s.state (appear s line name)
+  new_stays e (inl few) = subst (Stays s.state) (sym (appear_new s line name e few)) refl
+  new_stays e (inr many) = subst (Stays s.state) (sym (appear_over s line name e many)) tt
 
-  appear_stays : (o : Option ℕ) → number_of name s.names ≡ o → Stays s.place (appear s line name)
-  appear_stays (Some n) e = subst (Stays s.place) (sym (appear_known s line n name e)) refl
+  appear_stays : (o : Option ℕ) → number_of name s.names ≡ o → Stays s.state (appear s line name)
+  appear_stays (Some n) e = subst (Stays s.state) (sym (appear_known s line n name e)) refl
   appear_stays None e = new_stays e (either (length s.names) 512)
 
-name_steps : (line : ℕ) (name : List ℕ) (rest : List Piece) (place : ParserState) (r : Result Seen TextError) → Stays place r → Steps place (Name name) rest (elim r as (λ _. Result Seen TextError) [ (Err e) ↦ Err e | (Ok t) ↦ name_stands t line t.place (number_or_0 (number_of name t.names)) ])
-name_steps line name rest place (Err e) same = tt
-name_steps line name rest place (Ok t) same = subst (λ p. Steps p (Name name) rest (name_stands t line t.place (number_or_0 (number_of name t.names)))) same (stands_steps t line (number_or_0 (number_of name t.names)) name rest t.place)
+name_steps : (line : ℕ) (name : List ℕ) (rest : List Piece) (state : ParserState) (r : Result Parsed TextError) → Stays state r → Steps state (Name name) rest (elim r as (λ _. Result Parsed TextError) [ (Err e) ↦ Err e | (Ok t) ↦ take_name t line t.state (number_or_0 (number_of name t.names)) ])
+name_steps line name rest state (Err e) same = tt
+name_steps line name rest state (Ok t) same = subst (λ p. Steps p (Name name) rest (take_name t line t.state (number_or_0 (number_of name t.names)))) same (take_steps t line (number_or_0 (number_of name t.names)) name rest t.state)
 
--- the end of a text stands last, and where a statement may begin
-abbrev Ends : ParserState → List Piece → Result Seen TextError → Type 0
-Ends place rest (Err e) = Unit {0}
-Ends place rest (Ok t) = Goes place (End ∷ rest)
+-- the end of a text stands last, and where a statement may add_parent
+abbrev Ends : ParserState → List Piece → Result Parsed TextError → Type 0
+Ends state rest (Err e) = Unit {0}
+Ends state rest (Ok t) = Continues state (End ∷ rest)
 
-end_ends : (s : Seen) (line : ℕ) (rest : List Piece) (place : ParserState) → rest ≡ [] → Ends place rest (end_stands s line place)
+end_ends : (s : Parsed) (line : ℕ) (rest : List Piece) (state : ParserState) → rest ≡ [] → Ends state rest (take_end s line state)
 end_ends s line rest Outside none = ([], ap (λ t. End ∷ t) none)
 end_ends s line rest (AfterParent p) none = tt
 end_ends s line rest (AfterArrow p) none = tt
@@ -93,32 +92,32 @@ abbrev pub EndsOnce : List (ℕ × Piece) → Type 0
 EndsOnce [] = ⊥
 EndsOnce (p ∷ rest) = elim p.1 [ Arrow ↦ EndsOnce rest | Semicolon ↦ EndsOnce rest | (Name name) ↦ EndsOnce rest | End ↦ rest ≡ [] | NoToken ↦ EndsOnce rest ]
 
--- what is left of a text without a fault
-abbrev pub GoesOn : ParserState → List (ℕ × Piece) → Result Seen TextError → Type 0
-GoesOn place ps (Err e) = Unit {0}
-GoesOn place ps (Ok t) = Goes place (map (λ p. p.1) ps)
+-- what is left of a text without a error
+abbrev pub ContinuesBy : ParserState → List (ℕ × Piece) → Result Parsed TextError → Type 0
+ContinuesBy state ps (Err e) = Unit {0}
+ContinuesBy state ps (Ok t) = Continues state (map (λ p. p.1) ps)
 
-module _ (s : Seen) (line : ℕ) (p : Piece) (rest : List (ℕ × Piece)) where
-  step_on : (r : Result Seen TextError) → with_piece s line p ≡ r → Steps s.place p (map (λ p. p.1) rest) r → ((t : Seen) → GoesOn t.place rest (with_pieces t rest)) → GoesOn s.place ((line, p) ∷ rest) (with_pieces s ((line, p) ∷ rest))
-  step_on (Err e) is step later = subst (GoesOn s.place ((line, p) ∷ rest)) (sym (piece_bad s line p rest e is)) tt
-  step_on (Ok t) is step later = subst (GoesOn s.place ((line, p) ∷ rest)) (sym (piece_good s line p rest t is)) (by (with_pieces t rest) (later t))
+module _ (s : Parsed) (line : ℕ) (p : Piece) (rest : List (ℕ × Piece)) where
+  step_on : (r : Result Parsed TextError) → with_piece s line p ≡ r → Steps s.state p (map (λ p. p.1) rest) r → ((t : Parsed) → ContinuesBy t.state rest (with_pieces t rest)) → ContinuesBy s.state ((line, p) ∷ rest) (with_pieces s ((line, p) ∷ rest))
+  step_on (Err e) is step later = subst (ContinuesBy s.state ((line, p) ∷ rest)) (sym (piece_bad s line p rest e is)) tt
+  step_on (Ok t) is step later = subst (ContinuesBy s.state ((line, p) ∷ rest)) (sym (piece_good s line p rest t is)) (by (with_pieces t rest) (later t))
     where
-      by : (u : Result Seen TextError) → GoesOn t.place rest u → GoesOn s.place ((line, p) ∷ rest) u
+      by : (u : Result Parsed TextError) → ContinuesBy t.state rest u → ContinuesBy s.state ((line, p) ∷ rest) u
       by (Err e) h = tt
       by (Ok x) h = step h
 
-  ends_on : (r : Result Seen TextError) → with_piece s line p ≡ r → rest ≡ [] → Ends s.place (map (λ p. p.1) rest) r → p ≡ End → GoesOn s.place ((line, p) ∷ rest) (with_pieces s ((line, p) ∷ rest))
-  ends_on (Err e) is none ends end = subst (GoesOn s.place ((line, p) ∷ rest)) (sym (piece_bad s line p rest e is)) tt
-  ends_on (Ok t) is none ends end = subst (GoesOn s.place ((line, p) ∷ rest)) (sym (piece_good s line p rest t is ∙ ap (with_pieces t) none ∙ none_left t)) (subst (λ q. Goes s.place (q ∷ map (λ p. p.1) rest)) (sym end) ends)
+  ends_on : (r : Result Parsed TextError) → with_piece s line p ≡ r → rest ≡ [] → Ends s.state (map (λ p. p.1) rest) r → p ≡ End → ContinuesBy s.state ((line, p) ∷ rest) (with_pieces s ((line, p) ∷ rest))
+  ends_on (Err e) is none ends end = subst (ContinuesBy s.state ((line, p) ∷ rest)) (sym (piece_bad s line p rest e is)) tt
+  ends_on (Ok t) is none ends end = subst (ContinuesBy s.state ((line, p) ∷ rest)) (sym (piece_good s line p rest t is ∙ ap (with_pieces t) none ∙ none_left t)) (subst (λ q. Continues s.state (q ∷ map (λ p. p.1) rest)) (sym end) ends)
 
 -- what is left goes on as statements do
-pub goes_on : (s : Seen) (ps : List (ℕ × Piece)) → EndsOnce ps → GoesOn s.place ps (with_pieces s ps)
-goes_on s [] once = absurd once
-goes_on s ((line, Arrow) ∷ rest) once = step_on s line Arrow rest (with_piece s line Arrow) refl (arrow_steps s line (map (λ p. p.1) rest) s.place) (λ t. goes_on t rest once)
-goes_on s ((line, Semicolon) ∷ rest) once = step_on s line Semicolon rest (with_piece s line Semicolon) refl (semicolon_steps s line (map (λ p. p.1) rest) s.place) (λ t. goes_on t rest once)
-goes_on s ((line, Name name) ∷ rest) once = step_on s line (Name name) rest (with_piece s line (Name name)) refl (name_steps line name (map (λ p. p.1) rest) s.place (appear s line name) (appear_stays s line name (number_of name s.names) refl)) (λ t. goes_on t rest once)
-goes_on s ((line, End) ∷ rest) once = ends_on s line End rest (with_piece s line End) refl once (end_ends s line (map (λ p. p.1) rest) s.place (ap (map (λ p. p.1)) once)) refl
-goes_on s ((line, NoToken) ∷ rest) once = step_on s line NoToken rest (with_piece s line NoToken) refl tt (λ t. goes_on t rest once)
+pub continues : (s : Parsed) (ps : List (ℕ × Piece)) → EndsOnce ps → ContinuesBy s.state ps (with_pieces s ps)
+continues s [] once = absurd once
+continues s ((line, Arrow) ∷ rest) once = step_on s line Arrow rest (with_piece s line Arrow) refl (arrow_steps s line (map (λ p. p.1) rest) s.state) (λ t. continues t rest once)
+continues s ((line, Semicolon) ∷ rest) once = step_on s line Semicolon rest (with_piece s line Semicolon) refl (semicolon_steps s line (map (λ p. p.1) rest) s.state) (λ t. continues t rest once)
+continues s ((line, Name name) ∷ rest) once = step_on s line (Name name) rest (with_piece s line (Name name)) refl (name_steps line name (map (λ p. p.1) rest) s.state (appear s line name) (appear_stays s line name (number_of name s.names) refl)) (λ t. continues t rest once)
+continues s ((line, End) ∷ rest) once = ends_on s line End rest (with_piece s line End) refl once (end_ends s line (map (λ p. p.1) rest) s.state (ap (map (λ p. p.1)) once)) refl
+continues s ((line, NoToken) ∷ rest) once = step_on s line NoToken rest (with_piece s line NoToken) refl tt (λ t. continues t rest once)
 
 -- a token that is read is not the end
 abbrev IsNoEnd : Piece → Type 0
@@ -174,12 +173,6 @@ ends_once line zero (b ∷ rest) = by (nat_eq b 10) (is_space b) (nat_eq b 35) (
     by false false true more = more line (line_len rest)
     by false false false more = more_once line (piece_at (b ∷ rest)) (pieces line (piece_len (piece_at (b ∷ rest)) - 1) rest) (no_end (b ∷ rest)) (more line (piece_len (piece_at (b ∷ rest)) - 1))
 
--- a text whose tokens have no fault is written as statements
-pub is_written : (text : List ℕ) (s t : Seen) → s ≡ nothing_seen → with_pieces s (pieces 1 0 text) ≡ Ok t → IsWritten text
-is_written text s t none good =
-    subst (λ r. GoesOn Outside (pieces 1 0 text) r) (ap (λ x. with_pieces x (pieces 1 0 text)) (sym none) ∙ good) (goes_on nothing_seen (pieces 1 0 text) (ends_once 1 0 text))
-
--- what holds by itself holds of a result
-pub of_result : {A : Type 0} (r : Result A TextError) (P : Type 0) → P → IfOk r (λ _. P)
-of_result (Ok a) P h = h
-of_result (Err e) P h = tt
+-- a text whose tokens have no error is written as statements
+pub is_written : (text : List ℕ) (t : Parsed) → with_pieces nothing_parsed (pieces 1 0 text) ≡ Ok t → IsWritten text
+is_written text t good = subst (λ r. ContinuesBy Outside (pieces 1 0 text) r) good (continues nothing_parsed (pieces 1 0 text) (ends_once 1 0 text))

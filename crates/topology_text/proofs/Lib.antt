@@ -6,5 +6,5 @@ pub mod NameParts
 pub mod Roots
 pub mod OneTree
 pub mod WholeFile
-pub mod Kept
+pub mod InvariantLemmas
 pub mod Grammar

@@ -12,13 +12,13 @@ use Rattle.std.proofs.lemmas.List.Folds.{position_or_len_push}
 use Rattle.stat_plan.specs.Names.{number_of}
 use Rattle.text_lines.specs.declared.text_error.TextError.TheVariants.{Over}
 use Rattle.text_lines.specs.declared.text_error.Quantity.TheVariants.{Nodes}
-use Rattle.topology_text.specs.Statements.{Seen, appear}
+use Rattle.topology_text.specs.Statements.{Parsed, appear}
 
 cond_none : (t : Bool) (n : ℕ) → cond t (Some n) None ≡ None → t ≡ false
 cond_none true n e = cc
 cond_none false n e = refl
 
--- the place of an element that is the first to pass a test, and the last of its list
+-- the state of an element that is the first to pass a test, and the last of its list
 pub position_last : {X : Type 0} (p : X → Bool) (xs : List X) (y : X) → p y ≡ true → position p xs ≡ None → position p (xs ++ y ∷ []) ≡ Some (length xs)
 position_last p xs y passes none =
     let past : length xs ≤ position_or_len p xs = ltb-false _ _ (cond_none _ _ none) in
@@ -33,19 +33,19 @@ unfolding number_of
 number_of_last name names none = position_last (bytes_eq name) names name ((bytes_eq-Decides name name).1 refl) none
 
 -- a name that is known changes nothing
-pub appear_known : (s : Seen) (line n : ℕ) (name : List ℕ) → number_of name s.names ≡ Some n → appear s line name ≡ Ok s
+pub appear_known : (s : Parsed) (line n : ℕ) (name : List ℕ) → number_of name s.names ≡ Some n → appear s line name ≡ Ok s
 unfolding appear
 appear_known s line n name e = rw (e, appear) refl
 
 -- a new name where there are as many as may be
-pub appear_over : (s : Seen) (line : ℕ) (name : List ℕ) → number_of name s.names ≡ None → 512 ≤ length s.names → appear s line name ≡ Err (Over line Nodes 512)
+pub appear_over : (s : Parsed) (line : ℕ) (name : List ℕ) → number_of name s.names ≡ None → 512 ≤ length s.names → appear s line name ≡ Err (Over line Nodes 512)
 unfolding appear
 appear_over s line name e many = rw (e, appear) (rw (le-leb 512 (length s.names) many) refl)
 
 -- a new name becomes a node
-pub appear_new : (s : Seen) (line : ℕ) (name : List ℕ) → number_of name s.names ≡ None → length s.names < 512 → appear s line name ≡ Ok (record s {
+pub appear_new : (s : Parsed) (line : ℕ) (name : List ℕ) → number_of name s.names ≡ None → length s.names < 512 → appear s line name ≡ Ok (record s {
   names = s.names ++ name ∷ [];
-  nodes = s.nodes ++ record { line = line; parent = None; begun = false } ∷ [];
+  nodes = s.nodes ++ record { line = line; parent = None; is_parent = false } ∷ [];
 })
 unfolding appear
 appear_new s line name e few = rw (e, appear) (rw (lt-leb 512 (length s.names) few) refl)
@@ -72,12 +72,12 @@ number_below name names n e =
     subst (λ k. k < length names) h.1 lt
 
 -- texts differ where their bytes do
-apart : (key : String Global) (keys : List (String Global)) → AllByRecursion (λ k. string_eq key k ≡ false) keys → AllByRecursion (λ name. bytes_eq (string_bytes key) name ≡ false) (map string_bytes keys)
-apart key [] h = h
-apart key (k ∷ keys) h = (h.0, apart key keys h.1)
+differ : (key : String Global) (keys : List (String Global)) → AllByRecursion (λ k. string_eq key k ≡ false) keys → AllByRecursion (λ name. bytes_eq (string_bytes key) name ≡ false) (map string_bytes keys)
+differ key [] h = h
+differ key (k ∷ keys) h = (h.0, differ key keys h.1)
 
 -- keys that differ are names that differ
 pub distinct_names : (keys : List (String Global)) → IsDistinct string_eq keys → IsDistinct bytes_eq (map string_bytes keys)
 unfolding IsDistinct
 distinct_names [] h = h
-distinct_names (key ∷ keys) h = (apart key keys h.0, distinct_names keys h.1)
+distinct_names (key ∷ keys) h = (differ key keys h.0, distinct_names keys h.1)

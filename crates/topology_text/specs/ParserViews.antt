@@ -1,8 +1,12 @@
--- What a parser has seen.
+-- What a parser stands for.
 use Rattle.std.specs.Prelude.{map, string_bytes}
 use Rattle.topology_text.specs.declared.parser.Parser.{Parser}
-use Rattle.topology_text.specs.Statements.{Seen}
+use Rattle.topology_text.specs.Statements.{Parsed}
 
--- a parser as what is seen
-abbrev pub parser_view : Parser → Seen
-parser_view parser = record { names = map string_bytes parser.names.keys; nodes = parser.nodes.items; place = parser.place }
+-- what a parser has parsed so far
+abbrev pub parser_view : Parser → Parsed
+parser_view parser = record {
+  names = map string_bytes parser.names.keys;
+  nodes = parser.nodes.items;
+  state = parser.state;
+}

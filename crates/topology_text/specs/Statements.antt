@@ -1,10 +1,9 @@
--- What the tokens of a topology text say, and the first fault in them.
+-- What the tokens of a topology text are parsed as, and the first error in them.
 use Rattle.std.specs.Prelude.{ℕ, zero, suc, Bool, true, false, nat_le, cond, List, [], ◌∷◌, ◌++◌, length, Option, None, Some, Result, Ok, Err, is_some, slice_get}
 use Rattle.stat_plan.specs.Names.{number_of}
 use Rattle.stat_plan.specs.declared.topology.TheConstants.{NODE_LIMIT}
 use Rattle.text_lines.specs.declared.text_error.TextError.{TextError}
 use Rattle.text_lines.specs.declared.text_error.TextError.TheVariants.{Bad, Over}
-use Rattle.text_lines.specs.declared.text_error.Reason.{Reason}
 use Rattle.text_lines.specs.declared.text_error.Reason.TheVariants.{BadToken, SecondLine, NoArrow, NoChild, SecondParent, NoSemicolon}
 use Rattle.text_lines.specs.declared.text_error.Quantity.TheVariants.{Nodes}
 use Rattle.topology_text.specs.declared.parser.Node.{Node}
@@ -12,23 +11,23 @@ use Rattle.topology_text.specs.declared.parser.ParserState.{ParserState}
 use Rattle.topology_text.specs.declared.parser.ParserState.TheVariants.{Outside, AfterParent, AfterArrow, AfterChild}
 use Rattle.topology_text.specs.Tokens.{Piece, Arrow, Semicolon, Name, End, NoToken}
 
--- what tokens have said so far: names and nodes by number, and where the next token stands in its statement
-pub record Seen : Type 0 where
+-- what is parsed so far: names and nodes by number, and where the next token stands in its statement
+pub record Parsed : Type 0 where
   pub names : List (List ℕ)
   pub nodes : List Node
-  pub place : ParserState
+  pub state : ParserState
 
 -- before the first token
-abbrev pub nothing_seen : Seen
-nothing_seen = record { names = []; nodes = []; place = Outside }
+abbrev pub nothing_parsed : Parsed
+nothing_parsed = record { names = []; nodes = []; state = Outside }
 
 -- A name appears. Names are numbered from 0 in order of first appearance, and a 513th is refused.
-unfoldable pub appear : Seen → ℕ → List ℕ → Result Seen TextError
-appear s line name = elim (number_of name s.names) [
+unfoldable pub appear : Parsed → ℕ → List ℕ → Result Parsed TextError
+appear s line_number name = elim (number_of name s.names) [
   | (Some n) ↦ Ok s
-  | None ↦ cond (nat_le NODE_LIMIT (length s.names)) (Err (Over line Nodes NODE_LIMIT)) (Ok (record s {
+  | None ↦ cond (nat_le NODE_LIMIT (length s.names)) (Err (Over line_number Nodes NODE_LIMIT)) (Ok (record s {
     names = s.names ++ name ∷ [];
-    nodes = s.nodes ++ record { line = line; parent = None; begun = false } ∷ [];
+    nodes = s.nodes ++ record { line = line_number; parent = None; is_parent = false } ∷ [];
   }))
 ]
 
@@ -39,9 +38,9 @@ at_node (x ∷ xs) zero f = f x ∷ xs
 at_node (x ∷ xs) (suc n) f = x ∷ at_node xs n f
 
 -- whether a node has begun a statement
-abbrev pub is_begun : Option Node → Bool
-is_begun None = false
-is_begun (Some x) = x.begun
+abbrev pub is_parent : Option Node → Bool
+is_parent None = false
+is_parent (Some x) = x.is_parent
 
 -- whether a node has a parent
 abbrev pub is_child : Option Node → Bool
@@ -49,76 +48,72 @@ is_child None = false
 is_child (Some x) = is_some x.parent
 
 -- a node that begins its statement
-abbrev pub begun_now : Node → Node
-begun_now x = record x { begun = true }
+abbrev pub as_parent : Node → Node
+as_parent x = record x { is_parent = true }
 
 -- a node that gets a parent
 abbrev pub child_of : ℕ → Node → Node
 child_of p x = record x { parent = Some p }
 
--- a fault on a line
-abbrev pub bad : ℕ → Reason → Result Seen TextError
-bad line reason = Err (Bad line reason)
-
 -- Node n begins its statement, unless it has begun one before.
-unfoldable pub begin : Seen → ℕ → ℕ → Result Seen TextError
-begin s line n = elim (is_begun (slice_get s.nodes n)) [
-  | true ↦ bad line SecondLine
-  | false ↦ Ok (record s { nodes = at_node s.nodes n begun_now; place = AfterParent n })
+unfoldable pub add_parent : Parsed → ℕ → ℕ → Result Parsed TextError
+add_parent s line_number n = elim (is_parent (slice_get s.nodes n)) [
+  | true ↦ Err (Bad line_number SecondLine)
+  | false ↦ Ok (record s { nodes = at_node s.nodes n as_parent; state = AfterParent n })
 ]
 
 -- Node n becomes a child of node p, unless it has a parent already.
-unfoldable pub adopt : Seen → ℕ → ℕ → ℕ → Result Seen TextError
-adopt s line p n = elim (is_child (slice_get s.nodes n)) [
-  | true ↦ bad line SecondParent
-  | false ↦ Ok (record s { nodes = at_node s.nodes n (child_of p); place = AfterChild p })
+unfoldable pub add_child : Parsed → ℕ → ℕ → ℕ → Result Parsed TextError
+add_child s line_number p n = elim (is_child (slice_get s.nodes n)) [
+  | true ↦ Err (Bad line_number SecondParent)
+  | false ↦ Ok (record s { nodes = at_node s.nodes n (child_of p); state = AfterChild p })
 ]
 
 -- a name with its number, by where it stands
-abbrev pub name_stands : Seen → ℕ → ParserState → ℕ → Result Seen TextError
-name_stands s line Outside n = begin s line n
-name_stands s line (AfterParent p) n = bad line NoArrow
-name_stands s line (AfterArrow p) n = adopt s line p n
-name_stands s line (AfterChild p) n = adopt s line p n
+abbrev pub take_name : Parsed → ℕ → ParserState → ℕ → Result Parsed TextError
+take_name s line_number Outside n = add_parent s line_number n
+take_name s line_number (AfterParent p) n = Err (Bad line_number NoArrow)
+take_name s line_number (AfterArrow p) n = add_child s line_number p n
+take_name s line_number (AfterChild p) n = add_child s line_number p n
 
 -- `=>`, by where it stands
-abbrev pub arrow_stands : Seen → ℕ → ParserState → Result Seen TextError
-arrow_stands s line Outside = bad line BadToken
-arrow_stands s line (AfterParent p) = Ok (record s { place = AfterArrow p })
-arrow_stands s line (AfterArrow p) = bad line NoChild
-arrow_stands s line (AfterChild p) = bad line NoSemicolon
+abbrev pub take_arrow : Parsed → ℕ → ParserState → Result Parsed TextError
+take_arrow s line_number Outside = Err (Bad line_number BadToken)
+take_arrow s line_number (AfterParent p) = Ok (record s { state = AfterArrow p })
+take_arrow s line_number (AfterArrow p) = Err (Bad line_number NoChild)
+take_arrow s line_number (AfterChild p) = Err (Bad line_number NoSemicolon)
 
 -- `;`, by where it stands
-abbrev pub semicolon_stands : Seen → ℕ → ParserState → Result Seen TextError
-semicolon_stands s line Outside = bad line BadToken
-semicolon_stands s line (AfterParent p) = bad line NoArrow
-semicolon_stands s line (AfterArrow p) = bad line NoChild
-semicolon_stands s line (AfterChild p) = Ok (record s { place = Outside })
+abbrev pub take_semicolon : Parsed → ℕ → ParserState → Result Parsed TextError
+take_semicolon s line_number Outside = Err (Bad line_number BadToken)
+take_semicolon s line_number (AfterParent p) = Err (Bad line_number NoArrow)
+take_semicolon s line_number (AfterArrow p) = Err (Bad line_number NoChild)
+take_semicolon s line_number (AfterChild p) = Ok (record s { state = Outside })
 
 -- the end of the text, by where it stands
-abbrev pub end_stands : Seen → ℕ → ParserState → Result Seen TextError
-end_stands s line Outside = Ok s
-end_stands s line (AfterParent p) = bad line NoArrow
-end_stands s line (AfterArrow p) = bad line NoChild
-end_stands s line (AfterChild p) = bad line NoSemicolon
+abbrev pub take_end : Parsed → ℕ → ParserState → Result Parsed TextError
+take_end s line_number Outside = Ok s
+take_end s line_number (AfterParent p) = Err (Bad line_number NoArrow)
+take_end s line_number (AfterArrow p) = Err (Bad line_number NoChild)
+take_end s line_number (AfterChild p) = Err (Bad line_number NoSemicolon)
 
 -- the number of a name that has appeared
 abbrev pub number_or_0 : Option ℕ → ℕ
 number_or_0 None = 0
 number_or_0 (Some n) = n
 
--- what is seen with one token more
-abbrev pub with_piece : Seen → ℕ → Piece → Result Seen TextError
-with_piece s line NoToken = bad line BadToken
-with_piece s line Arrow = arrow_stands s line s.place
-with_piece s line End = end_stands s line s.place
-with_piece s line Semicolon = semicolon_stands s line s.place
-with_piece s line (Name name) = elim (appear s line name) [
+-- what is parsed with one token more
+abbrev pub with_piece : Parsed → ℕ → Piece → Result Parsed TextError
+with_piece s line_number NoToken = Err (Bad line_number BadToken)
+with_piece s line_number Arrow = take_arrow s line_number s.state
+with_piece s line_number End = take_end s line_number s.state
+with_piece s line_number Semicolon = take_semicolon s line_number s.state
+with_piece s line_number (Name name) = elim (appear s line_number name) [
   | (Err e) ↦ Err e
-  | (Ok t) ↦ name_stands t line t.place (number_or_0 (number_of name t.names))
+  | (Ok t) ↦ take_name t line_number t.state (number_or_0 (number_of name t.names))
 ]
 
--- what all tokens say, or the first fault
-unfoldable pub with_pieces : Seen → List (ℕ × Piece) → Result Seen TextError
+-- what tokens are parsed as, or their first error
+unfoldable pub with_pieces : Parsed → List (ℕ × Piece) → Result Parsed TextError
 with_pieces s [] = Ok s
 with_pieces s (piece ∷ rest) = elim (with_piece s piece.0 piece.1) [ (Err e) ↦ Err e | (Ok t) ↦ with_pieces t rest ]

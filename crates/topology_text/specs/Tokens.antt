@@ -1,6 +1,5 @@
 -- The tokens of a topology text, each with its line.
 use Rattle.std.specs.Prelude.{ℕ, ◌≡◌, zero, suc, ◌+◌, ◌-◌, Bool, true, false, ◌||◌, ◌&&◌, not, nat_eq, nat_le, cond, List, [], ◌∷◌, length, take, drop}
-use Rattle.std.specs.Char.{is_ascii_digit}
 use Rattle.rank_set.specs.Digits.{digits_len}
 use Rattle.text_lines.specs.Lines.{line_len}
 use Rattle.std.specs.List.{prefix_len}
@@ -53,15 +52,15 @@ piece_len NoToken = 1
 -- The tokens and the text's end from a line on, where the first bytes belong to the token or comment before.
 -- `#` outside a token starts a comment that goes to the line's end.
 unfoldable pub pieces : ℕ → ℕ → List ℕ → List (ℕ × Piece)
-pieces line passed [] = (line, End) ∷ []
-pieces line (suc passed) (b ∷ rest) = pieces line passed rest
-pieces line zero (b ∷ rest) = elim (nat_eq b 10) [
-  | true ↦ pieces (suc line) 0 rest
+pieces line_number passed [] = (line_number, End) ∷ []
+pieces line_number (suc passed) (b ∷ rest) = pieces line_number passed rest
+pieces line_number zero (b ∷ rest) = elim (nat_eq b 10) [
+  | true ↦ pieces (suc line_number) 0 rest
   | false ↦ elim (is_space b) [
-    | true ↦ pieces line 0 rest
+    | true ↦ pieces line_number 0 rest
     | false ↦ elim (nat_eq b 35) [
-      | true ↦ pieces line (line_len rest) rest
-      | false ↦ (line, piece_at (b ∷ rest)) ∷ pieces line (piece_len (piece_at (b ∷ rest)) - 1) rest
+      | true ↦ pieces line_number (line_len rest) rest
+      | false ↦ (line_number, piece_at (b ∷ rest)) ∷ pieces line_number (piece_len (piece_at (b ∷ rest)) - 1) rest
     ]
   ]
 ]

@@ -1,15 +1,16 @@
--- What a topology text says: its nodes, or its first fault.
+-- What a topology text says: its nodes, or its first error.
 use Rattle.std.specs.Prelude.{ℕ, zero, suc, ◌-◌, Bool, true, false, not, is_some, List, [], ◌∷◌, map, length, Option, None, Some, Result, Ok, Err, slice_get}
 use Rattle.text_lines.specs.declared.text_error.TextError.{TextError}
 use Rattle.text_lines.specs.declared.text_error.TextError.TheVariants.{Bad, Over}
 use Rattle.text_lines.specs.declared.text_error.Reason.TheVariants.{NoRoot, TwoRoots, Unreached}
 use Rattle.text_lines.specs.declared.text_error.Quantity.TheVariants.{Depth}
+use Rattle.text_lines.specs.Parsing.{and_then}
 use Rattle.stat_plan.specs.Trees.{parent_of}
 use Rattle.stat_plan.specs.Topologies.{Nodes, topology}
 use Rattle.stat_plan.specs.declared.topology.TheConstants.{DEPTH_LIMIT}
 use Rattle.topology_text.specs.declared.parser.Node.{Node}
 use Rattle.topology_text.specs.Tokens.{pieces}
-use Rattle.topology_text.specs.Statements.{Seen, nothing_seen, with_pieces}
+use Rattle.topology_text.specs.Statements.{Parsed, nothing_parsed, with_pieces}
 
 -- whether a node without a parent is at most so many links above this one
 unfoldable pub is_within : List (Option ℕ) → ℕ → ℕ → Bool
@@ -38,52 +39,44 @@ line_of nodes n = line_or_0 (slice_get nodes n)
 -- the least node, of so many from n on, that isn't within so many links of a root
 unfoldable pub first_beyond : List (Option ℕ) → ℕ → ℕ → ℕ → Option ℕ
 first_beyond parents links n zero = None
-first_beyond parents links n (suc more) = elim (is_within parents links n) [ true ↦ first_beyond parents links (suc n) more | false ↦ Some n ]
+first_beyond parents links n (suc more) =
+    elim (is_within parents links n) [ true ↦ first_beyond parents links (suc n) more | false ↦ Some n ]
 
--- the fault of the whole text, where a node is more than 8 links from the root
-abbrev pub depth_fault : Option ℕ → Option TextError
-depth_fault None = None
-depth_fault (Some n) = Some (Over 0 Depth DEPTH_LIMIT)
+-- the error of the whole text, where a node is more than 8 links from the root
+abbrev pub depth_error : Option ℕ → Option TextError
+depth_error None = None
+depth_error (Some n) = Some (Over 0 Depth DEPTH_LIMIT)
 
--- the fault of the whole text, where a node is not reached from the root
-abbrev pub reach_fault : List Node → Option ℕ → Option TextError
-reach_fault nodes None = depth_fault (first_beyond (parents_of nodes) DEPTH_LIMIT 0 (length nodes))
-reach_fault nodes (Some n) = Some (Bad (line_of nodes n) Unreached)
+-- the error of the whole text, where a node is not reached from the root
+abbrev pub reach_error : List Node → Option ℕ → Option TextError
+reach_error nodes None = depth_error (first_beyond (parents_of nodes) DEPTH_LIMIT 0 (length nodes))
+reach_error nodes (Some n) = Some (Bad (line_of nodes n) Unreached)
 
--- The fault of the whole text, by the nodes without a parent. A node is reached from the root where the root is fewer links
+-- The error of the whole text, by the nodes without a parent. A node is reached from the root where the root is fewer links
 -- above it than there are nodes.
-abbrev pub roots_fault : List Node → List ℕ → Option TextError
-roots_fault nodes [] = Some (Bad 0 NoRoot)
-roots_fault nodes (root ∷ []) = reach_fault nodes (first_beyond (parents_of nodes) (length nodes - 1) 0 (length nodes))
-roots_fault nodes (root ∷ second ∷ roots) = Some (Bad (line_of nodes second) TwoRoots)
+abbrev pub roots_error : List Node → List ℕ → Option TextError
+roots_error nodes [] = Some (Bad 0 NoRoot)
+roots_error nodes (root ∷ []) = reach_error nodes (first_beyond (parents_of nodes) (length nodes - 1) 0 (length nodes))
+roots_error nodes (root ∷ second ∷ roots) = Some (Bad (line_of nodes second) TwoRoots)
 
--- the first fault of the whole text
-unfoldable pub whole_fault : List Node → Option TextError
-whole_fault nodes = roots_fault nodes (roots_from 0 (parents_of nodes))
+-- the first error of the whole text
+unfoldable pub whole_error : List Node → Option TextError
+whole_error nodes = roots_error nodes (roots_from 0 (parents_of nodes))
 
--- what is seen, unless there is a fault
-abbrev pub unless : Seen → Option TextError → Result Seen TextError
+-- what is parsed, unless there is an error
+abbrev pub unless : Parsed → Option TextError → Result Parsed TextError
 unless s None = Ok s
 unless s (Some e) = Err e
 
--- what is seen, unless the whole text has a fault
-abbrev pub whole : Seen → Result Seen TextError
-whole s = unless s (whole_fault s.nodes)
-
--- a second step where the first finds no fault
-abbrev pub and_then : Result Seen TextError → (Seen → Result Seen TextError) → Result Seen TextError
-and_then (Err e) f = Err e
-and_then (Ok s) f = f s
-
--- what the tokens of a text say, unless it has a fault
-abbrev pub said : List ℕ → Result Seen TextError
-said text = and_then (with_pieces nothing_seen (pieces 1 0 text)) whole
+-- what is parsed, unless the whole text has an error
+abbrev pub whole : Parsed → Result Parsed TextError
+whole s = unless s (whole_error s.nodes)
 
 -- the names in order of number, and each node's parent
-abbrev pub parsed : Result Seen TextError → Result Nodes TextError
-parsed (Err e) = Err e
-parsed (Ok s) = Ok (topology s.names (parents_of s.nodes))
+abbrev pub nodes_of : Result Parsed TextError → Result Nodes TextError
+nodes_of (Err e) = Err e
+nodes_of (Ok s) = Ok (topology s.names (parents_of s.nodes))
 
--- the nodes that a text stands for, or its first fault
+-- the nodes that a text stands for, or its first error
 abbrev pub topology_of : List ℕ → Result Nodes TextError
-topology_of text = parsed (said text)
+topology_of text = nodes_of (and_then (with_pieces nothing_parsed (pieces 1 0 text)) whole)

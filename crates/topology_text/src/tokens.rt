@@ -113,18 +113,18 @@ pub fn token_len(token: &Token<'_>) -> usize
 }
 
 /// What is left of a text from the next token on, and the line of that place.
-pub fn skipped(text: &[u8], line: u64) -> (&[u8], u64)
-    requires { line + length text.now < 2 ^ 64 }
-    ensures room { result.1 + length result.0.now ≤ line + length text.now }
+pub fn skipped(text: &[u8], line_number: u64) -> (&[u8], u64)
+    requires { line_number + length text.now < 2 ^ 64 }
+    ensures room { result.1 + length result.0.now ≤ line_number + length text.now }
     ensures shorter { length result.0.now ≤ length text.now }
-    ensures pieces { pieces result.1 0 result.0.now ≡ pieces line 0 text.now }
+    ensures pieces { pieces result.1 0 result.0.now ≡ pieces line_number 0 text.now }
     ensures stops { StopsAt result.0.now }
 {
     let mut rest = text;
-    let mut line = line;
+    let mut line_number = line_number;
     while let Some((b, after)) = rest.split_first() {
         if *b == b'\n' {
-            line += 1;
+            line_number += 1;
             rest = after;
         } else if is_space(*b) {
             rest = after;
@@ -134,5 +134,5 @@ pub fn skipped(text: &[u8], line: u64) -> (&[u8], u64)
             break;
         }
     }
-    (rest, line)
+    (rest, line_number)
 }

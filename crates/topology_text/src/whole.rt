@@ -2,8 +2,7 @@
 
 ghost use Rattle.std.specs.Prelude.{◌≡◌, ◌<◌, ◌+◌, ◌^◌, length, drop, IfSome, Some, IfOk, MatchOption, [], ◌∷◌};
 ghost use Rattle.stat_plan.specs.Trees.{parent_of};
-ghost use Rattle.topology_text.specs.Whole.{is_within, roots_from, parents_of, line_of, first_beyond, whole_fault};
-ghost use Rattle.text_lines.specs.declared.text_error.TextError.TheVariants.{Bad};
+ghost use Rattle.topology_text.specs.Whole.{is_within, roots_from, parents_of, line_of, first_beyond, whole_error};
 
 use crate::parser::Node;
 use stat_plan::DEPTH_LIMIT;
@@ -37,7 +36,9 @@ fn is_within(parents: &[Option<u32>], node: u32, links: u32) -> bool
 // The next node without a parent, from one on.
 fn next_root(parents: &[Option<u32>], from: u32) -> Option<u32>
     requires { length parents.now < 2 ^ 31 }
-    ensures next { MatchOption result (roots_from from (drop from parents.now) ≡ []) (λ n. roots_from from (drop from parents.now) ≡ n ∷ roots_from (n + 1) (drop (n + 1) parents.now)) }
+    ensures next { MatchOption result (roots_from from (drop from parents.now) ≡ []) (
+        λ n. roots_from from (drop from parents.now) ≡ n ∷ roots_from (n + 1) (drop (n + 1) parents.now)
+    ) }
     ensures within { IfSome result (λ n. n < length parents.now) }
 {
     for node in from..parents.len() as u32 {
@@ -71,34 +72,23 @@ fn line_of(nodes: &[Node], node: u32) -> u64
     }
 }
 
-// A fault on a line.
-fn bad(line: u64, reason: Reason) -> Option<TextError>
-    ensures { result ≡ Some (Bad line reason) }
-{
-    Some(TextError::Bad { line, reason })
-}
-
-/// The first fault of the whole text.
-pub fn whole_fault(nodes: &[Node], parents: &[Option<u32>]) -> Option<TextError>
-    requires few { length parents.now < 2 ^ 31 }
+/// The first error of the whole text.
+pub fn whole_error(nodes: &[Node], parents: &[Option<u32>]) -> Option<TextError>
+    requires countable { length parents.now < 2 ^ 31 }
     requires parents { parents.now ≡ parents_of nodes.now }
-    ensures { result ≡ whole_fault nodes.now }
+    ensures { result ≡ whole_error nodes.now }
 {
     let Some(root) = next_root(parents, 0) else {
-        return bad(0, Reason::NoRoot);
+        return Some(TextError::bad(0, Reason::NoRoot));
     };
     if let Some(second) = next_root(parents, root + 1) {
-        return bad(line_of(nodes, second), Reason::TwoRoots);
+        return Some(TextError::bad(line_of(nodes, second), Reason::TwoRoots));
     }
     if let Some(node) = first_beyond(parents, parents.len() as u32 - 1) {
-        return bad(line_of(nodes, node), Reason::Unreached);
+        return Some(TextError::bad(line_of(nodes, node), Reason::Unreached));
     }
     if let Some(_) = first_beyond(parents, DEPTH_LIMIT) {
-        return Some(TextError::Over {
-            line: 0,
-            what: Quantity::Depth,
-            limit: u64::from(DEPTH_LIMIT),
-        });
+        return Some(TextError::over(0, Quantity::Depth, DEPTH_LIMIT));
     }
     None
 }

@@ -1,19 +1,33 @@
-use Rattle.std.proofs.Common.{sym, subst}
-use Rattle.topology_text.specs.Tokens.{pieces}
-use Rattle.topology_text.specs.Invariants.{IsKept}
-use Rattle.topology_text.specs.ParserViews.{parser_view}
-use Rattle.topology_text.proofs.NameParts.{pieces_good}
-use Rattle.topology_text.proofs.Kept.{Keeps, pieces_kept, nothing_kept}
+use Rattle.std.proofs.Common.{◌≡◌, ◌≢◌, sym, subst, Err}
+use Rattle.text_lines.specs.Parsing.{IsValueOf, IsErrorOf}
+use Rattle.text_lines.specs.declared.text_error.TextError.TheVariants.{OutOfMemory}
+use Rattle.text_lines.proofs.Errors.{handed_on, value_has}
 use Rattle.topology_text.specs.Grammar.{IsWritten}
-use Rattle.topology_text.proofs.Grammar.{is_written, of_result}
+use Rattle.topology_text.specs.ParserViews.{parser_view}
+use Rattle.topology_text.specs.Whole.{topology_of}
+use Rattle.topology_text.proofs.Grammar.{is_written}
+use Rattle.topology_text.proofs.InvariantLemmas.{holds_at_end}
+use Rattle.topology_text.proofs.WholeFile.{topology_at_end, topology_bad, accepted}
 use Rattle.topology_text.proofs.read.Goals as goal
 
-pub finished-requires-clause-kept : goal.finished-requires-clause-kept
-finished-requires-clause-kept c =
-    subst Keeps c.in_ok-read_tokens.ensures.ok
-    (pieces_kept (parser_view c.new-parser.result) (pieces 1 0 c.args.text.now) (pieces_good 1 0 c.args.text.now) (subst IsKept (sym c.new-parser.ensures) nothing_kept))
+pub returns-in_err-end-clause-err : goal.returns-in_err-end-clause-err
+returns-in_err-end-clause-err c =
+    handed_on c.from_residual.result c.in_err-end.field-0.0 (λ e. e ≢ OutOfMemory → topology_of c.args.text.now ≡ Err e) c.from_residual.ensures
+    (λ memory. topology_bad c.args.text.now (parser_view c.new-parser.result) c.in_err-end.field-0.0 c.new-parser.ensures (c.in_err-end.ensures.err memory))
+
+pub finish-requires : goal.finish-requires
+finish-requires c = holds_at_end c.args.text.now (parser_view c.new-parser.result) (parser_view c.read_tokens.new.parser) c.in_ok-end.end c.new-parser.ensures c.in_ok-end.ensures.ok
+
+pub returns-clause-ok : goal.returns-clause-ok
+returns-clause-ok c =
+    subst (IsValueOf c.finish.result) (sym (topology_at_end c.args.text.now (parser_view c.new-parser.result) (parser_view c.read_tokens.new.parser) c.in_ok-end.end c.new-parser.ensures c.in_ok-end.ensures.ok)) c.finish.ensures.ok
 
 pub returns-clause-grammar : goal.returns-clause-grammar
 returns-clause-grammar c =
-    of_result c.finished.result (IsWritten c.args.text.now)
-    (is_written c.args.text.now (parser_view c.new-parser.result) _ c.new-parser.ensures c.in_ok-read_tokens.ensures.ok)
+    value_has c.finish.result (topology_of c.args.text.now) (λ t. IsWritten c.args.text.now)
+    (subst (IsValueOf c.finish.result) (sym (topology_at_end c.args.text.now (parser_view c.new-parser.result) (parser_view c.read_tokens.new.parser) c.in_ok-end.end c.new-parser.ensures c.in_ok-end.ensures.ok)) c.finish.ensures.ok)
+    (λ t is. let a = accepted c.args.text.now t is in is_written c.args.text.now a.0 a.1)
+
+pub returns-clause-err : goal.returns-clause-err
+returns-clause-err c =
+    subst (IsErrorOf c.finish.result) (sym (topology_at_end c.args.text.now (parser_view c.new-parser.result) (parser_view c.read_tokens.new.parser) c.in_ok-end.end c.new-parser.ensures c.in_ok-end.ensures.ok)) c.finish.ensures.err

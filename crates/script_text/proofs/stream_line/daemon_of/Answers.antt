@@ -1,9 +1,5 @@
-use Rattle.std.proofs.Common.{sym}
-use Rattle.script_text.proofs.NodeNumbers.{number_below}
+use Rattle.std.proofs.Common.{refl}
 use Rattle.script_text.proofs.stream_line.daemon_of.Goals as goal
 
-pub is_daemon-requires : goal.is_daemon-requires
-is_daemon-requires c = number_below c.args.topology.now c.requires c.args.name.now c.in-Some.n (sym c.in-Some.ensures)
-
-pub returns-clause-node : goal.returns-clause-node
-returns-clause-node c = number_below c.args.topology.now c.requires c.args.name.now c.in-Some.n (sym c.in-Some.ensures)
+pub returns-in-Some-clause-node : goal.returns-in-Some-clause-node
+returns-in-Some-clause-node c = ((c.in-Some.ensures.exact c.in-Some.n).0 refl).0

@@ -7,7 +7,7 @@ use Rattle.script_text.proofs.stream_line.named.Given as goal
 abbrev pub invariant-loop-name : goal.invariant-loop-name
 invariant-loop-name l = record {
   marks : length l.marks.items ≡ length l.topology.parents;
-  parser_view : with_named l.topology l.line (marked_from 0 l.marks.items) (words l.rest) ≡ with_named l.topology l.line [] (words l.names);
+  parser_view : with_named l.topology l.line_number (marked_from 0 l.marks.items) (words l.rest) ≡ with_named l.topology l.line_number [] (words l.names);
 }
 
 abbrev pub decreases-loop-name : goal.decreases-loop-name

@@ -1,11 +1,11 @@
 use Rattle.std.proofs.Common.{◌∙◌, sym, ap, option_map}
 use Rattle.text_lines.specs.Lines.{words}
-use Rattle.script_text.specs.ParserViews.{meant_lose}
+use Rattle.script_text.specs.ParserViews.{lose_view}
 use Rattle.script_text.proofs.Forms.{lose_short, lose_long, lose_bad, lose_good, some_left, none_left}
 use Rattle.script_text.proofs.words.lose_words.Goals as goal
 
 pub returns-in_err-five : goal.returns-in_err-five
-returns-in_err-five c = ap (option_map meant_lose) c.from_residual.ensures ∙ lose_short (words c.args.line.now) c.in_err-five.ensures.none
+returns-in_err-five c = ap (option_map lose_view) c.from_residual.ensures ∙ lose_short (words c.args.line.now) c.in_err-five.ensures.none
 
 pub returns-then-is_some : goal.returns-then-is_some
 returns-then-is_some c =

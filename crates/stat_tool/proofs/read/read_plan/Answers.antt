@@ -1,6 +1,6 @@
 use Rattle.std.proofs.Common.{◌∙◌, arith, refl}
 use Rattle.sample_text.specs.Whole.{samples_of_text}
-use Rattle.script_text.specs.Script.{script_of}
+use Rattle.script_text.specs.Whole.{script_of}
 use Rattle.std.proofs.Common.{List, [], ◌∷◌}
 use Rattle.stat_tool.specs.Call.{desk_change}
 use Rattle.stat_tool.specs.Words.{names_of}

@@ -1,5 +1,5 @@
 use Rattle.std.proofs.Common.{sym, ap, ◌∙◌}
-use Rattle.script_text.specs.Script.{script_of}
+use Rattle.script_text.specs.Whole.{script_of}
 use Rattle.stat_tool.specs.Call.{desk_change}
 use Rattle.stat_tool.proofs.Stopping.{stops_unread, stops_refused}
 use Rattle.stat_tool.specs.declared.status.FileRole.TheVariants.{Script}

@@ -8,7 +8,7 @@ pub loop-b-preserved-then-b-eq10 : goal.loop-b-preserved-then-b-eq10
 loop-b-preserved-then-b-eq10 c = record {
   room = omega (arith, c.in-Some.ensures.cases.1);
   shorter = omega (arith, c.in-Some.ensures.cases.1);
-  pieces = after_feed c.loop-b.line c.in-Some.b.now c.in-Some.after.now c.if-b-eq10.true ∙ ap (λ t. pieces c.loop-b.line 0 t) (sym c.in-Some.ensures.cases.0) ∙ c.loop-b.invariant.pieces;
+  pieces = after_feed c.loop-b.line_number c.in-Some.b.now c.in-Some.after.now c.if-b-eq10.true ∙ ap (λ t. pieces c.loop-b.line_number 0 t) (sym c.in-Some.ensures.cases.0) ∙ c.loop-b.invariant.pieces;
 }
 
 pub loop-b-preserved-then-is_space : goal.loop-b-preserved-then-is_space
@@ -17,7 +17,7 @@ loop-b-preserved-then-is_space c =
     record {
       room = omega (arith, c.in-Some.ensures.cases.1);
       shorter = omega (arith, c.in-Some.ensures.cases.1);
-      pieces = after_space c.loop-b.line c.in-Some.b.now c.in-Some.after.now not_feed (sym c.is_space.ensures ∙ c.if-is_space.true) ∙ ap (λ t. pieces c.loop-b.line 0 t) (sym c.in-Some.ensures.cases.0) ∙ c.loop-b.invariant.pieces;
+      pieces = after_space c.loop-b.line_number c.in-Some.b.now c.in-Some.after.now not_feed (sym c.is_space.ensures ∙ c.if-is_space.true) ∙ ap (λ t. pieces c.loop-b.line_number 0 t) (sym c.in-Some.ensures.cases.0) ∙ c.loop-b.invariant.pieces;
     }
 
 pub loop-b-preserved : goal.loop-b-preserved
@@ -27,5 +27,5 @@ loop-b-preserved c =
     record {
       room = omega (arith, c.in-Some.ensures.cases.1, c.split_at.ensures.back_len);
       shorter = omega (arith, c.in-Some.ensures.cases.1, c.split_at.ensures.back_len);
-      pieces = ap (λ t. pieces c.loop-b.line 0 t) next ∙ after_comment c.loop-b.line c.in-Some.b.now c.in-Some.after.now not_feed (sym c.is_space.ensures ∙ c.if-is_space.false) (eq-eqb _ _ c.if-b-eq35.true) ∙ ap (λ t. pieces c.loop-b.line 0 t) (sym c.in-Some.ensures.cases.0) ∙ c.loop-b.invariant.pieces;
+      pieces = ap (λ t. pieces c.loop-b.line_number 0 t) next ∙ after_comment c.loop-b.line_number c.in-Some.b.now c.in-Some.after.now not_feed (sym c.is_space.ensures ∙ c.if-is_space.false) (eq-eqb _ _ c.if-b-eq35.true) ∙ ap (λ t. pieces c.loop-b.line_number 0 t) (sym c.in-Some.ensures.cases.0) ∙ c.loop-b.invariant.pieces;
     }

@@ -4,9 +4,9 @@ use Rattle.topology_text.proofs.tokens.skipped.Given as goal
 
 abbrev pub invariant-loop-b : goal.invariant-loop-b
 invariant-loop-b l = record {
-  room : l.line + length l.rest ≤ l.fn.line + length l.fn.text;
+  room : l.line_number + length l.rest ≤ l.fn.line_number + length l.fn.text;
   shorter : length l.rest ≤ length l.fn.text;
-  pieces : pieces l.line 0 l.rest ≡ pieces l.fn.line 0 l.fn.text;
+  pieces : pieces l.line_number 0 l.rest ≡ pieces l.fn.line_number 0 l.fn.text;
 }
 
 abbrev pub decreases-loop-b : goal.decreases-loop-b

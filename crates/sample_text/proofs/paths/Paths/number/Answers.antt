@@ -1,6 +1,6 @@
 use Rattle.std.proofs.Common.{◌∙◌, ◌++◌, ◌∷◌, [], sym, ap, subst, arith}
 use Rattle.call_path.specs.Reading.{path_of}
-use Rattle.sample_text.specs.Parsers.{AreRead}
+use Rattle.sample_text.specs.ParserViews.{AreRead}
 use Rattle.sample_text.proofs.Texts.{found, path_good, read_more, inserted}
 use Rattle.sample_text.proofs.paths.Paths.number.Goals as goal
 
@@ -10,7 +10,7 @@ overflow_cast-result c =
     omega (arith, lt, c.requires.few)
 
 pub returns-in-Some-clause-ok : goal.returns-in-Some-clause-ok
-returns-in-Some-clause-ok c = path_good c.args.line c.args.text.now _ (found c.args.text.now c.args.self.now.texts.keys c.args.self.now.paths.items c.in-Some.number c.requires.holds c.in-Some.ensures.index).0
+returns-in-Some-clause-ok c = path_good c.args.line_number c.args.text.now _ (found c.args.text.now c.args.self.now.texts.keys c.args.self.now.paths.items c.in-Some.number c.requires.holds c.in-Some.ensures.index).0
 
 pub returns-in-Some-clause-within : goal.returns-in-Some-clause-within
 returns-in-Some-clause-within c = (found c.args.text.now c.args.self.now.texts.keys c.args.self.now.paths.items c.in-Some.number c.requires.holds c.in-Some.ensures.index).1

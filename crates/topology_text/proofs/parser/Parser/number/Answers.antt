@@ -1,14 +1,12 @@
 use Rattle.std.proofs.Common.{◌≡◌, ◌∙◌, sym, ap, None, Some, Ok, Err, String, Global, ◌<◌, ◌++◌, [], ◌∷◌, List, length, ◌≤◌, map, string_bytes, arith}
 use Rattle.stat_plan.specs.Names.{number_of}
 use Rattle.stat_plan.proofs.NameNumbers.{length-map, number_of_keys}
-use Rattle.text_lines.specs.declared.text_error.TextError.TheVariants.{Over}
-use Rattle.text_lines.specs.declared.text_error.Quantity.TheVariants.{Nodes}
 use Rattle.topology_text.specs.ParserViews.{parser_view}
 use Rattle.topology_text.proofs.Numbers.{number_of_last, appear_known, appear_over, appear_new, inserted}
 use Rattle.topology_text.proofs.parser.Parser.number.Goals as goal
 
 pub returns-in-Some-clause-ok : goal.returns-in-Some-clause-ok
-returns-in-Some-clause-ok c = appear_known (parser_view c.args.self.now) c.args.line c.in-Some.number c.args.name.now (number_of_keys string_bytes c.args.name.now c.args.self.now.names.keys (Some c.in-Some.number) c.in-Some.ensures.index)
+returns-in-Some-clause-ok c = appear_known (parser_view c.args.self.now) c.args.line_number c.in-Some.number c.args.name.now (number_of_keys string_bytes c.args.name.now c.args.self.now.names.keys (Some c.in-Some.number) c.in-Some.ensures.index)
 
 pub returns-in-Some-clause-number : goal.returns-in-Some-clause-number
 returns-in-Some-clause-number c = number_of_keys string_bytes c.args.name.now c.args.self.now.names.keys (Some c.in-Some.number) c.in-Some.ensures.index
@@ -20,7 +18,7 @@ few : (keys : List (String Global)) → length keys < 512 → length (map string
 few keys h = rw (length-map string_bytes keys) h
 
 pub returns-then-number-clause-err : goal.returns-then-number-clause-err
-returns-then-number-clause-err c = λ _. appear_over (parser_view c.args.self.now) c.args.line c.args.name.now (number_of_keys string_bytes c.args.name.now c.args.self.now.names.keys None c.in_default.ensures.index) (many c.args.self.now.names.keys (omega (arith, c.len-number.ensures.len))) ∙ ap (λ n. Err (Over c.args.line Nodes n)) (sym c.from.ensures)
+returns-then-number-clause-err c = λ _. appear_over (parser_view c.args.self.now) c.args.line_number c.args.name.now (number_of_keys string_bytes c.args.name.now c.args.self.now.names.keys None c.in_default.ensures.index) (many c.args.self.now.names.keys (omega (arith, c.len-number.ensures.len))) ∙ ap Err (sym c.over.ensures)
 
 unknown : (c : goal.In_ok-insert_full) → number_of c.args.name.now (map string_bytes c.args.self.now.names.keys) ≡ None
 unknown c = number_of_keys string_bytes c.args.name.now c.args.self.now.names.keys None c.in_default.ensures.index
@@ -30,8 +28,8 @@ keys_now c = ap (map string_bytes) c.in_ok-insert_full.ensures.keys ∙ inserted
 
 pub returns-clause-ok : goal.returns-clause-ok
 returns-clause-ok c =
-    appear_new (parser_view c.args.self.now) c.args.line c.args.name.now (unknown c) (few c.args.self.now.names.keys (omega (arith, c.len-number.ensures.len)))
-    ∙ (λ i. Ok (record { names = sym (keys_now c) i; nodes = sym c.in_ok-push.ensures.items i; place = c.args.self.now.place }))
+    appear_new (parser_view c.args.self.now) c.args.line_number c.args.name.now (unknown c) (few c.args.self.now.names.keys (omega (arith, c.len-number.ensures.len)))
+    ∙ (λ i. Ok (record { names = sym (keys_now c) i; nodes = sym c.in_ok-push.ensures.items i; state = c.args.self.now.state }))
 
 pub returns-clause-number : goal.returns-clause-number
 returns-clause-number c =

@@ -1,0 +1,42 @@
+-- What the parser stands for, and how its parts fit together.
+use Rattle.std.specs.Prelude.{◌≡◌, ◌≤◌, ⊤, ℕ, List, [], ◌∷◌, length, slice_index_or, Ok, string_bytes, String}
+use Rattle.std.specs.Global.{Global}
+use Rattle.call_path.specs.Path.{Path}
+use Rattle.call_path.specs.Reading.{path_of}
+use Rattle.stat_plan.specs.Plans.{Sampled, sampled}
+use Rattle.stat_plan.specs.Samples.{all_ranks}
+use Rattle.stat_plan.specs.Topologies.{Nodes}
+use Rattle.stat_plan.specs.StackLines.{lines_of, PathIndicesInRange}
+use Rattle.sample_text.specs.declared.paths.Paths.{Paths}
+use Rattle.sample_text.specs.declared.parser.Parser.{Parser}
+
+-- each text is read as the path with its number
+abbrev pub AreRead : List (String Global) → List Path → Type 0
+AreRead [] [] = ⊤
+AreRead [] (path ∷ paths) = ⊥
+AreRead (text ∷ texts) [] = ⊥
+AreRead (text ∷ texts) (path ∷ paths) = (path_of (string_bytes text) ≡ Ok path) × AreRead texts paths
+
+-- the same of the paths that are kept
+abbrev pub HoldsPaths : Paths → Type 0
+HoldsPaths p = AreRead p.texts.keys p.paths.items
+
+-- the path with a number
+abbrev pub path_at : Paths → ℕ → Path
+path_at p n = slice_index_or p.paths.items n []
+
+-- the ranks and samples of a parser
+abbrev pub parser_view : Parser → Sampled
+parser_view parser = sampled parser.placed.items (lines_of parser.paths.paths.items parser.lines.items)
+
+-- the nodes that a parser knows
+abbrev pub parser_nodes : Parser → Nodes
+parser_nodes parser = parser.topology.now
+
+-- a set for each node and one of all placed ranks, and each path once: no more paths than lines
+pub record IsConsistent (parser : Parser) : Type 0 where
+  pub paired : length parser.placed.items ≡ length parser.topology.now.parents
+  pub all : parser.all ≡ all_ranks parser.placed.items
+  pub paths : HoldsPaths parser.paths
+  pub numbered : PathIndicesInRange parser.paths.paths.items parser.lines.items
+  pub few : length parser.paths.paths.items ≤ length parser.lines.items

@@ -1,0 +1,95 @@
+//! The words of a line of samples: `daemon NAME RANKS` or `stack TIME RANKS PATH`. They are checked here, before any name,
+//! number or path in them.
+
+ghost use Rattle.std.specs.Prelude.{◌≡◌, IfOk, IfErr, Ok, Err};
+ghost use Rattle.text_lines.specs.Lines.{words, after_word};
+ghost use Rattle.sample_text.specs.Words.{daemon_words, stack_words, directive, read_line};
+ghost use Rattle.sample_text.specs.LineViews.{line_view};
+
+use text_lines::{Reason, TextError, after_blanks, is_word, next_word, says_nothing};
+
+/// What a line says.
+#[derive(Debug, Clone, Copy)]
+pub enum Line<'t> {
+    /// Nothing: a comment, or no word.
+    Nothing,
+    /// `daemon NAME RANKS`
+    Daemon {
+        name: &'t [u8],
+        ranks: &'t [u8],
+    },
+    /// `stack TIME RANKS PATH`
+    Stack {
+        time: &'t [u8],
+        ranks: &'t [u8],
+        path: &'t str,
+    },
+}
+
+// What follows the word `daemon`.
+fn daemon_words(line_number: u64, rest: &[u8]) -> Result<Line<'_>, TextError>
+    ensures ok { IfOk result (λ view. daemon_words line_number (words rest.now) ≡ Ok (line_view view)) }
+    ensures err { IfErr result (λ e. daemon_words line_number (words rest.now) ≡ Err e) }
+{
+    let Some((name, rest)) = next_word(rest) else {
+        return Err(TextError::bad(line_number, Reason::BadDirective));
+    };
+    let Some((ranks, rest)) = next_word(rest) else {
+        return Err(TextError::bad(line_number, Reason::BadDirective));
+    };
+    if next_word(rest).is_some() {
+        return Err(TextError::bad(line_number, Reason::BadDirective));
+    }
+    Ok(Line::Daemon { name, ranks })
+}
+
+// What follows the word `stack` in a line. The line is UTF-8, so the path, which is its end, is not tested again.
+fn stack_words<'t>(line_number: u64, line: &'t str, rest: &'t [u8]) -> Result<Line<'t>, TextError>
+    requires { rest.now ≡ after_word line.now }
+    ensures ok { IfOk result (λ view. stack_words line_number rest.now (words rest.now) ≡ Ok (line_view view)) }
+    ensures err { IfErr result (λ e. stack_words line_number rest.now (words rest.now) ≡ Err e) }
+{
+    let Some((time, rest)) = next_word(rest) else {
+        return Err(TextError::bad(line_number, Reason::BadDirective));
+    };
+    let Some((ranks, rest)) = next_word(rest) else {
+        return Err(TextError::bad(line_number, Reason::BadDirective));
+    };
+    let end = after_blanks(rest);
+    if end.is_empty() {
+        return Err(TextError::bad(line_number, Reason::BadDirective));
+    }
+    let (_, path) = line.split_at(line.len() - end.len());
+    Ok(Line::Stack { time, ranks, path })
+}
+
+// A line that says something.
+fn directive(line_number: u64, line: &str) -> Result<Line<'_>, TextError>
+    ensures ok { IfOk result (λ view. directive line_number line.now (words line.now) ≡ Ok (line_view view)) }
+    ensures err { IfErr result (λ e. directive line_number line.now (words line.now) ≡ Err e) }
+{
+    let Some((word, rest)) = next_word(line.as_bytes()) else {
+        return Err(TextError::bad(line_number, Reason::BadDirective));
+    };
+    if is_word(word, b"daemon") {
+        daemon_words(line_number, rest)
+    } else if is_word(word, b"stack") {
+        stack_words(line_number, line, rest)
+    } else {
+        Err(TextError::bad(line_number, Reason::BadDirective))
+    }
+}
+
+/// What a line says, or why it is not a line of samples.
+pub fn read_line(line_number: u64, line: &[u8]) -> Result<Line<'_>, TextError>
+    ensures ok { IfOk result (λ view. read_line line_number line.now ≡ Ok (line_view view)) }
+    ensures err { IfErr result (λ e. read_line line_number line.now ≡ Err e) }
+{
+    if says_nothing(line) {
+        return Ok(Line::Nothing);
+    }
+    match str::from_utf8(line) {
+        Ok(line) => directive(line_number, line),
+        Err(_) => Err(TextError::bad(line_number, Reason::NotUtf8)),
+    }
+}

@@ -1,0 +1,16 @@
+-- What holds of a script after each line.
+use Rattle.std.specs.Prelude.{◌≢◌, ◌<◌, length, map}
+use Rattle.std.specs.List.{AllByRecursion}
+use Rattle.stat_plan.specs.Invariants.{IsStream, IsDaemon}
+use Rattle.stat_plan.specs.NodeSets.{IsStrictlyIncreasing}
+use Rattle.stat_plan.specs.Plans.{Scripted}
+use Rattle.stat_plan.specs.Topologies.{Nodes}
+use Rattle.stat_plan.specs.Trees.{root_of}
+
+-- streams of daemons, ascending by number, and losses of nodes other than the front end, ascending by node
+pub record ParserInvariant (t : Nodes) (c : Scripted) : Type 0 where
+  pub streams : AllByRecursion IsStream c.streams
+  pub streams_rise : IsStrictlyIncreasing (map (λ x. x.number) c.streams)
+  pub faults_rise : IsStrictlyIncreasing (map (λ f. f.node) c.faults)
+  pub daemons : AllByRecursion (λ x. AllByRecursion (IsDaemon t) x.daemons) c.streams
+  pub faults : AllByRecursion (λ f. (f.node < length t.parents) × (f.node ≢ root_of t.parents)) c.faults
