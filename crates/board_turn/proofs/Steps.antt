@@ -1,4 +1,4 @@
--- Each step keeps the rule.
+-- Each step keeps the table's invariant.
 use Rattle.std.proofs.Common.{◌≡◌, ◌≢◌, ℕ, zero, suc, ◌+◌, ◌%◌, ◌^◌, ◌<◌, ◌≤◌, ◌==◌, ◌⊎◌, ⊎_elim, inl, inr, Bool, true, false, cond, List, [], ◌∷◌, ◌++◌, length, replicate, get_or, set, Option, Some, None, slice_get, refl, sym, ap, ◌∙◌, subst, arith, length-append}
 use mathlib.Core.Option.{Option as Option', some, none, some-injective, some-ne-none}
 use mathlib.Core.List.{IsPrefix}
@@ -12,10 +12,10 @@ use Rattle.stat_desk.specs.declared.event.Event.{Event}
 use Rattle.board_turn.specs.declared.holding.Holding.{Holding}
 use Rattle.board_turn.specs.declared.view.LogEntry.{LogEntry}
 use Rattle.board_turn.specs.declared.view.View.{View}
-use Rattle.board_turn.specs.Entries.{holding, claim_of, commit_of, Kept, added, kept, IsUnmoved}
+use Rattle.board_turn.specs.Entries.{holding, claim_of, commit_of, LogState, state_after_entry, log_state, IsUnmoved}
 use Rattle.stat_desk.specs.Events.{event_node}
-use Rattle.board_turn.specs.Turns.{Sound, Fits, Ruled, first_view, with_turn, with_no_turn, with_entry, with_none_due, with_one_more, split_off, spent_view, knows, IsKeptBy, took, freed, counted, committed, claimed, with_lift, laid, picked}
-use Rattle.board_turn.proofs.Logs.{prefix_self, prefix_trans, out_else, out_here, all_none, sound_start, sound_claim, sound_commit, kept-append}
+use Rattle.board_turn.specs.Turns.{LogInvariant, ViewInvariant, TableInvariant, first_view, with_turn, with_no_turn, with_entry, with_none_due, with_one_more, split_off, spent_view, known_state, IsKnownTo, TriesTurn, FreesTurn, CountsEntry, CommitsEvent, ClaimsEvent, with_lift, LaysDown, PicksUp}
+use Rattle.board_turn.proofs.Logs.{prefix_self, prefix_trans, out_else, out_here, all_none, invariant_start, invariant_claim, invariant_commit, log_state_from-append}
 
 module _ {X Y : Type 0} (journal : X → List Event) (holders : X → List (Option Holding)) (base : X → Y) (x : X) where
   -- how many nodes the board has
@@ -32,17 +32,17 @@ module _ {X Y : Type 0} (journal : X → List Event) (holders : X → List (Opti
   abbrev M : Type 0
   M = Me (Option X) V
 
-  -- the rule, for this opening board
+  -- the invariant, for this opening board
   abbrev Rule : St → Type 0
-  Rule = Ruled journal holders base x
+  Rule = TableInvariant journal holders base x
 
   -- what a living seat knows
   abbrev Fit : ℕ → ℕ → ℕ → Bool → List LogEntry → V → Type 0
-  Fit = Fits journal holders base N
+  Fit = ViewInvariant journal holders base N
 
   -- no two living seats have one number
-  abbrev Apart : List V → Type 0
-  Apart vs = (i j : ℕ) (v w : V) → get_elem? vs i ≡ some v → get_elem? vs j ≡ some w → v.spent ≡ false → w.spent ≡ false → v.number ≡ w.number → i ≡ j
+  abbrev HaveDistinctNumbers : List V → Type 0
+  HaveDistinctNumbers vs = (i j : ℕ) (v w : V) → get_elem? vs i ≡ some v → get_elem? vs j ≡ some w → v.spent ≡ false → w.spent ≡ false → v.number ≡ w.number → i ≡ j
 
   -- the table with these words
   abbrev at_words : St → List ℕ → St
@@ -53,16 +53,16 @@ module _ {X Y : Type 0} (journal : X → List Event) (holders : X → List (Opti
       → (j : ℕ) (u : V) → get_elem? (set vs id w) j ≡ some u → u.spent ≡ false → K u
   seats K vs id w mine others j u e living = ⊎_elim (λ (t : (j ≡ id) × (w ≡ u)). subst K t.1 mine) (λ (t : (j ≢ id) × (get_elem? vs j ≡ some u)). others j u t.0 t.1 living) (at_set vs id j w u e)
 
-  -- numbers stay apart where a view keeps its number
-  stay_apart : (vs : List V) (id : ℕ) (v w : V) → Apart vs → get_elem? vs id ≡ some v → v.spent ≡ false → w.number ≡ v.number → Apart (set vs id w)
-  stay_apart vs id v w apart at living same i j a b ai bj li lj e = ⊎_elim
+  -- numbers stay distinct where a view keeps its number
+  stay_distinct : (vs : List V) (id : ℕ) (v w : V) → HaveDistinctNumbers vs → get_elem? vs id ≡ some v → v.spent ≡ false → w.number ≡ v.number → HaveDistinctNumbers (set vs id w)
+  stay_distinct vs id v w distinct_numbers at living same i j a b ai bj li lj e = ⊎_elim
       (λ (p : (i ≡ id) × (w ≡ a)). ⊎_elim
       (λ (q : (j ≡ id) × (w ≡ b)). p.0 ∙ sym q.0)
-      (λ (q : (j ≢ id) × (get_elem? vs j ≡ some b)). p.0 ∙ apart id j v b at q.1 living lj (sym same ∙ (ap (λ (z : V). z.number) p.1 ∙ e)))
+      (λ (q : (j ≢ id) × (get_elem? vs j ≡ some b)). p.0 ∙ distinct_numbers id j v b at q.1 living lj (sym same ∙ (ap (λ (z : V). z.number) p.1 ∙ e)))
       (at_set vs id j w b bj))
       (λ (p : (i ≢ id) × (get_elem? vs i ≡ some a)). ⊎_elim
-      (λ (q : (j ≡ id) × (w ≡ b)). apart i id a v p.1 at li living (e ∙ (sym (ap (λ (z : V). z.number) q.1) ∙ same)) ∙ sym q.0)
-      (λ (q : (j ≢ id) × (get_elem? vs j ≡ some b)). apart i j a b p.1 q.1 li lj e)
+      (λ (q : (j ≡ id) × (w ≡ b)). distinct_numbers i id a v p.1 at li living (e ∙ (sym (ap (λ (z : V). z.number) q.1) ∙ same)) ∙ sym q.0)
+      (λ (q : (j ≢ id) × (get_elem? vs j ≡ some b)). distinct_numbers i j a b p.1 q.1 li lj e)
       (at_set vs id j w b bj))
       (at_set vs id i w a ai)
 
@@ -82,15 +82,15 @@ module _ {X Y : Type 0} (journal : X → List Event) (holders : X → List (Opti
       (λ i. (f.0, f.1, set_else vs id f.0 w i ∙ f.2, f.3, f.4))
 
   -- another living seat has another number
-  number_apart : (vs : List V) (id : ℕ) (v : V) → Apart vs → get_elem? vs id ≡ some v → v.spent ≡ false → (j : ℕ) (u : V) → j ≢ id → get_elem? vs j ≡ some u → u.spent ≡ false → u.number ≢ v.number
-  number_apart vs id v apart at living j u ne there lu e = ne (apart j id u v there at lu living e)
+  number_distinct : (vs : List V) (id : ℕ) (v : V) → HaveDistinctNumbers vs → get_elem? vs id ≡ some v → v.spent ≡ false → (j : ℕ) (u : V) → j ≢ id → get_elem? vs j ≡ some u → u.spent ≡ false → u.number ≢ v.number
+  number_distinct vs id v distinct_numbers at living j u ne there lu e = ne (distinct_numbers j id u v there at lu living e)
 
   some_of : {A : Type 0} (a b : A) → some a ≡ some b → a ≡ b
   some_of a b e = some-injective a b e
 
-  -- the rule holds of a new table
+  -- the invariant holds of a new table
   pub starts : journal x ≡ [] → ((v : ℕ) → v < N → slice_get (holders x) v ≡ Some None) → N < 2 ^ 32 → Rule (opening (0 ∷ 0 ∷ 0 ∷ []) (Some x ∷ []) (first_view N))
-  starts empty none_out few = record {
+  starts empty none_out within_limit = record {
     log = [];
     made = 0;
     owner = 0;
@@ -99,13 +99,13 @@ module _ {X Y : Type 0} (journal : X → List Event) (holders : X → List (Opti
     lifted = false;
     words = refl;
     counted = refl;
-    sound = sound_start N few;
-    home = λ _. (refl, (x, refl, record { same_journal = empty; same_holders = all_none (holders x) none_out; same_base = refl }));
-    away = λ ne. absurd (ne refl);
-    one = λ ne. absurd (ne refl);
+    log_invariant = invariant_start N within_limit;
+    slot_home = λ _. (refl, (x, refl, record { same_journal = empty; same_holders = all_none (holders x) none_out; same_base = refl }));
+    slot_away = λ ne. absurd (ne refl);
+    owner_lives = λ ne. absurd (ne refl);
     first_lives = (0, first_view N, refl, refl, refl);
-    each = λ j v e living. first_fits j v e;
-    apart = λ i j v w a b lv lw e. firsts i j v w a b;
+    living_views = λ j v e living. first_fits j v e;
+    distinct_numbers = λ i j v w a b lv lw e. firsts i j v w a b;
   } where
     first_fits : (j : ℕ) (v : V) → get_elem? (first_view N ∷ []) j ≡ some v → Fit 0 0 0 false [] v
     first_fits zero v e = subst (Fit 0 0 0 false []) (some_of (first_view N) v e) record {
@@ -113,9 +113,9 @@ module _ {X Y : Type 0} (journal : X → List Event) (holders : X → List (Opti
       low = omega arith;
       high = omega arith;
       first = λ _. refl;
-      saw = prefix_self [];
+      seen_prefix = prefix_self [];
       out = refl;
-      noted = λ h o. absurd (cc);
+      claim_seen = λ h o. absurd (cc);
       turn = λ t. absurd (cc);
     }
     first_fits (suc j) v e = absurd (some-ne-none v (sym e))
@@ -127,7 +127,7 @@ module _ {X Y : Type 0} (journal : X → List Event) (holders : X → List (Opti
 
   -- where the owner is 0, no living seat has the turn
   no_owner : (s : St) (r : Rule s) → r.owner ≡ 0 → (j : ℕ) (u : V) → get_elem? s.views j ≡ some u → u.spent ≡ false → u.turn ≡ true → ⊥
-  no_owner s r z j u at living t = let f = r.each j u at living in let a = (f.turn t).0 in let low = f.low in absurd (omega arith)
+  no_owner s r z j u at living t = let f = r.living_views j u at living in let a = (f.turn t).0 in let low = f.low in absurd (omega arith)
 
   -- the owner is the seat that has the turn
   owner_is : (s : St) (r : Rule s) (id : ℕ) (v : V) → get_elem? s.views id ≡ some v → v.spent ≡ false → v.turn ≡ true → r.owner ≢ 0
@@ -137,19 +137,19 @@ module _ {X Y : Type 0} (journal : X → List Event) (holders : X → List (Opti
   no_other : (s : St) (r : Rule s) (id : ℕ) (v : V) → get_elem? s.views id ≡ some v → v.spent ≡ false → v.turn ≡ true
       → (j : ℕ) (u : V) → j ≢ id → get_elem? s.views j ≡ some u → u.spent ≡ false → u.turn ≡ true → ⊥
   no_other s r id v at living t j u ne there lu tu =
-      let mine = ((r.each id v at living).turn t).0 in let theirs = ((r.each j u there lu).turn tu).0 in ne (r.apart j id u v there at lu living (theirs ∙ sym mine))
+      let mine = ((r.living_views id v at living).turn t).0 in let theirs = ((r.living_views j u there lu).turn tu).0 in ne (r.distinct_numbers j id u v there at lu living (theirs ∙ sym mine))
 
-  -- the words of the rule, put into a step's goal
-  worded : (s : St) (r : Rule s) (P : List ℕ → Type 0) → P (r.owner ∷ length (kept N r.log).journal ∷ r.entries ∷ []) → P s.words
+  -- the words of the invariant, put into a step's goal
+  worded : (s : St) (r : Rule s) (P : List ℕ → Type 0) → P (r.owner ∷ length (log_state N r.log).journal ∷ r.entries ∷ []) → P s.words
   worded s r P p = subst P (sym r.words) p
 
-  -- what the view keeps is what its entries leave
-  saw_is : (v : V) (n : ℕ) (log : List LogEntry) → v.nodes ≡ n → v.known ≡ log → knows v ≡ kept n log
-  saw_is v n log a b = λ i. kept (a i) (b i)
+  -- the state that a view knows
+  known_state_is : (v : V) (n : ℕ) (log : List LogEntry) → v.nodes ≡ n → v.known ≡ log → known_state v ≡ log_state n log
+  known_state_is v n log a b = λ i. log_state (a i) (b i)
 
   taken_turn : (s : St) (r : Rule s) (id k : ℕ) (v : V) (c : List (ℕ × Option X)) (b : X) → get_elem? s.views id ≡ some v → v.spent ≡ false → v.number ≡ k → r.owner ≡ 0 → s.homes ≡ some (Some b) ∷ [] → r.pending ≡ 0
-      → Rule (stepped (at_words s (r.owner ∷ length (kept N r.log).journal ∷ r.entries ∷ [])) 0 k id c (with_turn v r.log) (takes 0 (Some b)))
-  taken_turn s r id k v c b at living is z homes settled = let f = r.each id v at living in let w : V = with_turn v r.log in let low = f.low in record {
+      → Rule (stepped (at_words s (r.owner ∷ length (log_state N r.log).journal ∷ r.entries ∷ [])) 0 k id c (with_turn v r.log) (takes 0 (Some b)))
+  taken_turn s r id k v c b at living is z homes settled = let f = r.living_views id v at living in let w : V = with_turn v r.log in let low = f.low in record {
     log = r.log;
     made = r.made;
     owner = k;
@@ -158,43 +158,43 @@ module _ {X Y : Type 0} (journal : X → List Event) (holders : X → List (Opti
     lifted = true;
     words = refl;
     counted = omega (arith, r.counted);
-    sound = r.sound;
-    home = λ none. absurd (omega arith);
-    away = λ _. ap (λ hs. set hs 0 none) homes;
-    one = λ _. (id, w, at_set_here s.views id v w at, living, refl);
+    log_invariant = r.log_invariant;
+    slot_home = λ none. absurd (omega arith);
+    slot_away = λ _. ap (λ hs. set hs 0 none) homes;
+    owner_lives = λ _. (id, w, at_set_here s.views id v w at, living, refl);
     first_lives = keep_first s.views id v w at refl living r.first_lives;
-    each = seats (Fit r.made k 0 true r.log) s.views id w
+    living_views = seats (Fit r.made k 0 true r.log) s.views id w
         record {
           nodes = f.nodes;
           low = f.low;
           high = f.high;
           first = f.first;
-          saw = f.saw;
+          seen_prefix = f.seen_prefix;
           out = f.out;
-          noted = f.noted;
+          claim_seen = f.claim_seen;
           turn = λ _. (is, refl, refl, refl);
         }
-        (λ j u ne there lu. let g = r.each j u there lu in record {
+        (λ j u ne there lu. let g = r.living_views j u there lu in record {
           nodes = g.nodes;
           low = g.low;
           high = g.high;
           first = g.first;
-          saw = g.saw;
+          seen_prefix = g.seen_prefix;
           out = g.out;
-          noted = g.noted;
+          claim_seen = g.claim_seen;
           turn = λ t. absurd (no_owner s r z j u there lu t);
         });
-    apart = stay_apart s.views id v w r.apart at living refl;
+    distinct_numbers = stay_distinct s.views id v w r.distinct_numbers at living refl;
   }
 
   -- of a try for the turn
   pub takes_turn : (slots id k : ℕ) (o : Option Y) (me : M) → me.0.spent ≡ false → me.0.number ≡ k → o ≡ Some (base x)
-      → Allows Rule slots id me 0 (λ n. either (n == 0) k n) (took journal holders base o (step slots 0 0 k none) me)
-  takes_turn slots id k o me living is from s r _ at _ = let v : V = me.0 in let f = r.each id v at living in
-      let T : ℕ → St → ℕ → Type 0 = λ n t m. (w : V) × (a : Act (Option X)) × Valid s.homes me.1 a × Rule (stepped t 0 m id me.1 w a) × took journal holders base o (step slots 0 0 k none) me n (w, carried_after me.1 a) in
+      → Allows Rule slots id me 0 (λ n. either (n == 0) k n) (TriesTurn journal holders base o (step slots 0 0 k none) me)
+  takes_turn slots id k o me living is from s r _ at _ = let v : V = me.0 in let f = r.living_views id v at living in
+      let T : ℕ → St → ℕ → Type 0 = λ n t m. (w : V) × (a : Act (Option X)) × Valid s.homes me.1 a × Rule (stepped t 0 m id me.1 w a) × TriesTurn journal holders base o (step slots 0 0 k none) me n (w, carried_after me.1 a) in
       worded s r (λ ws. T (get_or ws 0 0) (at_words s ws) (either (get_or ws 0 0 == 0) k (get_or ws 0 0)))
-      (exchanged r.owner 0 k (T r.owner (at_words s (r.owner ∷ length (kept N r.log).journal ∷ r.entries ∷ [])))
-      (λ z. let home = r.home z in let b : X = home.1.0 in let w : V = with_turn v r.log in let same : knows w ≡ kept N r.log = saw_is w N r.log f.nodes refl in (
+      (exchanged r.owner 0 k (T r.owner (at_words s (r.owner ∷ length (log_state N r.log).journal ∷ r.entries ∷ [])))
+      (λ z. let home = r.slot_home z in let b : X = home.1.0 in let w : V = with_turn v r.log in let same : known_state w ≡ log_state N r.log = known_state_is w N r.log f.nodes refl in (
         w,
         takes 0 (Some b),
         ap (λ hs. get_elem? hs 0) home.1.1,
@@ -205,9 +205,9 @@ module _ {X Y : Type 0} (journal : X → List Event) (holders : X → List (Opti
             refl,
             (
               refl,
-              f.saw,
-              (let m = home.1.2 in (m.same_journal ∙ ap (λ (q : Kept). q.journal) (sym same), m.same_holders ∙ ap (λ (q : Kept). q.holders) (sym same), λ y e. m.same_base ∙ (let a : Some (base x) ≡ Some y = sym from ∙ e in cc))),
-              (λ h there. let out = sym f.out ∙ there in subst (λ (q : Kept). (slice_get q.holders (event_node h.event) ≡ Some (Some h)) × IsUnmoved q.journal h) (sym same) ((r.sound.held v.number h out).1, (r.sound.noted v.number h out).1)),
+              f.seen_prefix,
+              (let m = home.1.2 in (m.same_journal ∙ ap (λ (q : LogState). q.journal) (sym same), m.same_holders ∙ ap (λ (q : LogState). q.holders) (sym same), λ y e. m.same_base ∙ (let a : Some (base x) ≡ Some y = sym from ∙ e in cc))),
+              (λ h there. let out = sym f.out ∙ there in subst (λ (q : LogState). (slice_get q.holders (event_node h.event) ≡ Some (Some h)) × IsUnmoved q.journal h) (sym same) ((r.log_invariant.outs_held v.number h out).1, (r.log_invariant.unmoved v.number h out).1)),
             ),
           ),
           λ ne. absurd (ne z),
@@ -217,25 +217,25 @@ module _ {X Y : Type 0} (journal : X → List Event) (holders : X → List (Opti
         v,
         keeps,
         tt,
-        subst (λ (vs : List V). Rule record { words = r.owner ∷ length (kept N r.log).journal ∷ r.entries ∷ []; homes = s.homes; views = vs }) (sym (set_again s.views id v at)) (worded' s r),
+        subst (λ (vs : List V). Rule record { words = r.owner ∷ length (log_state N r.log).journal ∷ r.entries ∷ []; homes = s.homes; views = vs }) (sym (set_again s.views id v at)) (worded' s r),
         (λ z. absurd (ne z), λ _. refl),
       ))) where
-        worded' : (s : St) (r : Rule s) → Rule (at_words s (r.owner ∷ length (kept N r.log).journal ∷ r.entries ∷ []))
+        worded' : (s : St) (r : Rule s) → Rule (at_words s (r.owner ∷ length (log_state N r.log).journal ∷ r.entries ∷ []))
         worded' s r = subst (λ ws. Rule (at_words s ws)) r.words r
 
-  -- the rule's words, as a step's goal has them
+  -- the invariant's words, as a step's goal has them
   abbrev ruled_words : (s : St) → Rule s → List ℕ
-  ruled_words s r = r.owner ∷ length (kept N r.log).journal ∷ r.entries ∷ []
+  ruled_words s r = r.owner ∷ length (log_state N r.log).journal ∷ r.entries ∷ []
 
-  -- the last entry changes what is kept so
-  snoc_is : (log : List LogEntry) (e : LogEntry) → kept N (log ++ e ∷ []) ≡ added (kept N log) e
-  snoc_is log e = kept-append record { journal = []; holders = replicate N None; outs = λ _. None } log (e ∷ [])
+  -- the state after one more entry at the end
+  snoc_is : (log : List LogEntry) (e : LogEntry) → log_state N (log ++ e ∷ []) ≡ state_after_entry (log_state N log) e
+  snoc_is log e = log_state_from-append record { journal = []; holders = replicate N None; outs = λ _. None } log (e ∷ [])
 
   -- of freeing the turn, with the board in the slot
-  pub frees : (slots id : ℕ) (v : V) (b : X) → v.spent ≡ false → v.turn ≡ true → v.due ≡ 0 → v.lifts ≡ true → IsKeptBy journal holders base (Some (base x)) b v
-      → Allows Rule slots id (v, (0, Some b) ∷ []) 0 (λ _. 0) (λ _. freed (step slots 0 0 0 none) (v, (0, Some b) ∷ []) 0)
-  frees slots id v b living has settled lifts same s r _ at _ = let f = r.each id v at living in let w : V = with_no_turn v in let t = f.turn has in
-      let all : knows v ≡ kept N r.log = saw_is v N r.log f.nodes t.1 in let none_due : r.pending ≡ 0 = sym t.2 ∙ settled in let owned = owner_is s r id v at living has in (
+  pub frees : (slots id : ℕ) (v : V) (b : X) → v.spent ≡ false → v.turn ≡ true → v.due ≡ 0 → v.lifts ≡ true → IsKnownTo journal holders base (Some (base x)) b v
+      → Allows Rule slots id (v, (0, Some b) ∷ []) 0 (λ _. 0) (λ _. FreesTurn (step slots 0 0 0 none) (v, (0, Some b) ∷ []) 0)
+  frees slots id v b living has settled lifts same s r _ at _ = let f = r.living_views id v at living in let w : V = with_no_turn v in let t = f.turn has in
+      let all : known_state v ≡ log_state N r.log = known_state_is v N r.log f.nodes t.1 in let none_due : r.pending ≡ 0 = sym t.2 ∙ settled in let owned = owner_is s r id v at living has in (
         w,
         gives,
         tt,
@@ -248,57 +248,57 @@ module _ {X Y : Type 0} (journal : X → List Event) (holders : X → List (Opti
           lifted = false;
           words = refl;
           counted = omega (arith, r.counted);
-          sound = r.sound;
-          home = λ _. (
+          log_invariant = r.log_invariant;
+          slot_home = λ _. (
             refl,
             (
               b,
-              ap (λ hs. set hs 0 (some (Some b))) (r.away owned ∙ ap (λ (q : Bool). let l : List (Option' (Option X)) = cond q none (some None) ∷ [] in l) (sym t.3 ∙ lifts)),
+              ap (λ hs. set hs 0 (some (Some b))) (r.slot_away owned ∙ ap (λ (q : Bool). let l : List (Option' (Option X)) = cond q none (some None) ∷ [] in l) (sym t.3 ∙ lifts)),
               record {
-                same_journal = same.0 ∙ ap (λ (q : Kept). q.journal) all;
-                same_holders = same.1 ∙ ap (λ (q : Kept). q.holders) all;
+                same_journal = same.0 ∙ ap (λ (q : LogState). q.journal) all;
+                same_holders = same.1 ∙ ap (λ (q : LogState). q.holders) all;
                 same_base = same.2 (base x) refl;
               },
             ),
           );
-          away = λ ne. absurd (ne refl);
-          one = λ ne. absurd (ne refl);
+          slot_away = λ ne. absurd (ne refl);
+          owner_lives = λ ne. absurd (ne refl);
           first_lives = keep_first s.views id v w at refl living r.first_lives;
-          each = seats (Fit r.made 0 0 false r.log) s.views id w
+          living_views = seats (Fit r.made 0 0 false r.log) s.views id w
               record {
                 nodes = f.nodes;
                 low = f.low;
                 high = f.high;
                 first = f.first;
-                saw = f.saw;
+                seen_prefix = f.seen_prefix;
                 out = f.out;
-                noted = f.noted;
+                claim_seen = f.claim_seen;
                 turn = λ e. absurd (cc);
               }
-              (λ j u ne there lu. let g = r.each j u there lu in record {
+              (λ j u ne there lu. let g = r.living_views j u there lu in record {
                 nodes = g.nodes;
                 low = g.low;
                 high = g.high;
                 first = g.first;
-                saw = g.saw;
+                seen_prefix = g.seen_prefix;
                 out = g.out;
-                noted = g.noted;
+                claim_seen = g.claim_seen;
                 turn = λ e. absurd (no_other s r id v at living has j u ne there lu e);
               });
-          apart = stay_apart s.views id v w r.apart at living refl;
+          distinct_numbers = stay_distinct s.views id v w r.distinct_numbers at living refl;
         },
         refl,
       )
 
   -- the same, for a seat that is known by an equation
-  pub frees_at : (slots id : ℕ) (v : V) (b : X) (m : M) → m ≡ (v, (0, Some b) ∷ []) → v.spent ≡ false → v.turn ≡ true → v.due ≡ 0 → v.lifts ≡ true → IsKeptBy journal holders base (Some (base x)) b v
-      → Allows Rule slots id m 0 (λ _. 0) (λ _. freed (step slots 0 0 0 none) m 0)
-  frees_at slots id v b m is living has settled lifts same = subst (λ (m : M). Allows Rule slots id m 0 (λ _. 0) (λ _. freed (step slots 0 0 0 none) m 0)) (sym is) (frees slots id v b living has settled lifts same)
+  pub frees_at : (slots id : ℕ) (v : V) (b : X) (m : M) → m ≡ (v, (0, Some b) ∷ []) → v.spent ≡ false → v.turn ≡ true → v.due ≡ 0 → v.lifts ≡ true → IsKnownTo journal holders base (Some (base x)) b v
+      → Allows Rule slots id m 0 (λ _. 0) (λ _. FreesTurn (step slots 0 0 0 none) m 0)
+  frees_at slots id v b m is living has settled lifts same = subst (λ (m : M). Allows Rule slots id m 0 (λ _. 0) (λ _. FreesTurn (step slots 0 0 0 none) m 0)) (sym is) (frees slots id v b living has settled lifts same)
 
   -- the owner lays the slot down, or picks it up
   shifted : (s : St) (r : Rule s) (id : ℕ) (v : V) (l : Bool) (hs : List (Option' (Option X))) → get_elem? s.views id ≡ some v → v.spent ≡ false → v.turn ≡ true → hs ≡ cond l none (some None) ∷ []
       → Rule record { words = ruled_words s r; homes = hs; views = set s.views id (with_lift v l) }
-  shifted s r id v l hs at living has homes = let f = r.each id v at living in let w : V = with_lift v l in let t = f.turn has in let owned = owner_is s r id v at living has in record {
+  shifted s r id v l hs at living has homes = let f = r.living_views id v at living in let w : V = with_lift v l in let t = f.turn has in let owned = owner_is s r id v at living has in record {
     log = r.log;
     made = r.made;
     owner = r.owner;
@@ -307,42 +307,42 @@ module _ {X Y : Type 0} (journal : X → List Event) (holders : X → List (Opti
     lifted = l;
     words = refl;
     counted = r.counted;
-    sound = r.sound;
-    home = λ z. absurd (owned z);
-    away = λ _. homes;
-    one = λ _. (id, w, at_set_here s.views id v w at, living, has);
+    log_invariant = r.log_invariant;
+    slot_home = λ z. absurd (owned z);
+    slot_away = λ _. homes;
+    owner_lives = λ _. (id, w, at_set_here s.views id v w at, living, has);
     first_lives = keep_first s.views id v w at refl living r.first_lives;
-    each = seats (Fit r.made r.owner r.pending l r.log) s.views id w
+    living_views = seats (Fit r.made r.owner r.pending l r.log) s.views id w
         record {
           nodes = f.nodes;
           low = f.low;
           high = f.high;
           first = f.first;
-          saw = f.saw;
+          seen_prefix = f.seen_prefix;
           out = f.out;
-          noted = f.noted;
+          claim_seen = f.claim_seen;
           turn = λ _. (t.0, t.1, t.2, refl);
         }
-        (λ j u ne there lu. let g = r.each j u there lu in record {
+        (λ j u ne there lu. let g = r.living_views j u there lu in record {
           nodes = g.nodes;
           low = g.low;
           high = g.high;
           first = g.first;
-          saw = g.saw;
+          seen_prefix = g.seen_prefix;
           out = g.out;
-          noted = g.noted;
+          claim_seen = g.claim_seen;
           turn = λ y. absurd (no_other s r id v at living has j u ne there lu y);
         });
-    apart = stay_apart s.views id v w r.apart at living refl;
+    distinct_numbers = stay_distinct s.views id v w r.distinct_numbers at living refl;
   }
 
   home_at : (s : St) (r : Rule s) (id : ℕ) (v : V) (l : Bool) → get_elem? s.views id ≡ some v → v.spent ≡ false → v.turn ≡ true → v.lifts ≡ l → s.homes ≡ cond l none (some None) ∷ []
-  home_at s r id v l at living has is = r.away (owner_is s r id v at living has) ∙ ap (λ (q : Bool). let h : List (Option' (Option X)) = cond q none (some None) ∷ [] in h) (sym (((r.each id v at living).turn has).3) ∙ is)
+  home_at s r id v l at living has is = r.slot_away (owner_is s r id v at living has) ∙ ap (λ (q : Bool). let h : List (Option' (Option X)) = cond q none (some None) ∷ [] in h) (sym (((r.living_views id v at living).turn has).3) ∙ is)
 
   -- of laying the empty slot down
   pub lays : (slots id : ℕ) (v : V) (m : M) → m ≡ (v, (0, None) ∷ []) → v.spent ≡ false → v.turn ≡ true → v.lifts ≡ true
-      → Allows Rule slots id m 0 (λ n. n) (laid (step slots 0 0 0 none) m)
-  lays slots id v m is living has lifts = subst (λ (m : M). Allows Rule slots id m 0 (λ n. n) (laid (step slots 0 0 0 none) m)) (sym is)
+      → Allows Rule slots id m 0 (λ n. n) (LaysDown (step slots 0 0 0 none) m)
+  lays slots id v m is living has lifts = subst (λ (m : M). Allows Rule slots id m 0 (λ n. n) (LaysDown (step slots 0 0 0 none) m)) (sym is)
       (λ s r _ at _. (
         with_lift v false,
         gives,
@@ -354,7 +354,7 @@ module _ {X Y : Type 0} (journal : X → List Event) (holders : X → List (Opti
 
   -- of picking the empty slot up
   pub picks : (slots id : ℕ) (m : M) → m.0.spent ≡ false → m.0.turn ≡ true → m.0.lifts ≡ false
-      → Allows Rule slots id m 0 (λ n. n) (picked (step slots 0 0 0 none) m)
+      → Allows Rule slots id m 0 (λ n. n) (PicksUp (step slots 0 0 0 none) m)
   picks slots id m living has lifts s r _ at _ = let home = home_at s r id m.0 false at living has lifts in (
     with_lift m.0 true,
     takes 0 None,
@@ -367,66 +367,66 @@ module _ {X Y : Type 0} (journal : X → List Event) (holders : X → List (Opti
   -- the owner adds an entry, which is not counted yet
   entered : (s : St) (r : Rule s) (id : ℕ) (v : V) (c : List (ℕ × Option X)) (e : LogEntry) (o : Option Holding) (word n : ℕ) → get_elem? s.views id ≡ some v → v.spent ≡ false → v.turn ≡ true → v.due ≡ 0
       → e.seat ≡ v.number
-      → Sound N r.made (length r.log + 1) (added (kept N r.log) e)
-      → o ≡ (added (kept N r.log) e).outs v.number
-      → ((u : ℕ) → u ≢ v.number → (added (kept N r.log) e).outs u ≡ (kept N r.log).outs u)
-      → set (ruled_words s r) word n ≡ r.owner ∷ length (added (kept N r.log) e).journal ∷ r.entries ∷ []
+      → LogInvariant N r.made (length r.log + 1) (state_after_entry (log_state N r.log) e)
+      → o ≡ (state_after_entry (log_state N r.log) e).outs v.number
+      → ((u : ℕ) → u ≢ v.number → (state_after_entry (log_state N r.log) e).outs u ≡ (log_state N r.log).outs u)
+      → set (ruled_words s r) word n ≡ r.owner ∷ length (state_after_entry (log_state N r.log) e).journal ∷ r.entries ∷ []
       → Rule (stepped (at_words s (ruled_words s r)) word n id c (with_entry v e o) keeps)
-  entered s r id v c e o word n at living has settled own good out others words = let f = r.each id v at living in let w : V = with_entry v e o in let t = f.turn has in let log : List LogEntry = r.log ++ e ∷ [] in
-      let snoc : kept N log ≡ added (kept N r.log) e = snoc_is r.log e in let long : length log ≡ length r.log + 1 = length-append r.log (e ∷ []) in let owned = owner_is s r id v at living has in
+  entered s r id v c e o word n at living has settled own good out others words = let f = r.living_views id v at living in let w : V = with_entry v e o in let t = f.turn has in let log : List LogEntry = r.log ++ e ∷ [] in
+      let snoc : log_state N log ≡ state_after_entry (log_state N r.log) e = snoc_is r.log e in let long : length log ≡ length r.log + 1 = length-append r.log (e ∷ []) in let owned = owner_is s r id v at living has in
       let none_due : r.pending ≡ 0 = sym t.2 ∙ settled in let all : v.known ++ e ∷ [] ≡ log = ap (λ l. l ++ e ∷ []) t.1 in
-      let sound' : Sound N r.made (length log) (kept N log) = subst (λ (p : ℕ × Kept). Sound N r.made p.0 p.1) (λ i. (sym long i, sym snoc i)) good in
-      let out' : o ≡ (kept N log).outs v.number = out ∙ ap (λ (q : Kept). q.outs v.number) (sym snoc) in record {
+      let invariant_now : LogInvariant N r.made (length log) (log_state N log) = subst (λ (p : ℕ × LogState). LogInvariant N r.made p.0 p.1) (λ i. (sym long i, sym snoc i)) good in
+      let out' : o ≡ (log_state N log).outs v.number = out ∙ ap (λ (q : LogState). q.outs v.number) (sym snoc) in record {
         log = log;
         made = r.made;
         owner = r.owner;
         pending = 1;
         entries = r.entries;
         lifted = r.lifted;
-        words = words ∙ ap (λ (q : Kept). r.owner ∷ length q.journal ∷ r.entries ∷ []) (sym snoc);
+        words = words ∙ ap (λ (q : LogState). r.owner ∷ length q.journal ∷ r.entries ∷ []) (sym snoc);
         counted = omega (arith, r.counted);
-        sound = sound';
-        home = λ z. absurd (owned z);
-        away = r.away;
-        one = λ _. (id, w, at_set_here s.views id v w at, living, has);
+        log_invariant = invariant_now;
+        slot_home = λ z. absurd (owned z);
+        slot_away = r.slot_away;
+        owner_lives = λ _. (id, w, at_set_here s.views id v w at, living, has);
         first_lives = keep_first s.views id v w at refl living r.first_lives;
-        each = seats (Fit r.made r.owner 1 r.lifted log) s.views id w
+        living_views = seats (Fit r.made r.owner 1 r.lifted log) s.views id w
             record {
               nodes = f.nodes;
               low = f.low;
               high = f.high;
               first = f.first;
-              saw = subst (λ (l : List LogEntry). IsPrefix l log) (sym all) (prefix_self log);
+              seen_prefix = subst (λ (l : List LogEntry). IsPrefix l log) (sym all) (prefix_self log);
               out = out';
-              noted = λ h is. subst (λ (l : List LogEntry). h.since ≤ length (kept N l).journal) (sym all) (sound'.noted v.number h (sym out' ∙ is)).0;
+              claim_seen = λ h is. subst (λ (l : List LogEntry). h.since ≤ length (log_state N l).journal) (sym all) (invariant_now.unmoved v.number h (sym out' ∙ is)).0;
               turn = λ _. (t.0, all, refl, t.3);
             }
-            (λ j u ne there lu. let g = r.each j u there lu in record {
+            (λ j u ne there lu. let g = r.living_views j u there lu in record {
               nodes = g.nodes;
               low = g.low;
               high = g.high;
               first = g.first;
-              saw = prefix_trans u.seen r.log log g.saw (e ∷ [], refl);
-              out = g.out ∙ (sym (others u.number (number_apart s.views id v r.apart at living j u ne there lu)) ∙ ap (λ (q : Kept). q.outs u.number) (sym snoc));
-              noted = g.noted;
+              seen_prefix = prefix_trans u.seen r.log log g.seen_prefix (e ∷ [], refl);
+              out = g.out ∙ (sym (others u.number (number_distinct s.views id v r.distinct_numbers at living j u ne there lu)) ∙ ap (λ (q : LogState). q.outs u.number) (sym snoc));
+              claim_seen = g.claim_seen;
               turn = λ y. absurd (no_other s r id v at living has j u ne there lu y);
             });
-        apart = stay_apart s.views id v w r.apart at living refl;
+        distinct_numbers = stay_distinct s.views id v w r.distinct_numbers at living refl;
       }
 
-  -- of noting a claim
-  pub marks : (slots id k : ℕ) (e : Event) (me : M) → me.0.spent ≡ false → me.0.number ≡ k → me.0.turn ≡ true → me.0.due ≡ 0 → me.0.out ≡ None → length (knows me.0).journal < 2 ^ 62
-      → slice_get (knows me.0).holders (event_node e) ≡ Some None
-      → Allows Rule slots id me 0 (λ _. k) (λ _. claimed e (step slots 0 k 0 none) me k)
-  marks slots id k e me living is has settled free room at_home s r _ at _ = let v : V = me.0 in let f = r.each id v at living in let t = f.turn has in let all : knows v ≡ kept N r.log = saw_is v N r.log f.nodes t.1 in
-      let x' : Kept = kept N r.log in let h : Holding = holding v.number e (length (knows v).journal) in let n = t.0 in
-      let same : h ≡ holding v.number e (length x'.journal) = ap (λ (q : Kept). holding v.number e (length q.journal)) all in (
+  -- of entering a claim into the log
+  pub marks : (slots id k : ℕ) (e : Event) (me : M) → me.0.spent ≡ false → me.0.number ≡ k → me.0.turn ≡ true → me.0.due ≡ 0 → me.0.out ≡ None → length (known_state me.0).journal < 2 ^ 62
+      → slice_get (known_state me.0).holders (event_node e) ≡ Some None
+      → Allows Rule slots id me 0 (λ _. k) (λ _. ClaimsEvent e (step slots 0 k 0 none) me k)
+  marks slots id k e me living is has settled free room at_home s r _ at _ = let v : V = me.0 in let f = r.living_views id v at living in let t = f.turn has in let all : known_state v ≡ log_state N r.log = known_state_is v N r.log f.nodes t.1 in
+      let x' : LogState = log_state N r.log in let h : Holding = holding v.number e (length (known_state v).journal) in let n = t.0 in
+      let same : h ≡ holding v.number e (length x'.journal) = ap (λ (q : LogState). holding v.number e (length q.journal)) all in (
         with_entry v (claim_of v.number e) (Some h),
         keeps,
         tt,
         worded s r (λ ws. Rule (stepped (at_words s ws) 0 k id me.1 (with_entry v (claim_of v.number e) (Some h)) keeps))
             (entered s r id v me.1 (claim_of v.number e) (Some h) 0 k at living has settled refl
-            (sound_claim N r.made (length r.log) x' v.number e r.sound f.high (sym f.out ∙ free) (subst (λ (q : Kept). slice_get q.holders (event_node e) ≡ Some None) all at_home) (subst (λ (q : Kept). length q.journal < 2 ^ 62) all room))
+            (invariant_claim N r.made (length r.log) x' v.number e r.log_invariant f.high (sym f.out ∙ free) (subst (λ (q : LogState). slice_get q.holders (event_node e) ≡ Some None) all at_home) (subst (λ (q : LogState). length q.journal < 2 ^ 62) all room))
             (ap Some same ∙ sym (out_here x'.outs v.number (Some (holding v.number e (length x'.journal)))))
             (λ u ne. out_else x'.outs v.number (Some (holding v.number e (length x'.journal))) u ne)
             (ap (λ (z : ℕ). z ∷ length x'.journal ∷ r.entries ∷ []) (sym is ∙ n))),
@@ -434,16 +434,16 @@ module _ {X Y : Type 0} (journal : X → List Event) (holders : X → List (Opti
       )
 
   -- of counting a commit in word 1
-  pub commits : (slots id count : ℕ) (h : Holding) (me : M) → me.0.spent ≡ false → me.0.turn ≡ true → me.0.due ≡ 0 → me.0.out ≡ Some h → count ≡ length (knows me.0).journal + 1
-      → Allows Rule slots id me 1 (λ _. count) (λ _. committed (step slots 1 count 0 none) me count)
-  commits slots id count h me living has settled out is s r _ at _ = let v : V = me.0 in let f = r.each id v at living in let t = f.turn has in let all : knows v ≡ kept N r.log = saw_is v N r.log f.nodes t.1 in
-      let x' : Kept = kept N r.log in let e : LogEntry = commit_of v.number h.event in let count' : count ≡ length (x'.journal ++ h.event ∷ []) = is ∙ (ap (λ (q : Kept). length q.journal + 1) all ∙ sym (length-append x'.journal (h.event ∷ []))) in (
+  pub commits : (slots id count : ℕ) (h : Holding) (me : M) → me.0.spent ≡ false → me.0.turn ≡ true → me.0.due ≡ 0 → me.0.out ≡ Some h → count ≡ length (known_state me.0).journal + 1
+      → Allows Rule slots id me 1 (λ _. count) (λ _. CommitsEvent (step slots 1 count 0 none) me count)
+  commits slots id count h me living has settled out is s r _ at _ = let v : V = me.0 in let f = r.living_views id v at living in let t = f.turn has in let all : known_state v ≡ log_state N r.log = known_state_is v N r.log f.nodes t.1 in
+      let x' : LogState = log_state N r.log in let e : LogEntry = commit_of v.number h.event in let count' : count ≡ length (x'.journal ++ h.event ∷ []) = is ∙ (ap (λ (q : LogState). length q.journal + 1) all ∙ sym (length-append x'.journal (h.event ∷ []))) in (
         with_entry v e None,
         keeps,
         tt,
         worded s r (λ ws. Rule (stepped (at_words s ws) 1 count id me.1 (with_entry v e None) keeps))
             (entered s r id v me.1 e None 1 count at living has settled refl
-            (sound_commit N r.made (length r.log) x' v.number h r.sound (sym f.out ∙ out))
+            (invariant_commit N r.made (length r.log) x' v.number h r.log_invariant (sym f.out ∙ out))
             (sym (out_here x'.outs v.number None))
             (λ u ne. out_else x'.outs v.number None u ne)
             (ap (λ (z : ℕ). r.owner ∷ z ∷ r.entries ∷ []) count')),
@@ -452,9 +452,9 @@ module _ {X Y : Type 0} (journal : X → List Event) (holders : X → List (Opti
 
   -- of counting an entry in word 2
   pub counts : (slots id : ℕ) (me : M) → me.0.spent ≡ false → me.0.turn ≡ true → me.0.due ≡ 1
-      → Allows Rule slots id me 2 (λ n. (n + 1) % 2 ^ 64) (counted (step slots 2 1 0 none) me)
-  counts slots id me living has due s r _ at _ = let v : V = me.0 in let f = r.each id v at living in let t = f.turn has in let w : V = with_none_due v in let owned = owner_is s r id v at living has in
-      let one_due : r.pending ≡ 1 = sym t.2 ∙ due in let z = r.sound in let few = z.few in let room = z.room in let counts' = z.counts in let c = r.counted in
+      → Allows Rule slots id me 2 (λ n. (n + 1) % 2 ^ 64) (CountsEntry (step slots 2 1 0 none) me)
+  counts slots id me living has due s r _ at _ = let v : V = me.0 in let f = r.living_views id v at living in let t = f.turn has in let w : V = with_none_due v in let owned = owner_is s r id v at living has in
+      let one_due : r.pending ≡ 1 = sym t.2 ∙ due in let z = r.log_invariant in let within_limit = z.within_limit in let count_limit = z.count_limit in let counts' = z.entry_count in let c = r.counted in
       let fits : (r.entries + 1) % 2 ^ 64 ≡ r.entries + 1 = omega arith in (
         w,
         keeps,
@@ -466,35 +466,35 @@ module _ {X Y : Type 0} (journal : X → List Event) (holders : X → List (Opti
           pending = 0;
           entries = r.entries + 1;
           lifted = r.lifted;
-          words = ap (λ (m : ℕ). r.owner ∷ length (kept N r.log).journal ∷ m ∷ []) fits;
+          words = ap (λ (m : ℕ). r.owner ∷ length (log_state N r.log).journal ∷ m ∷ []) fits;
           counted = omega arith;
-          sound = r.sound;
-          home = λ y. absurd (owned y);
-          away = r.away;
-          one = λ _. (id, w, at_set_here s.views id v w at, living, has);
+          log_invariant = r.log_invariant;
+          slot_home = λ y. absurd (owned y);
+          slot_away = r.slot_away;
+          owner_lives = λ _. (id, w, at_set_here s.views id v w at, living, has);
           first_lives = keep_first s.views id v w at refl living r.first_lives;
-          each = seats (Fit r.made r.owner 0 r.lifted r.log) s.views id w
+          living_views = seats (Fit r.made r.owner 0 r.lifted r.log) s.views id w
               record {
                 nodes = f.nodes;
                 low = f.low;
                 high = f.high;
                 first = f.first;
-                saw = f.saw;
+                seen_prefix = f.seen_prefix;
                 out = f.out;
-                noted = f.noted;
+                claim_seen = f.claim_seen;
                 turn = λ _. (t.0, t.1, refl, t.3);
               }
-              (λ j u ne there lu. let g = r.each j u there lu in record {
+              (λ j u ne there lu. let g = r.living_views j u there lu in record {
                 nodes = g.nodes;
                 low = g.low;
                 high = g.high;
                 first = g.first;
-                saw = g.saw;
+                seen_prefix = g.seen_prefix;
                 out = g.out;
-                noted = g.noted;
+                claim_seen = g.claim_seen;
                 turn = λ y. absurd (no_other s r id v at living has j u ne there lu y);
               });
-          apart = stay_apart s.views id v w r.apart at living refl;
+          distinct_numbers = stay_distinct s.views id v w r.distinct_numbers at living refl;
         },
         refl,
       )
@@ -506,11 +506,11 @@ module _ {X Y : Type 0} (journal : X → List Event) (holders : X → List (Opti
   snoc_cases (y ∷ ys) a b zero e = inl e
   snoc_cases (y ∷ ys) a b (suc j) e = ⊎_elim inl (λ t. inr (ap suc t.0, t.1)) (snoc_cases ys a b j e)
 
-  -- numbers stay apart where a view with a new number comes last
-  come_apart : (vs : List V) (w : V) → Apart vs → ((j : ℕ) (u : V) → get_elem? vs j ≡ some u → u.spent ≡ false → u.number ≢ w.number) → Apart (vs ++ w ∷ [])
-  come_apart vs w apart other i j a b ai bj la lb e = ⊎_elim
+  -- numbers stay distinct where a view with a new number comes last
+  come_apart : (vs : List V) (w : V) → HaveDistinctNumbers vs → ((j : ℕ) (u : V) → get_elem? vs j ≡ some u → u.spent ≡ false → u.number ≢ w.number) → HaveDistinctNumbers (vs ++ w ∷ [])
+  come_apart vs w distinct_numbers other i j a b ai bj la lb e = ⊎_elim
       (λ (p : get_elem? vs i ≡ some a). ⊎_elim
-      (λ (q : get_elem? vs j ≡ some b). apart i j a b p q la lb e)
+      (λ (q : get_elem? vs j ≡ some b). distinct_numbers i j a b p q la lb e)
       (λ (q : (j ≡ length vs) × (w ≡ b)). absurd (other i a p la (e ∙ ap (λ (z : V). z.number) (sym q.1))))
       (snoc_cases vs w b j bj))
       (λ (p : (i ≡ length vs) × (w ≡ a)). ⊎_elim
@@ -521,7 +521,7 @@ module _ {X Y : Type 0} (journal : X → List Event) (holders : X → List (Opti
 
   -- of splitting a seat off the first
   pub splits : (id : ℕ) (v : V) → v.spent ≡ false → v.number ≡ 1 → Splits Rule id v (with_one_more v) (split_off v)
-  splits id v living one s r at = let f = r.each id v at living in let made = f.first one in let left : V = with_one_more v in let right : V = split_off v in let vs : List V = set s.views id left in let z = r.sound in
+  splits id v living one s r at = let f = r.living_views id v at living in let made = f.first one in let left : V = with_one_more v in let right : V = split_off v in let vs : List V = set s.views id left in let z = r.log_invariant in
       let number : v.made + 2 ≡ r.made + 2 = omega arith in record {
         log = r.log;
         made = r.made + 1;
@@ -531,19 +531,19 @@ module _ {X Y : Type 0} (journal : X → List Event) (holders : X → List (Opti
         lifted = r.lifted;
         words = r.words;
         counted = r.counted;
-        sound = record {
-          held = z.held;
-          back = z.back;
-          noted = z.noted;
-          fresh = λ k l. z.fresh k (omega arith);
-          wide = z.wide;
-          few = z.few;
-          counts = z.counts;
-          room = z.room;
+        log_invariant = record {
+          outs_held = z.outs_held;
+          holders_out = z.holders_out;
+          unmoved = z.unmoved;
+          unused = λ k l. z.unused k (omega arith);
+          node_count = z.node_count;
+          within_limit = z.within_limit;
+          entry_count = z.entry_count;
+          count_limit = z.count_limit;
         };
-        home = r.home;
-        away = r.away;
-        one = λ ne. let o = r.one ne in dite (ℕ_discrete o.0 id)
+        slot_home = r.slot_home;
+        slot_away = r.slot_away;
+        owner_lives = λ ne. let o = r.owner_lives ne in dite (ℕ_discrete o.0 id)
             (λ i. (
               id,
               left,
@@ -553,26 +553,26 @@ module _ {X Y : Type 0} (journal : X → List Event) (holders : X → List (Opti
             ))
             (λ i. (o.0, o.1, at_longer vs (right ∷ []) o.0 o.1 (set_else s.views id o.0 left i ∙ o.2), o.3, o.4));
         first_lives = (let o = keep_first s.views id v left at refl living r.first_lives in (o.0, o.1, at_longer vs (right ∷ []) o.0 o.1 o.2, o.3, o.4));
-        each = λ j u there lu. ⊎_elim
+        living_views = λ j u there lu. ⊎_elim
             (λ (before : get_elem? vs j ≡ some u). seats (Fit (r.made + 1) r.owner r.pending r.lifted r.log) s.views id left
             record {
               nodes = f.nodes;
               low = f.low;
               high = omega arith;
               first = λ _. omega arith;
-              saw = f.saw;
+              seen_prefix = f.seen_prefix;
               out = f.out;
-              noted = f.noted;
+              claim_seen = f.claim_seen;
               turn = f.turn;
             }
-            (λ i y ne here ly. let g = r.each i y here ly in let high = g.high in record {
+            (λ i y ne here ly. let g = r.living_views i y here ly in let high = g.high in record {
               nodes = g.nodes;
               low = g.low;
               high = omega arith;
-              first = λ is. absurd (ne (r.apart i id y v here at ly living (is ∙ sym one)));
-              saw = g.saw;
+              first = λ is. absurd (ne (r.distinct_numbers i id y v here at ly living (is ∙ sym one)));
+              seen_prefix = g.seen_prefix;
               out = g.out;
-              noted = g.noted;
+              claim_seen = g.claim_seen;
               turn = g.turn;
             }) j u before lu)
             (λ (last : right ≡ u). subst (Fit (r.made + 1) r.owner r.pending r.lifted r.log) last record {
@@ -580,19 +580,19 @@ module _ {X Y : Type 0} (journal : X → List Event) (holders : X → List (Opti
               low = omega arith;
               high = omega arith;
               first = λ is. absurd (omega arith);
-              saw = f.saw;
-              out = sym (z.fresh (v.made + 2) (omega arith));
-              noted = λ h is. absurd (cc);
+              seen_prefix = f.seen_prefix;
+              out = sym (z.unused (v.made + 2) (omega arith));
+              claim_seen = λ h is. absurd (cc);
               turn = λ is. absurd (cc);
             })
             (at_snoc vs right u j there);
-        apart = come_apart vs right (stay_apart s.views id v left r.apart at living refl)
-            (λ j u there lu e. let high : u.number ≤ r.made + 1 = seats (λ (y : V). y.number ≤ r.made + 1) s.views id left f.high (λ i y ne here ly. (r.each i y here ly).high) j u there lu in absurd (omega arith));
+        distinct_numbers = come_apart vs right (stay_distinct s.views id v left r.distinct_numbers at living refl)
+            (λ j u there lu e. let high : u.number ≤ r.made + 1 = seats (λ (y : V). y.number ≤ r.made + 1) s.views id left f.high (λ i y ne here ly. (r.living_views i y here ly).high) j u there lu in absurd (omega arith));
       }
 
-  -- of joining a seat that has nothing
+  -- of joining a seat that has neither the turn nor a node out
   pub joins : (id : ℕ) (v : V) (other : ℕ) (w : V) → w.spent ≡ false → w.turn ≡ false → w.number ≢ 1 → Joins Rule id v other w v spent_view
-  joins id v other w living rests not_first s r at apart there =
+  joins id v other w living rests not_first s r at distinct_numbers there =
       let same : set s.views id v ≡ s.views = set_again s.views id v at in
       let there' : get_elem? s.views other ≡ some w = subst (λ (vs : List V). get_elem? vs other ≡ some w) same there in
       subst (λ (vs : List V). Rule record { words = s.words; homes = s.homes; views = set vs other spent_view }) (sym same) record {
@@ -604,10 +604,10 @@ module _ {X Y : Type 0} (journal : X → List Event) (holders : X → List (Opti
         lifted = r.lifted;
         words = r.words;
         counted = r.counted;
-        sound = r.sound;
-        home = r.home;
-        away = r.away;
-        one = λ ne. let o = r.one ne in (
+        log_invariant = r.log_invariant;
+        slot_home = r.slot_home;
+        slot_away = r.slot_away;
+        owner_lives = λ ne. let o = r.owner_lives ne in (
           o.0,
           o.1,
           set_else s.views other o.0 spent_view (λ i. let e : some w ≡ some o.1 = sym there' ∙ (ap (λ (k : ℕ). get_elem? s.views k) (sym i) ∙ o.2) in
@@ -616,22 +616,22 @@ module _ {X Y : Type 0} (journal : X → List Event) (holders : X → List (Opti
           o.4,
         );
         first_lives = (let o = r.first_lives in (o.0, o.1, set_else s.views other o.0 spent_view (λ i. let e : some w ≡ some o.1 = sym there' ∙ (ap (λ (k : ℕ). get_elem? s.views k) (sym i) ∙ o.2) in not_first (ap (λ (q : V). q.number) (some_of w o.1 e) ∙ o.4)) ∙ o.2, o.3, o.4));
-        each = λ j u here lu. ⊎_elim
+        living_views = λ j u here lu. ⊎_elim
             (λ (t : (j ≡ other) × (spent_view ≡ u)). let e : true ≡ false = ap (λ (q : V). q.spent) t.1 ∙ lu in absurd (cc))
-            (λ (t : (j ≢ other) × (get_elem? s.views j ≡ some u)). r.each j u t.1 lu)
+            (λ (t : (j ≢ other) × (get_elem? s.views j ≡ some u)). r.living_views j u t.1 lu)
             (at_set s.views other j spent_view u here);
-        apart = λ i j a b ai bj la lb e. ⊎_elim
+        distinct_numbers = λ i j a b ai bj la lb e. ⊎_elim
             (λ (t : (i ≡ other) × (spent_view ≡ a)). let y : true ≡ false = ap (λ (q : V). q.spent) t.1 ∙ la in absurd (cc))
             (λ (t : (i ≢ other) × (get_elem? s.views i ≡ some a)). ⊎_elim
             (λ (u : (j ≡ other) × (spent_view ≡ b)). let y : true ≡ false = ap (λ (q : V). q.spent) u.1 ∙ lb in absurd (cc))
-            (λ (u : (j ≢ other) × (get_elem? s.views j ≡ some b)). r.apart i j a b t.1 u.1 la lb e)
+            (λ (u : (j ≢ other) × (get_elem? s.views j ≡ some b)). r.distinct_numbers i j a b t.1 u.1 la lb e)
             (at_set s.views other j spent_view b bj))
             (at_set s.views other i spent_view a ai);
       }
 
   -- where a seat has the turn, word 1 is the length of the journal that it knows
-  pub closes : (ws : List ℕ) (xs : List (Option X)) (id : ℕ) (v : V) (n : ℕ) → Final (Seen Rule id v) ws xs → v.spent ≡ false → v.turn ≡ true → get_elem? ws 1 ≡ some n → n ≡ length (knows v).journal
-  closes ws xs id v n f living has word = let s = f.0 in let r = f.1.0 in let g = r.each id v f.1.1 living in let t = g.turn has in
-      let all : knows v ≡ kept N r.log = saw_is v N r.log g.nodes t.1 in
-      let e : some n ≡ some (length (kept N r.log).journal) = sym word ∙ ap (λ (l : List ℕ). get_elem? l 1) (sym f.2 ∙ r.words) in
-      some-injective n (length (kept N r.log).journal) e ∙ ap (λ (q : Kept). length q.journal) (sym all)
+  pub closes : (ws : List ℕ) (xs : List (Option X)) (id : ℕ) (v : V) (n : ℕ) → Final (Seen Rule id v) ws xs → v.spent ≡ false → v.turn ≡ true → get_elem? ws 1 ≡ some n → n ≡ length (known_state v).journal
+  closes ws xs id v n f living has word = let s = f.0 in let r = f.1.0 in let g = r.living_views id v f.1.1 living in let t = g.turn has in
+      let all : known_state v ≡ log_state N r.log = known_state_is v N r.log g.nodes t.1 in
+      let e : some n ≡ some (length (log_state N r.log).journal) = sym word ∙ ap (λ (l : List ℕ). get_elem? l 1) (sym f.2 ∙ r.words) in
+      some-injective n (length (log_state N r.log).journal) e ∙ ap (λ (q : LogState). length q.journal) (sym all)

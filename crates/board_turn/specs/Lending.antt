@@ -4,7 +4,7 @@ use denote.RattleType.{RattleType}
 use Rattle.board_turn.specs.declared.turn.Held.{Held}
 use Rattle.board_turn.specs.contracts.turn.Held.{the_row}
 
--- the held board, where the board is another
+-- the held board with another board in it
 abbrev pub with_board : {B : Type 0} → Held B → B → Held B
 with_board h b = record h { board = b }
 

@@ -1,26 +1,25 @@
--- What a seat, a turn and a held board are seen as.
-use Rattle.std.specs.Prelude.{◌≡◌, ◌≢◌, ℕ, ◌<◌, Bool, true, false, List, ◌∷◌, Option, Some, None, length, slice_get}
+-- What contracts see of a seat, of a turn and of a held board.
+use Rattle.std.specs.Prelude.{◌≡◌, ℕ, ◌<◌, Bool, true, false, List, [], ◌∷◌, ◌++◌, Option, Some, None, length, slice_get}
 use Rattle.stat_desk.specs.declared.event.Event.{Event}
+use Rattle.board_turn.specs.Entries.{holding, with_home}
 use Rattle.board_turn.specs.declared.holding.Holding.{Holding}
 use Rattle.board_turn.specs.declared.turn.Turn.{Turn}
 use Rattle.board_turn.specs.declared.turn.TurnSeat.{TurnSeat}
 use Rattle.board_turn.specs.declared.turn.Held.{Held}
-use Rattle.board_turn.specs.declared.view.View.{View}
-use Rattle.atomic_table.specs.declared.shared.Seat.{Seat}
-use Rattle.board_turn.specs.Turns.{saw, knows, Takes, with_lift}
+use Rattle.board_turn.specs.Turns.{seen_state, known_state}
 use Rattle.board_turn.specs.Known.{known_of}
 
 -- the seat's number, from 1
-abbrev pub number_of : TurnSeat → ℕ
-number_of s = (known_of s.badge.views).number
+abbrev pub seat_number : TurnSeat → ℕ
+seat_number s = (known_of s.badge.views).number
 
 -- the journal that the seat saw last
-abbrev pub seen_by : TurnSeat → List Event
-seen_by s = (saw (known_of s.badge.views)).journal
+abbrev pub seat_journal : TurnSeat → List Event
+seat_journal s = (seen_state (known_of s.badge.views)).journal
 
--- what the seat has out
-abbrev pub out_of : TurnSeat → Option Holding
-out_of s = (known_of s.badge.views).out
+-- the claim whose node the seat has out, if it has one out
+abbrev pub seat_out : TurnSeat → Option Holding
+seat_out s = (known_of s.badge.views).out
 
 -- whether the seat has the turn
 abbrev pub has_turn : TurnSeat → Bool
@@ -39,30 +38,56 @@ pub record SeatView : Type 0 where
   pub split : ℕ
   -- the journal that it saw last
   pub journal : List Event
-  -- the node that it has out
+  -- the claim whose node it has out, if it has one out
   pub out : Option Holding
 
--- what a seat is seen as
-abbrev pub view_of : TurnSeat → SeatView
-view_of s = record { number = number_of s; turn = has_turn s; split = split_count s; journal = seen_by s; out = out_of s }
+-- the view of a seat
+abbrev pub seat_view : TurnSeat → SeatView
+seat_view s = record { number = seat_number s; turn = has_turn s; split = split_count s; journal = seat_journal s; out = seat_out s }
 
--- the seat is seen as this
-pub record IsSeenAs (s : TurnSeat) (v : SeatView) : Type 0 where
-  pub number : number_of s ≡ v.number
+-- the view of a seat that has neither the turn nor a node out, and off which no seat was split
+abbrev pub idle_view : ℕ → List Event → SeatView
+idle_view number journal = record { number = number; turn = false; split = 0; journal = journal; out = None }
+
+-- the seat's view is this one
+pub record HasView (s : TurnSeat) (v : SeatView) : Type 0 where
+  pub number : seat_number s ≡ v.number
   pub turn : has_turn s ≡ v.turn
   pub split : split_count s ≡ v.split
-  pub journal : seen_by s ≡ v.journal
-  pub out : out_of s ≡ v.out
+  pub journal : seat_journal s ≡ v.journal
+  pub out : seat_out s ≡ v.out
+
+-- the seat's view after a claim of an event over this journal
+abbrev pub claimed_view : TurnSeat → Event → List Event → SeatView
+claimed_view s e journal = record (seat_view s) { journal = journal; out = Some (holding (seat_number s) e (length journal)) }
+
+-- the seat's view after a commit of what it had out, with this journal
+abbrev pub committed_view : TurnSeat → List Event → SeatView
+committed_view s journal = record (seat_view s) { journal = journal; out = None }
 
 -- no node is out
 abbrev pub AreAllHome : List (Option Holding) → Type 0
 AreAllHome holders = (node : ℕ) → node < length holders → slice_get holders node ≡ Some None
 
 module _ {B : Type 0} where
-  -- the board's journal and holders are the kept ones
-  pub record IsAsKept (journal_of : B → List Event) (holders_of : B → List (Option Holding)) (h : Held B) : Type 0 where
-    pub journal : journal_of h.board ≡ journal_of h.kept.value
-    pub holders : holders_of h.board ≡ holders_of h.kept.value
+  -- the board
+  abbrev pub board_of : Held B → B
+  board_of h = h.board
+
+  -- the board as it was when it was taken, or at the last claim or commit since
+  abbrev pub snapshot_of : Held B → B
+  snapshot_of h = h.snapshot.value
+
+  -- the board's journal and holders are those of the snapshot
+  pub record MatchesSnapshot (journal_of : B → List Event) (holders_of : B → List (Option Holding)) (h : Held B) : Type 0 where
+    pub journal : journal_of (board_of h) ≡ journal_of (snapshot_of h)
+    pub holders : holders_of (board_of h) ≡ holders_of (snapshot_of h)
+
+  -- the board differs from the snapshot by the commit of the event that is out: its journal ends with that event, whose
+  -- node is home
+  abbrev pub CommitsOut : (B → List Event) → (B → List (Option Holding)) → Held B → Option Holding → Type 0
+  CommitsOut journal holders h out = (c : Holding) × (out ≡ Some c) × (journal (board_of h) ≡ journal (snapshot_of h) ++ c.event ∷ [])
+      × (holders (board_of h) ≡ with_home (holders (snapshot_of h)) c.event)
 
 module _ {B Y : Type 0} where
   -- the seat is one of the turn's
@@ -73,18 +98,10 @@ module _ {B Y : Type 0} where
   abbrev pub turn_base : (B → Y) → Turn B Y → Y
   turn_base base t = base t.table.shared.key.value
 
-  -- The seat has the turn and took this board: the kept journal and holders are those that the seat knows, and the board
-  -- has the turn's base.
-  pub record Took (journal_of : B → List Event) (holders_of : B → List (Option Holding)) (base_of : B → Y) (t : Turn B Y) (s : TurnSeat) (h : Held B) : Type 0 where
+  -- The seat has the turn and took this board: the snapshot's journal and holders are those that the seat knows, and the
+  -- board has the turn's base.
+  pub record HasTaken (journal_of : B → List Event) (holders_of : B → List (Option Holding)) (base_of : B → Y) (t : Turn B Y) (s : TurnSeat) (h : Held B) : Type 0 where
     pub turn : has_turn s ≡ true
-    pub journal : journal_of h.kept.value ≡ (knows (known_of s.badge.views)).journal
-    pub holders : holders_of h.kept.value ≡ (knows (known_of s.badge.views)).holders
-    pub base : base_of h.board ≡ turn_base base_of t
-
-  -- what a try for the turn leaves of a seat of the table, where it found the number r in word 0
-  abbrev pub IsTry : (B → List Event) → (B → List (Option Holding)) → (B → Y) → Y → Seat (Option B) View → Seat (Option B) View → ℕ → Type 0
-  IsTry journal holders base y p q r = (q.table_id ≡ p.table_id) × (q.id ≡ p.id) × (r ≡ 0 → (b : B) × (q.me.1 ≡ (0, Some b) ∷ p.me.1) × Takes journal holders base (Some y) p.me.0 q.me.0 b) × (r ≢ 0 → q.me ≡ p.me)
-
-  -- the view of a seat that fetched this board, and laid the empty slot down
-  abbrev pub IsFetched : (B → List Event) → (B → List (Option Holding)) → (B → Y) → Y → View → View → B → Type 0
-  IsFetched journal holders base y v u b = (w : View) × (u ≡ with_lift w false) × Takes journal holders base (Some y) v w b
+    pub journal : journal_of (snapshot_of h) ≡ (known_state (known_of s.badge.views)).journal
+    pub holders : holders_of (snapshot_of h) ≡ (known_state (known_of s.badge.views)).holders
+    pub base : base_of (board_of h) ≡ turn_base base_of t

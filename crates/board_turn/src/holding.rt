@@ -1,7 +1,7 @@
-//! Who has a node out.
+//! A claim that has a node out.
 use stat_desk::Event;
 
-/// A node that is out.
+/// A claim that has a node out.
 #[derive(Clone, Copy, Debug, PartialEq, Eq)]
 pub struct Holding {
     /// The number of the seat that has it out.

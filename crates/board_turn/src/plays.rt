@@ -1,4 +1,5 @@
-//! The kinds of steps on the table, and what each tells the seat that takes it. No value of these types is made.
+//! The kinds of steps on the table, and what each does to the view of the seat that takes it. No value of these types is
+//! made.
 use crate::board::Board;
 use crate::view::View;
 use atomic_table::{Join, Play, Split};
@@ -37,65 +38,65 @@ pub struct TakeTurn<E> {
 }
 
 impl<B: Board, E: PicksBase<B::Base>> Play<Option<B>, View> for TakeTurn<E> {
-    ghost use Rattle.board_turn.specs.Turns.{took};
+    ghost use Rattle.board_turn.specs.Turns.{TriesTurn};
 
-    ghost then = { took B.journal B.holders B.base E.base };
+    ghost then = { TriesTurn B.journal B.holders B.base E.base };
 }
 
 /// Lays the slot down empty, after the board was taken out of it.
 pub struct LayDown;
 
 impl<B: Board> Play<Option<B>, View> for LayDown {
-    ghost use Rattle.board_turn.specs.Turns.{laid};
+    ghost use Rattle.board_turn.specs.Turns.{LaysDown};
 
-    ghost then = { laid };
+    ghost then = { LaysDown };
 }
 
 /// Picks the empty slot up, before the board is put into it.
 pub struct PickUp;
 
 impl<B: Board> Play<Option<B>, View> for PickUp {
-    ghost use Rattle.board_turn.specs.Turns.{picked};
+    ghost use Rattle.board_turn.specs.Turns.{PicksUp};
 
-    ghost then = { picked };
+    ghost then = { PicksUp };
 }
 
 /// Frees the turn: word 0 to 0. The slot goes home with the board.
 pub struct FreeTurn;
 
 impl<B: Board> Play<Option<B>, View> for FreeTurn {
-    ghost use Rattle.board_turn.specs.Turns.{freed};
+    ghost use Rattle.board_turn.specs.Turns.{FreesTurn};
 
-    ghost then = { freed };
+    ghost then = { FreesTurn };
 }
 
-/// Notes a claim: word 0 is written with the owner's number again.
+/// Enters a claim into the log: word 0 is written with the owner's number again.
 pub struct MarkClaim<E> {
     of: PhantomData<E>,
 }
 
 impl<B: Board, E: PicksEvent> Play<Option<B>, View> for MarkClaim<E> {
-    ghost use Rattle.board_turn.specs.Turns.{claimed};
+    ghost use Rattle.board_turn.specs.Turns.{ClaimsEvent};
 
-    ghost then = { claimed E.event };
+    ghost then = { ClaimsEvent E.event };
 }
 
 /// Counts a commit: word 1 to the journal's new length.
 pub struct CountCommit;
 
 impl<B: Board> Play<Option<B>, View> for CountCommit {
-    ghost use Rattle.board_turn.specs.Turns.{committed};
+    ghost use Rattle.board_turn.specs.Turns.{CommitsEvent};
 
-    ghost then = { committed };
+    ghost then = { CommitsEvent };
 }
 
 /// Counts the entry of a claim or a commit: word 2 plus one.
 pub struct CountEntry;
 
 impl<B: Board> Play<Option<B>, View> for CountEntry {
-    ghost use Rattle.board_turn.specs.Turns.{counted};
+    ghost use Rattle.board_turn.specs.Turns.{CountsEntry};
 
-    ghost then = { counted };
+    ghost then = { CountsEntry };
 }
 
 /// Splits a seat off the first one.
@@ -109,7 +110,7 @@ impl Split<View> for SplitOff {
     ghost right = { split_off };
 }
 
-/// Joins a seat that has nothing.
+/// Joins a seat that has neither the turn nor a node out.
 pub struct JoinBack;
 
 impl Join<View> for JoinBack {

@@ -1,8 +1,7 @@
 //! A small board, and seats that claim and commit.
-ghost use Rattle.std.specs.Prelude.{◌≡◌, ◌≢◌, ◌<◌, ◌∷◌, [], false, Some, None, IsTrue, MatchBool};
-ghost use Rattle.board_turn.specs.Seats.{IsSeatOf, number_of, has_turn, out_of};
-ghost use Rattle.stat_desk.specs.Events.{event_node};
-ghost use Rattle.stat_desk.specs.declared.event.Event.TheVariants.{Tick};
+ghost use Rattle.std.specs.Prelude.{◌≡◌, ◌<◌, ◌∷◌, [], false, None, MatchBool};
+ghost use Rattle.board_turn.specs.Seats.{IsSeatOf, has_turn, seat_out};
+ghost use Rattle.board_turn.specs.Ticks.{HasTickOut, IsIdle, StaysSeat};
 ghost use Rattle.std.specs.Thread.{IsSync};
 
 use crate::{Board, Holding, Turn, TurnSeat};
@@ -52,13 +51,13 @@ fn make_small(alloc: Global) -> Small
 
 // Claims a tick of the node, if the node is at home.
 fn claim_tick<R: Wait>(rt: &R, turn: &Turn<Small>, seat: &mut TurnSeat, node: u32) -> bool
-    requires mine { IsSeatOf turn.now seat.old × (has_turn seat.old ≡ false) × (out_of seat.old ≡ None) }
-    ensures mine { IsSeatOf turn.now seat.new × (has_turn seat.new ≡ false) × (number_of seat.new ≡ number_of seat.old) }
-    ensures out { MatchBool result ((h : _) × (out_of seat.new ≡ Some h) × (h.event ≡ Tick node)) (out_of seat.new ≡ None) }
+    requires idle { IsIdle turn.now seat.old }
+    ensures seat { StaysSeat turn.now seat.old seat.new }
+    ensures out { MatchBool result (HasTickOut seat.new node) (seat_out seat.new ≡ None) }
 {
     let mut held = turn.take(rt, seat);
-    let since = held.board.count();
-    if node >= 4 || since >= 1 << 62 || held.board.holders[node as usize].is_some() {
+    let since = held.board().count();
+    if node >= 4 || since >= 1 << 62 || held.board().holder(node).is_some() {
         turn.give(seat, held);
         return false;
     }
@@ -74,12 +73,12 @@ fn claim_tick<R: Wait>(rt: &R, turn: &Turn<Small>, seat: &mut TurnSeat, node: u3
     true
 }
 
-// Brings the seat's node home. False where there is no memory.
+// Brings the seat's node home. Returns false where memory has run out.
 fn commit_tick<R: Wait>(rt: &R, turn: &Turn<Small>, seat: &mut TurnSeat, node: u32) -> bool
-    requires mine { IsSeatOf turn.now seat.old × (has_turn seat.old ≡ false) × (node < 4) }
-    requires out { (h : _) × (out_of seat.old ≡ Some h) × (h.event ≡ Tick node) }
-    ensures mine { IsSeatOf turn.now seat.new × (has_turn seat.new ≡ false) × (number_of seat.new ≡ number_of seat.old) }
-    ensures out { MatchBool result (out_of seat.new ≡ None) (out_of seat.new ≡ out_of seat.old) }
+    requires seat { IsSeatOf turn.now seat.old × (has_turn seat.old ≡ false) × (node < 4) }
+    requires out { HasTickOut seat.old node }
+    ensures seat { StaysSeat turn.now seat.old seat.new }
+    ensures out { MatchBool result (seat_out seat.new ≡ None) (seat_out seat.new ≡ seat_out seat.old) }
 {
     let mut held = turn.take(rt, seat);
     if held.board().events.push(Event::Tick { node }).is_err() {
@@ -100,8 +99,9 @@ fn tick_often<R: Wait>(
     node: u32,
     times: u32,
 ) -> (TurnSeat, u32)
-    requires { IsSeatOf turn.now seat × (has_turn seat ≡ false) × (out_of seat ≡ None) × (node < 4) }
-    ensures { IsSeatOf turn.now result.0 × (has_turn result.0 ≡ false) × (number_of result.0 ≡ number_of seat) }
+    requires idle { IsIdle turn.now seat }
+    requires node { node < 4 }
+    ensures { StaysSeat turn.now seat result.0 }
 {
     let mut done = 0;
     for _i in 0..times {
@@ -123,12 +123,12 @@ fn two_threads<R: Threads + Wait + Abort + Sync>(rt: &R, alloc: Global) -> Resul
     let ((one, a), (two, b)) = join(
         rt,
         || -> (TurnSeat, u32)
-            requires { IsSync R.row × IsSeatOf shared.now one × (has_turn one ≡ false) × (out_of one ≡ None) }
-            ensures { IsSeatOf shared.entry.now result.0 × (has_turn result.0 ≡ false) × (number_of result.0 ≡ number_of one) }
+            requires { IsSync R.row × IsIdle shared.now one }
+            ensures { StaysSeat shared.entry.now one result.0 }
         { tick_often(rt, shared, one, 1, 100) },
         || -> (TurnSeat, u32)
-            requires { IsSync R.row × IsSeatOf shared.now two × (has_turn two ≡ false) × (out_of two ≡ None) }
-            ensures { IsSeatOf shared.entry.now result.0 × (has_turn result.0 ≡ false) × (number_of result.0 ≡ number_of two) }
+            requires { IsSync R.row × IsIdle shared.now two }
+            ensures { StaysSeat shared.entry.now two result.0 }
         { tick_often(rt, shared, two, 2, 100) },
     );
     let mut one = one;
@@ -154,8 +154,8 @@ fn two_seats<R: Wait + Abort>(rt: &R, alloc: Global) -> Result<(), AllocError> {
     if !claim_tick(rt, &turn, &mut one, 1) {
         return Err(AllocError);
     }
-    let held = turn.take(rt, &mut two);
-    let found = held.board.holder(1);
+    let mut held = turn.take(rt, &mut two);
+    let found = held.board().holder(1);
     turn.give(&mut two, held);
     assert!(rt;
         matches!(
@@ -216,13 +216,13 @@ impl<'p> Board for Lent<'p> {
 }
 
 fn claim_lent<'p, R: Wait>(rt: &R, turn: &Turn<Lent<'p>>, seat: &mut TurnSeat, node: u32) -> bool
-    requires mine { IsSeatOf turn.now seat.old × (has_turn seat.old ≡ false) × (out_of seat.old ≡ None) }
-    ensures mine { IsSeatOf turn.now seat.new × (has_turn seat.new ≡ false) × (number_of seat.new ≡ number_of seat.old) }
-    ensures out { MatchBool result ((h : _) × (out_of seat.new ≡ Some h) × (h.event ≡ Tick node)) (out_of seat.new ≡ None) }
+    requires idle { IsIdle turn.now seat.old }
+    ensures seat { StaysSeat turn.now seat.old seat.new }
+    ensures out { MatchBool result (HasTickOut seat.new node) (seat_out seat.new ≡ None) }
 {
     let mut held = turn.take(rt, seat);
-    let since = held.board.count();
-    if node >= 4 || since >= 1 << 62 || held.board.small.holders[node as usize].is_some() {
+    let since = held.board().count();
+    if node >= 4 || since >= 1 << 62 || held.board().holder(node).is_some() {
         turn.give(seat, held);
         return false;
     }
@@ -244,7 +244,7 @@ fn claim_lent_once<'p, R: Wait>(
     mut seat: TurnSeat,
     node: u32,
 ) -> (TurnSeat, bool)
-    requires { IsSeatOf turn.now seat × (has_turn seat ≡ false) × (out_of seat ≡ None) }
+    requires { IsIdle turn.now seat }
     ensures { IsSeatOf turn.now result.0 × (has_turn result.0 ≡ false) }
 {
     let claimed = claim_lent(rt, turn, &mut seat, node);
@@ -269,10 +269,10 @@ fn lent_turn<R: Threads + Wait + Abort + Sync>(
     let (a, b) = join(
         rt,
         || -> bool
-            requires { IsSync R.row × IsSeatOf shared.now two × (has_turn two ≡ false) × (out_of two ≡ None) }
+            requires { IsSync R.row × IsIdle shared.now two }
         { claim_lent_once(rt, shared, two, 1).1 },
         || -> bool
-            requires { IsSync R.row × IsSeatOf shared.now three × (has_turn three ≡ false) × (out_of three ≡ None) }
+            requires { IsSync R.row × IsIdle shared.now three }
         { claim_lent_once(rt, shared, three, 2).1 },
     );
     assert!(rt; a && b);

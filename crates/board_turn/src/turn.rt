@@ -19,18 +19,18 @@ use std::sync::Wait;
 /// A board that its seats take one after another. Threads share it by reference, each with a seat of its own.
 #[derive(Drop)]
 pub struct Turn<B: Board> {
-    pub table: TurnTable<B>,
+    table: TurnTable<B>,
     ghost counts: { (table.shared.table_id.words ≡ 3) × (table.shared.table_id.slots ≡ 1) },
 }
 
-/// Who may take the turn. A seat is seen as its number, whether it has the turn, how many seats were split off it, the
-/// journal that it saw last, and the node that it has out.
+/// A seat may take the turn. Contracts see its number, whether it has the turn, how many seats were split off it, the
+/// journal that it saw last, and the claim whose node it has out.
 #[derive(Drop)]
 pub struct TurnSeat {
     number: u32,
     made: u32,
-    pub badge: Badge<View>,
-    ghost one: { badge.views ≡ known_of badge.views ∷ [] },
+    badge: Badge<View>,
+    ghost one_view: { badge.views ≡ known_of badge.views ∷ [] },
     ghost number_is: { number ≡ (known_of badge.views).number },
     ghost made_is: { made ≡ (known_of badge.views).made },
     ghost living: { (known_of badge.views).spent ≡ false },
@@ -38,31 +38,33 @@ pub struct TurnSeat {
     ghost down: { (known_of badge.views).lifts ≡ false },
 }
 
-/// The board, while a seat has the turn, and the board as the turn knows it, which is kept for contracts alone.
+/// The board, while a seat has the turn. It has a snapshot, for contracts alone: the board as it was taken, or as it was
+/// at the last claim or commit since.
 #[derive(Drop)]
 pub struct Held<B> {
-    pub board: B,
-    /// The journal and the holders of this snapshot are the kept ones.
-    pub kept: Snapshot<B>,
+    board: B,
+    snapshot: Snapshot<B>,
 }
 
 impl<B: Board> Turn<B> {
     ghost use Rattle.std.specs.Prelude.{◌≡◌, ◌≢◌, ℕ, ◌+◌, ◌^◌, ◌<◌, true, false, [], ◌∷◌, ◌++◌, length, Some, None, IfOk, slice_get, slice_set};
     ghost use mathlib.Core.List.{IsPrefix};
-    ghost use Rattle.board_turn.specs.Entries.{holding, IsUnmoved};
+    ghost use Rattle.board_turn.specs.Entries.{IsUnmoved, with_claim};
     ghost use Rattle.stat_desk.specs.Events.{event_node};
-    ghost use Rattle.board_turn.specs.Turns.{saw, knows, after_claim, after_commit, IsKeptBy, with_no_turn};
+    ghost use Rattle.board_turn.specs.Turns.{IsKnownTo, after_claim, with_no_turn};
     ghost use Rattle.board_turn.specs.Known.{known_of};
-    ghost use Rattle.board_turn.specs.Seats.{AreAllHome, IsAsKept, IsFetched, IsSeatOf, IsSeenAs, IsTry, Took, has_turn, number_of, out_of, seen_by, split_count, turn_base, view_of};
+    ghost use Rattle.board_turn.specs.TableSeats.{HasFetched, HasTriedTurn, IsLiving, IsOwner, KnowsCommit, SeatBecomes, SeatCommits, SeatStaysFree, known_by, seen_by};
+    ghost use Rattle.board_turn.specs.Seats.{AreAllHome, CommitsOut, HasTaken, HasView, IsSeatOf, MatchesSnapshot, board_of, claimed_view, committed_view, has_turn, idle_view, seat_journal, seat_number, seat_out, seat_view, snapshot_of, split_count, turn_base};
 
-    /// A turn over a board of which no node is out, with the first seat. Its number is 1.
+    /// A turn over a board with an empty journal and all nodes at home, and its first seat, which has number 1.
     pub fn new(alloc: Global, board: B) -> Result<(Turn<B>, TurnSeat), AllocError>
-        requires journal { B.journal board ≡ [] }
-        requires home { AreAllHome (B.holders board) }
-        ensures mine { IfOk result (λ t. IsSeatOf t.0 t.1) }
+        requires empty_journal { B.journal board ≡ [] }
+        requires all_home { AreAllHome (B.holders board) }
+        ensures seat_of_turn { IfOk result (λ t. IsSeatOf t.0 t.1) }
         ensures base { IfOk result (λ t. turn_base B.base t.0 ≡ B.base board) }
-        ensures seat { IfOk result (λ t. IsSeenAs t.1 (record { number = 1; turn = false; split = 0; journal = B.journal board; out = None })) }
+        ensures first_seat { IfOk result (λ t. HasView t.1 (idle_view 1 (B.journal board))) }
     {
+        // for the proof: the number of nodes fits 32 bits
         let _nodes = board.nodes();
         let about = Snapshot::of(&board);
         let mut slots = Vec::new(alloc);
@@ -72,12 +74,12 @@ impl<B: Board> Turn<B> {
             return Err(AllocError);
         }
         match Table::new(alloc, &[0, 0, 0], slots, &about) {
-            Ok((table, place)) => Ok((
+            Ok((table, table_seat)) => Ok((
                 Turn { table },
                 TurnSeat {
                     number: 1,
                     made: 0,
-                    badge: place.into_badge(),
+                    badge: table_seat.into_badge(),
                 },
             )),
             Err(refused) => {
@@ -87,20 +89,20 @@ impl<B: Board> Turn<B> {
         }
     }
 
-    /// A new seat, split off the first one. Its number is the next one. Takes no memory.
+    /// A new seat, split off the first one, with the next number. Takes no memory.
     pub fn split(&self, seat: &mut TurnSeat) -> TurnSeat
-        requires mine { IsSeatOf self.now seat.old }
-        requires first { number_of seat.old ≡ 1 }
-        requires room { split_count seat.old < 4294967294 }
-        ensures given { IsSeatOf self.now result }
-        ensures new { IsSeenAs result (record { number = split_count seat.old + 2; turn = false; split = 0; journal = seen_by seat.old; out = None }) }
-        ensures mine { IsSeatOf self.now seat.new }
-        ensures seat { IsSeenAs seat.new (record (view_of seat.old) { split = split_count seat.old + 1 }) }
+        requires seat_of_turn { IsSeatOf self.now seat.old }
+        requires first_seat { seat_number seat.old ≡ 1 }
+        requires within_limit { split_count seat.old < 4294967294 }
+        ensures new_seat_of_turn { IsSeatOf self.now result }
+        ensures new_seat { HasView result (idle_view (split_count seat.old + 2) (seat_journal seat.old)) }
+        ensures seat_of_turn { IsSeatOf self.now seat.new }
+        ensures seat { HasView seat.new (record (seat_view seat.old) { split = split_count seat.old + 1 }) }
     {
         let number = seat.made + 2;
-        let mut place = mem::replace(&mut seat.badge, Badge::blank()).into_seat();
-        let new = self.table.shared.split_seat::<SplitOff>(&mut place);
-        seat.badge = place.into_badge();
+        let mut table_seat = mem::replace(&mut seat.badge, Badge::blank()).into_seat();
+        let new = self.table.shared.split_seat::<SplitOff>(&mut table_seat);
+        seat.badge = table_seat.into_badge();
         seat.made += 1;
         TurnSeat {
             number,
@@ -109,54 +111,55 @@ impl<B: Board> Turn<B> {
         }
     }
 
-    /// Takes back a seat that has nothing. Takes no memory.
+    /// Takes back a seat, other than the first, that has neither the turn nor a node out. Takes no memory.
     pub fn join(&self, seat: &mut TurnSeat, other: TurnSeat)
-        requires mine { IsSeatOf self.now seat.old }
-        requires other { IsSeatOf self.now other }
-        requires later { number_of other ≢ 1 }
-        requires rests { has_turn other ≡ false }
-        requires free { out_of other ≡ None }
-        ensures mine { IsSeatOf self.now seat.new }
-        ensures seat { IsSeenAs seat.new (view_of seat.old) }
+        requires seat_of_turn { IsSeatOf self.now seat.old }
+        requires other_of_turn { IsSeatOf self.now other }
+        requires not_first { seat_number other ≢ 1 }
+        requires has_no_turn { has_turn other ≡ false }
+        requires nothing_out { seat_out other ≡ None }
+        ensures seat_of_turn { IsSeatOf self.now seat.new }
+        ensures seat { HasView seat.new (seat_view seat.old) }
     {
         let TurnSeat {
             number: _,
             made: _,
             badge,
         } = other;
-        let mut place = mem::replace(&mut seat.badge, Badge::blank()).into_seat();
+        let mut table_seat = mem::replace(&mut seat.badge, Badge::blank()).into_seat();
         self.table
             .shared
-            .join_seat::<JoinBack>(&mut place, badge.into_seat());
-        seat.badge = place.into_badge();
+            .join_seat::<JoinBack>(&mut table_seat, badge.into_seat());
+        seat.badge = table_seat.into_badge();
     }
 
-    // Tries to take the turn, and gives the number that stood in word 0.
-    fn try_turn<E: PicksBase<B::Base>>(&self, place: &mut TableSeat<B>, number: u32) -> u64
+    // Tries to take the turn, and returns what word 0 was.
+    fn try_turn<E: PicksBase<B::Base>>(&self, table_seat: &mut TableSeat<B>, number: u32) -> u64
         requires base { E.base ≡ Some (turn_base B.base self.now) }
-        requires mine { place.old.table_id ≡ self.now.table.shared.table_id }
-        requires living { (place.old.me.0.spent ≡ false) × (place.old.me.0.number ≡ number) }
-        ensures { IsTry B.journal B.holders B.base (turn_base B.base self.now) place.old place.new result }
+        requires of_table { table_seat.old.table_id ≡ self.now.table.shared.table_id }
+        requires living { IsLiving table_seat.old.me.0 number }
+        ensures { HasTriedTurn B.journal B.holders B.base (turn_base B.base self.now) table_seat.old
+            table_seat.new result }
     {
         self.table
             .shared
-            .compare_exchange::<TakeTurn<E>>(place, 0, 0, number as u64)
+            .compare_exchange::<TakeTurn<E>>(table_seat, 0, 0, number as u64)
     }
 
     // Waits until word 0 is 0, and takes the turn.
     fn wait_turn<E: PicksBase<B::Base>, R: Wait>(
         &self,
         rt: &R,
-        place: &mut TableSeat<B>,
+        table_seat: &mut TableSeat<B>,
         number: u32,
     )
         requires base { E.base ≡ Some (turn_base B.base self.now) }
-        requires mine { place.old.table_id ≡ self.now.table.shared.table_id }
-        requires living { (place.old.me.0.spent ≡ false) × (place.old.me.0.number ≡ number) }
-        ensures { IsTry B.journal B.holders B.base (turn_base B.base self.now) place.old place.new 0 }
+        requires of_table { table_seat.old.table_id ≡ self.now.table.shared.table_id }
+        requires living { IsLiving table_seat.old.me.0 number }
+        ensures { HasTriedTurn B.journal B.holders B.base (turn_base B.base self.now) table_seat.old table_seat.new 0 }
     {
         for _ in rt.forever() {
-            let owner = self.try_turn::<E>(place, number);
+            let owner = self.try_turn::<E>(table_seat, number);
             if owner == 0 {
                 return;
             }
@@ -166,167 +169,182 @@ impl<B: Board> Turn<B> {
     }
 
     // Waits for the turn, and takes the board out of its slot.
-    fn fetch<R: Wait>(&self, rt: &R, place: &mut TableSeat<B>, number: u32) -> B
-        requires mine { (place.old.table_id ≡ self.now.table.shared.table_id) × (place.old.me.1 ≡ []) }
-        requires living { (place.old.me.0.spent ≡ false) × (place.old.me.0.number ≡ number) }
-        ensures mine { (place.new.table_id ≡ place.old.table_id) × (place.new.id ≡ place.old.id) × (place.new.me.1 ≡ []) }
-        ensures took { IsFetched B.journal B.holders B.base (turn_base B.base self.now) place.old.me.0 place.new.me.0 result }
+    fn fetch<R: Wait>(&self, rt: &R, table_seat: &mut TableSeat<B>, number: u32) -> B
+        requires of_table { table_seat.old.table_id ≡ self.now.table.shared.table_id }
+        requires no_slots { table_seat.old.me.1 ≡ [] }
+        requires living { IsLiving table_seat.old.me.0 number }
+        ensures table_seat { SeatStaysFree table_seat.old table_seat.new }
+        ensures fetched { HasFetched B.journal B.holders B.base (turn_base B.base self.now) table_seat.old.me.0
+            table_seat.new.me.0 result }
     {
-        self.wait_turn::<Brand, R>(rt, place, number);
-        let board = self.lift(place);
-        self.table.shared.load::<LayDown>(place, 0);
+        self.wait_turn::<Brand, R>(rt, table_seat, number);
+        let board = self.lift(table_seat);
+        self.table.shared.load::<LayDown>(table_seat, 0);
         board
     }
 
     // Puts the board into its slot, and frees the turn.
-    fn put(&self, place: &mut TableSeat<B>, board: B)
-        requires mine { (place.old.table_id ≡ self.now.table.shared.table_id) × (place.old.me.1 ≡ []) }
-        requires living { (place.old.me.0.spent ≡ false) × (place.old.me.0.turn ≡ true) × (place.old.me.0.due ≡ 0) × (place.old.me.0.lifts ≡ false) }
-        requires keeps { IsKeptBy B.journal B.holders B.base (Some (turn_base B.base self.now)) board place.old.me.0 }
-        ensures { (place.new.table_id ≡ place.old.table_id) × (place.new.id ≡ place.old.id) × (place.new.me ≡ (with_no_turn place.old.me.0, [])) }
+    fn put(&self, table_seat: &mut TableSeat<B>, board: B)
+        requires of_table { table_seat.old.table_id ≡ self.now.table.shared.table_id }
+        requires no_slots { table_seat.old.me.1 ≡ [] }
+        requires owner { IsOwner table_seat.old.me.0 }
+        requires laid_down { table_seat.old.me.0.lifts ≡ false }
+        requires known { IsKnownTo B.journal B.holders B.base (Some (turn_base B.base self.now)) board
+            table_seat.old.me.0 }
+        ensures { SeatBecomes table_seat.old table_seat.new (with_no_turn table_seat.old.me.0, []) }
     {
-        self.table.shared.load::<PickUp>(place, 0);
-        self.lay(place, board);
-        self.table.shared.store::<FreeTurn>(place, 0, 0);
+        self.table.shared.load::<PickUp>(table_seat, 0);
+        self.lay(table_seat, board);
+        self.table.shared.store::<FreeTurn>(table_seat, 0, 0);
         self.table.shared.wake_one(0);
     }
 
-    /// Waits for the turn, and gives the board. Its journal goes on from the one that the seat saw last. The node that the
-    /// seat has out is still out with it, and no event of that node came since the claim.
+    /// Waits for the turn, and takes the board. The journal that the seat saw last is a prefix of the board's. A node that
+    /// the seat has out is still out with it, and no event of that node was committed since the claim.
     pub fn take<R: Wait>(&self, rt: &R, seat: &mut TurnSeat) -> Held<B>
-        requires mine { IsSeatOf self.now seat.old }
-        requires rests { has_turn seat.old ≡ false }
-        ensures mine { IsSeatOf self.now seat.new }
-        ensures took { Took B.journal B.holders B.base self.now seat.new result }
-        ensures seat { IsSeenAs seat.new (record (view_of seat.old) { turn = true }) }
-        ensures kept { IsAsKept B.journal B.holders result }
-        ensures later { IsPrefix (seen_by seat.old) (B.journal result.board) }
-        ensures holder { (h : _) → out_of seat.old ≡ Some h → slice_get (B.holders result.board) (event_node h.event) ≡ Some (Some h) }
-        ensures unmoved { (h : _) → out_of seat.old ≡ Some h → IsUnmoved (B.journal result.board) h }
+        requires seat_of_turn { IsSeatOf self.now seat.old }
+        requires has_no_turn { has_turn seat.old ≡ false }
+        ensures seat_of_turn { IsSeatOf self.now seat.new }
+        ensures taken { HasTaken B.journal B.holders B.base self.now seat.new result }
+        ensures seat { HasView seat.new (record (seat_view seat.old) { turn = true }) }
+        ensures snapshot { MatchesSnapshot B.journal B.holders result }
+        ensures prefix { IsPrefix (seat_journal seat.old) (B.journal (board_of result)) }
+        ensures still_out { (h : _) → seat_out seat.old ≡ Some h
+            → slice_get (B.holders (board_of result)) (event_node h.event) ≡ Some (Some h) }
+        ensures unmoved { (h : _) → seat_out seat.old ≡ Some h → IsUnmoved (B.journal (board_of result)) h }
     {
-        let mut place = mem::replace(&mut seat.badge, Badge::blank()).into_seat();
-        let board = self.fetch(rt, &mut place, seat.number);
-        seat.badge = place.into_badge();
-        let kept = Snapshot::of(&board);
-        Held { board, kept }
+        let mut table_seat = mem::replace(&mut seat.badge, Badge::blank()).into_seat();
+        let board = self.fetch(rt, &mut table_seat, seat.number);
+        seat.badge = table_seat.into_badge();
+        let snapshot = Snapshot::of(&board);
+        Held { board, snapshot }
     }
 
     // Takes the board out of its slot.
-    fn lift(&self, place: &mut TableSeat<B>) -> B
-        requires { (place.old.table_id ≡ self.now.table.shared.table_id) × ((b : _) × (place.old.me.1 ≡ (0, Some b) ∷ [])) }
-        ensures { (place.new.table_id ≡ place.old.table_id) × (place.new.id ≡ place.old.id) × (place.new.me ≡ (place.old.me.0, (0, None) ∷ [])) × (place.old.me.1 ≡ (0, Some result) ∷ []) }
+    fn lift(&self, table_seat: &mut TableSeat<B>) -> B
+        requires of_table { table_seat.old.table_id ≡ self.now.table.shared.table_id }
+        requires full_slot { (b : _) × (table_seat.old.me.1 ≡ (0, Some b) ∷ []) }
+        ensures table_seat { SeatBecomes table_seat.old table_seat.new (table_seat.old.me.0, (0, None) ∷ []) }
+        ensures board { table_seat.old.me.1 ≡ (0, Some result) ∷ [] }
     {
-        match self.table.shared.exchange(place, 0, None) {
+        match self.table.shared.exchange(table_seat, 0, None) {
             Some(board) => board,
             None => unreachable!(),
         }
     }
 
     // Lays the board into its slot.
-    fn lay(&self, place: &mut TableSeat<B>, board: B)
-        requires { (place.old.table_id ≡ self.now.table.shared.table_id) × (place.old.me.1 ≡ (0, None) ∷ []) }
-        ensures { (place.new.table_id ≡ place.old.table_id) × (place.new.id ≡ place.old.id) × (place.new.me ≡ (place.old.me.0, (0, Some board) ∷ [])) }
+    fn lay(&self, table_seat: &mut TableSeat<B>, board: B)
+        requires of_table { table_seat.old.table_id ≡ self.now.table.shared.table_id }
+        requires empty_slot { table_seat.old.me.1 ≡ (0, None) ∷ [] }
+        ensures { SeatBecomes table_seat.old table_seat.new (table_seat.old.me.0, (0, Some board) ∷ []) }
     {
-        match self.table.shared.exchange(place, 0, Some(board)) {
+        match self.table.shared.exchange(table_seat, 0, Some(board)) {
             Some(_) => unreachable!(),
             None => {}
         }
     }
 
-    /// Takes the node of an event out for this seat. The board must already name the seat as that node's holder, and have
-    /// nothing else changed.
+    /// Takes the node of an event out for this seat. The board must already name the seat as that node's holder, and be
+    /// otherwise unchanged.
     pub fn claim(&self, seat: &mut TurnSeat, held: &mut Held<B>, event: Event)
-        requires mine { IsSeatOf self.now seat.old }
-        requires took { Took B.journal B.holders B.base self.now seat.old held.old }
-        requires free { out_of seat.old ≡ None }
-        requires room { length (B.journal held.old.board) < 2 ^ 62 }
-        requires home { slice_get (B.holders held.old.kept.value) (event_node event) ≡ Some None }
-        requires journal { B.journal held.old.board ≡ B.journal held.old.kept.value }
-        requires holders { B.holders held.old.board ≡ slice_set (B.holders held.old.kept.value) (event_node event) (Some (holding (number_of seat.old) event (length (B.journal held.old.board)))) }
-        ensures mine { IsSeatOf self.now seat.new }
-        ensures took { Took B.journal B.holders B.base self.now seat.new held.new }
-        ensures seat { IsSeenAs seat.new (record (view_of seat.old) { journal = B.journal held.old.board; out = Some (holding (number_of seat.old) event (length (B.journal held.old.board))) }) }
-        ensures board { held.new.board ≡ held.old.board }
-        ensures kept { held.new.kept.value ≡ held.old.board }
+        requires seat_of_turn { IsSeatOf self.now seat.old }
+        requires taken { HasTaken B.journal B.holders B.base self.now seat.old held.old }
+        requires nothing_out { seat_out seat.old ≡ None }
+        requires within_limit { length (B.journal (board_of held.old)) < 2 ^ 62 }
+        requires node_home { slice_get (B.holders (snapshot_of held.old)) (event_node event) ≡ Some None }
+        requires same_journal { B.journal (board_of held.old) ≡ B.journal (snapshot_of held.old) }
+        requires claimed { B.holders (board_of held.old)
+            ≡ with_claim (B.holders (snapshot_of held.old)) (seat_number seat.old) event
+            (B.journal (board_of held.old)) }
+        ensures seat_of_turn { IsSeatOf self.now seat.new }
+        ensures taken { HasTaken B.journal B.holders B.base self.now seat.new held.new }
+        ensures seat { HasView seat.new (claimed_view seat.old event (B.journal (board_of held.old))) }
+        ensures board { board_of held.new ≡ board_of held.old }
+        ensures snapshot { snapshot_of held.new ≡ board_of held.old }
     {
-        let mut place = mem::replace(&mut seat.badge, Badge::blank()).into_seat();
-        self.mark::<Brand>(&mut place, seat.number, event);
-        seat.badge = place.into_badge();
-        held.kept = Snapshot::of(&held.board);
+        let mut table_seat = mem::replace(&mut seat.badge, Badge::blank()).into_seat();
+        self.mark::<Brand>(&mut table_seat, seat.number, event);
+        seat.badge = table_seat.into_badge();
+        held.snapshot = Snapshot::of(&held.board);
     }
 
     // Notes the claim in the seat's view, and counts the entry.
-    fn mark<E: PicksEvent>(&self, place: &mut TableSeat<B>, number: u32, event: Event)
+    fn mark<E: PicksEvent>(&self, table_seat: &mut TableSeat<B>, number: u32, event: Event)
         requires event { event ≡ E.event }
-        requires mine { (place.old.table_id ≡ self.now.table.shared.table_id) }
-        requires living { (place.old.me.0.spent ≡ false) × (place.old.me.0.number ≡ number) × (place.old.me.0.turn ≡ true) × (place.old.me.0.due ≡ 0) }
-        requires free { place.old.me.0.out ≡ None }
-        requires room { length (knows place.old.me.0).journal < 2 ^ 62 }
-        requires home { slice_get (knows place.old.me.0).holders (event_node event) ≡ Some None }
-        ensures after { (place.new.table_id ≡ place.old.table_id) × (place.new.id ≡ place.old.id) × (place.new.me ≡ (after_claim place.old.me.0 event, place.old.me.1)) }
-        ensures saw { (saw place.new.me.0).journal ≡ (knows place.old.me.0).journal }
-        ensures journal { (knows place.new.me.0).journal ≡ (knows place.old.me.0).journal }
-        ensures holders { (knows place.new.me.0).holders ≡ slice_set (knows place.old.me.0).holders (event_node event) (Some (holding number event (length (knows place.old.me.0).journal))) }
+        requires of_table { table_seat.old.table_id ≡ self.now.table.shared.table_id }
+        requires owner { IsOwner table_seat.old.me.0 }
+        requires number { table_seat.old.me.0.number ≡ number }
+        requires nothing_out { table_seat.old.me.0.out ≡ None }
+        requires within_limit { length (known_by table_seat.old).journal < 2 ^ 62 }
+        requires node_home { slice_get (known_by table_seat.old).holders (event_node event) ≡ Some None }
+        ensures table_seat { SeatBecomes table_seat.old table_seat.new
+            (after_claim table_seat.old.me.0 event, table_seat.old.me.1) }
+        ensures seen { (seen_by table_seat.new).journal ≡ (known_by table_seat.old).journal }
+        ensures journal { (known_by table_seat.new).journal ≡ (known_by table_seat.old).journal }
+        ensures claimed { (known_by table_seat.new).holders
+            ≡ with_claim (known_by table_seat.old).holders number event (known_by table_seat.old).journal }
     {
+        // for the proof: the claim is of this event
         let _ = event;
         self.table
             .shared
-            .store::<MarkClaim<E>>(place, 0, number as u64);
-        self.table.shared.fetch_add::<CountEntry>(place, 2, 1);
+            .store::<MarkClaim<E>>(table_seat, 0, number as u64);
+        self.table.shared.fetch_add::<CountEntry>(table_seat, 2, 1);
     }
 
-    /// Brings the seat's node home, with its event. The board must already have the event at the end of its journal and the
-    /// node at home, and have nothing else changed.
+    /// Brings the seat's node home, with its event. The board's journal must already end with the event, the node must be
+    /// at home, and the board be otherwise unchanged.
     pub fn commit(&self, seat: &mut TurnSeat, held: &mut Held<B>)
-        requires mine { IsSeatOf self.now seat.old }
-        requires took { Took B.journal B.holders B.base self.now seat.old held.old }
-        requires done { (h : _) × (out_of seat.old ≡ Some h) × (B.journal held.old.board ≡ B.journal held.old.kept.value ++ h.event ∷ []) × (B.holders held.old.board ≡ slice_set (B.holders held.old.kept.value) (event_node h.event) None) }
-        ensures mine { IsSeatOf self.now seat.new }
-        ensures took { Took B.journal B.holders B.base self.now seat.new held.new }
-        ensures seat { IsSeenAs seat.new (record (view_of seat.old) { journal = B.journal held.old.board; out = None }) }
-        ensures board { held.new.board ≡ held.old.board }
-        ensures kept { held.new.kept.value ≡ held.old.board }
+        requires seat_of_turn { IsSeatOf self.now seat.old }
+        requires taken { HasTaken B.journal B.holders B.base self.now seat.old held.old }
+        requires committed { CommitsOut B.journal B.holders held.old (seat_out seat.old) }
+        ensures seat_of_turn { IsSeatOf self.now seat.new }
+        ensures taken { HasTaken B.journal B.holders B.base self.now seat.new held.new }
+        ensures seat { HasView seat.new (committed_view seat.old (B.journal (board_of held.old))) }
+        ensures board { board_of held.new ≡ board_of held.old }
+        ensures snapshot { snapshot_of held.new ≡ board_of held.old }
     {
-        let mut place = mem::replace(&mut seat.badge, Badge::blank()).into_seat();
-        self.bring(&mut place, held.board.count());
-        seat.badge = place.into_badge();
-        held.kept = Snapshot::of(&held.board);
+        let mut table_seat = mem::replace(&mut seat.badge, Badge::blank()).into_seat();
+        self.bring(&mut table_seat, held.board.count());
+        seat.badge = table_seat.into_badge();
+        held.snapshot = Snapshot::of(&held.board);
     }
 
     // Counts the commit, and then the entry.
-    fn bring(&self, place: &mut TableSeat<B>, count: u64)
-        requires mine { (place.old.table_id ≡ self.now.table.shared.table_id) }
-        requires living { (place.old.me.0.spent ≡ false) × (place.old.me.0.turn ≡ true) × (place.old.me.0.due ≡ 0) }
-        requires count { count ≡ length (knows place.old.me.0).journal + 1 }
-        requires out { (h : _) × (place.old.me.0.out ≡ Some h) }
-        ensures after { (place.new.table_id ≡ place.old.table_id) × (place.new.id ≡ place.old.id) × ((h : _) → place.old.me.0.out ≡ Some h → place.new.me ≡ (after_commit place.old.me.0 h, place.old.me.1)) }
-        ensures saw { (h : _) → place.old.me.0.out ≡ Some h → ((knows place.new.me.0).journal ≡ (knows place.old.me.0).journal ++ h.event ∷ []) × ((knows place.new.me.0).holders ≡ slice_set (knows place.old.me.0).holders (event_node h.event) None) × ((saw place.new.me.0).journal ≡ (knows place.old.me.0).journal ++ h.event ∷ []) }
+    fn bring(&self, table_seat: &mut TableSeat<B>, count: u64)
+        requires of_table { table_seat.old.table_id ≡ self.now.table.shared.table_id }
+        requires owner { IsOwner table_seat.old.me.0 }
+        requires count { count ≡ length (known_by table_seat.old).journal + 1 }
+        requires something_out { (h : _) × (table_seat.old.me.0.out ≡ Some h) }
+        ensures table_seat { SeatCommits table_seat.old table_seat.new }
+        ensures known { KnowsCommit table_seat.old table_seat.new }
     {
-        self.table.shared.store::<CountCommit>(place, 1, count);
-        self.table.shared.fetch_add::<CountEntry>(place, 2, 1);
+        self.table.shared.store::<CountCommit>(table_seat, 1, count);
+        self.table.shared.fetch_add::<CountEntry>(table_seat, 2, 1);
     }
 
-    /// Gives the board and the turn back, and wakes one who waits. Takes no memory, and does not wait.
+    /// Gives the board and the turn back, and wakes a seat that waits for it. Takes no memory, and does not wait.
     pub fn give(&self, seat: &mut TurnSeat, held: Held<B>)
-        requires mine { IsSeatOf self.now seat.old }
-        requires took { Took B.journal B.holders B.base self.now seat.old held }
-        requires kept { IsAsKept B.journal B.holders held }
-        ensures mine { IsSeatOf self.now seat.new }
-        ensures seat { IsSeenAs seat.new (record (view_of seat.old) { turn = false }) }
+        requires seat_of_turn { IsSeatOf self.now seat.old }
+        requires taken { HasTaken B.journal B.holders B.base self.now seat.old held }
+        requires snapshot { MatchesSnapshot B.journal B.holders held }
+        ensures seat_of_turn { IsSeatOf self.now seat.new }
+        ensures seat { HasView seat.new (record (seat_view seat.old) { turn = false }) }
     {
-        let Held { board, kept } = held;
-        drop(kept);
-        let mut place = mem::replace(&mut seat.badge, Badge::blank()).into_seat();
-        self.put(&mut place, board);
-        seat.badge = place.into_badge();
+        let Held { board, snapshot } = held;
+        drop(snapshot);
+        let mut table_seat = mem::replace(&mut seat.badge, Badge::blank()).into_seat();
+        self.put(&mut table_seat, board);
+        seat.badge = table_seat.into_badge();
     }
 
-    /// Ends the turn, and gives the held board. Seats that were not joined can do nothing more.
+    /// Ends the turn, and returns the held board. Seats that were not joined can do nothing more.
     pub fn close(self, seat: TurnSeat, held: Held<B>) -> B
-        requires mine { IsSeatOf self seat }
-        requires took { Took B.journal B.holders B.base self seat held }
-        requires kept { IsAsKept B.journal B.holders held }
-        ensures { result ≡ held.board }
+        requires seat_of_turn { IsSeatOf self seat }
+        requires taken { HasTaken B.journal B.holders B.base self seat held }
+        requires snapshot { MatchesSnapshot B.journal B.holders held }
+        ensures { result ≡ board_of held }
     {
         let Turn { table } = self;
         let TurnSeat {
@@ -338,8 +356,8 @@ impl<B: Board> Turn<B> {
         let counted = closed.word(1);
         drop(closed.take(0));
         closed.free();
-        let Held { board, kept } = held;
-        drop(kept);
+        let Held { board, snapshot } = held;
+        drop(snapshot);
         let is_count = counted == board.count();
         prove!(is_count);
         board
@@ -348,11 +366,11 @@ impl<B: Board> Turn<B> {
 
 impl TurnSeat {
     ghost use Rattle.std.specs.Prelude.{◌≡◌};
-    ghost use Rattle.board_turn.specs.Seats.{number_of};
+    ghost use Rattle.board_turn.specs.Seats.{seat_number};
 
     /// The seat's number, from 1.
     pub fn number(&self) -> u32
-        ensures { result ≡ number_of self.now }
+        ensures { result ≡ seat_number self.now }
     {
         self.number
     }
@@ -362,11 +380,12 @@ impl<B> Held<B> {
     ghost use Rattle.std.specs.Prelude.{◌≡◌};
     ghost use Rattle.std.specs.Borrow.{sem};
     ghost use Rattle.board_turn.specs.Lending.{LendsBoard};
+    ghost use Rattle.board_turn.specs.Seats.{board_of};
 
     /// The board, to be read and changed.
     pub fn board(&mut self) -> &mut B
         ensures* writes_back { sem 𝓛 (LendsBoard B.row self.entry result) }
-        ensures value { result.now ≡ self.old.board }
+        ensures value { result.now ≡ board_of self.old }
     {
         &mut self.board
     }

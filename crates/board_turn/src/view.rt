@@ -1,4 +1,4 @@
-//! The rule of the table under the turn, and what a seat knows. No value of an `LogEntry` or a `View` is made: they stand in
+//! The invariant of the table under a turn, and what a seat knows. No `LogEntry` and no `View` is ever made: both occur in
 //! contracts and proofs alone.
 use crate::board::Board;
 use crate::holding::Holding;
@@ -32,25 +32,25 @@ pub struct View {
     pub due: u64,
     /// Whether it carries the slot.
     pub lifts: bool,
-    /// The entries that it saw last.
+    /// The log as it saw it last.
     pub seen: LinkedList<LogEntry>,
-    /// The entries that it keeps while it has the turn.
+    /// The log as it knows it while it has the turn.
     pub known: LinkedList<LogEntry>,
-    /// What it has out.
+    /// The claim whose node it has out, if it has one out.
     pub out: Option<Holding>,
 }
 
-/// The rule of the turn. Word 0 is the number of the seat that has the turn, or 0. Word 1 is the journal's length, and word
-/// 2 the number of entries. Slot 0 has the board, while nobody has the turn.
+/// The rule of the turn. Word 0 is the number of the seat that has the turn, or 0. Word 1 is the journal's length, and
+/// word 2 the number of log entries. Slot 0 has the board, while no seat has the turn.
 pub struct TurnRule<B> {
     of: PhantomData<B>,
 }
 
 impl<B: Board> TableRule<Option<B>, View, Snapshot<B>> for TurnRule<B> {
     ghost use Rattle.std.specs.Prelude.{length};
-    ghost use Rattle.board_turn.specs.Turns.{Ruled, first_view};
+    ghost use Rattle.board_turn.specs.Turns.{TableInvariant, first_view};
 
-    ghost holds = { λ key. Ruled B.journal B.holders B.base key.value };
+    ghost holds = { λ key. TableInvariant B.journal B.holders B.base key.value };
 
     ghost first = { λ key. first_view (length (B.holders key.value)) };
 }

@@ -20,11 +20,11 @@ first_same x y xs ys e = cc
 rest_same : (x y : ℕ) (xs ys : List ℕ) → x ∷ xs ≡ y ∷ ys → xs ≡ ys
 rest_same x y xs ys e = cc
 
-rest_numbered : (earlier : List Release) (r : TreeRelease) (rs : List TreeRelease) → AreNumberedInOrder earlier (r ∷ rs) → AreNumberedInOrder (earlier ++ bare_release r ∷ []) rs
+pub rest_numbered : (earlier : List Release) (r : TreeRelease) (rs : List TreeRelease) → AreNumberedInOrder earlier (r ∷ rs) → AreNumberedInOrder (earlier ++ bare_release r ∷ []) rs
 rest_numbered earlier r rs e =
     rest_same r.number (suc (length (of_wave r.stream r.wave earlier))) (map (λ (r : TreeRelease). r.number) rs) (numbers_after (earlier ++ bare_release r ∷ []) (bare_releases rs)) e
 
-first_number : (earlier : List Release) (r : TreeRelease) (rs : List TreeRelease) → AreNumberedInOrder earlier (r ∷ rs) → r.number ≡ suc (length (of_wave r.stream r.wave earlier))
+pub first_number : (earlier : List Release) (r : TreeRelease) (rs : List TreeRelease) → AreNumberedInOrder earlier (r ∷ rs) → r.number ≡ suc (length (of_wave r.stream r.wave earlier))
 first_number earlier r rs e =
     first_same r.number (suc (length (of_wave r.stream r.wave earlier))) (map (λ (r : TreeRelease). r.number) rs) (numbers_after (earlier ++ bare_release r ∷ []) (bare_releases rs)) e
 

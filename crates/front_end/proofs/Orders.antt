@@ -33,7 +33,7 @@ all_from P (y ∷ ys) all x (inl e) = subst P (sym e) (all 0 y (omega arith))
 all_from P (y ∷ ys) all x (inr there) = all_from P ys (λ k d lt. all (suc k) d (omega arith)) x there
 
 -- what one list has, a list of the same elements has
-in_permutation : {X : Type 0} (xs ys : List X) → IsPermutation xs ys → (x : X) → In x ys → In x xs
+pub in_permutation : {X : Type 0} (xs ys : List X) → IsPermutation xs ys → (x : X) → In x ys → In x xs
 in_permutation xs ys same = all_from (λ x. In x xs) ys (All-permutation (λ x. In x xs) xs ys same (in_at xs))
 
 module _ {X : Type 0} (R : X → X → Ordering) (total : IsTotalOrder R) where
@@ -41,7 +41,7 @@ module _ {X : Type 0} (R : X → X → Ordering) (total : IsTotalOrder R) where
   not_both x y below above = let e : Less ≡ Greater = sym below ∙ total.antisymm x y ∙ ap ordering_reverse above in cc
 
   -- two rising lists of the same elements are the same list
-  one_order : (xs ys : List X) → IsStrictlySortedBy R xs → IsStrictlySortedBy R ys → ((x : X) → In x xs → In x ys) → ((x : X) → In x ys → In x xs) → xs ≡ ys
+  pub one_order : (xs ys : List X) → IsStrictlySortedBy R xs → IsStrictlySortedBy R ys → ((x : X) → In x xs → In x ys) → ((x : X) → In x ys → In x xs) → xs ≡ ys
   unfolding IsStrictlySortedBy
   one_order [] [] up up' there back = λ i. []
   one_order [] (y ∷ ys) up up' there back = absurd (back y (inl (λ i. y)))
@@ -78,7 +78,7 @@ module _ {X : Type 0} (R : X → X → Ordering) (total : IsTotalOrder R) where
       less_from (R (get_or (x ∷ xs) k x) (get_or (x ∷ xs) (k + 1) x)) (ap is_lt (sym (total.antisymm (get_or (x ∷ xs) (k + 1) x) (get_or (x ∷ xs) k x))) ∙ up k x (omega arith) lt)
       (apart_from_distinct (eq_by_cmp R) (x ∷ xs) k (k + 1) x apart (omega arith) lt))
 
-release_cmp_total : IsTotalOrder release_cmp
+pub release_cmp_total : IsTotalOrder release_cmp
 release_cmp_total =
     then_total (then_total (on_total (λ (r : TreeRelease). r.stream) nat_cmp_total) (on_total (λ (r : TreeRelease). r.wave) nat_cmp_total)) (on_total (λ (r : TreeRelease). r.number) nat_cmp_total)
 

@@ -1,16 +1,22 @@
 -- The text of a report: its releases in order, and then what came of the faults of the plan's script.
-use Rattle.std.specs.Prelude.{◌≡◌, ℕ, Bool, true, false, List, [], ◌∷◌, ◌++◌, codes}
+use Rattle.std.specs.Prelude.{◌≡◌, ℕ, Bool, true, false, List, [], ◌∷◌, ◌++◌, codes, map}
 use Rattle.std.specs.Fmt.{decimal}
-use Rattle.std.specs.List.{flat_map, IsDistinct}
+use Rattle.std.specs.List.{AllByRecursion, flat_map, IsDistinct}
 use Rattle.std.specs.List.Sorted.{IsPermutation, IsStrictlySortedBy}
 use Rattle.std.specs.Ordering.{nat_cmp, ordering_then, eq_by_cmp}
 use Rattle.std.specs.declared.cmp.Ordering.{Ordering}
+use Rattle.prefix_tree.specs.Tree.{tree_of}
+use Rattle.equiv_class.specs.Classes.{classes_of}
 use Rattle.stat_plan.specs.Names.{name_of}
-use Rattle.stat_plan.specs.NodeSets.{member}
-use Rattle.stat_plan.specs.Plans.{Plan}
+use Rattle.stat_plan.specs.NodeSets.{In, member}
+use Rattle.stat_plan.specs.Plans.{Plan, mode, samples, stream_ranks, waves_of}
 use Rattle.stat_plan.specs.declared.script.Fault.{Fault}
-use Rattle.overlay_core.specs.TreeReleases.{TreeRelease}
-use Rattle.front_end.specs.ReleaseText.{release_text}
+use Rattle.stat_plan.specs.declared.script.Mode.TheVariants.{WaitForAll}
+use Rattle.stat_desk.specs.declared.event.Event.{Event}
+use Rattle.overlay_core.specs.declared.release.Kind.TheVariants.{Final}
+use Rattle.overlay_core.specs.Runs.{IsWhole, after}
+use Rattle.overlay_core.specs.TreeReleases.{AreNumberedInOrder, TreeRelease, bare_releases}
+use Rattle.front_end.specs.ReleaseText.{classes_in, release_text}
 
 -- by stream, then by wave, then by number
 abbrev pub release_cmp : TreeRelease → TreeRelease → Ordering
@@ -43,3 +49,35 @@ pub record IsReport (p : Plan) (given : List TreeRelease) (lost text : List ℕ)
   pub ordered : List TreeRelease
   pub in_order : IsInOrder given ordered
   pub is : text ≡ report_text p lost ordered
+
+-- a release's tree and classes are those of the wave's samples, merged directly over exactly the ranks that it covers
+pub record IsDirect (p : Plan) (r : TreeRelease) : Type 0 where
+  pub tree : r.tree ≡ tree_of (samples p r.stream r.wave) r.tree.coverage
+  pub classes : classes_in r.tree ≡ classes_of (samples p r.stream r.wave) r.tree.coverage
+
+-- The releases are those of the machine after a whole journal, with their numbers within their waves, and each is the
+-- direct merge of its wave's samples over the ranks that it covers.
+pub record AreReleasesOf (p : Plan) (journal : List Event) (releases : List TreeRelease) : Type 0 where
+  pub whole : IsWhole p journal
+  pub reached : bare_releases releases ≡ (after p journal).releases
+  pub numbered : AreNumberedInOrder [] releases
+  pub direct : AllByRecursion (IsDirect p) releases
+
+-- every wave of the plan is of a stream that waits for all its daemons
+abbrev pub AllStreamsWait : Plan → Type 0
+AllStreamsWait p = (s w : ℕ) → In (s, w) (waves_of p.streams) → mode p s ≡ WaitForAll
+
+-- a wave's first and final release, with the direct merge of its samples over all ranks of its stream, and no node lost
+abbrev pub direct_release : Plan → ℕ × ℕ → TreeRelease
+direct_release p v = record {
+  stream = v.0;
+  wave = v.1;
+  number = 1;
+  kind = Final;
+  tree = tree_of (samples p v.0 v.1) (stream_ranks p v.0);
+  lost = [];
+}
+
+-- one such release for each wave of the plan, by stream and wave
+abbrev pub direct_releases : Plan → List TreeRelease
+direct_releases p = map (direct_release p) (waves_of p.streams)

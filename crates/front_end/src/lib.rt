@@ -12,6 +12,6 @@ mod tree_text;
 
 pub use laws::{
     classes_of_a_tree, numbered_releases_are_distinct, ordered_releases_are_in_order,
-    reports_are_one,
+    reports_are_one, waiting_reports_are_direct,
 };
 pub use report::report_text;

@@ -27,7 +27,7 @@ unfolding start
 alive_at_start p n lt = lt-ltb n (nodes p) lt
 
 -- a node that is dead in the end is lost by the journal
-lost_by : (p : Plan) (journal : List Event) (n : ℕ) → n < nodes p → (after p journal).alive n ≡ false → IsLost journal n
+pub lost_by : (p : Plan) (journal : List Event) (n : ℕ) → n < nodes p → (after p journal).alive n ≡ false → IsLost journal n
 lost_by p journal n lt dead = dead_is_lost p (start p) journal n (alive_at_start p n lt) dead
 
 by_journal : (p : Plan) (journal : List Event) (s : ℕ) (rs : List Release) → HasPlanFacts p → EndsWith p (after p journal).alive s rs → EndsFinally p journal s rs

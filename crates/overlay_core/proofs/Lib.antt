@@ -17,6 +17,7 @@ pub mod Enabled
 pub mod Picks
 pub mod Releases
 pub mod Ended
+pub mod NamedLosses
 pub mod Independent
 pub mod Sends
 pub mod Journals

@@ -12,6 +12,7 @@ ghost use Rattle.overlay_core.specs.Counts.{OnlyGrows, one_if, is_unsent, sends,
 ghost use Rattle.overlay_core.specs.History.{of_wave};
 ghost use Rattle.overlay_core.specs.Losses.{IsLost};
 ghost use Rattle.overlay_core.specs.Machine.{State, start, step, is_enabled, enabled_events};
+ghost use Rattle.overlay_core.specs.Nodes.{Release as MachineRelease};
 ghost use Rattle.overlay_core.specs.Pick.{next_number, picked_event, picked, Picks, IsPickedFrom};
 ghost use Rattle.overlay_core.specs.Releases.{ReleasesAreSound};
 ghost use Rattle.overlay_core.specs.Runs.{run, after, IsLegal, IsQuiet, IsWhole};
@@ -104,6 +105,12 @@ pub fn journals_go_on()
 pub fn lost_nodes_are_dead()
     ensures lost { (p : Plan) (journal : List Event) (n : ℕ) → n < nodes p → IsLost journal n
         ↔ ((after p journal).alive n ≡ false) }
+{}
+
+/// A law: a release names only nodes that the journal loses.
+pub fn releases_name_lost_nodes()
+    ensures named { (p : Plan) (journal : List Event) (r : MachineRelease) (n : ℕ) → IsPlan p
+        → IsLegal p journal → In r (after p journal).releases → In n r.lost → IsLost journal n }
 {}
 
 /// A law: a node sends a wave at most as often as what it covers of the wave grew or its parent changed, and once less where

@@ -22,12 +22,12 @@ use Rattle.overlay_core.proofs.Steps.{active_parts}
 use Rattle.overlay_core.proofs.History.{act_each_below}
 use Rattle.overlay_core.proofs.ParentLinks.{waves_above, in_filter, in_list_any, test_from_within}
 use Rattle.overlay_node.specs.Packets.{TreePacket, TreeUp, TreeDone, PacketFits, bare_packet, bare_sends}
-use Rattle.overlay_node.specs.NodeViews.{NodeView, MayHandle, MayReceive, taken_with}
+use Rattle.overlay_node.specs.NodeViews.{NodeView, MayHandle, MayReceive, received_with, outcome_at}
 use Rattle.overlay_net.specs.Inboxes.{Waiting, queue_of}
 use Rattle.overlay_net.specs.Nets.{inbox_at, state_with}
 use Rattle.overlay_net.specs.Events.{AreParts}
 use Rattle.overlay_net.specs.Sends.{AreSent, CanTake, GoBelow, IsTaken}
-use Rattle.overlay_net.specs.Handled.{HasHandled, outcome_at}
+use Rattle.overlay_net.specs.Handled.{HasHandled}
 use Rattle.overlay_net.proofs.Offers.{stays_is, node_there}
 use Rattle.overlay_net.proofs.States.{popped_state, commit_state}
 
@@ -41,7 +41,7 @@ none_bare (r ∷ rs) e = absurd (not_none (bare_release r) (bare_releases rs) e)
 eqb-false-from : (a b : ℕ) → a ≢ b → (a == b) ≡ false
 eqb-false-from a b other = grind (arith, nat_tests)
 
-module _ (p : Plan) (plan : IsPlan p) (safe : p.faults ≡ []) (xs : List NodeView) (ib : List Waiting) (rs : List TreeRelease) (parts : AreParts p xs ib) (sound : LinkInvariant p (state_with p xs ib rs)) where
+module _ (p : Plan) (plan : IsPlan p) (no_faults : p.faults ≡ []) (xs : List NodeView) (ib : List Waiting) (rs : List TreeRelease) (parts : AreParts p xs ib) (sound : LinkInvariant p (state_with p xs ib rs)) where
   abbrev st : State
   st = state_with p xs ib rs
 
@@ -55,12 +55,12 @@ module _ (p : Plan) (plan : IsPlan p) (safe : p.faults ≡ []) (xs : List NodeVi
   -- what it receives waits
   pub can_take : (e : Event) → is_enabled p st e ≡ true → CanTake ib e
   can_take (Sample n s w) en = tt
-  can_take (Recv n m) en = (subst (λ k. n < k) (sym parts.all_inboxes) (event_below (Recv n m) en), λ none. true≢false (sym (and_parts _ _ en).1 ∙ ap (λ q. is_pending (map bare_packet q)) none))
+  can_take (Recv n m) en = (subst (λ k. n < k) (sym parts.inbox_count) (event_below (Recv n m) en), λ none. true≢false (sym (and_parts _ _ en).1 ∙ ap (λ q. is_pending (map bare_packet q)) none))
   can_take (Tick n) en = tt
   can_take (Lose n) en = tt
 
   no_loss : (n : ℕ) → is_enabled p st (Lose n) ≡ true → ⊥
-  no_loss n en = true≢false (sym en ∙ stays_is p st n safe)
+  no_loss n en = true≢false (sym en ∙ stays_is p st n no_faults)
 
   -- the packet that it receives is of a wave that the node has, and stands for the plan
   pub may_receive : (n m : ℕ) (q : TreePacket) → PacketIsSound p st.alive m n (bare_packet q) → PacketFits p q → MayReceive p n q
@@ -75,28 +75,28 @@ module _ (p : Plan) (plan : IsPlan p) (safe : p.faults ≡ []) (xs : List NodeVi
   may_sample : (n s w : ℕ) (x : NodeView) → is_enabled p st (Sample n s w) ≡ true → slice_get xs n ≡ Some x → MayHandle p x (Sample n s w) None
   may_sample n s w x en at =
       let t = and_parts _ _ en in
-      (sym (parts.each n x at).0, in_from_member n (daemons p s) (and_parts _ _ t.0).1, ap (λ (y : Node). is_wave (next_sample p y s) w) (sym (node_there p xs n x at)) ∙ t.1)
+      (sym (parts.node n x at).0, in_from_member n (daemons p s) (and_parts _ _ t.0).1, ap (λ (y : Node). is_wave (next_sample p y s) w) (sym (node_there p xs n x at)) ∙ t.1)
 
   -- what it receives stands on the link
-  pub first_stands : (ic : List Waiting) (n m : ℕ) (q : TreePacket) → IsTaken ib (Recv n m) (Some q) ic → st.link m n ≡ bare_packet q ∷ map bare_packet (queue_of (inbox_at ic n) m)
-  first_stands ic n m q taken = ap (map bare_packet) taken.first
+  pub first_waits : (ic : List Waiting) (n m : ℕ) (q : TreePacket) → IsTaken ib (Recv n m) (Some q) ic → st.link m n ≡ bare_packet q ∷ map bare_packet (queue_of (inbox_at ic n) m)
+  first_waits ic n m q taken = ap (map bare_packet) taken.first
 
   pub packet_sound : (ic : List Waiting) (n m : ℕ) (q : TreePacket) → IsTaken ib (Recv n m) (Some q) ic → PacketIsSound p st.alive m n (bare_packet q)
-  packet_sound ic n m q taken = (sound.links m n).packets (bare_packet q) (subst (λ (l : List Packet). In (bare_packet q) l) (sym (first_stands ic n m q taken)) (inl refl))
+  packet_sound ic n m q taken = (sound.links m n).packets (bare_packet q) (subst (λ (l : List Packet). In (bare_packet q) l) (sym (first_waits ic n m q taken)) (inl refl))
 
   -- the node may handle it
   pub may_handle : (ic : List Waiting) (e : Event) (x : NodeView) (packet : Option TreePacket) → is_enabled p st e ≡ true → IsTaken ib e packet ic → slice_get xs (event_node e) ≡ Some x → MayHandle p x e packet
   may_handle ic (Sample n s w) x packet en taken at = subst (MayHandle p x (Sample n s w)) (sym taken.0) (may_sample n s w x en at)
   may_handle ic (Recv n m) x None en taken at = absurd taken
   may_handle ic (Recv n m) x (Some q) en taken at =
-      let here = sym (parts.each n x at).0 in
+      let here = sym (parts.node n x at).0 in
       let fits : AllByRecursion (PacketFits p) (q ∷ queue_of (inbox_at ic n) m) = subst (AllByRecursion (PacketFits p)) taken.first (parts.packets m n) in
       (here, subst (λ k. MayReceive p k q) here (may_receive n m q (packet_sound ic n m q taken) fits.0))
-  may_handle ic (Tick n) x packet en taken at = subst (MayHandle p x (Tick n)) (sym taken.0) (sym (parts.each n x at).0)
+  may_handle ic (Tick n) x packet en taken at = subst (MayHandle p x (Tick n)) (sym taken.0) (sym (parts.node n x at).0)
   may_handle ic (Lose n) x packet en taken at = absurd (no_loss n en)
 
   -- what it leaves of its node is sound
-  sends_sound : (ic : List Waiting) (e : Event) (packet : Option TreePacket) → is_enabled p st e ≡ true → IsTaken ib e packet ic → SendsAreSound p (event_node e) (handled p (event_node e) (st.node (event_node e)) e (taken_with e packet)).work.sends
+  sends_sound : (ic : List Waiting) (e : Event) (packet : Option TreePacket) → is_enabled p st e ≡ true → IsTaken ib e packet ic → SendsAreSound p (event_node e) (handled p (event_node e) (st.node (event_node e)) e (received_with e packet)).work.sends
   sends_sound ic (Sample n s w) packet en taken =
       let t = and_parts _ _ en in
       let u = and_parts _ _ t.0 in
@@ -116,15 +116,15 @@ module _ (p : Plan) (plan : IsPlan p) (safe : p.faults ≡ []) (xs : List NodeVi
   all_below n [] sent = tt
   all_below n (v ∷ vs) sent = (receiver_below n v.0 (bare_packet v.1) (sent v.0 (bare_packet v.1) (inl refl)), all_below n vs (λ m q i. sent m q (inr i)))
 
-  outcome_same : (e : Event) (x : NodeView) (packet : Option TreePacket) → slice_get xs (event_node e) ≡ Some x → ◌≡◌ {A = Outcome} (handled p (event_node e) (st.node (event_node e)) e (taken_with e packet)) (outcome_at p x e packet)
-  outcome_same e x packet at = (λ i. handled p (sym (parts.each (event_node e) x at).0 i) (node_there p xs (event_node e) x at i) e (taken_with e packet))
+  outcome_same : (e : Event) (x : NodeView) (packet : Option TreePacket) → slice_get xs (event_node e) ≡ Some x → ◌≡◌ {A = Outcome} (handled p (event_node e) (st.node (event_node e)) e (received_with e packet)) (outcome_at p x e packet)
+  outcome_same e x packet at = (λ i. handled p (sym (parts.node (event_node e) x at).0 i) (node_there p xs (event_node e) x at i) e (received_with e packet))
 
   -- what is sent goes to nodes of the plan
   pub go_below : (ic : List Waiting) (e : Event) (x y : NodeView) (packet : Option TreePacket) (sends : List (ℕ × TreePacket)) (more : List TreeRelease) → is_enabled p st e ≡ true → IsTaken ib e packet ic → slice_get xs (event_node e) ≡ Some x → HasHandled p x y e packet sends more → GoBelow (nodes p) sends
   go_below ic e x y packet sends more en taken at done =
       all_below (event_node e) sends (subst (SendsAreSound p (event_node e)) (ap (λ (o : Outcome). o.work.sends) (outcome_same e x packet at) ∙ sym done.sent) (sends_sound ic e packet en taken))
 
-  quiet : (e : Event) (packet : Option TreePacket) → is_front p (event_node e) ≡ false → is_enabled p st e ≡ true → (handled p (event_node e) (st.node (event_node e)) e (taken_with e packet)).work.releases ≡ []
+  quiet : (e : Event) (packet : Option TreePacket) → is_front p (event_node e) ≡ false → is_enabled p st e ≡ true → (handled p (event_node e) (st.node (event_node e)) e (received_with e packet)).work.releases ≡ []
   unfolding sampled after_tick received_up received_done
   quiet (Sample n s w) packet low en = (act_each_below p n (st.node n).kin ((s, w) ∷ []) (begin (set_wave (st.node n).book s w (covering (ranks p n) ((st.node n).book s w)))) low).0
   quiet (Recv n m) None low en = refl
@@ -152,11 +152,11 @@ module _ (p : Plan) (plan : IsPlan p) (safe : p.faults ≡ []) (xs : List NodeVi
 
   -- the step takes the packet, and then the outcome takes its place
   step_is : (ic : List Waiting) (e : Event) (packet : Option TreePacket) → is_enabled p st e ≡ true → IsTaken ib e packet ic
-      → ◌≡◌ {A = State} (step p st e) (commit (state_with p xs ic rs) (event_node e) (handled p (event_node e) (st.node (event_node e)) e (taken_with e packet)))
+      → ◌≡◌ {A = State} (step p st e) (commit (state_with p xs ic rs) (event_node e) (handled p (event_node e) (st.node (event_node e)) e (received_with e packet)))
   step_is ic (Sample n s w) packet en taken = λ i. commit (state_with p xs (sym taken.1 i) rs) n (handled p n (st.node n) (Sample n s w) None)
   step_is ic (Recv n m) None en taken = absurd taken
   step_is ic (Recv n m) (Some q) en taken =
-      (λ i. receive p st n m (first_stands ic n m q taken i))
+      (λ i. receive p st n m (first_waits ic n m q taken i))
       ∙ (λ i. commit (popped_state p xs rs n ib ic m (queue_of (inbox_at ic n) m) refl (else_same ic n m q taken) i) n (handled p n (st.node n) (Recv n m) (Some (m, bare_packet q))))
   step_is ic (Tick n) packet en taken = λ i. commit (state_with p xs (sym taken.1 i) rs) n (handled p n (st.node n) (Tick n) None)
   step_is ic (Lose n) packet en taken = absurd (no_loss n en)
@@ -167,7 +167,7 @@ module _ (p : Plan) (plan : IsPlan p) (safe : p.faults ≡ []) (xs : List NodeVi
   stepped ic id la lb e x y packet sends more en taken at done sent =
       let same = outcome_same e x packet at in
       sym (step_is ic e packet en taken
-      ∙ commit_state p xs rs (event_node e) ic id x y (handled p (event_node e) (st.node (event_node e)) e (taken_with e packet)) sends more at (done.node _ same)
+      ∙ commit_state p xs rs (event_node e) ic id x y (handled p (event_node e) (st.node (event_node e)) e (received_with e packet)) sends more at (done.node _ same)
       (done.sent ∙ ap (λ (o : Outcome). o.work.sends) (sym same))
       (done.released ∙ ap (λ (o : Outcome). o.work.releases) (sym same))
       (go_below ic e x y packet sends more en taken at done) sent.queues)

@@ -25,7 +25,7 @@ use Rattle.overlay_net.specs.Nets.{NetView, IsReachedBy, state_of, inbox_at, net
 use Rattle.overlay_net.specs.Events.{IsNet, has_some, is_listed}
 use Rattle.overlay_net.specs.Sends.{AreSent, GoBelow}
 use Rattle.overlay_net.specs.Handled.{ExtendsBy, IsMarked}
-use Rattle.overlay_net.specs.Parts.{IsHandedOver, MayHandOver}
+use Rattle.overlay_net.specs.States.{IsHandedOver, MayHandOver}
 use Rattle.overlay_net.proofs.Coming.{can_take, event_below, go_below, may_handle, only_front, stepped}
 use Rattle.overlay_net.proofs.Keeping.{parts_kept, ready_kept, counts_kept, numbers_kept, trees_kept}
 use Rattle.overlay_net.proofs.KeepingParts.{taken_all}
@@ -47,20 +47,20 @@ module _ (p : Plan) (plan : IsPlan p) (xs : List NodeView) (ib : List Waiting) (
   -- it may be handed over to its node
   pub may_hand_over : MayHandOver p xs ib e
   may_hand_over = record {
-    below = subst (λ k. event_node e < k) (sym net.parts.all_nodes) (event_below p plan net.safe xs ib rs net.parts sound e en);
-    take = can_take p plan net.safe xs ib rs net.parts sound e en;
-    fits = λ x at. (net.parts.each (event_node e) x at).1;
-    handle = λ ic packet x taken at. may_handle p plan net.safe xs ib rs net.parts sound ic e x packet en taken at;
-    few = few;
+    below = subst (λ k. event_node e < k) (sym net.parts.node_count) (event_below p plan net.no_faults xs ib rs net.parts sound e en);
+    take = can_take p plan net.no_faults xs ib rs net.parts sound e en;
+    fits = λ x at. (net.parts.node (event_node e) x at).1;
+    handle = λ ic packet x taken at. may_handle p plan net.no_faults xs ib rs net.parts sound ic e x packet en taken at;
+    within_limit = few;
   }
 
   module _ (ys : List NodeView) (ic : List Waiting) (sends : List (ℕ × TreePacket)) (more : List TreeRelease) (over : IsHandedOver p e xs ys ib ic sends more) where
     all_go_below : GoBelow (nodes p) sends
-    all_go_below = go_below p plan net.safe xs ib rs net.parts sound ic e over.before over.after over.packet sends more en over.taken over.at over.done
+    all_go_below = go_below p plan net.no_faults xs ib rs net.parts sound ic e over.before over.after over.packet sends more en over.taken over.at over.done
 
     -- what was sent can be put where it goes
     pub can_deliver : GoBelow (length ic) sends
-    can_deliver = subst (λ k. GoBelow k sends) (sym (taken_all ib ic e over.packet over.taken ∙ net.parts.all_inboxes)) all_go_below
+    can_deliver = subst (λ k. GoBelow k sends) (sym (taken_all ib ic e over.packet over.taken ∙ net.parts.inbox_count)) all_go_below
 
     -- the node stands at its place
     pub node_now : (d : NodeView) → get_or ys (event_node e) d ≡ over.after
@@ -71,16 +71,16 @@ module _ (p : Plan) (plan : IsPlan p) (xs : List NodeView) (ib : List Waiting) (
     same_nodes = ap length over.now ∙ length-set xs (event_node e) over.after
 
     front_alone : event_node e ≢ front p → more ≡ []
-    front_alone = only_front p plan net.safe xs ib rs net.parts sound e over.before over.after over.packet sends more en over.at over.done
+    front_alone = only_front p plan net.no_faults xs ib rs net.parts sound e over.before over.after over.packet sends more en over.at over.done
 
     module _ (id : List Waiting) (lb : List ℕ) (sent : AreSent (event_node e) sends ic id listed lb) where
       -- each journal that left the net leaves it with the event now
-      pub goes_on : ExtendsBy e (net_view_of p xs ib rs false) (net_view_of p ys id (rs ++ more) false)
-      goes_on journal h =
+      pub extends_by : ExtendsBy e (net_view_of p xs ib rs false) (net_view_of p ys id (rs ++ more) false)
+      extends_by journal h =
           let here = subst (λ (s : State). is_enabled p s e ≡ true) h.state en in
           record {
             legal = legal_more p journal e h.legal here;
-            state = (λ i. state_with p (over.now i) id (rs ++ more)) ∙ stepped p plan net.safe xs ib rs net.parts sound ic id listed lb e over.before over.after over.packet sends more en over.taken over.at over.done sent ∙ ap (λ (s : State). step p s e) h.state ∙ sym (after_more p journal e);
+            state = (λ i. state_with p (over.now i) id (rs ++ more)) ∙ stepped p plan net.no_faults xs ib rs net.parts sound ic id listed lb e over.before over.after over.packet sends more en over.taken over.at over.done sent ∙ ap (λ (s : State). step p s e) h.state ∙ sym (after_more p journal e);
             numbered = numbers_kept p e over.before over.after over.packet sends more over.done xs over.at rs front_alone net.counts h.numbered;
             trees = trees_kept p e over.before over.after over.packet sends more over.done xs over.at rs h.trees;
           }
@@ -88,9 +88,9 @@ module _ (p : Plan) (plan : IsPlan p) (xs : List NodeView) (ib : List Waiting) (
       -- it is a net again
       pub is_net : (lc : List ℕ) → IsMarked p (event_node e) over.after id lb lc → IsNet (net_view_of p ys id (rs ++ more) false) lc
       is_net lc marked = subst (λ zs. IsNet (net_view_of p zs id (rs ++ more) false) lc) (sym over.now) (record {
-        safe = net.safe;
+        no_faults = net.no_faults;
         journal = net.journal ++ e ∷ [];
-        reached = subst (λ zs. IsReachedBy (net_view_of p zs id (rs ++ more) false) (net.journal ++ e ∷ [])) over.now (goes_on net.journal net.reached);
+        reached = subst (λ zs. IsReachedBy (net_view_of p zs id (rs ++ more) false) (net.journal ++ e ∷ [])) over.now (extends_by net.journal net.reached);
         parts = parts_kept p e over.before over.after over.packet sends more over.done xs over.at ib ic id listed lb net.parts over.taken sent all_go_below;
         counts = counts_kept p e over.before over.after over.packet sends more over.done xs over.at rs front_alone net.counts;
         listed = ready_kept p e over.before over.after over.packet sends more over.done xs over.at ib ic id listed lb lc net.parts over.taken sent all_go_below marked net.listed;
@@ -102,8 +102,8 @@ module _ (p : Plan) (plan : IsPlan p) (xs : List NodeView) (ib : List Waiting) (
         → IsMarked p (event_node e) over.after id lb lc
     is_marked id lb lc k y box sent same marked b =
         let node : get_or ys k y ≡ over.after = ap (λ i. get_or ys i y) same ∙ node_now y in
-        let number : over.after.number ≡ event_node e = over.done.number ∙ (net.parts.each (event_node e) over.before over.at).0 in
-        let below : event_node e < length id = subst (λ j. event_node e < j) (sym (sent.all ∙ taken_all ib ic e over.packet over.taken ∙ net.parts.all_inboxes)) (event_below p plan net.safe xs ib rs net.parts sound e en) in
+        let number : over.after.number ≡ event_node e = over.done.number ∙ (net.parts.node (event_node e) over.before over.at).0 in
+        let below : event_node e < length id = subst (λ j. event_node e < j) (sym (sent.inbox_count ∙ taken_all ib ic e over.packet over.taken ∙ net.parts.inbox_count)) (event_below p plan net.no_faults xs ib rs net.parts sound e en) in
         let inbox : get_or id k box ≡ inbox_at id (event_node e) = ap (λ i. get_or id i box) same ∙ get_or_default id (event_node e) box [] below in
         marked b ∙ (λ i. cond (b == (ap (λ (z : NodeView). z.number) node ∙ number) i) (has_some (node_events p (node i) (inbox i))) (is_listed lb b))
 
@@ -113,7 +113,7 @@ module _ (p : Plan) (plan : IsPlan p) (xs : List NodeView) (ib : List Waiting) (
 
     -- there are as many inboxes
     pub same_inboxes : (id : List Waiting) (lb : List ℕ) → AreSent (event_node e) sends ic id listed lb → length id ≡ length ib
-    same_inboxes id lb sent = sent.all ∙ taken_all ib ic e over.packet over.taken
+    same_inboxes id lb sent = sent.inbox_count ∙ taken_all ib ic e over.packet over.taken
 
 -- what follows from a clause of a call
 pub ok_then : {T E A B : Type 0} (r : Result T E) → OnOk r A → (A → B) → OnOk r B

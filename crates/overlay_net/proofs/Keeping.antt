@@ -43,18 +43,18 @@ module _ (p : Plan) (e : Event) (x y : NodeView) (packet : Option TreePacket) (s
 
   -- the inboxes after the event
   inboxes_kept : (ia ib ic : List Waiting) (la lb : List ℕ) → AreParts p xs ia → IsTaken ia e packet ib → AreSent (event_node e) sends ib ic la lb → (b : ℕ) → IsInbox (inbox_at ic b)
-  inboxes_kept ia ib ic la lb parts taken sent = sent.kept (taken_kept ia ib e packet taken (λ b. record { sent = parts.sent b; rises = parts.rises b }))
+  inboxes_kept ia ib ic la lb parts taken sent = sent.inboxes (taken_kept ia ib e packet taken (λ b. record { sent = parts.sent b; increasing = parts.increasing b }))
 
   -- each node has its number, and fits the plan
-  each_kept : (ia : List Waiting) → AreParts p xs ia → (n : ℕ) (z : NodeView) → slice_get (slice_set xs (event_node e) y) n ≡ Some z → (z.number ≡ n) × IsNodeOf p z
-  each_kept ia parts n z h = go (n == event_node e) refl
+  nodes_kept : (ia : List Waiting) → AreParts p xs ia → (n : ℕ) (z : NodeView) → slice_get (slice_set xs (event_node e) y) n ≡ Some z → (z.number ≡ n) × IsNodeOf p z
+  nodes_kept ia parts n z h = go (n == event_node e) refl
     where
       go : (t : Bool) → (n == event_node e) ≡ t → (z.number ≡ n) × IsNodeOf p z
       go true t =
           let en : n ≡ event_node e = eqb-true n (event_node e) t in
           let is : z ≡ y = here_is n z en h in
-          (ap (λ (v : NodeView). v.number) is ∙ done.number ∙ (parts.each (event_node e) x at).0 ∙ sym en, subst (λ (v : NodeView). IsNodeOf p v) (sym is) done.fits)
-      go false t = parts.each n z (else_is n z t h)
+          (ap (λ (v : NodeView). v.number) is ∙ done.number ∙ (parts.node (event_node e) x at).0 ∙ sym en, subst (λ (v : NodeView). IsNodeOf p v) (sym is) done.fits)
+      go false t = parts.node n z (else_is n z t h)
 
   -- the packets that wait stand for the plan
   packets_kept : (ia ib ic : List Waiting) (la lb : List ℕ) → AreParts p xs ia → IsTaken ia e packet ib → AreSent (event_node e) sends ib ic la lb → (m n : ℕ) → AllByRecursion (PacketFits p) (queue_of (inbox_at ic n) m)
@@ -75,7 +75,7 @@ module _ (p : Plan) (e : Event) (x y : NodeView) (packet : Option TreePacket) (s
       some = some_where_waiting (inbox_at ic n) m (inboxes_kept ia ib ic la lb parts taken sent n).sent waits
 
       go : (t : Bool) → (m == event_node e) ≡ t → m < nodes p
-      go true t = subst (λ k. k < nodes p) (sym (eqb-true m (event_node e) t)) (subst (λ k. event_node e < k) parts.all_nodes place)
+      go true t = subst (λ k. k < nodes p) (sym (eqb-true m (event_node e) t)) (subst (λ k. event_node e < k) parts.node_count place)
       go false t = elim (cases_Bool (is_waiting (inbox_at ia n) m)) [
         | inl w ↦ parts.senders m n w
         | inr f ↦ absurd (some (
@@ -87,13 +87,13 @@ module _ (p : Plan) (e : Event) (x y : NodeView) (packet : Option TreePacket) (s
   -- the nodes and inboxes are still those of the plan
   pub parts_kept : (ia ib ic : List Waiting) (la lb : List ℕ) → AreParts p xs ia → IsTaken ia e packet ib → AreSent (event_node e) sends ib ic la lb → GoBelow (nodes p) sends → AreParts p (slice_set xs (event_node e) y) ic
   parts_kept ia ib ic la lb parts taken sent below = record {
-    all_nodes = length-set xs (event_node e) y ∙ parts.all_nodes;
-    all_inboxes = sent.all ∙ taken_all ia ib e packet taken ∙ parts.all_inboxes;
-    each = each_kept ia parts;
+    node_count = length-set xs (event_node e) y ∙ parts.node_count;
+    inbox_count = sent.inbox_count ∙ taken_all ia ib e packet taken ∙ parts.inbox_count;
+    node = nodes_kept ia parts;
     packets = packets_kept ia ib ic la lb parts taken sent;
     senders = senders_kept ia ib ic la lb parts taken sent;
     sent = λ n. (inboxes_kept ia ib ic la lb parts taken sent n).sent;
-    rises = λ n. (inboxes_kept ia ib ic la lb parts taken sent n).rises;
+    increasing = λ n. (inboxes_kept ia ib ic la lb parts taken sent n).increasing;
   }
 
   -- elsewhere a node is listed as before, or as a receiver
@@ -108,7 +108,7 @@ module _ (p : Plan) (e : Event) (x y : NodeView) (packet : Option TreePacket) (s
   below_kept ia ib ic la lb lc parts sent below marked ready b listed = go (b == event_node e) refl
     where
       go : (t : Bool) → (b == event_node e) ≡ t → b < nodes p
-      go true t = subst (λ k. k < nodes p) (sym (eqb-true b (event_node e) t)) (subst (λ k. event_node e < k) parts.all_nodes place)
+      go true t = subst (λ k. k < nodes p) (sym (eqb-true b (event_node e) t)) (subst (λ k. event_node e < k) parts.node_count place)
       go false t = elim (or_cases (is_receiver sends b) (is_listed la b) (sym (listed_else ib ic la lb lc sent marked b t) ∙ listed)) [
         | inl r ↦ receiver_below (nodes p) b sends below r
         | inr l ↦ ready.below b l
@@ -126,7 +126,7 @@ module _ (p : Plan) (e : Event) (x y : NodeView) (packet : Option TreePacket) (s
     where
       other : (t : Bool) → is_receiver sends b ≡ t → (b == event_node e) ≡ false → (t || is_listed la b) ≡ has_some (node_events p z (inbox_at ic b))
       other true r f = sym (some_between (flat_map (sample_of p z) p.streams) (map (λ m. Recv z.number m) (senders_of (inbox_at ic b))) (tick_of p z) (some_received z.number (event_node e) (inbox_at ic b) (gets_some ib ic la lb sent b r)))
-      other false r f = ready.each b z (else_is b z f h) ∙ ap (λ (w : Waiting). has_some (node_events p z w)) (sym (sent.others b r ∙ taken_others ia ib e packet taken b f))
+      other false r f = ready.has_event b z (else_is b z f h) ∙ ap (λ (w : Waiting). has_some (node_events p z w)) (sym (sent.others b r ∙ taken_others ia ib e packet taken b f))
 
       go : (t : Bool) → (b == event_node e) ≡ t → is_listed lc b ≡ has_some (node_events p z (inbox_at ic b))
       go true t =
@@ -142,7 +142,7 @@ module _ (p : Plan) (e : Event) (x y : NodeView) (packet : Option TreePacket) (s
   pub ready_kept : (ia ib ic : List Waiting) (la lb lc : List ℕ) → AreParts p xs ia → IsTaken ia e packet ib → AreSent (event_node e) sends ib ic la lb → GoBelow (nodes p) sends → IsMarked p (event_node e) y ic lb lc → AreReady p xs ia la → AreReady p (slice_set xs (event_node e) y) ic lc
   ready_kept ia ib ic la lb lc parts taken sent below marked ready = record {
     below = below_kept ia ib ic la lb lc parts sent below marked ready;
-    each = listed_kept ia ib ic la lb lc taken sent marked ready;
+    has_event = listed_kept ia ib ic la lb lc taken sent marked ready;
   }
 
   -- the front end has counted its releases

@@ -56,7 +56,7 @@ taken_others ia ib (Lose n) packet h b f = ap (λ (l : List Waiting). inbox_at l
 pub taken_all : (ia ib : List Waiting) (e : Event) (packet : Option TreePacket) → IsTaken ia e packet ib → length ib ≡ length ia
 taken_all ia ib (Sample n s w) packet h = ap (λ (l : List Waiting). length l) h.1
 taken_all ia ib (Recv n m) None h = absurd h
-taken_all ia ib (Recv n m) (Some q) h = h.all
+taken_all ia ib (Recv n m) (Some q) h = h.inbox_count
 taken_all ia ib (Tick n) packet h = ap (λ (l : List Waiting). length l) h.1
 taken_all ia ib (Lose n) packet h = ap (λ (l : List Waiting). length l) h.1
 
@@ -64,7 +64,7 @@ taken_all ia ib (Lose n) packet h = ap (λ (l : List Waiting). length l) h.1
 pub taken_kept : (ia ib : List Waiting) (e : Event) (packet : Option TreePacket) → IsTaken ia e packet ib → ((b : ℕ) → IsInbox (inbox_at ia b)) → (b : ℕ) → IsInbox (inbox_at ib b)
 taken_kept ia ib (Sample n s w) packet h is b = subst (λ (l : List Waiting). IsInbox (inbox_at l b)) (sym h.1) (is b)
 taken_kept ia ib (Recv n m) None h is b = absurd h
-taken_kept ia ib (Recv n m) (Some q) h is b = h.kept is b
+taken_kept ia ib (Recv n m) (Some q) h is b = h.inboxes is b
 taken_kept ia ib (Tick n) packet h is b = subst (λ (l : List Waiting). IsInbox (inbox_at l b)) (sym h.1) (is b)
 taken_kept ia ib (Lose n) packet h is b = subst (λ (l : List Waiting). IsInbox (inbox_at l b)) (sym h.1) (is b)
 

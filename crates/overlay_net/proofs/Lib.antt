@@ -9,4 +9,4 @@ pub mod Handing
 pub mod SmallCounts
 pub mod Sending
 pub mod Happening
-pub mod Fresh
+pub mod Initial

@@ -213,23 +213,23 @@ samples_kept test n f (x ∷ xs) h =
     ∙ ap (λ (es : List Event). f x ++ es) (samples_kept test n f xs (λ y i. h y (inr i)))
 
 -- a node in a state: it can do something, stands as this node, and this is what waits for it, from senders of the plan
-pub record Stands (p : Plan) (st : State) (x : NodeView) (box : Waiting) : Type 0 where
+pub record IsNodeIn (p : Plan) (st : State) (x : NodeView) (box : Waiting) : Type 0 where
   pub active : is_active p st x.number ≡ true
   pub node : st.node x.number ≡ node_of x
   pub links : (m : ℕ) → is_pending (st.link m x.number) ≡ is_waiting box m
   pub stays : is_enabled p st (Lose x.number) ≡ false
-  pub rises : IsStrictlyIncreasing (senders_of box)
+  pub increasing : IsStrictlyIncreasing (senders_of box)
   pub senders : (m : ℕ) → is_waiting box m ≡ true → m < nodes p
 
 -- whether a sample may come next
-sample_test : (p : Plan) (st : State) (x : NodeView) (box : Waiting) (s : Stream) (w : ℕ) → IsPlan p → In s p.streams → Stands p st x box → is_enabled p st (Sample x.number s.number w) ≡ (member x.number s.daemons && is_wave (next_sample p (node_of x) s.number) w)
+sample_test : (p : Plan) (st : State) (x : NodeView) (box : Waiting) (s : Stream) (w : ℕ) → IsPlan p → In s p.streams → IsNodeIn p st x box → is_enabled p st (Sample x.number s.number w) ≡ (member x.number s.daemons && is_wave (next_sample p (node_of x) s.number) w)
 sample_test p st x box s w plan i h =
     ap (λ (b : Bool). (b && member x.number (daemons p s.number)) && is_wave (next_sample p (st.node x.number) s.number) w) h.active
     ∙ ap (λ (ds : List ℕ). member x.number ds && is_wave (next_sample p (st.node x.number) s.number) w) (daemons_are p s plan i)
     ∙ ap (λ n. member x.number s.daemons && is_wave (next_sample p n s.number) w) h.node
 
 -- the samples of one stream that may come next
-stream_samples : (p : Plan) (st : State) (x : NodeView) (box : Waiting) (s : Stream) → IsPlan p → In s p.streams → Stands p st x box → filter (is_enabled p st) (map (λ w. Sample x.number s.number w) (up_to s.waves)) ≡ sample_of p x s
+stream_samples : (p : Plan) (st : State) (x : NodeView) (box : Waiting) (s : Stream) → IsPlan p → In s p.streams → IsNodeIn p st x box → filter (is_enabled p st) (map (λ w. Sample x.number s.number w) (up_to s.waves)) ≡ sample_of p x s
 stream_samples p st x box s plan i h =
     filter_mapped (is_enabled p st) (λ w. Sample x.number s.number w) (up_to s.waves)
     ∙ ap (map (λ w. Sample x.number s.number w)) (filter_same (λ w. is_enabled p st (Sample x.number s.number w)) (λ w. member x.number s.daemons && is_wave (next_sample p (node_of x) s.number) w) (up_to s.waves) (λ w j. sample_test p st x box s w plan i h))
@@ -247,21 +247,21 @@ stream_samples p st x box s plan i h =
     go false = ap (map (λ w. Sample x.number s.number w)) (filter_none (λ w. false) (up_to s.waves) (λ w j. refl))
 
 -- what a node may receive next
-receives : (p : Plan) (st : State) (x : NodeView) (box : Waiting) → Stands p st x box → filter (is_enabled p st) (map (λ m. Recv x.number m) (up_to (nodes p))) ≡ map (λ m. Recv x.number m) (senders_of box)
+receives : (p : Plan) (st : State) (x : NodeView) (box : Waiting) → IsNodeIn p st x box → filter (is_enabled p st) (map (λ m. Recv x.number m) (up_to (nodes p))) ≡ map (λ m. Recv x.number m) (senders_of box)
 receives p st x box h =
     filter_mapped (is_enabled p st) (λ m. Recv x.number m) (up_to (nodes p))
     ∙ ap (map (λ m. Recv x.number m))
     (filter_same (λ m. is_enabled p st (Recv x.number m)) (is_waiting box) (up_to (nodes p)) (λ m j. ap (λ (b : Bool). b && is_pending (st.link m x.number)) h.active ∙ h.links m)
-    ∙ filter_up_to (is_waiting box) (nodes p) (senders_of box) h.rises (λ m i. (h.senders m (listed_waits box m i), listed_waits box m i)) (λ m lt w. sender_listed box m w))
+    ∙ filter_up_to (is_waiting box) (nodes p) (senders_of box) h.increasing (λ m i. (h.senders m (listed_waits box m i), listed_waits box m i)) (λ m lt w. sender_listed box m w))
 
 -- a node's tick, where it may come next
-ticks_next : (p : Plan) (st : State) (x : NodeView) (box : Waiting) → Stands p st x box → filter (is_enabled p st) (Tick x.number ∷ []) ≡ tick_of p x
+ticks_next : (p : Plan) (st : State) (x : NodeView) (box : Waiting) → IsNodeIn p st x box → filter (is_enabled p st) (Tick x.number ∷ []) ≡ tick_of p x
 ticks_next p st x box h =
     ap (λ (b : Bool). cond (b && list_any (λ v. is_running ((st.node x.number).book v.0 v.1)) (waves_at p x.number)) (Tick x.number ∷ []) []) h.active
     ∙ ap (λ n. cond (list_any (λ v. is_running (n.book v.0 v.1)) (waves_at p x.number)) (Tick x.number ∷ []) []) h.node
 
 -- the events of a node that may come next, of all that can be named
-pub node_offers : (p : Plan) (st : State) (x : NodeView) (box : Waiting) → IsPlan p → Stands p st x box → filter (is_enabled p st) (events_of p x.number) ≡ node_events p x box
+pub node_offers : (p : Plan) (st : State) (x : NodeView) (box : Waiting) → IsPlan p → IsNodeIn p st x box → filter (is_enabled p st) (events_of p x.number) ≡ node_events p x box
 node_offers p st x box plan h =
     ap (λ (b : Bool). cond b (Lose x.number ∷ filter (is_enabled p st) later) (filter (is_enabled p st) later)) h.stays
     ∙ filter-append (is_enabled p st) (samples_of x.number (waves_of p.streams) ++ map (λ m. Recv x.number m) (up_to (nodes p))) (Tick x.number ∷ [])
@@ -293,7 +293,7 @@ events_at p xs inboxes n = elim (slice_get xs n) [ None ↦ [] | Some x ↦ node
 -- where no node is to be lost, none is doomed
 not_doomed : (p : Plan) (st : State) (n : ℕ) → p.faults ≡ [] → is_doomed p st n ≡ false
 unfolding is_doomed fault
-not_doomed p st n safe = ap (λ fs. is_spent (find (λ f. f.node == n) fs) (st.node n).count) safe
+not_doomed p st n no_faults = ap (λ fs. is_spent (find (λ f. f.node == n) fs) (st.node n).count) no_faults
 
 -- nothing more is asked
 and_true : (b : Bool) → (b && true) ≡ b
@@ -308,11 +308,11 @@ and_false false = refl
 -- where no node is to be lost, a node that lives can do something
 pub active_is : (p : Plan) (st : State) (n : ℕ) → p.faults ≡ [] → is_active p st n ≡ st.alive n
 unfolding is_active
-active_is p st n safe = ap (λ (b : Bool). st.alive n && not b) (not_doomed p st n safe) ∙ and_true (st.alive n)
+active_is p st n no_faults = ap (λ (b : Bool). st.alive n && not b) (not_doomed p st n no_faults) ∙ and_true (st.alive n)
 
 -- where no node is to be lost, none is lost next
 pub stays_is : (p : Plan) (st : State) (n : ℕ) → p.faults ≡ [] → is_enabled p st (Lose n) ≡ false
-stays_is p st n safe = ap (λ (b : Bool). st.alive n && b) (not_doomed p st n safe) ∙ and_false (st.alive n)
+stays_is p st n no_faults = ap (λ (b : Bool). st.alive n && b) (not_doomed p st n no_faults) ∙ and_false (st.alive n)
 
 -- whether something is on the way, by what waits
 pub pending_is : (box : Waiting) (m : ℕ) → HaveSent box → is_pending (map bare_packet (queue_of box m)) ≡ is_waiting box m
@@ -336,13 +336,13 @@ pub node_there : (p : Plan) (xs : List NodeView) (n : ℕ) (x : NodeView) → sl
 node_there p xs n x at = ap (λ (o : Option NodeView). elim o [ None ↦ start_node p n | Some x ↦ node_of x ]) at
 
 -- each node of the parts stands in their state
-pub stands_at : (p : Plan) (xs : List NodeView) (inboxes : List Waiting) (releases : List TreeRelease) (x : NodeView) → p.faults ≡ [] → AreParts p xs inboxes → slice_get xs x.number ≡ Some x → x.number < nodes p → Stands p (state_with p xs inboxes releases) x (inbox_at inboxes x.number)
-stands_at p xs inboxes releases x safe parts at lt = record {
-  active = active_is p (state_with p xs inboxes releases) x.number safe ∙ less_test x.number (nodes p) lt;
+pub node_in_state : (p : Plan) (xs : List NodeView) (inboxes : List Waiting) (releases : List TreeRelease) (x : NodeView) → p.faults ≡ [] → AreParts p xs inboxes → slice_get xs x.number ≡ Some x → x.number < nodes p → IsNodeIn p (state_with p xs inboxes releases) x (inbox_at inboxes x.number)
+node_in_state p xs inboxes releases x no_faults parts at lt = record {
+  active = active_is p (state_with p xs inboxes releases) x.number no_faults ∙ less_test x.number (nodes p) lt;
   node = node_there p xs x.number x at;
   links = λ m. pending_is (inbox_at inboxes x.number) m (parts.sent x.number);
-  stays = stays_is p (state_with p xs inboxes releases) x.number safe;
-  rises = rising_from_sorted (senders_of (inbox_at inboxes x.number)) (parts.rises x.number);
+  stays = stays_is p (state_with p xs inboxes releases) x.number no_faults;
+  increasing = rising_from_sorted (senders_of (inbox_at inboxes x.number)) (parts.increasing x.number);
   senders = λ m w. parts.senders m x.number w;
 }
 
@@ -352,49 +352,49 @@ not_less m n le = elim (cases_Bool (nat_lt m n)) [ inl t ↦ absurd (let lt : m 
 
 -- what is read at a place of the list of nodes is a node
 pub node_read : (p : Plan) (xs : List NodeView) (inboxes : List Waiting) (n : ℕ) (x : NodeView) → AreParts p xs inboxes → n < nodes p → x ≡ get_or xs n x → slice_get xs n ≡ Some x
-node_read p xs inboxes n x parts lt is = slice_get_read xs (nodes p) n x (sym parts.all_nodes) lt is
+node_read p xs inboxes n x parts lt is = slice_get_read xs (nodes p) n x (sym parts.node_count) lt is
 
 -- what is read at a place of the list of inboxes is the inbox of the node
 pub inbox_read : (p : Plan) (xs : List NodeView) (inboxes : List Waiting) (n : ℕ) (box : Waiting) → AreParts p xs inboxes → n < nodes p → box ≡ get_or inboxes n box → box ≡ inbox_at inboxes n
-inbox_read p xs inboxes n box parts lt is = get_or_read inboxes n box (subst (λ k. n < k) (sym parts.all_inboxes) lt) is []
+inbox_read p xs inboxes n box parts lt is = get_or_read inboxes n box (subst (λ k. n < k) (sym parts.inbox_count) lt) is []
 
 -- a node of the plan can do something
 pub active_at : (p : Plan) (xs : List NodeView) (inboxes : List Waiting) (releases : List TreeRelease) (n : ℕ) → p.faults ≡ [] → n < nodes p → is_active p (state_with p xs inboxes releases) n ≡ true
-active_at p xs inboxes releases n safe lt = active_is p (state_with p xs inboxes releases) n safe ∙ less_test n (nodes p) lt
+active_at p xs inboxes releases n no_faults lt = active_is p (state_with p xs inboxes releases) n no_faults ∙ less_test n (nodes p) lt
 
 -- what isn't a node can do nothing
 pub idle_at : (p : Plan) (xs : List NodeView) (inboxes : List Waiting) (releases : List TreeRelease) (n : ℕ) → p.faults ≡ [] → nodes p ≤ n → is_active p (state_with p xs inboxes releases) n ≡ false
-idle_at p xs inboxes releases n safe le = active_is p (state_with p xs inboxes releases) n safe ∙ not_less n (nodes p) le
+idle_at p xs inboxes releases n no_faults le = active_is p (state_with p xs inboxes releases) n no_faults ∙ not_less n (nodes p) le
 
 -- whether a node takes a sample next
 pub sample_enabled : (p : Plan) (xs : List NodeView) (inboxes : List Waiting) (releases : List TreeRelease) (n s w : ℕ) (x : NodeView) → p.faults ≡ [] → AreParts p xs inboxes → n < nodes p → slice_get xs n ≡ Some x
     → is_enabled p (state_with p xs inboxes releases) (Sample n s w) ≡ (member x.number (daemons p s) && is_wave (next_sample p (node_of x) s) w)
-sample_enabled p xs inboxes releases n s w x safe parts lt at =
-    ap (λ (b : Bool). (b && member n (daemons p s)) && is_wave (next_sample p (node_at p xs n) s) w) (active_at p xs inboxes releases n safe lt)
+sample_enabled p xs inboxes releases n s w x no_faults parts lt at =
+    ap (λ (b : Bool). (b && member n (daemons p s)) && is_wave (next_sample p (node_at p xs n) s) w) (active_at p xs inboxes releases n no_faults lt)
     ∙ ap (λ k. member n (daemons p s) && is_wave (next_sample p k s) w) (node_there p xs n x at)
-    ∙ ap (λ k. member k (daemons p s) && is_wave (next_sample p (node_of x) s) w) (sym (parts.each n x at).0)
+    ∙ ap (λ k. member k (daemons p s) && is_wave (next_sample p (node_of x) s) w) (sym (parts.node n x at).0)
 
 -- what isn't a node takes no sample
 pub sample_idle : (p : Plan) (xs : List NodeView) (inboxes : List Waiting) (releases : List TreeRelease) (n s w : ℕ) → p.faults ≡ [] → nodes p ≤ n → is_enabled p (state_with p xs inboxes releases) (Sample n s w) ≡ false
-sample_idle p xs inboxes releases n s w safe le = ap (λ (b : Bool). (b && member n (daemons p s)) && is_wave (next_sample p (node_at p xs n) s) w) (idle_at p xs inboxes releases n safe le)
+sample_idle p xs inboxes releases n s w no_faults le = ap (λ (b : Bool). (b && member n (daemons p s)) && is_wave (next_sample p (node_at p xs n) s) w) (idle_at p xs inboxes releases n no_faults le)
 
 -- what isn't a node has no timers that go on
 pub tick_idle : (p : Plan) (xs : List NodeView) (inboxes : List Waiting) (releases : List TreeRelease) (n : ℕ) → p.faults ≡ [] → nodes p ≤ n → is_enabled p (state_with p xs inboxes releases) (Tick n) ≡ false
-tick_idle p xs inboxes releases n safe le = ap (λ (b : Bool). b && list_any (λ v. is_running ((node_at p xs n).book v.0 v.1)) (waves_at p n)) (idle_at p xs inboxes releases n safe le)
+tick_idle p xs inboxes releases n no_faults le = ap (λ (b : Bool). b && list_any (λ v. is_running ((node_at p xs n).book v.0 v.1)) (waves_at p n)) (idle_at p xs inboxes releases n no_faults le)
 
 -- whether a node receives next from another one
 pub recv_enabled : (p : Plan) (xs : List NodeView) (inboxes : List Waiting) (releases : List TreeRelease) (n m : ℕ) → p.faults ≡ [] → AreParts p xs inboxes → n < nodes p → is_enabled p (state_with p xs inboxes releases) (Recv n m) ≡ is_waiting (inbox_at inboxes n) m
-recv_enabled p xs inboxes releases n m safe parts lt =
-    ap (λ (b : Bool). b && is_pending (map bare_packet (queue_of (inbox_at inboxes n) m))) (active_at p xs inboxes releases n safe lt)
+recv_enabled p xs inboxes releases n m no_faults parts lt =
+    ap (λ (b : Bool). b && is_pending (map bare_packet (queue_of (inbox_at inboxes n) m))) (active_at p xs inboxes releases n no_faults lt)
     ∙ pending_is (inbox_at inboxes n) m (parts.sent n)
 
 -- whether a node's timers go on next
 pub tick_enabled : (p : Plan) (xs : List NodeView) (inboxes : List Waiting) (releases : List TreeRelease) (n : ℕ) (x : NodeView) → p.faults ≡ [] → AreParts p xs inboxes → n < nodes p → slice_get xs n ≡ Some x
     → is_enabled p (state_with p xs inboxes releases) (Tick n) ≡ list_any (λ v. is_running (book_of x.entries v.0 v.1)) (waves_at p x.number)
-tick_enabled p xs inboxes releases n x safe parts lt at =
-    ap (λ (b : Bool). b && list_any (λ v. is_running ((node_at p xs n).book v.0 v.1)) (waves_at p n)) (active_at p xs inboxes releases n safe lt)
+tick_enabled p xs inboxes releases n x no_faults parts lt at =
+    ap (λ (b : Bool). b && list_any (λ v. is_running ((node_at p xs n).book v.0 v.1)) (waves_at p n)) (active_at p xs inboxes releases n no_faults lt)
     ∙ ap (λ k. list_any (λ v. is_running (k.book v.0 v.1)) (waves_at p n)) (node_there p xs n x at)
-    ∙ ap (λ k. list_any (λ v. is_running (book_of x.entries v.0 v.1)) (waves_at p k)) (sym (parts.each n x at).0)
+    ∙ ap (λ k. list_any (λ v. is_running (book_of x.entries v.0 v.1)) (waves_at p k)) (sym (parts.node n x at).0)
 
 -- each place of a list has an element
 some_at : (xs : List NodeView) (n : ℕ) → n < length xs → (x : NodeView) × (slice_get xs n ≡ Some x)
@@ -404,37 +404,37 @@ some_at (x ∷ xs) (suc n) lt = some_at xs n (omega arith)
 
 -- the node of each number
 pub part_at : (p : Plan) (xs : List NodeView) (inboxes : List Waiting) (n : ℕ) → AreParts p xs inboxes → n < nodes p → (x : NodeView) × (slice_get xs n ≡ Some x) × (x.number ≡ n)
-part_at p xs inboxes n parts lt = let s = some_at xs n (subst (λ k. n < k) (sym parts.all_nodes) lt) in (s.0, s.1, (parts.each n s.0 s.1).0)
+part_at p xs inboxes n parts lt = let s = some_at xs n (subst (λ k. n < k) (sym parts.node_count) lt) in (s.0, s.1, (parts.node n s.0 s.1).0)
 
 -- the events of a node that may come next, of all that can be named, by its number
 pub offers_at : (p : Plan) (xs : List NodeView) (inboxes : List Waiting) (releases : List TreeRelease) (n : ℕ) → IsPlan p → p.faults ≡ [] → AreParts p xs inboxes → n < nodes p → filter (is_enabled p (state_with p xs inboxes releases)) (events_of p n) ≡ events_at p xs inboxes n
-offers_at p xs inboxes releases n plan safe parts lt =
+offers_at p xs inboxes releases n plan no_faults parts lt =
     let s = part_at p xs inboxes n parts lt in
     let x = s.0 in
     let at : slice_get xs x.number ≡ Some x = subst (λ k. slice_get xs k ≡ Some x) (sym s.2) s.1 in
     let own : x.number < nodes p = subst (λ k. k < nodes p) (sym s.2) lt in
-    subst (λ k. filter (is_enabled p (state_with p xs inboxes releases)) (events_of p k) ≡ node_events p x (inbox_at inboxes k)) s.2 (node_offers p (state_with p xs inboxes releases) x (inbox_at inboxes x.number) plan (stands_at p xs inboxes releases x safe parts at own))
+    subst (λ k. filter (is_enabled p (state_with p xs inboxes releases)) (events_of p k) ≡ node_events p x (inbox_at inboxes k)) s.2 (node_offers p (state_with p xs inboxes releases) x (inbox_at inboxes x.number) plan (node_in_state p xs inboxes releases x no_faults parts at own))
     ∙ ap (λ (o : Option NodeView). elim o [ None ↦ [] | Some x ↦ node_events p x (inbox_at inboxes n) ]) (sym s.1)
 
 -- the events of the first nodes that may come next, of all that can be named
 offers_below : (p : Plan) (xs : List NodeView) (inboxes : List Waiting) (releases : List TreeRelease) (k : ℕ) → IsPlan p → p.faults ≡ [] → AreParts p xs inboxes → k ≤ nodes p → filter (is_enabled p (state_with p xs inboxes releases)) (events_below p k) ≡ flat_map (events_at p xs inboxes) (up_to k)
-offers_below p xs inboxes releases zero plan safe parts le = refl
-offers_below p xs inboxes releases (suc k) plan safe parts le =
+offers_below p xs inboxes releases zero plan no_faults parts le = refl
+offers_below p xs inboxes releases (suc k) plan no_faults parts le =
     filter-append (is_enabled p (state_with p xs inboxes releases)) (events_below p k) (events_of p k)
-    ∙ ap (λ (es : List Event). es ++ filter (is_enabled p (state_with p xs inboxes releases)) (events_of p k)) (offers_below p xs inboxes releases k plan safe parts (omega arith))
-    ∙ ap (λ (es : List Event). flat_map (events_at p xs inboxes) (up_to k) ++ es) (offers_at p xs inboxes releases k plan safe parts (omega arith) ∙ sym (append-nil (events_at p xs inboxes k)))
+    ∙ ap (λ (es : List Event). es ++ filter (is_enabled p (state_with p xs inboxes releases)) (events_of p k)) (offers_below p xs inboxes releases k plan no_faults parts (omega arith))
+    ∙ ap (λ (es : List Event). flat_map (events_at p xs inboxes) (up_to k) ++ es) (offers_at p xs inboxes releases k plan no_faults parts (omega arith) ∙ sym (append-nil (events_at p xs inboxes k)))
     ∙ sym (flat_map-append (events_at p xs inboxes) (up_to k) (k ∷ []))
 
 -- the events that may come next are those of the nodes, node by node
 pub all_offers : (p : Plan) (xs : List NodeView) (inboxes : List Waiting) (releases : List TreeRelease) → IsPlan p → p.faults ≡ [] → AreParts p xs inboxes → enabled_events p (state_with p xs inboxes releases) ≡ flat_map (events_at p xs inboxes) (up_to (nodes p))
 unfolding enabled_events
-all_offers p xs inboxes releases plan safe parts = offers_below p xs inboxes releases (nodes p) plan safe parts (omega arith)
+all_offers p xs inboxes releases plan no_faults parts = offers_below p xs inboxes releases (nodes p) plan no_faults parts (omega arith)
 
 -- whether the node of a number has an event that may come next
 pub ready_at : (p : Plan) (xs : List NodeView) (inboxes : List Waiting) (ready : List ℕ) (n : ℕ) → AreParts p xs inboxes → AreReady p xs inboxes ready → n < nodes p → is_listed ready n ≡ has_some (events_at p xs inboxes n)
 ready_at p xs inboxes ready n parts listed lt =
     let s = part_at p xs inboxes n parts lt in
-    listed.each n s.0 s.1 ∙ ap (λ (o : Option NodeView). has_some (elim o [ None ↦ [] | Some x ↦ node_events p x (inbox_at inboxes n) ])) (sym s.1)
+    listed.has_event n s.0 s.1 ∙ ap (λ (o : Option NodeView). has_some (elim o [ None ↦ [] | Some x ↦ node_events p x (inbox_at inboxes n) ])) (sym s.1)
 
 -- parts with no events put none together
 nothing_below : (g : ℕ → List Event) (n : ℕ) → ((m : ℕ) → m < n → has_some (g m) ≡ false) → flat_map g (up_to n) ≡ []
@@ -461,9 +461,9 @@ part_empty g (x ∷ xs) m (inr i) e = part_empty g xs m i (rest (g x) e)
 
 -- no event may come next just where no node has one
 pub none_is_ready : (p : Plan) (xs : List NodeView) (inboxes : List Waiting) (releases : List TreeRelease) (ready : List ℕ) → IsPlan p → p.faults ≡ [] → AreParts p xs inboxes → AreReady p xs inboxes ready → (ready ≡ [] → enabled_events p (state_with p xs inboxes releases) ≡ []) × (enabled_events p (state_with p xs inboxes releases) ≡ [] → ready ≡ [])
-none_is_ready p xs inboxes releases ready plan safe parts listed = (
-  λ none. all_offers p xs inboxes releases plan safe parts ∙ nothing_below (events_at p xs inboxes) (nodes p) (λ m lt. sym (ready_at p xs inboxes ready m parts listed lt) ∙ ap (λ r. is_listed r m) none),
-  λ none. empty ready listed.below (λ m lt. ready_at p xs inboxes ready m parts listed lt ∙ part_empty (events_at p xs inboxes) (up_to (nodes p)) m (in_up_to (nodes p) m lt) (sym (all_offers p xs inboxes releases plan safe parts) ∙ none)),
+none_is_ready p xs inboxes releases ready plan no_faults parts listed = (
+  λ none. all_offers p xs inboxes releases plan no_faults parts ∙ nothing_below (events_at p xs inboxes) (nodes p) (λ m lt. sym (ready_at p xs inboxes ready m parts listed lt) ∙ ap (λ r. is_listed r m) none),
+  λ none. empty ready listed.below (λ m lt. ready_at p xs inboxes ready m parts listed lt ∙ part_empty (events_at p xs inboxes) (up_to (nodes p)) m (in_up_to (nodes p) m lt) (sym (all_offers p xs inboxes releases plan no_faults parts) ∙ none)),
 )
   where
     empty : (r : List ℕ) → ((n : ℕ) → is_listed r n ≡ true → n < nodes p) → ((n : ℕ) → n < nodes p → is_listed r n ≡ false) → r ≡ []
@@ -472,8 +472,8 @@ none_is_ready p xs inboxes releases ready plan safe parts listed = (
 
 -- where the nodes with an event are listed in order, the events that may come next are theirs, node by node
 pub all_ready : (p : Plan) (xs : List NodeView) (inboxes : List Waiting) (releases : List TreeRelease) (ready : List ℕ) → IsPlan p → p.faults ≡ [] → AreParts p xs inboxes → AreReady p xs inboxes ready → IsStrictlyIncreasing ready → enabled_events p (state_with p xs inboxes releases) ≡ flat_map (events_at p xs inboxes) ready
-all_ready p xs inboxes releases ready plan safe parts listed rise =
-    all_offers p xs inboxes releases plan safe parts
+all_ready p xs inboxes releases ready plan no_faults parts listed rise =
+    all_offers p xs inboxes releases plan no_faults parts
     ∙ flat_ready (events_at p xs inboxes) (nodes p) ready rise (λ m i. listed.below m (listed_from_in ready m i)) (λ m lt. ready_at p xs inboxes ready m parts listed lt)
 
 -- the events of a node that was read

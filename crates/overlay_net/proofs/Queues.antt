@@ -192,4 +192,4 @@ found_sent tree k v (x ∷ es) h e = go (is_at (nat_cmp k) x.0) e (found_sent tr
 
 -- queues of which none is empty, by ordered keys, are an inbox
 pub inbox_from : {X A : Type 0} (tree : X → Tree) (es : List (ℕ × VecDeque (Packet X) A)) → HaveSent (waiting_view tree es) → IsStrictlySortedBy nat_cmp (keys_of es) → IsInbox (waiting_view tree es)
-inbox_from tree es sent rises = record { sent = sent; rises = subst (IsStrictlySortedBy nat_cmp) (sym (senders_are_keys tree es)) rises }
+inbox_from tree es sent increasing = record { sent = sent; increasing = subst (IsStrictlySortedBy nat_cmp) (sym (senders_are_keys tree es)) increasing }

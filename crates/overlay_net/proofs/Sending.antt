@@ -12,9 +12,9 @@ pub nothing_sent : (from : ℕ) (ib : List Waiting) (listed : List ℕ) → AreS
 nothing_sent from ib listed = record {
   queues = λ a b. queue (a == from) (queue_of (inbox_at ib b) a);
   others = λ b e. refl;
-  all = refl;
+  inbox_count = refl;
   ready = λ b. refl;
-  kept = λ is b. is b;
+  inboxes = λ is b. is b;
 }
   where
     queue : (t : Bool) (q : List TreePacket) → q ≡ cond t (q ++ []) q
@@ -26,8 +26,8 @@ pub one_and_others : (from : ℕ) (v : ℕ × TreePacket) (vs : List (ℕ × Tre
 one_and_others from v vs ia ib ic la lb lc h k = record {
   queues = λ a b. k.queues a b ∙ queue a b (a == from) refl;
   others = λ b e. let t = or_parts (v.0 == b) (is_receiver vs b) e in k.others b t.1 ∙ h.others b (ap (λ c. c || false) t.0);
-  all = k.all ∙ h.all;
-  kept = λ is. k.kept (h.kept is);
+  inbox_count = k.inbox_count ∙ h.inbox_count;
+  inboxes = λ is. k.inboxes (h.inboxes is);
   ready = λ b. k.ready b ∙ ap (λ c. is_receiver vs b || c) (h.ready b) ∙ turn (v.0 == b) (is_receiver vs b) (is_listed la b);
 }
   where

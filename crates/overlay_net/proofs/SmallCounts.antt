@@ -72,12 +72,12 @@ journal_counts p journal n = let a = run_raises p (start p) journal n in let b =
 -- ---- the bound of a plan
 
 -- ascending numbers of a range are no more than it has
-ascending_few : (xs : List ℕ) (low high : ℕ) → low ≤ high → IsStrictlyIncreasing xs → ((x : ℕ) → In x xs → (low ≤ x) × (x < high)) → low + length xs ≤ high
-ascending_few [] low high le rise within = omega arith
-ascending_few (x ∷ xs) low high le rise within =
+ascending_within_limit : (xs : List ℕ) (low high : ℕ) → low ≤ high → IsStrictlyIncreasing xs → ((x : ℕ) → In x xs → (low ≤ x) × (x < high)) → low + length xs ≤ high
+ascending_within_limit [] low high le rise within = omega arith
+ascending_within_limit (x ∷ xs) low high le rise within =
     let here : (low ≤ x) × (x < high) = within x (inl refl) in
     let most : suc x ≤ high = here.1 in
-    let rest : suc x + length xs ≤ high = ascending_few xs (suc x) high most rise.1 (λ y i. (rise.0 y i, (within y (inr i)).1)) in
+    let rest : suc x + length xs ≤ high = ascending_within_limit xs (suc x) high most rise.1 (λ y i. (rise.0 y i, (within y (inr i)).1)) in
     let least : low ≤ x = here.0 in
     omega arith
 
@@ -88,10 +88,10 @@ numbers_below (x ∷ xs) all n (inl e) = subst (λ k. k < 8) (sym e) all.0.numbe
 numbers_below (x ∷ xs) all n (inr i) = numbers_below xs all.1 n i
 
 -- there are at most 8 streams
-streams_few : (xs : List Stream) → AllByRecursion IsStream xs → IsStrictlyIncreasing (map (λ (x : Stream). x.number) xs) → length xs ≤ 8
-streams_few xs all rise =
+streams_within_limit : (xs : List Stream) → AllByRecursion IsStream xs → IsStrictlyIncreasing (map (λ (x : Stream). x.number) xs) → length xs ≤ 8
+streams_within_limit xs all rise =
     let some : 0 ≤ 8 = omega arith in
-    let a : 0 + length (map (λ (x : Stream). x.number) xs) ≤ 8 = ascending_few (map (λ (x : Stream). x.number) xs) 0 8 some rise (λ n i. (omega arith, numbers_below xs all n i)) in
+    let a : 0 + length (map (λ (x : Stream). x.number) xs) ≤ 8 = ascending_within_limit (map (λ (x : Stream). x.number) xs) 0 8 some rise (λ n i. (omega arith, numbers_below xs all n i)) in
     let b : length (map (λ (x : Stream). x.number) xs) ≡ length xs = length-map xs (λ (x : Stream). x.number) in
     omega arith
 
@@ -100,26 +100,26 @@ abbrev own_waves : Stream → List (ℕ × ℕ)
 own_waves x = map (λ w. (x.number, w)) (up_to x.waves)
 
 -- a stream has at most 16 waves
-waves_few : (xs : List Stream) → AllByRecursion IsStream xs → length (waves_of xs) ≤ 16 * length xs
-waves_few [] all = omega arith
-waves_few (x ∷ xs) all =
+waves_within_limit : (xs : List Stream) → AllByRecursion IsStream xs → length (waves_of xs) ≤ 16 * length xs
+waves_within_limit [] all = omega arith
+waves_within_limit (x ∷ xs) all =
     let a : length (waves_of (x ∷ xs)) ≡ length (own_waves x) + length (waves_of xs) = length-append (own_waves x) (waves_of xs) in
     let b : length (own_waves x) ≡ length (up_to x.waves) = length-map (up_to x.waves) (λ w. (x.number, w)) in
     let c : length (up_to x.waves) ≡ x.waves = length-up_to x.waves in
     let d : x.waves ≤ 16 = all.0.waves_few in
-    let rest : length (waves_of xs) ≤ 16 * length xs = waves_few xs all.1 in
+    let rest : length (waves_of xs) ≤ 16 * length xs = waves_within_limit xs all.1 in
     omega arith
 
 -- a timer runs at most 1,000 ticks
-ticks_few : (m : Mode) → IsMode m → ticks m ≤ 1000
-ticks_few WaitForAll h = omega arith
-ticks_few (TimeOut t) h = h.1
-ticks_few DontWait h = omega arith
+ticks_within_limit : (m : Mode) → IsMode m → ticks m ≤ 1000
+ticks_within_limit WaitForAll h = omega arith
+ticks_within_limit (TimeOut t) h = h.1
+ticks_within_limit DontWait h = omega arith
 
 -- the longest of the timers runs at most 1,000 ticks
-longest_few : (xs : List Stream) → AllByRecursion IsStream xs → longest xs ≤ 1000
-longest_few [] all = omega arith
-longest_few (x ∷ xs) all = max-le (ticks_few x.mode all.0.mode) (longest_few xs all.1)
+longest_within_limit : (xs : List Stream) → AllByRecursion IsStream xs → longest xs ≤ 1000
+longest_within_limit [] all = omega arith
+longest_within_limit (x ∷ xs) all = max-le (ticks_within_limit x.mode all.0.mode) (longest_within_limit xs all.1)
 
 -- the greatest bound of a plan
 greatest_bound : bound_of 512 128 1000 < 2 ^ 62
@@ -142,10 +142,10 @@ small_bound_of n m t hn hm ht =
 pub small_bound : (p : Plan) → IsPlan p → bound p < 2 ^ 62
 small_bound p plan =
     let a : nodes p ≤ NODE_LIMIT = plan.topology.few in
-    let b : length (waves_of p.streams) ≤ 16 * length p.streams = waves_few p.streams plan.script.streams in
-    let c : length p.streams ≤ 8 = streams_few p.streams plan.script.streams plan.script.streams_rise in
+    let b : length (waves_of p.streams) ≤ 16 * length p.streams = waves_within_limit p.streams plan.script.streams in
+    let c : length p.streams ≤ 8 = streams_within_limit p.streams plan.script.streams plan.script.streams_rise in
     let m : length (waves_of p.streams) ≤ 128 = omega arith in
-    let d = small_bound_of (nodes p) (length (waves_of p.streams)) (longest p.streams) a m (longest_few p.streams plan.script.streams) in
+    let d = small_bound_of (nodes p) (length (waves_of p.streams)) (longest p.streams) a m (longest_within_limit p.streams plan.script.streams) in
     let g = greatest_bound in
     omega (arith, d, g)
 

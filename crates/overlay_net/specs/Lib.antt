@@ -3,4 +3,4 @@ pub mod Nets
 pub mod Events
 pub mod Sends
 pub mod Handled
-pub mod Parts
+pub mod States

@@ -1,4 +1,4 @@
--- What a node sends, and where it goes.
+-- The packets that a node sends, and the inboxes that they go to.
 use Rattle.std.specs.Prelude.{◌≡◌, ◌≢◌, ⊤, ℕ, ◌<◌, Bool, false, ◌==◌, ◌||◌, cond, List, [], ◌∷◌, ◌++◌, length, Option, Some, None}
 use Rattle.std.specs.List.{AllByRecursion, list_any}
 use Rattle.stat_desk.specs.declared.event.Event.{Event}
@@ -13,39 +13,39 @@ abbrev pub packets_to : ℕ → List (ℕ × TreePacket) → List TreePacket
 packets_to b [] = []
 packets_to b (v ∷ vs) = cond (v.0 == b) (v.1 ∷ packets_to b vs) (packets_to b vs)
 
--- whether something goes to b
+-- whether a packet goes to b
 abbrev pub is_receiver : List (ℕ × TreePacket) → ℕ → Bool
 is_receiver sends b = list_any (λ v. v.0 == b) sends
 
--- each receiver is one of the first so many nodes
+-- each receiver is below this number
 abbrev pub GoBelow : ℕ → List (ℕ × TreePacket) → Type 0
 GoBelow count sends = AllByRecursion (λ v. v.0 < count) sends
 
--- What a node sent was put behind what waited from it, in the inboxes of the receivers and in no other, and the receivers
--- are listed besides.
+-- What a node sent is at the end of its queues in the receivers' inboxes, each other inbox is unchanged, and the receivers are
+-- listed in addition.
 pub record AreSent (from : ℕ) (sends : List (ℕ × TreePacket)) (old new : List Waiting) (listed listed_now : List ℕ) : Type 0 where
   pub queues : (a b : ℕ) → queue_of (inbox_at new b) a ≡ cond (a == from) (queue_of (inbox_at old b) a ++ packets_to b sends) (queue_of (inbox_at old b) a)
   pub others : (b : ℕ) → is_receiver sends b ≡ false → inbox_at new b ≡ inbox_at old b
-  pub all : length new ≡ length old
+  pub inbox_count : length new ≡ length old
   pub ready : (b : ℕ) → is_listed listed_now b ≡ (is_receiver sends b || is_listed listed b)
-  pub kept : ((b : ℕ) → IsInbox (inbox_at old b)) → (b : ℕ) → IsInbox (inbox_at new b)
+  pub inboxes : ((b : ℕ) → IsInbox (inbox_at old b)) → (b : ℕ) → IsInbox (inbox_at new b)
 
--- where an event receives something, something waits
+-- if the event receives a packet, a packet waits
 abbrev pub CanTake : List Waiting → Event → Type 0
 CanTake old (Sample n s w) = ⊤
 CanTake old (Recv n m) = (n < length old) × (queue_of (inbox_at old n) m ≢ [])
 CanTake old (Tick n) = ⊤
 CanTake old (Lose n) = ⊤
 
--- the first packet that waited from m for n was q
+-- q was the first packet that waited from m for n, and is taken
 pub record IsFirst (m n : ℕ) (q : TreePacket) (old new : List Waiting) : Type 0 where
   pub first : queue_of (inbox_at old n) m ≡ q ∷ queue_of (inbox_at new n) m
   pub rest : (a : ℕ) → (a == m) ≡ false → queue_of (inbox_at new n) a ≡ queue_of (inbox_at old n) a
   pub others : (b : ℕ) → (b == n) ≡ false → inbox_at new b ≡ inbox_at old b
-  pub all : length new ≡ length old
-  pub kept : ((b : ℕ) → IsInbox (inbox_at old b)) → (b : ℕ) → IsInbox (inbox_at new b)
+  pub inbox_count : length new ≡ length old
+  pub inboxes : ((b : ℕ) → IsInbox (inbox_at old b)) → (b : ℕ) → IsInbox (inbox_at new b)
 
--- an event has taken what it receives
+-- the packet that an event receives was taken
 abbrev pub IsTaken : List Waiting → Event → Option TreePacket → List Waiting → Type 0
 IsTaken old (Sample n s w) packet new = (packet ≡ None) × (new ≡ old)
 IsTaken old (Recv n m) None new = ⊥

@@ -1,4 +1,4 @@
-//! One event of the overlay: a node handles it, and what the node sends is put where it goes.
+//! Delivery: the packets that a node sends go to the inboxes of their receivers, and are taken there.
 
 ghost use Rattle.std.specs.Prelude.{◌≡◌, ◌<◌, ◌∷◌, [], length, option_map, OnOk};
 ghost use Rattle.overlay_node.specs.Packets.{packet_view, sends_view};
@@ -11,7 +11,7 @@ use stat_desk::Event;
 use std::alloc::{AllocError, Global};
 use std::collections::BTreeSet;
 
-/// Puts a packet into the inbox of its receiver, which can receive something from now on.
+/// Puts a packet into the inbox of its receiver, which then has an event that may come next.
 fn send<T: PrefixTree>(
     alloc: Global,
     from: u32,
@@ -21,14 +21,15 @@ fn send<T: PrefixTree>(
     ready: &mut BTreeSet<u32>,
 ) -> Result<(), AllocError>
     requires { to < length inboxes.old }
-    ensures { OnOk result (AreSent from ((to, packet_view T.tree packet) ∷ []) inboxes.old inboxes.new ready.old.keys ready.new.keys) }
+    ensures { OnOk result (AreSent from ((to, packet_view T.tree packet) ∷ [])
+        inboxes.old inboxes.new ready.old.keys ready.new.keys) }
 {
     inboxes[to as usize].put(alloc, from, packet)?;
     ready.insert(to)?;
     Ok(())
 }
 
-/// Sends all that a node sends, in order.
+/// Puts all packets that a node sends into the inboxes of their receivers, in order.
 pub fn deliver<T: PrefixTree>(
     alloc: Global,
     from: u32,
@@ -37,7 +38,8 @@ pub fn deliver<T: PrefixTree>(
     ready: &mut BTreeSet<u32>,
 ) -> Result<(), AllocError>
     requires { GoBelow (length inboxes.old) (sends_view T.tree sends.items) }
-    ensures { OnOk result (AreSent from (sends_view T.tree sends.items) inboxes.old inboxes.new ready.old.keys ready.new.keys) }
+    ensures { OnOk result (AreSent from (sends_view T.tree sends.items)
+        inboxes.old inboxes.new ready.old.keys ready.new.keys) }
 {
     for (to, packet) in sends {
         send(alloc, from, to, packet, inboxes, ready)?;

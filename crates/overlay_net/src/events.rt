@@ -1,4 +1,4 @@
-//! The events that may come next: of one node by number, and whether one may.
+//! The events that may come next: those of a node by index, and whether an event is one of them.
 
 ghost use Rattle.std.specs.Prelude.{◌≡◌, ◌&&◌, ◌↔◌, [], map, slice_get, ℕ, List};
 ghost use Rattle.std.specs.List.{flat_map};
@@ -21,15 +21,15 @@ use stat_desk::Event;
 use stat_plan::{Plan, StreamDef};
 use std::collections::BTreeSet;
 
-/// What a number stands for in a list of events.
+/// What an index finds in a list of events.
 pub enum Nth {
     /// This event.
     Found(Event),
-    /// None: it goes beyond the list by so much.
+    /// No event: the index is beyond the list by this much.
     Beyond(u64),
 }
 
-/// The wave of a stream whose samples the node takes next, if there is one.
+/// The wave of a stream whose samples the node takes next, if it takes any.
 fn next_wave<T: PrefixTree>(plan: &Plan, node: &Node<T>, stream: &StreamDef) -> Option<u8>
     requires node { IsNodeOf plan.now node.now }
     requires stream { In stream.now plan.now.streams }
@@ -44,7 +44,7 @@ fn next_wave<T: PrefixTree>(plan: &Plan, node: &Node<T>, stream: &StreamDef) -> 
     }
 }
 
-/// The `i`-th of a node's samples.
+/// The `i`-th of a node's samples that may come next, from 0.
 fn sample_event<T: PrefixTree>(plan: &Plan, node: &Node<T>, i: u64) -> Nth
     requires { IsNodeOf plan.now node.now }
     ensures { IsNth (flat_map (sample_of plan.now node.now) plan.now.streams) i result }
@@ -65,17 +65,17 @@ fn sample_event<T: PrefixTree>(plan: &Plan, node: &Node<T>, i: u64) -> Nth
     Nth::Beyond(left)
 }
 
-/// The `i`-th of what a node may receive.
+/// The `i`-th of the events by which a node receives, from 0.
 fn receive_event<T: PrefixTree>(n: u32, inbox: &Inbox<T>, i: u64) -> Nth
     ensures { IsNth (map (λ m. Recv n m) (senders_of inbox.now)) i result }
 {
     match inbox.sender(i as usize) {
         Some(from) => Nth::Found(Event::Recv { node: n, from }),
-        None => Nth::Beyond(i - inbox.len() as u64),
+        None => Nth::Beyond(i - inbox.sender_count() as u64),
     }
 }
 
-/// The `i`-th of a node's events that may come next.
+/// The `i`-th of a node's events that may come next, from 0.
 pub fn node_event<T: PrefixTree>(plan: &Plan, node: &Node<T>, inbox: &Inbox<T>, i: u64) -> Nth
     requires { IsNodeOf plan.now node.now }
     ensures { IsNth (node_events plan.now node.now inbox.now) i result }
@@ -100,7 +100,7 @@ pub fn node_event<T: PrefixTree>(plan: &Plan, node: &Node<T>, inbox: &Inbox<T>, 
     })
 }
 
-/// Whether some event of a node may come next.
+/// Whether an event of the node may come next.
 pub fn has_event<T: PrefixTree>(plan: &Plan, node: &Node<T>, inbox: &Inbox<T>) -> bool
     requires { IsNodeOf plan.now node.now }
     ensures { result ≡ has_some (node_events plan.now node.now inbox.now) }
@@ -111,16 +111,17 @@ pub fn has_event<T: PrefixTree>(plan: &Plan, node: &Node<T>, inbox: &Inbox<T>) -
     }
 }
 
-/// Whether an event may come next. It may be any event, also of nodes, streams and waves that the plan doesn't have.
+/// Whether an event may come next. Events of nodes, streams and waves that the plan doesn't have may be asked for too.
 pub fn is_enabled<T: PrefixTree>(
     plan: &Plan,
     nodes: &[Node<T>],
     inboxes: &[Inbox<T>],
     event: Event,
 ) -> bool
-    requires safe { plan.now.faults ≡ [] }
+    requires no_faults { plan.now.faults ≡ [] }
     requires parts { AreParts plan.now nodes.now inboxes.now }
-    ensures { (releases : List TreeRelease) → result ≡ is_enabled plan.now (state_with plan.now nodes.now inboxes.now releases) event }
+    ensures { (releases : List TreeRelease)
+        → result ≡ is_enabled plan.now (state_with plan.now nodes.now inboxes.now releases) event }
 {
     plan.invariant();
     match event {
@@ -135,10 +136,11 @@ pub fn is_enabled<T: PrefixTree>(
     }
 }
 
-/// Whether the wave is the one whose samples the node takes next of the stream, if the plan has it.
+/// Whether the plan has the stream, and this is the wave whose samples the node takes next.
 fn is_next_wave<T: PrefixTree>(plan: &Plan, node: &Node<T>, s: u8, wave: u8) -> bool
     requires { IsNodeOf plan.now node.now }
-    ensures { result ≡ (member node.now.number (daemons plan.now s) && is_wave (next_sample plan.now (node_of node.now) s) wave) }
+    ensures { result
+        ≡ (member node.now.number (daemons plan.now s) && is_wave (next_sample plan.now (node_of node.now) s) wave) }
 {
     plan.invariant();
     match plan.stream(s) {
@@ -147,8 +149,8 @@ fn is_next_wave<T: PrefixTree>(plan: &Plan, node: &Node<T>, s: u8, wave: u8) -> 
     }
 }
 
-/// The `i`-th of the events that may come next, by node, and of a node its samples by stream, what it may receive by sender,
-/// and its tick. Only the nodes that have one are looked at, and only as far as the event.
+/// The `i`-th of the events that may come next, from 0. They are ordered by node, and those of a node as its samples by
+/// stream, what it may receive by sender, and its tick. Only nodes in `ready` are searched, up to the event.
 pub fn nth_enabled<T: PrefixTree>(
     plan: &Plan,
     nodes: &[Node<T>],
@@ -156,10 +158,11 @@ pub fn nth_enabled<T: PrefixTree>(
     ready: &BTreeSet<u32>,
     i: u64,
 ) -> Option<Event>
-    requires safe { plan.now.faults ≡ [] }
+    requires no_faults { plan.now.faults ≡ [] }
     requires parts { AreParts plan.now nodes.now inboxes.now }
     requires ready { AreReady plan.now nodes.now inboxes.now ready.now.keys }
-    ensures { (releases : List TreeRelease) → result ≡ slice_get (enabled_events plan.now (state_with plan.now nodes.now inboxes.now releases)) i }
+    ensures { (releases : List TreeRelease)
+        → result ≡ slice_get (enabled_events plan.now (state_with plan.now nodes.now inboxes.now releases)) i }
 {
     plan.invariant();
     let mut left = i;
@@ -172,7 +175,9 @@ pub fn nth_enabled<T: PrefixTree>(
     None
 }
 
-/// A law: no event may come next just where no node has one.
+/// A law: no event may come next exactly if no node has one.
 pub fn no_event_where_none_is_ready()
-    ensures { (p : Plan) (xs : List NodeView) (inboxes : List Waiting) (releases : List TreeRelease) (ready : List ℕ) → IsPlan p → p.faults ≡ [] → AreParts p xs inboxes → AreReady p xs inboxes ready → (ready ≡ []) ↔ (enabled_events p (state_with p xs inboxes releases) ≡ []) }
+    ensures { (p : Plan) (xs : List NodeView) (inboxes : List Waiting) (releases : List TreeRelease) (ready : List ℕ)
+        → IsPlan p → p.faults ≡ [] → AreParts p xs inboxes → AreReady p xs inboxes ready
+        → (ready ≡ []) ↔ (enabled_events p (state_with p xs inboxes releases) ≡ []) }
 {}

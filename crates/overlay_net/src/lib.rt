@@ -1,4 +1,4 @@
-//! The overlay as a whole: its nodes, what is on the way between them, and what the front end has released.
+//! The overlay as a whole: its nodes, the packets between them, and what the front end has released.
 #![tactic(auto)]
 
 mod delivery;

@@ -1,14 +1,13 @@
-//! The parts of a net, and what an event does to them.
+//! The mutable state of a net, and what an event does to it.
 
-ghost use Rattle.std.specs.Prelude.{◌≡◌, ◌==◌, ◌↔◌, ℕ, [], true, false, cond, length, OnOk, IfOk};
+ghost use Rattle.std.specs.Prelude.{◌≡◌, ◌↔◌, [], true, false, length, OnOk, IfOk};
 ghost use Rattle.overlay_core.specs.Machine.{enabled_events, is_enabled};
 ghost use Rattle.overlay_core.specs.TreeReleases.{releases_view};
-ghost use Rattle.overlay_node.specs.Packets.{sends_view};
 ghost use Rattle.overlay_node.specs.NodeViews.{IsNodeOf};
-ghost use Rattle.overlay_net.specs.Nets.{IsReachedBy, net_view_of, node_events, state_of, state_with};
-ghost use Rattle.overlay_net.specs.Events.{IsNet, has_some, is_listed};
-ghost use Rattle.overlay_net.specs.Handled.{ExtendsBy};
-ghost use Rattle.overlay_net.specs.Parts.{IsHandedOver, MayHandOver, net_view};
+ghost use Rattle.overlay_net.specs.Nets.{IsReachedBy, net_view_of};
+ghost use Rattle.overlay_net.specs.Events.{IsEnabledIn, IsNetOf};
+ghost use Rattle.overlay_net.specs.Handled.{ExtendsBy, Marks};
+ghost use Rattle.overlay_net.specs.States.{ExtendsState, IsHandedOver, IsNetState, MayHandOver, net_view, state_at};
 
 use crate::delivery::{deliver, take_packet};
 use crate::events::{has_event, no_event_where_none_is_ready};
@@ -21,24 +20,24 @@ use stat_plan::Plan;
 use std::alloc::{AllocError, Global};
 use std::collections::BTreeSet;
 
-/// The parts of a net.
+/// The mutable state of a net.
 #[derive(Drop)]
-pub struct Parts<T: PrefixTree> {
+pub struct NetState<T: PrefixTree> {
     /// By node number.
     pub nodes: Vec<Node<T>>,
-    /// By node number: what waits for the node.
+    /// By node number.
     pub inboxes: Vec<Inbox<T>>,
-    /// The nodes that have an event that may come next.
+    /// The nodes with an event that may come next.
     pub ready: BTreeSet<u32>,
-    /// What was released, in the order in which it was.
+    /// What was released, in order.
     pub releases: Vec<Release<T>>,
 }
 
-/// The parts of a net in which nothing has happened yet.
-pub fn start<T: PrefixTree>(alloc: Global, plan: &Plan) -> Result<Parts<T>, AllocError>
+/// The initial state of a net, that of the empty journal.
+pub fn start<T: PrefixTree>(alloc: Global, plan: &Plan) -> Result<NetState<T>, AllocError>
     requires { plan.now.faults ≡ [] }
-    ensures net { IfOk result (λ parts. IsNet (net_view T.tree plan.now parts false) parts.ready.keys) }
-    ensures reached { IfOk result (λ parts. IsReachedBy (net_view T.tree plan.now parts false) []) }
+    ensures net { IfOk result (λ state. IsNetState T.tree plan.now state) }
+    ensures reached { IfOk result (λ state. IsReachedBy (net_view T.tree plan.now state false) []) }
 {
     plan.invariant();
     let mut nodes = Vec::new(alloc);
@@ -51,7 +50,7 @@ pub fn start<T: PrefixTree>(alloc: Global, plan: &Plan) -> Result<Parts<T>, Allo
         nodes.push(node)?;
         inboxes.push(inbox)?;
     }
-    Ok(Parts {
+    Ok(NetState {
         nodes,
         inboxes,
         ready,
@@ -59,7 +58,7 @@ pub fn start<T: PrefixTree>(alloc: Global, plan: &Plan) -> Result<Parts<T>, Allo
     })
 }
 
-// Takes the packet that an event receives, and hands the event over to its node.
+// Takes the packet that an event receives, and lets the event's node handle it.
 fn hand_over<T: PrefixTree>(
     alloc: Global,
     plan: &Plan,
@@ -68,13 +67,14 @@ fn hand_over<T: PrefixTree>(
     event: Event,
 ) -> Result<Outgoing<T>, AllocError>
     requires { MayHandOver plan.now nodes.old inboxes.old event }
-    ensures { IfOk result (λ out. IsHandedOver plan.now event nodes.old nodes.new inboxes.old inboxes.new (sends_view T.tree out.sends.items) (releases_view T.tree out.releases.items)) }
+    ensures { IfOk result (λ out. IsHandedOver plan.now event
+        nodes.old nodes.new inboxes.old inboxes.new out.sends out.releases) }
 {
     let packet = take_packet(inboxes, event);
     nodes[event.node() as usize].handle(alloc, plan, event, packet)
 }
 
-// Lists a node just where it has an event that may come next.
+// Lists a node in `ready` exactly if it has an event that may come next.
 fn mark<T: PrefixTree>(
     plan: &Plan,
     node: &Node<T>,
@@ -82,7 +82,7 @@ fn mark<T: PrefixTree>(
     ready: &mut BTreeSet<u32>,
 ) -> Result<(), AllocError>
     requires { IsNodeOf plan.now node.now }
-    ensures { OnOk result ((b : ℕ) → is_listed ready.new.keys b ≡ cond (b == node.now.number) (has_some (node_events plan.now node.now inbox.now)) (is_listed ready.old.keys b)) }
+    ensures { OnOk result (Marks plan.now node.now inbox.now ready.old.keys ready.new.keys) }
 {
     if has_event(plan, node, inbox) {
         ready.insert(node.number())?;
@@ -92,7 +92,7 @@ fn mark<T: PrefixTree>(
     Ok(())
 }
 
-// Does an event: its node handles it, what the node sends is put where it goes, and what it releases is kept.
+// Does an event: its node handles it, what the node sends is delivered, and what it releases is added to the releases.
 fn do_event<T: PrefixTree>(
     plan: &Plan,
     nodes: &mut [Node<T>],
@@ -101,12 +101,15 @@ fn do_event<T: PrefixTree>(
     releases: &mut Vec<Release<T>>,
     event: Event,
 ) -> Result<(), AllocError>
-    requires net { IsNet (net_view_of plan.now nodes.old inboxes.old (releases_view T.tree releases.old.items) false) ready.old.keys }
-    requires enabled { is_enabled plan.now (state_with plan.now nodes.old inboxes.old (releases_view T.tree releases.old.items)) event ≡ true }
-    ensures net { OnOk result (IsNet (net_view_of plan.now nodes.new inboxes.new (releases_view T.tree releases.new.items) false) ready.new.keys) }
-    ensures reached { OnOk result (ExtendsBy event (net_view_of plan.now nodes.old inboxes.old (releases_view T.tree releases.old.items) false) (net_view_of plan.now nodes.new inboxes.new (releases_view T.tree releases.new.items) false)) }
-    ensures nodes { OnOk result (length nodes.new ≡ length nodes.old) }
-    ensures inboxes { OnOk result (length inboxes.new ≡ length inboxes.old) }
+    requires net { IsNetOf plan.now nodes.old inboxes.old (releases_view T.tree releases.old.items) ready.old.keys }
+    requires enabled { IsEnabledIn plan.now nodes.old inboxes.old (releases_view T.tree releases.old.items) event }
+    ensures net { OnOk result (IsNetOf plan.now nodes.new inboxes.new
+        (releases_view T.tree releases.new.items) ready.new.keys) }
+    ensures reached { OnOk result (ExtendsBy event
+        (net_view_of plan.now nodes.old inboxes.old (releases_view T.tree releases.old.items) false)
+        (net_view_of plan.now nodes.new inboxes.new (releases_view T.tree releases.new.items) false)) }
+    ensures node_count { OnOk result (length nodes.new ≡ length nodes.old) }
+    ensures inbox_count { OnOk result (length inboxes.new ≡ length inboxes.old) }
 {
     plan.invariant();
     let alloc = *releases.allocator();
@@ -120,30 +123,30 @@ fn do_event<T: PrefixTree>(
 /// Does an event that may come next.
 pub fn apply<T: PrefixTree>(
     plan: &Plan,
-    parts: &mut Parts<T>,
+    state: &mut NetState<T>,
     event: Event,
 ) -> Result<(), AllocError>
-    requires net { IsNet (net_view T.tree plan.now parts.old false) parts.old.ready.keys }
-    requires enabled { is_enabled plan.now (state_of (net_view T.tree plan.now parts.old false)) event ≡ true }
-    ensures net { OnOk result (IsNet (net_view T.tree plan.now parts.new false) parts.new.ready.keys) }
-    ensures reached { OnOk result (ExtendsBy event (net_view T.tree plan.now parts.old false) (net_view T.tree plan.now parts.new false)) }
+    requires net { IsNetState T.tree plan.now state.old }
+    requires enabled { is_enabled plan.now (state_at T.tree plan.now state.old) event ≡ true }
+    ensures net { OnOk result (IsNetState T.tree plan.now state.new) }
+    ensures reached { OnOk result (ExtendsState T.tree plan.now event state.old state.new) }
 {
     do_event(
         plan,
-        parts.nodes.as_mut_slice(),
-        parts.inboxes.as_mut_slice(),
-        &mut parts.ready,
-        &mut parts.releases,
+        state.nodes.as_mut_slice(),
+        state.inboxes.as_mut_slice(),
+        &mut state.ready,
+        &mut state.releases,
         event,
     )
 }
 
 /// Whether no event may come next.
-pub fn has_no_event<T: PrefixTree>(plan: &Plan, parts: &Parts<T>) -> bool
-    requires { IsNet (net_view T.tree plan.now parts.now false) parts.now.ready.keys }
-    ensures { (result ≡ true) ↔ (enabled_events plan.now (state_of (net_view T.tree plan.now parts.now false)) ≡ []) }
+pub fn has_no_event<T: PrefixTree>(plan: &Plan, state: &NetState<T>) -> bool
+    requires { IsNetState T.tree plan.now state.now }
+    ensures { (result ≡ true) ↔ (enabled_events plan.now (state_at T.tree plan.now state.now) ≡ []) }
 {
     plan.invariant();
     no_event_where_none_is_ready();
-    parts.ready.is_empty()
+    state.ready.is_empty()
 }

@@ -1,4 +1,4 @@
--- What acts keep of an entry that fits, and what stands for the plan.
+-- Acts keep the invariant of an entry, and what they make are partial merges of the plan.
 use Rattle.std.proofs.Common.{◌≡◌, ◌≢◌, ◌≤◌, ℕ, zero, suc, inl, inr, Bool, true, false, [], Option, Some, None, IsSome, refl, sym, ap, subst, ◌∙◌, arith}
 use Rattle.rank_set.specs.Ranks.{Ranks, Has, IsSubset, size, union}
 use Rattle.prefix_tree.specs.Tree.{tree_of}
@@ -23,32 +23,32 @@ use Rattle.overlay_core.proofs.Settled.{after_arm, ne_from_grown}
 use Rattle.overlay_core.proofs.PlanFacts.{plan_facts}
 use Rattle.overlay_core.proofs.Lists.{empty_true, in_union, no_rank, union_left}
 use Rattle.overlay_node.specs.NodeViews.{EntryFits, OpenFits, PartFits, TimerFits, wave_of}
-use Rattle.overlay_node.specs.Acting.{covered, entry_after, grown, standing}
+use Rattle.overlay_node.specs.Acting.{covered_entry, entry_after, grown_entry, partial_merge}
 use Rattle.overlay_node.proofs.Sizes.{size_more, size_within}
 
 -- the stream of an open entry is there
 pub stream_there : (p : Plan) (s w : ℕ) (sent : Ranks) (timer : Timer) (given : ℕ) (o : Option Contrib) (c : Contrib) → o ≡ Some c → PartFits p s w sent timer given o → IsSome (stream_of p s)
 stream_there p s w sent timer given o c e h =
     let f : OpenFits p s w sent timer given c = subst (PartFits p s w sent timer given) e h in
-    subst (λ x. IsSome (stream_of p x)) f.stream (stream_some p c.stream c.wave f.stands.wave)
+    subst (λ x. IsSome (stream_of p x)) f.stream (stream_some p c.stream c.wave f.merge.wave)
 
--- an open entry has given few releases
-pub given_few : (p : Plan) (s w : ℕ) (sent : Ranks) (timer : Timer) (given : ℕ) (o : Option Contrib) (c : Contrib) (most : ℕ) → o ≡ Some c → PartFits p s w sent timer given o → size (cov_of c) ≤ most → given ≤ most
-given_few p s w sent timer given o c most e h le =
+-- the number of releases of an open entry is within the number of ranks
+pub given_within : (p : Plan) (s w : ℕ) (sent : Ranks) (timer : Timer) (given : ℕ) (o : Option Contrib) (c : Contrib) (most : ℕ) → o ≡ Some c → PartFits p s w sent timer given o → size (cov_of c) ≤ most → given ≤ most
+given_within p s w sent timer given o c most e h le =
     let f : OpenFits p s w sent timer given c = subst (PartFits p s w sent timer given) e h in
     let a : size sent ≤ size (cov_of c) = size_within sent (cov_of c) f.within in
-    let b : given ≤ size sent = f.few in
+    let b : given ≤ size sent = f.within_limit in
     omega (arith, a, b, le)
 
--- a contribution that stands for the plan is known by its ranks
-pub stands_is : (p : Plan) (c : Contrib) (s w : ℕ) (set : Ranks) → IsPartialMerge p c → c.stream ≡ s → c.wave ≡ w → cov_of c ≡ set → c ≡ standing p s w set
-stands_is p c s w set h es ew ec = λ i. contrib (es i) (ew i) ((h.tree ∙ (λ j. tree_of (samples p (es j) (ew j)) (ec j))) i)
+-- a partial merge of the plan is determined by its ranks
+pub is_partial_merge : (p : Plan) (c : Contrib) (s w : ℕ) (set : Ranks) → IsPartialMerge p c → c.stream ≡ s → c.wave ≡ w → cov_of c ≡ set → c ≡ partial_merge p s w set
+is_partial_merge p c s w set h es ew ec = λ i. contrib (es i) (ew i) ((h.tree ∙ (λ j. tree_of (samples p (es j) (ew j)) (ec j))) i)
 
-pub cov-standing : (p : Plan) (s w : ℕ) (set : Ranks) → cov_of (standing p s w set) ≡ set
-cov-standing p s w set = coverage-tree_of (samples p s w) set
+pub cov-partial_merge : (p : Plan) (s w : ℕ) (set : Ranks) → cov_of (partial_merge p s w set) ≡ set
+cov-partial_merge p s w set = coverage-tree_of (samples p s w) set
 
-pub stands_named : (p : Plan) (c : Contrib) (s w : ℕ) → IsPartialMerge p c → c.stream ≡ s → c.wave ≡ w → IsPartialMerge p (contrib s w c.tree)
-stands_named p c s w h es ew = subst (λ x. IsPartialMerge p (contrib x w c.tree)) es (subst (λ y. IsPartialMerge p (contrib c.stream y c.tree)) ew h)
+pub merge_named : (p : Plan) (c : Contrib) (s w : ℕ) → IsPartialMerge p c → c.stream ≡ s → c.wave ≡ w → IsPartialMerge p (contrib s w c.tree)
+merge_named p c s w h es ew = subst (λ x. IsPartialMerge p (contrib x w c.tree)) es (subst (λ y. IsPartialMerge p (contrib c.stream y c.tree)) ew h)
 
 -- what a partial release asks for
 partial_grown : (m : Mode) (done grown top : Bool) (t : Timer) → due_act m done grown top t ≡ Partial → grown ≡ true
@@ -75,58 +75,58 @@ partial_new : (p : Plan) (n s : ℕ) (cov sent : Ranks) (timer : Timer) → due_
 unfolding due_at
 partial_new p n s cov sent timer e = ne_from_grown cov sent (partial_grown (mode p s) (complete p n [] s cov) (has_grown cov sent) (is_front p n) timer e)
 
--- an act keeps what fits
+-- an act keeps the invariant of an entry
 pub after_fits : (p : Plan) (n : ℕ) (a : Act) (c : Contrib) (s w : ℕ) (sent : Ranks) (timer : Timer) (given : ℕ) → IsPlan p → due_at p n [] s (cov_of c) sent timer ≡ a → OpenFits p s w sent timer given c
     → EntryFits p (entry_after p a c (record { stream = s; wave = w; part = Some c; sent = sent; timer = timer; given = given }))
 after_fits p n Hold c s w sent timer given plan e h = h
 after_fits p n Arm c s w sent timer given plan e h = record {
   stream = h.stream;
   wave = h.wave;
-  stands = h.stands;
+  merge = h.merge;
   within = h.within;
-  few = h.few;
+  within_limit = h.within_limit;
   timer_fits = (arm_some p n s (cov_of c) sent timer plan e, omega arith);
 }
 after_fits p n Send c s w sent timer given plan e h = record {
   stream = h.stream;
   wave = h.wave;
-  stands = h.stands;
+  merge = h.merge;
   within = λ r there. there;
-  few = let a : given ≤ size sent = h.few in let b : size sent ≤ size (cov_of c) = size_within sent (cov_of c) h.within in omega (arith, a, b);
+  within_limit = let a : given ≤ size sent = h.within_limit in let b : size sent ≤ size (cov_of c) = size_within sent (cov_of c) h.within in omega (arith, a, b);
   timer_fits = tt;
 }
 after_fits p n Partial c s w sent timer given plan e h = record {
   stream = h.stream;
   wave = h.wave;
-  stands = h.stands;
+  merge = h.merge;
   within = λ r there. there;
-  few = let a : given ≤ size sent = h.few in let b : suc (size sent) ≤ size (cov_of c) = size_more sent (cov_of c) h.within (partial_new p n s (cov_of c) sent timer e) in omega (arith, a, b);
+  within_limit = let a : given ≤ size sent = h.within_limit in let b : suc (size sent) ≤ size (cov_of c) = size_more sent (cov_of c) h.within (partial_new p n s (cov_of c) sent timer e) in omega (arith, a, b);
   timer_fits = tt;
 }
 after_fits p n Final c s w sent timer given plan e h = tt
 
 -- more ranks keep it
 pub grown_fits : (p : Plan) (x : Contrib) (s w : ℕ) (part : Option Contrib) (sent : Ranks) (timer : Timer) (given : ℕ) → IsPartialMerge p x → x.stream ≡ s → x.wave ≡ w → PartFits p s w sent timer given part
-    → EntryFits p (grown p (cov_of x) (record { stream = s; wave = w; part = part; sent = sent; timer = timer; given = given }))
+    → EntryFits p (grown_entry p (cov_of x) (record { stream = s; wave = w; part = part; sent = sent; timer = timer; given = given }))
 grown_fits p x s w None sent timer given hx es ew h = tt
 grown_fits p x s w (Some c) sent timer given hx es ew h =
     let set : Ranks = union (cov_of c) (cov_of x) in
     let lies : IsSubset set (stream_ranks p s) = (λ r there. elim (in_union r (cov_of c) (cov_of x) there) [
-      | inl i ↦ subst (λ y. Has r (stream_ranks p y)) h.stream (h.stands.lies r i)
+      | inl i ↦ subst (λ y. Has r (stream_ranks p y)) h.stream (h.merge.lies r i)
       | inr i ↦ subst (λ y. Has r (stream_ranks p y)) es (hx.lies r i)
     ]) in
     record {
       stream = refl;
       wave = refl;
-      stands = stands_from p s w set (tree_of (samples p s w) set) refl lies (stands_named p x s w hx es ew).wave;
-      within = λ r there. subst (Has r) (sym (cov-standing p s w set)) (union_left r (cov_of c) (cov_of x) (h.within r there));
-      few = h.few;
+      merge = stands_from p s w set (tree_of (samples p s w) set) refl lies (merge_named p x s w hx es ew).wave;
+      within = λ r there. subst (Has r) (sym (cov-partial_merge p s w set)) (union_left r (cov_of c) (cov_of x) (h.within r there));
+      within_limit = h.within_limit;
       timer_fits = h.timer_fits;
     }
 
-pub grown_wave : (p : Plan) (set : Ranks) (s w : ℕ) (part : Option Contrib) (sent : Ranks) (timer : Timer) (given : ℕ) → wave_of (grown p set (record { stream = s; wave = w; part = part; sent = sent; timer = timer; given = given })) ≡ growing set (wave_of (record { stream = s; wave = w; part = part; sent = sent; timer = timer; given = given }))
+pub grown_wave : (p : Plan) (set : Ranks) (s w : ℕ) (part : Option Contrib) (sent : Ranks) (timer : Timer) (given : ℕ) → wave_of (grown_entry p set (record { stream = s; wave = w; part = part; sent = sent; timer = timer; given = given })) ≡ growing set (wave_of (record { stream = s; wave = w; part = part; sent = sent; timer = timer; given = given }))
 grown_wave p set s w None sent timer given = refl
-grown_wave p set s w (Some c) sent timer given = ap (λ x. Open x sent timer) (cov-standing p s w (union (cov_of c) set))
+grown_wave p set s w (Some c) sent timer given = ap (λ x. Open x sent timer) (cov-partial_merge p s w (union (cov_of c) set))
 
 -- the first ranks of a wave keep it
 pub own_fits : (p : Plan) (x : Contrib) (s w : ℕ) (part : Option Contrib) (sent : Ranks) (timer : Timer) (given : ℕ) → IsPartialMerge p x → x.stream ≡ s → x.wave ≡ w → PartFits p s w sent timer given part
@@ -135,22 +135,22 @@ own_fits p x s w None sent timer given hx es ew h e = absurd (cc)
 own_fits p x s w (Some c) sent timer given hx es ew h e = record {
   stream = es;
   wave = ew;
-  stands = hx;
+  merge = hx;
   within = λ r there. absurd (no_rank r (subst (Has r) (empty_true (cov_of c) e) (h.within r there)));
-  few = h.few;
+  within_limit = h.within_limit;
   timer_fits = h.timer_fits;
 }
 
-pub own_is : (p : Plan) (x : Contrib) (s w : ℕ) → IsPartialMerge p x → x.stream ≡ s → x.wave ≡ w → x ≡ standing p s w (cov_of x)
-own_is p x s w hx es ew = stands_is p x s w (cov_of x) hx es ew refl
+pub own_is : (p : Plan) (x : Contrib) (s w : ℕ) → IsPartialMerge p x → x.stream ≡ s → x.wave ≡ w → x ≡ partial_merge p s w (cov_of x)
+own_is p x s w hx es ew = is_partial_merge p x s w (cov_of x) hx es ew refl
 
 pub covered_wave : (p : Plan) (set : Ranks) (s w : ℕ) (part : Option Contrib) (sent : Ranks) (timer : Timer) (given : ℕ)
     → is_empty_open (wave_of (record { stream = s; wave = w; part = part; sent = sent; timer = timer; given = given })) ≡ true
-    → wave_of (covered p set (record { stream = s; wave = w; part = part; sent = sent; timer = timer; given = given })) ≡ covering set (wave_of (record { stream = s; wave = w; part = part; sent = sent; timer = timer; given = given }))
+    → wave_of (covered_entry p set (record { stream = s; wave = w; part = part; sent = sent; timer = timer; given = given })) ≡ covering set (wave_of (record { stream = s; wave = w; part = part; sent = sent; timer = timer; given = given }))
 covered_wave p set s w None sent timer given e = absurd (cc)
-covered_wave p set s w (Some c) sent timer given e = ap (λ x. Open x sent timer) (cov-standing p s w set)
+covered_wave p set s w (Some c) sent timer given e = ap (λ x. Open x sent timer) (cov-partial_merge p s w set)
 
--- a tick keeps it
+-- so does a tick
 pub ticked_fits : (p : Plan) (s : ℕ) (t : Timer) → TimerFits p s t → TimerFits p s (ticked_timer t)
 ticked_fits p s Off h = tt
 ticked_fits p s (Running zero) h = absurd (let a = h.0 in omega (arith, a))

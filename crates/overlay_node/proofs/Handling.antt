@@ -17,9 +17,9 @@ use Rattle.overlay_core.specs.Machine.{is_empty_open, start_node}
 use Rattle.overlay_core.specs.TreeReleases.{AreNumberedInOrder, bare_releases}
 use Rattle.overlay_core.proofs.Settled.{act_else}
 use Rattle.overlay_core.proofs.Outcomes.{next_is_empty, next_is_named}
-use Rattle.overlay_node.specs.Packets.{PacketFits, ReleaseFits, TreePacket, TreeUp, TreeDone, bare_sends}
-use Rattle.overlay_node.specs.NodeViews.{Counts, EntryView, IsNodeOf, MayHandle, NodeView, book_of, keys_of, node_of, taken_with}
-use Rattle.overlay_node.specs.Acting.{AreDistinct, StepsEntries, Output, ContextFits, each_fired, end_as, no_output, step_of, tick_all, work_of}
+use Rattle.overlay_node.specs.Packets.{Output, PacketFits, ReleaseFits, TreePacket, TreeUp, TreeDone, bare_sends}
+use Rattle.overlay_node.specs.NodeViews.{Counts, EntryView, IsNodeOf, MayHandle, NodeView, book_of, keys_of, node_of, received_with}
+use Rattle.overlay_node.specs.Acting.{AreDistinct, StepsEntries, ContextFits, each_fired, end_as, no_output, step_of, tick_all, effects_of}
 use Rattle.overlay_node.proofs.Waves.{each_below, own_wave}
 use Rattle.overlay_node.proofs.Distinct.{waves_at_distinct}
 
@@ -35,7 +35,7 @@ filter_same f g (v ∷ vs) h =
 abbrev fired_in : Book → ℕ × ℕ → Bool
 fired_in b v = is_fired (b v.0 v.1)
 
--- an act on a wave leaves the others as they are
+-- an act on a wave doesn't change the others
 others : (p : Plan) (n : ℕ) (kin : Kin) (v : ℕ × ℕ) (vs : List (ℕ × ℕ)) (k : Effects) → (In v vs → ⊥) → (u : ℕ × ℕ) → In u vs → fired_in (act p n kin v.0 v.1 k).book u ≡ fired_in k.book u
 others p n kin v vs k h u i = ap is_fired (act_else p n kin v.0 v.1 k u.0 u.1 other)
   where
@@ -50,14 +50,14 @@ others p n kin v vs k h u i = ap is_fired (act_else p n kin v.0 v.1 k u.0 u.1 ot
 
 -- whether each wave's timer has run out can be seen at its turn, or before the first
 pub each_same : (p : Plan) (n : ℕ) (kin : Kin) (vs : List (ℕ × ℕ)) (k : Effects) → AreDistinct vs → each_fired p n kin vs k ≡ act_each p n kin (filter (fired_in k.book) vs) k
-each_same p n kin [] k apart = refl
-each_same p n kin (v ∷ vs) k apart = by (each_same p n kin vs (act p n kin v.0 v.1 k) apart.1) (each_same p n kin vs k apart.1) (fired_in k.book v)
+each_same p n kin [] k distinct = refl
+each_same p n kin (v ∷ vs) k distinct = by (each_same p n kin vs (act p n kin v.0 v.1 k) distinct.1) (each_same p n kin vs k distinct.1) (fired_in k.book v)
   where
     by : each_fired p n kin vs (act p n kin v.0 v.1 k) ≡ act_each p n kin (filter (fired_in (act p n kin v.0 v.1 k).book) vs) (act p n kin v.0 v.1 k)
         → each_fired p n kin vs k ≡ act_each p n kin (filter (fired_in k.book) vs) k
         → (c : Bool) → each_fired p n kin vs (cond c (act p n kin v.0 v.1 k) k) ≡ act_each p n kin (cond c (v ∷ filter (fired_in k.book) vs) (filter (fired_in k.book) vs)) k
-    by after calm true = after ∙ ap (λ l. act_each p n kin l (act p n kin v.0 v.1 k)) (filter_same (fired_in (act p n kin v.0 v.1 k).book) (fired_in k.book) vs (others p n kin v vs k apart.0))
-    by after calm false = calm
+    by after idle true = after ∙ ap (λ l. act_each p n kin l (act p n kin v.0 v.1 k)) (filter_same (fired_in (act p n kin v.0 v.1 k).book) (fired_in k.book) vs (others p n kin v vs k distinct.0))
+    by after idle false = idle
 
 -- ---- events
 
@@ -65,23 +65,23 @@ ends : (p : Plan) (kin : Kin) (s w : ℕ) (b : Book) (v : Wave) → done_work p 
 ends p kin s w b (Open cov sent timer) = refl
 ends p kin s w b Closed = refl
 
-abbrev left : Kin → Effects → Outcome
-left kin k = record { kin = kin; work = k }
+abbrev outcome_with : Kin → Effects → Outcome
+outcome_with kin k = record { kin = kin; work = k }
 
-pub handled_is : (p : Plan) (n : ℕ) (x : Node) (event : Event) (packet : Option TreePacket) → IsPlan p → ◌≡◌ {A = Outcome} (handled p n x event (taken_with event packet)) (left x.kin (step_of p n x.kin (waves_at p n) event packet (begin x.book)))
+pub handled_is : (p : Plan) (n : ℕ) (x : Node) (event : Event) (packet : Option TreePacket) → IsPlan p → ◌≡◌ {A = Outcome} (handled p n x event (received_with event packet)) (outcome_with x.kin (step_of p n x.kin (waves_at p n) event packet (begin x.book)))
 unfolding sampled received_up received_done after_tick
 handled_is p n x (Sample m s w) packet plan = refl
 handled_is p n x (Recv m l) None plan = refl
 handled_is p n x (Recv m l) (Some (TreeUp s w t)) plan = refl
-handled_is p n x (Recv m l) (Some (TreeDone s w)) plan = ap (left x.kin) (ends p x.kin s w x.book (x.book s w))
-handled_is p n x (Tick m) packet plan = ap (left x.kin) (sym (each_same p n x.kin (waves_at p n) (tick_all (begin x.book)) (waves_at_distinct p n plan)))
+handled_is p n x (Recv m l) (Some (TreeDone s w)) plan = ap (outcome_with x.kin) (ends p x.kin s w x.book (x.book s w))
+handled_is p n x (Tick m) packet plan = ap (outcome_with x.kin) (sym (each_same p n x.kin (waves_at p n) (tick_all (begin x.book)) (waves_at_distinct p n plan)))
 handled_is p n x (Lose m) packet plan = refl
 
 -- ---- what events may come
 
--- where a node stands, by its parts
-pub place_fits : (p : Plan) (v : NodeView) (n : ℕ) (kin : Kin) → IsNodeOf p v → n ≡ v.number → kin ≡ v.kin → ContextFits p n kin
-place_fits p v n kin h en ek =
+-- a node's context, by its parts
+pub context_fits : (p : Plan) (v : NodeView) (n : ℕ) (kin : Kin) → IsNodeOf p v → n ≡ v.number → kin ≡ v.kin → ContextFits p n kin
+context_fits p v n kin h en ek =
     subst (λ m. ContextFits p m kin) (sym en) (subst (ContextFits p v.number) (sym (ek ∙ h.kin)) (record { node = h.number; children = each_below (nodes p) _; lost = refl }))
 
 -- which events may come doesn't depend on how many came before
@@ -100,9 +100,9 @@ may_by p v n kin es event packet en ek ee h =
     subst (λ (x : NodeView). MayHandle p x event packet) (λ i. record { number = sym en i; kin = sym ek i; entries = sym ee i; count = 0 }) (any_count p v 0 event packet h)
 
 -- an event was done, by the node's parts
-pub goes_by_parts : (p : Plan) (event : Event) (packet : Option TreePacket) (n m : ℕ) (kin kin' : Kin) (es es' new new' : List EntryView) (o o' q : Output) → n ≡ m → kin ≡ kin' → es ≡ es' → new ≡ new' → o ≡ o'
+pub steps_by_parts : (p : Plan) (event : Event) (packet : Option TreePacket) (n m : ℕ) (kin kin' : Kin) (es es' new new' : List EntryView) (o o' q : Output) → n ≡ m → kin ≡ kin' → es ≡ es' → new ≡ new' → o ≡ o'
     → StepsEntries p (step_of p n kin (keys_of es) event packet) es new o q → StepsEntries p (step_of p m kin' (keys_of es') event packet) es' new' o' q
-goes_by_parts p event packet n m kin kin' es es' new new' o o' q en ek ee enew eo h =
+steps_by_parts p event packet n m kin kin' es es' new new' o o' q en ek ee enew eo h =
     subst (λ x. StepsEntries p (step_of p x kin' (keys_of es') event packet) es' new' o' q) en
     (subst (λ x. StepsEntries p (step_of p n x (keys_of es') event packet) es' new' o' q) ek
     (subst (λ x. StepsEntries p (step_of p n kin (keys_of x) event packet) x new' o' q) ee
@@ -138,11 +138,11 @@ may_lose p v m packet h = h
 
 -- ---- the whole event
 
--- what an event leaves, as the contract says it
+-- the node and the output after an event, as the contract says it
 pub record Handles (p : Plan) (v w : NodeView) (event : Event) (packet : Option TreePacket) (q : Output) : Type 0 where
-  pub node : (o : Outcome) → o ≡ handled p v.number (node_of v) event (taken_with event packet) → ◌≡◌ {A = Node} (node_of w) (record { kin = o.kin; book = o.work.book; count = suc v.count })
-  pub sends : bare_sends q.sends ≡ (handled p v.number (node_of v) event (taken_with event packet)).work.sends
-  pub releases : bare_releases q.releases ≡ (handled p v.number (node_of v) event (taken_with event packet)).work.releases
+  pub node : (o : Outcome) → o ≡ handled p v.number (node_of v) event (received_with event packet) → ◌≡◌ {A = Node} (node_of w) (record { kin = o.kin; book = o.work.book; count = suc v.count })
+  pub sends : bare_sends q.sends ≡ (handled p v.number (node_of v) event (received_with event packet)).work.sends
+  pub releases : bare_releases q.releases ≡ (handled p v.number (node_of v) event (received_with event packet)).work.releases
   pub fits : IsNodeOf p w
   pub packets : AllByRecursion (λ (x : ℕ × TreePacket). PacketFits p x.1) q.sends
   pub trees : AllByRecursion (ReleaseFits p) q.releases
@@ -152,13 +152,13 @@ pub record Handles (p : Plan) (v w : NodeView) (event : Event) (packet : Option 
 pub handles : (p : Plan) (v w : NodeView) (event : Event) (packet : Option TreePacket) (q : Output) → IsPlan p → IsNodeOf p v → w.number ≡ v.number → w.kin ≡ v.kin → w.count ≡ suc v.count
     → StepsEntries p (step_of p v.number v.kin (keys_of v.entries) event packet) v.entries w.entries no_output q → Handles p v w event packet q
 handles p v w event packet q plan h en ek ec g =
-    let is : ◌≡◌ {A = Outcome} (handled p v.number (node_of v) event (taken_with event packet)) (left v.kin (work_of w.entries q)) =
+    let is : ◌≡◌ {A = Outcome} (handled p v.number (node_of v) event (received_with event packet)) (outcome_with v.kin (effects_of w.entries q)) =
     handled_is p v.number (node_of v) event packet plan
-    ∙ (λ i. left v.kin (step_of p v.number v.kin (sym h.keys i) event packet (begin (book_of v.entries))))
-    ∙ ap (left v.kin) (sym g.work) in
+    ∙ (λ i. outcome_with v.kin (step_of p v.number v.kin (sym h.keys i) event packet (begin (book_of v.entries))))
+    ∙ ap (outcome_with v.kin) (sym g.work) in
     record {
       node = λ o eo.
-          let k : o ≡ left v.kin (work_of w.entries q) = eo ∙ is in
+          let k : o ≡ outcome_with v.kin (effects_of w.entries q) = eo ∙ is in
           (λ i. record { kin = (ek ∙ ap (λ (x : Outcome). x.kin) (sym k)) i; book = ap (λ (x : Outcome). x.work.book) (sym k) i; count = ec i });
       sends = ap (λ (x : Outcome). x.work.sends) (sym is);
       releases = ap (λ (x : Outcome). x.work.releases) (sym is);
@@ -179,4 +179,4 @@ pub handles_by : (p : Plan) (v w : NodeView) (event : Event) (packet : Option Tr
     → n ≡ v.number → kin ≡ v.kin → es ≡ v.entries → new ≡ w.entries → o ≡ no_output → w.number ≡ v.number → w.kin ≡ v.kin → w.count ≡ suc v.count
     → StepsEntries p (step_of p n kin (keys_of es) event packet) es new o q → Handles p v w event packet q
 handles_by p v w event packet n kin es new o q plan h en ek ee enew eo wn wk wc g =
-    handles p v w event packet q plan h wn wk wc (goes_by_parts p event packet n v.number kin v.kin es v.entries new w.entries o no_output q en ek ee enew eo g)
+    handles p v w event packet q plan h wn wk wc (steps_by_parts p event packet n v.number kin v.kin es v.entries new w.entries o no_output q en ek ee enew eo g)

@@ -1,12 +1,12 @@
 pub mod Sizes
 pub mod Completion
-pub mod Telling
+pub mod EndPackets
 pub mod Books
 pub mod Fitting
-pub mod Turning
+pub mod EntrySteps
 pub mod Results
 pub mod Numbering
-pub mod Going
+pub mod Stepping
 pub mod Ticking
 pub mod Waves
 pub mod Handling

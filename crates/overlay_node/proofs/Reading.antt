@@ -8,28 +8,21 @@ use Rattle.stat_plan.specs.Plans.{Plan, serves, waves_at, waves_of}
 use Rattle.stat_plan.specs.Waves.{is_running}
 use Rattle.overlay_core.specs.Machine.{is_empty_open}
 use Rattle.overlay_node.specs.NodeViews.{EntryView, book_of, keys_of, wave_of}
-use Rattle.overlay_node.specs.Entries.{entries_view, entry_view}
-use Rattle.overlay_node.specs.declared.entry.WaveEntry.{WaveEntry}
 use Rattle.overlay_node.proofs.Distinct.{book_own, keys_once}
 
--- from a place on, a list has what was read there and the rest
+-- from an index on, a list has the item at that index and the rest
 pub drop_read : {A : Type 0} (xs : List A) (i : ℕ) (x : A) → i < length xs → x ≡ get_or xs i x → drop i xs ≡ x ∷ drop (i + 1) xs
 drop_read xs i x lt is = drop-cons xs i x lt ∙ (λ j. sym is j ∷ drop (sym (add-one i) j) xs)
 
--- an entry that fails the test is passed over
-pub find_step : {X : Type 0} (test : EntryView → Bool) (es : List (WaveEntry X)) (i : ℕ) (e : WaveEntry X) → i < length es → e ≡ get_or es i e → test (entry_view e) ≡ false → find test (entries_view (drop i es)) ≡ find test (entries_view es) → find test (entries_view (drop (i + 1) es)) ≡ find test (entries_view es)
-find_step {X} test es i e lt is f left =
-    sym (ap (λ b. cond b (Some (entry_view e)) (find test (entries_view (drop (i + 1) es)))) f) ∙ sym (ap (λ (l : List (WaveEntry X)). find test (entries_view l)) (drop_read es i e lt is)) ∙ left
+-- an entry that fails the test is skipped
+pub find_step : (test : EntryView → Bool) (es : List EntryView) (i : ℕ) (e : EntryView) → i < length es → e ≡ get_or es i e → test e ≡ false → find test ((drop i es)) ≡ find test es → find test ((drop (i + 1) es)) ≡ find test es
+find_step test es i e lt is f left =
+    sym (ap (λ b. cond b (Some e) (find test ((drop (i + 1) es)))) f) ∙ sym (ap (λ (l : List EntryView). find test l) (drop_read es i e lt is)) ∙ left
 
 -- the first that passes is found
-pub find_here : {X : Type 0} (test : EntryView → Bool) (es : List (WaveEntry X)) (i : ℕ) (e : WaveEntry X) → i < length es → e ≡ get_or es i e → test (entry_view e) ≡ true → find test (entries_view (drop i es)) ≡ find test (entries_view es) → find test (entries_view es) ≡ Some (entry_view e)
-find_here {X} test es i e lt is t left =
-    sym left ∙ ap (λ (l : List (WaveEntry X)). find test (entries_view l)) (drop_read es i e lt is) ∙ ap (λ b. cond b (Some (entry_view e)) (find test (entries_view (drop (i + 1) es)))) t
-
--- a test of some entry, as a test of the values
-pub any-entries : {X : Type 0} (test : EntryView → Bool) (es : List (WaveEntry X)) → list_any test (entries_view es) ≡ list_any (λ e. test (entry_view e)) es
-any-entries test [] = refl
-any-entries test (e ∷ es) = ap (λ b. test (entry_view e) || b) (any-entries test es)
+pub find_here : (test : EntryView → Bool) (es : List EntryView) (i : ℕ) (e : EntryView) → i < length es → e ≡ get_or es i e → test e ≡ true → find test ((drop i es)) ≡ find test es → find test es ≡ Some e
+find_here test es i e lt is t left =
+    sym left ∙ ap (λ (l : List EntryView). find test l) (drop_read es i e lt is) ∙ ap (λ b. cond b (Some e) (find test ((drop (i + 1) es)))) t
 
 -- ---- by keys and by entries
 

@@ -10,15 +10,9 @@ use Rattle.stat_plan.specs.Waves.{Book, Open}
 use Rattle.stat_plan.specs.declared.act.Timer.TheVariants.{Off}
 use Rattle.stat_plan.proofs.InLists.{append_left, append_right, in_at, in_map}
 use Rattle.overlay_core.proofs.Whole.{in_up_to}
-use Rattle.overlay_node.specs.NodeViews.{EntryView, EntryFits, book_of, given_of, is_of, keys_of}
-use Rattle.overlay_node.specs.Entries.{entries_view, entry_view}
-use Rattle.overlay_node.specs.Starts.{HasWaves, IsFresh}
-use Rattle.overlay_node.specs.declared.entry.WaveEntry.{WaveEntry}
+use Rattle.overlay_node.specs.NodeViews.{EntryView, EntryFits, book_of, given_of, is_entry_of, keys_of}
+use Rattle.overlay_node.specs.Starts.{HasWaves, IsUntouched, first_waves}
 use Rattle.overlay_node.proofs.Reading.{drop_read}
-
--- the first waves of a stream
-abbrev pub first_waves : ℕ → ℕ → List (ℕ × ℕ)
-first_waves s k = map (λ w. (s, w)) (up_to k)
 
 -- the waves of those streams whose number passes a test
 abbrev pub passing_waves : (ℕ → Bool) → List Stream → List (ℕ × ℕ)
@@ -27,18 +21,18 @@ passing_waves test xs = filter (λ v. test v.0) (waves_of xs)
 -- ---- the waves of one stream
 
 -- an entry added at the end adds its key at the end
-pub keys-push : {X : Type 0} (es new : List (WaveEntry X)) (e : WaveEntry X) → new ≡ es ++ e ∷ [] → keys_of (entries_view new) ≡ keys_of (entries_view es) ++ (e.stream, e.wave) ∷ []
-keys-push {X} es new e is = ap (λ (l : List (WaveEntry X)). keys_of (entries_view l)) is ∙ go es
+pub keys-push : (es new : List EntryView) (e : EntryView) → new ≡ es ++ e ∷ [] → keys_of new ≡ keys_of es ++ (e.stream, e.wave) ∷ []
+keys-push es new e is = ap keys_of is ∙ go es
   where
-    go : (es : List (WaveEntry X)) → keys_of (entries_view (es ++ e ∷ [])) ≡ keys_of (entries_view es) ++ (e.stream, e.wave) ∷ []
+    go : (es : List EntryView) → keys_of (es ++ e ∷ []) ≡ keys_of es ++ (e.stream, e.wave) ∷ []
     go [] = refl
     go (d ∷ ds) = ap (λ (l : List (ℕ × ℕ)). (d.stream, d.wave) ∷ l) (go ds)
 
--- fresh entries stay so with a fresh one at the end
-pub fresh_push : {X : Type 0} (p : Plan) (es new : List (WaveEntry X)) (e : WaveEntry X) → new ≡ es ++ e ∷ [] → AllByRecursion (IsFresh p) (entries_view es) → IsFresh p (entry_view e) → AllByRecursion (IsFresh p) (entries_view new)
-fresh_push {X} p es new e is h k = subst (λ (l : List (WaveEntry X)). AllByRecursion (IsFresh p) (entries_view l)) (sym is) (go es h)
+-- untouched entries with an untouched one at the end
+pub untouched_push : (p : Plan) (es new : List EntryView) (e : EntryView) → new ≡ es ++ e ∷ [] → AllByRecursion (IsUntouched p) es → IsUntouched p e → AllByRecursion (IsUntouched p) new
+untouched_push p es new e is h k = subst (λ (l : List EntryView). AllByRecursion (IsUntouched p) l) (sym is) (go es h)
   where
-    go : (es : List (WaveEntry X)) → AllByRecursion (IsFresh p) (entries_view es) → AllByRecursion (IsFresh p) (entries_view (es ++ e ∷ []))
+    go : (es : List EntryView) → AllByRecursion (IsUntouched p) es → AllByRecursion (IsUntouched p) (es ++ e ∷ [])
     go [] h = (k, tt)
     go (d ∷ ds) h = (h.0, go ds h.1)
 
@@ -93,7 +87,7 @@ stream_taken test xs i x keys lt is t left =
     ∙ ap (λ (l : List (ℕ × ℕ)). keys ++ l) (sym (waves_from test xs i x lt is))
     ∙ left
 
--- a stream that fails is passed over
+-- a stream that fails is skipped
 pub stream_passed : (test : ℕ → Bool) (xs : List Stream) (i : ℕ) (x : Stream) (keys : List (ℕ × ℕ)) → i < length xs → x ≡ get_or xs i x → test x.number ≡ false → keys ++ passing_waves test (drop i xs) ≡ passing_waves test xs → keys ++ passing_waves test (drop (i + 1) xs) ≡ passing_waves test xs
 stream_passed test xs i x keys lt is f left =
     ap (λ (l : List (ℕ × ℕ)). keys ++ (l ++ passing_waves test (drop (i + 1) xs))) (sym (filter-unserved test x.number (up_to x.waves) f))
@@ -101,10 +95,10 @@ stream_passed test xs i x keys lt is f left =
     ∙ left
 
 -- entries to which the waves of a stream that passes were added have the keys of the streams so far
-pub entries_taken : {X : Type 0} (test : ℕ → Bool) (xs : List Stream) (i : ℕ) (x : Stream) (s waves : ℕ) (old new : List (WaveEntry X)) → i < length xs → x ≡ get_or xs i x → s ≡ x.number → waves ≡ x.waves → test s ≡ true → keys_of (entries_view new) ≡ keys_of (entries_view old) ++ first_waves s waves → keys_of (entries_view old) ++ passing_waves test (drop i xs) ≡ passing_waves test xs → keys_of (entries_view new) ++ passing_waves test (drop (i + 1) xs) ≡ passing_waves test xs
+pub entries_taken : (test : ℕ → Bool) (xs : List Stream) (i : ℕ) (x : Stream) (s waves : ℕ) (old new : List EntryView) → i < length xs → x ≡ get_or xs i x → s ≡ x.number → waves ≡ x.waves → test s ≡ true → keys_of new ≡ keys_of old ++ first_waves s waves → keys_of old ++ passing_waves test (drop i xs) ≡ passing_waves test xs → keys_of new ++ passing_waves test (drop (i + 1) xs) ≡ passing_waves test xs
 entries_taken test xs i x s waves old new lt is es ew t more left =
-    (λ j. (more ∙ (λ k. keys_of (entries_view old) ++ first_waves (es k) (ew k))) j ++ passing_waves test (drop (i + 1) xs))
-    ∙ stream_taken test xs i x (keys_of (entries_view old)) lt is (ap test (sym es) ∙ t) left
+    (λ j. (more ∙ (λ k. keys_of old ++ first_waves (es k) (ew k))) j ++ passing_waves test (drop (i + 1) xs))
+    ∙ stream_taken test xs i x (keys_of old) lt is (ap test (sym es) ∙ t) left
 
 -- past the last stream all are taken
 pub all_taken : (test : ℕ → Bool) (xs ys : List Stream) (i : ℕ) (keys : List (ℕ × ℕ)) → length xs ≤ i → xs ≡ ys → keys ++ passing_waves test (drop i xs) ≡ passing_waves test xs → keys ≡ passing_waves test ys
@@ -118,30 +112,30 @@ all_taken test xs ys i keys le same left =
     append_none [] = refl
     append_none (v ∷ vs) = ap (λ (l : List (ℕ × ℕ)). v ∷ l) (append_none vs)
 
--- ---- fresh entries
+-- ---- untouched entries
 
--- each wave of fresh entries stands as at the start
-pub fresh_book : (p : Plan) (es : List EntryView) → AllByRecursion (IsFresh p) es → ◌≡◌ {A = Book} (book_of es) (λ s w. Open none none Off)
-fresh_book p es h = λ i s w. at es h s w i
+-- each wave of untouched entries is as at the start
+pub untouched_book : (p : Plan) (es : List EntryView) → AllByRecursion (IsUntouched p) es → ◌≡◌ {A = Book} (book_of es) (λ s w. Open none none Off)
+untouched_book p es h = λ i s w. at es h s w i
   where
     both : (b : Bool) → cond b (Open none none Off) (Open none none Off) ≡ Open none none Off
     both true = refl
     both false = refl
 
-    at : (es : List EntryView) → AllByRecursion (IsFresh p) es → (s w : ℕ) → book_of es s w ≡ Open none none Off
+    at : (es : List EntryView) → AllByRecursion (IsUntouched p) es → (s w : ℕ) → book_of es s w ≡ Open none none Off
     at [] h s w = refl
-    at (e ∷ es) h s w = (λ i. cond (is_of s w e) (h.0.wave i) (at es h.1 s w i)) ∙ both (is_of s w e)
+    at (e ∷ es) h s w = (λ i. cond (is_entry_of s w e) (h.0.wave i) (at es h.1 s w i)) ∙ both (is_entry_of s w e)
 
--- no release of a wave was given
-pub fresh_given : (p : Plan) (es : List EntryView) → AllByRecursion (IsFresh p) es → (s w : ℕ) → given_of es s w ≡ 0
-fresh_given p [] h s w = refl
-fresh_given p (e ∷ es) h s w = (λ i. cond (is_of s w e) (h.0.given i) (fresh_given p es h.1 s w i)) ∙ both (is_of s w e)
+-- there was no release of a wave
+pub untouched_given : (p : Plan) (es : List EntryView) → AllByRecursion (IsUntouched p) es → (s w : ℕ) → given_of es s w ≡ 0
+untouched_given p [] h s w = refl
+untouched_given p (e ∷ es) h s w = (λ i. cond (is_entry_of s w e) (h.0.given i) (untouched_given p es h.1 s w i)) ∙ both (is_entry_of s w e)
   where
     both : (b : Bool) → ◌≡◌ {A = ℕ} (cond b 0 0) 0
     both true = refl
     both false = refl
 
 -- each entry fits the plan
-pub fresh_fits : (p : Plan) (es : List EntryView) → AllByRecursion (IsFresh p) es → AllByRecursion (EntryFits p) es
-fresh_fits p [] h = tt
-fresh_fits p (e ∷ es) h = (h.0.fits, fresh_fits p es h.1)
+pub untouched_fits : (p : Plan) (es : List EntryView) → AllByRecursion (IsUntouched p) es → AllByRecursion (EntryFits p) es
+untouched_fits p [] h = tt
+untouched_fits p (e ∷ es) h = (h.0.fits, untouched_fits p es h.1)

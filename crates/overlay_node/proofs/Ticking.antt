@@ -4,7 +4,7 @@ use Rattle.std.specs.Prelude.{slice_set}
 use Rattle.std.specs.List.{AllByRecursion}
 use Rattle.std.proofs.Math.ListN.{set}
 use Rattle.std.proofs.lemmas.Bool.{and_parts, and_from, cases_Bool}
-use Rattle.std.proofs.lemmas.List.{map-set, take_more, take_all}
+use Rattle.std.proofs.lemmas.List.{take_more, take_all}
 use Rattle.rank_set.specs.Ranks.{Ranks}
 use Rattle.stat_plan.specs.NodeSets.{In}
 use Rattle.stat_plan.specs.Plans.{Plan}
@@ -15,22 +15,20 @@ use Rattle.stat_plan.specs.declared.act.Timer.TheVariants.{Off, Running, Fired}
 use Rattle.merge_filter.specs.Contributions.{Contrib}
 use Rattle.overlay_core.specs.Nodes.{Effects, act, act_as}
 use Rattle.overlay_core.specs.TreeReleases.{bare_releases}
-use Rattle.overlay_node.specs.declared.entry.WaveEntry.{WaveEntry}
-use Rattle.overlay_node.specs.Packets.{bare_sends}
-use Rattle.overlay_node.specs.Entries.{entry_view, entries_view}
-use Rattle.overlay_node.specs.NodeViews.{EntryFits, EntryView, PartFits, book_of, given_of, is_of, keys_of, state_of, wave_of}
-use Rattle.overlay_node.specs.Acting.{AreDistinct, StepsEntries, Output, StepsEntry, act_fired, each_fired, place_of, tick, tick_all, ticked_entry, work_of, work_with}
+use Rattle.overlay_node.specs.Packets.{Output, bare_sends}
+use Rattle.overlay_node.specs.NodeViews.{EntryFits, EntryView, PartFits, book_of, given_of, is_entry_of, keys_of, wave_state, wave_of}
+use Rattle.overlay_node.specs.Acting.{AreDistinct, StepsEntries, StepsEntry, act_fired, each_fired, entry_index, tick, tick_all, ticked_entry, effects_of, effects_with}
 use Rattle.overlay_node.proofs.Books.{same_book}
 use Rattle.overlay_node.proofs.Fitting.{ticked_fits}
-use Rattle.overlay_node.proofs.Going.{goes_by, item_in, length_in, replaced}
+use Rattle.overlay_node.proofs.Stepping.{steps_by, replaced}
 
 -- ---- steps one after another
 
-pub goes_none : (p : Plan) (es : List EntryView) (o : Output) → AllByRecursion (EntryFits p) es → StepsEntries p (λ k. k) es es o o
-goes_none p es o h = record { keys = refl; fits = h; output = λ x. x; numbers = λ earlier c n. n; counts = λ earlier c. c; work = refl }
+pub steps_none : (p : Plan) (es : List EntryView) (o : Output) → AllByRecursion (EntryFits p) es → StepsEntries p (λ k. k) es es o o
+steps_none p es o h = record { keys = refl; fits = h; output = λ x. x; numbers = λ earlier c n. n; counts = λ earlier c. c; work = refl }
 
-pub goes_then : (p : Plan) (first second : Effects → Effects) (es mid new : List EntryView) (o m q : Output) → StepsEntries p first es mid o m → StepsEntries p second mid new m q → StepsEntries p (λ k. second (first k)) es new o q
-goes_then p first second es mid new o m q a b = record {
+pub steps_then : (p : Plan) (first second : Effects → Effects) (es mid new : List EntryView) (o m q : Output) → StepsEntries p first es mid o m → StepsEntries p second mid new m q → StepsEntries p (λ k. second (first k)) es new o q
+steps_then p first second es mid new o m q a b = record {
   keys = b.keys ∙ a.keys;
   fits = b.fits;
   output = λ x. b.output (a.output x);
@@ -67,22 +65,21 @@ all_ticked zero (e ∷ es) h = absurd (omega (arith, h))
 all_ticked (suc i) (e ∷ es) h = ap (λ l. ticked_entry e ∷ l) (all_ticked i es (omega (arith, h)))
 
 -- one timer more
-pub ticked_more : {X : Type 0} (start now : List (WaveEntry X)) (i : ℕ) (e f : WaveEntry X) → entries_view now ≡ ticked_to i (entries_view start) → i < length now → e ≡ get_or now i e → entry_view f ≡ ticked_entry (entry_view e) → entries_view (slice_set now i f) ≡ ticked_to (i + 1) (entries_view start)
+pub ticked_more : (start now : List EntryView) (i : ℕ) (e f : EntryView) → now ≡ ticked_to i start → i < length now → e ≡ get_or now i e → f ≡ ticked_entry e → (slice_set now i f) ≡ ticked_to (i + 1) start
 ticked_more start now i e f is lt at ef =
-    let l : length (entries_view start) ≡ length now = sym (length_ticked i (entries_view start)) ∙ ap length (sym is) ∙ length_in now in
-    map-set entry_view now i f
-    ∙ (λ j. set (is j) i (ef j))
-    ∙ set_ticked i (entries_view start) (entry_view e) (omega (arith, l, lt)) (subst (λ es. entry_view e ≡ get_or es i (entry_view e)) is (item_in now i e at))
-    ∙ ap (λ k. ticked_to k (entries_view start)) (one_more i)
+    let l : length start ≡ length now = sym (length_ticked i start) ∙ ap length (sym is) in
+    (λ j. set (is j) i (ef j))
+    ∙ set_ticked i start e (omega (arith, l, lt)) (subst (λ es. e ≡ get_or es i e) is at)
+    ∙ ap (λ k. ticked_to k start) (one_more i)
 
 -- all timers are the machine's
-ticked_state : (o : Option Contrib) (sent : Ranks) (t : Timer) → state_of o sent (ticked_timer t) ≡ ticked (state_of o sent t)
+ticked_state : (o : Option Contrib) (sent : Ranks) (t : Timer) → wave_state o sent (ticked_timer t) ≡ ticked (wave_state o sent t)
 ticked_state None sent t = refl
 ticked_state (Some c) sent t = refl
 
 ticked_book : (es : List EntryView) (s w : ℕ) → book_of (map ticked_entry es) s w ≡ ticked (book_of es s w)
 ticked_book [] s w = refl
-ticked_book (e ∷ es) s w = by (is_of s w e) (ticked_book es s w)
+ticked_book (e ∷ es) s w = by (is_entry_of s w e) (ticked_book es s w)
   where
     by : (c : Bool) → book_of (map ticked_entry es) s w ≡ ticked (book_of es s w) → cond c (wave_of (ticked_entry e)) (book_of (map ticked_entry es) s w) ≡ ticked (cond c (wave_of e) (book_of es s w))
     by true ih = ticked_state e.part e.sent e.timer
@@ -94,18 +91,18 @@ ticked_keys (e ∷ es) = ap (λ l. (e.stream, e.wave) ∷ l) (ticked_keys es)
 
 ticked_given : (es : List EntryView) (s w : ℕ) → given_of (map ticked_entry es) s w ≡ given_of es s w
 ticked_given [] s w = refl
-ticked_given (e ∷ es) s w = ap (cond (is_of s w e) e.given) (ticked_given es s w)
+ticked_given (e ∷ es) s w = ap (cond (is_entry_of s w e) e.given) (ticked_given es s w)
 
 ticked_part : (p : Plan) (s w : ℕ) (sent : Ranks) (t : Timer) (given : ℕ) (o : Option Contrib) → PartFits p s w sent t given o → PartFits p s w sent (ticked_timer t) given o
 ticked_part p s w sent t given None h = tt
-ticked_part p s w sent t given (Some c) h = record { stream = h.stream; wave = h.wave; stands = h.stands; within = h.within; few = h.few; timer_fits = ticked_fits p s t h.timer_fits }
+ticked_part p s w sent t given (Some c) h = record { stream = h.stream; wave = h.wave; merge = h.merge; within = h.within; within_limit = h.within_limit; timer_fits = ticked_fits p s t h.timer_fits }
 
 pub ticked_all : (p : Plan) (es : List EntryView) → AllByRecursion (EntryFits p) es → AllByRecursion (EntryFits p) (map ticked_entry es)
 ticked_all p [] h = tt
 ticked_all p (e ∷ es) h = (ticked_part p e.stream e.wave e.sent e.timer e.given e.part h.0, ticked_all p es h.1)
 
-pub goes_ticked : (p : Plan) (es : List EntryView) (o : Output) → AllByRecursion (EntryFits p) es → StepsEntries p tick_all es (map ticked_entry es) o o
-goes_ticked p es o h = record {
+pub steps_ticked : (p : Plan) (es : List EntryView) (o : Output) → AllByRecursion (EntryFits p) es → StepsEntries p tick_all es (map ticked_entry es) o o
+steps_ticked p es o h = record {
   keys = ticked_keys es;
   fits = ticked_all p es h;
   output = λ x. x;
@@ -118,8 +115,8 @@ goes_ticked p es o h = record {
 
 -- the step on such a wave
 module _ (p : Plan) (n : ℕ) (kin : Kin) where
-  pub calm_turns : (e f : EntryView) (o q : Output) → EntryFits p e → is_fired (wave_of e) ≡ false → f ≡ e → q ≡ o → StepsEntry p (act_fired p n kin e.stream e.wave) e f o q
-  calm_turns e f o q h calm ef eq =
+  pub idle_steps : (e f : EntryView) (o q : Output) → EntryFits p e → is_fired (wave_of e) ≡ false → f ≡ e → q ≡ o → StepsEntry p (act_fired p n kin e.stream e.wave) e f o q
+  idle_steps e f o q h idle ef eq =
       subst (λ g. StepsEntry p (act_fired p n kin e.stream e.wave) e g o q) (sym ef)
       (subst (λ r. StepsEntry p (act_fired p n kin e.stream e.wave) e e o r) (sym eq)
       (record {
@@ -129,8 +126,8 @@ module _ (p : Plan) (n : ℕ) (kin : Kin) where
         output = λ x. x;
         gives = inl (record { given = refl; releases = refl });
         work = λ b eb.
-            (λ i. work_with (same_book b e.stream e.wave (wave_of e) eb i) o)
-            ∙ ap (λ c. cond c (act p n kin e.stream e.wave (work_with b o)) (work_with b o)) (sym (ap is_fired eb ∙ calm));
+            (λ i. effects_with (same_book b e.stream e.wave (wave_of e) eb i) o)
+            ∙ ap (λ c. cond c (act p n kin e.stream e.wave (effects_with b o)) (effects_with b o)) (sym (ap is_fired eb ∙ idle));
       }))
 
   -- where the timer has run out, or the wave has ended, the act is all
@@ -138,14 +135,14 @@ module _ (p : Plan) (n : ℕ) (kin : Kin) where
   act_all_same v s w k (inl e) = ap (λ c. cond c (act_as p n kin s w k v) k) (sym e)
   act_all_same v s w k (inr e) = subst (λ u. act_as p n kin s w k u ≡ cond (is_fired u) (act_as p n kin s w k u) k) (sym e) refl
 
-  pub fired_turns : (e f : EntryView) (o q : Output) → (is_fired (wave_of e) ≡ true) ⊎ (wave_of e ≡ Closed) → StepsEntry p (act p n kin e.stream e.wave) e f o q → StepsEntry p (act_fired p n kin e.stream e.wave) e f o q
-  fired_turns e f o q fired h = record {
+  pub fired_steps : (e f : EntryView) (o q : Output) → (is_fired (wave_of e) ≡ true) ⊎ (wave_of e ≡ Closed) → StepsEntry p (act p n kin e.stream e.wave) e f o q → StepsEntry p (act_fired p n kin e.stream e.wave) e f o q
+  fired_steps e f o q fired h = record {
     stream = h.stream;
     wave = h.wave;
     fits = h.fits;
     output = h.output;
     gives = h.gives;
-    work = λ b eb. h.work b eb ∙ act_all_same (b e.stream e.wave) e.stream e.wave (work_with b o) (elim fired [ inl t ↦ inl (ap is_fired eb ∙ t) | inr t ↦ inr (eb ∙ t) ]);
+    work = λ b eb. h.work b eb ∙ act_all_same (b e.stream e.wave) e.stream e.wave (effects_with b o) (elim fired [ inl t ↦ inl (ap is_fired eb ∙ t) | inr t ↦ inr (eb ∙ t) ]);
   }
 
   -- these waves, and one more
@@ -153,17 +150,17 @@ module _ (p : Plan) (n : ℕ) (kin : Kin) where
   each_more [] v k = refl
   each_more (u ∷ us) v k = each_more us v (act_fired p n kin u.0 u.1 k)
 
-pub fired_or_closed : (o : Option Contrib) (sent : Ranks) (t : Timer) → t ≡ Fired → (is_fired (state_of o sent t) ≡ true) ⊎ (state_of o sent t ≡ Closed)
+pub fired_or_closed : (o : Option Contrib) (sent : Ranks) (t : Timer) → t ≡ Fired → (is_fired (wave_state o sent t) ≡ true) ⊎ (wave_state o sent t ≡ Closed)
 fired_or_closed None sent t e = inr refl
-fired_or_closed (Some c) sent t e = inl (ap (λ x. is_fired (state_of (Some c) sent x)) e)
+fired_or_closed (Some c) sent t e = inl (ap (λ x. is_fired (wave_state (Some c) sent x)) e)
 
-pub not_fired : (o : Option Contrib) (sent : Ranks) (t : Timer) → (t ≡ Fired → ⊥) → is_fired (state_of o sent t) ≡ false
+pub not_fired : (o : Option Contrib) (sent : Ranks) (t : Timer) → (t ≡ Fired → ⊥) → is_fired (wave_state o sent t) ≡ false
 not_fired None sent t h = refl
 not_fired (Some c) sent Off h = refl
 not_fired (Some c) sent (Running k) h = refl
 not_fired (Some c) sent Fired h = absurd (h refl)
 
--- ---- the place of each entry
+-- ---- the index of each entry
 
 key_in : (es : List EntryView) (i : ℕ) (e : EntryView) → i < length es → e ≡ get_or es i e → In {X = ℕ × ℕ} (e.stream, e.wave) (keys_of es)
 key_in [] i e lt is = absurd (omega (arith, lt))
@@ -174,19 +171,19 @@ below_tail : {X : Type 0} (i : ℕ) (xs : List X) → suc i < suc (length xs) �
 below_tail i xs lt = omega (arith, lt)
 
 -- where the waves are all different, each entry is the first of its wave
-pub own_place : (es : List EntryView) (i : ℕ) (e : EntryView) → AreDistinct (keys_of es) → i < length es → e ≡ get_or es i e → place_of e.stream e.wave es ≡ i
-own_place [] i e apart lt is = absurd (omega (arith, lt))
-own_place (x ∷ xs) zero e apart lt is =
-    ap (λ c. cond c zero (suc (place_of e.stream e.wave xs))) (and_from (x.stream == e.stream) (x.wave == e.wave) (eq-eqb x.stream e.stream (ap (λ (y : EntryView). y.stream) (sym is))) (eq-eqb x.wave e.wave (ap (λ (y : EntryView). y.wave) (sym is))))
-own_place (x ∷ xs) (suc i) e apart lt is =
-    ap (λ c. cond c zero (suc (place_of e.stream e.wave xs))) other ∙ ap suc (own_place xs i e apart.1 (omega (arith, lt)) is)
+pub own_index : (es : List EntryView) (i : ℕ) (e : EntryView) → AreDistinct (keys_of es) → i < length es → e ≡ get_or es i e → entry_index e.stream e.wave es ≡ i
+own_index [] i e distinct lt is = absurd (omega (arith, lt))
+own_index (x ∷ xs) zero e distinct lt is =
+    ap (λ c. cond c zero (suc (entry_index e.stream e.wave xs))) (and_from (x.stream == e.stream) (x.wave == e.wave) (eq-eqb x.stream e.stream (ap (λ (y : EntryView). y.stream) (sym is))) (eq-eqb x.wave e.wave (ap (λ (y : EntryView). y.wave) (sym is))))
+own_index (x ∷ xs) (suc i) e distinct lt is =
+    ap (λ c. cond c zero (suc (entry_index e.stream e.wave xs))) other ∙ ap suc (own_index xs i e distinct.1 (omega (arith, lt)) is)
   where
-    other : is_of e.stream e.wave x ≡ false
-    other = elim (cases_Bool (is_of e.stream e.wave x)) [
+    other : is_entry_of e.stream e.wave x ≡ false
+    other = elim (cases_Bool (is_entry_of e.stream e.wave x)) [
       | inl t ↦
           let u = and_parts (x.stream == e.stream) (x.wave == e.wave) t in
           let same : ◌≡◌ {A = ℕ × ℕ} (x.stream, x.wave) (e.stream, e.wave) = (λ j. (eqb-true x.stream e.stream u.0 j, eqb-true x.wave e.wave u.1 j)) in
-          absurd (apart.0 (subst (λ (v : ℕ × ℕ). In v (keys_of xs)) (sym same) (key_in xs i e (below_tail i xs lt) is)))
+          absurd (distinct.0 (subst (λ (v : ℕ × ℕ). In v (keys_of xs)) (sym same) (key_in xs i e (below_tail i xs lt) is)))
       | inr f ↦ f
     ]
 
@@ -200,44 +197,42 @@ key_at (x ∷ xs) zero e d lt is = ap (λ (y : EntryView). let v : ℕ × ℕ = 
 key_at (x ∷ xs) (suc i) e d lt is = key_at xs i e d (omega (arith, lt)) is
 
 -- one wave more
-pub fired_more : {X : Type 0} (p : Plan) (n : ℕ) (kin : Kin) (start now : List (WaveEntry X)) (i : ℕ) (e f : WaveEntry X) (o m q : Output)
-    → AreDistinct (keys_of (entries_view start)) → StepsEntries p (each_fired p n kin (take i (keys_of (entries_view start)))) (entries_view start) (entries_view now) o m
-    → i < length now → e ≡ get_or now i e → StepsEntry p (act_fired p n kin e.stream e.wave) (entry_view e) (entry_view f) m q
-    → StepsEntries p (each_fired p n kin (take (i + 1) (keys_of (entries_view start)))) (entries_view start) (entries_view (slice_set now i f)) o q
-fired_more p n kin start now i e f o m q apart so_far lt at h =
-    let it = item_in now i e at in
-    let below : i < length (entries_view now) = subst (λ k. i < k) (sym (length_in now)) lt in
-    let keys : List (ℕ × ℕ) = keys_of (entries_view start) in
-    let few : i < length keys = subst (λ l. i < length l) so_far.keys (subst (λ k. i < k) (sym (length_keys (entries_view now))) below) in
-    let here : get_or keys i (0, 0) ≡ (e.stream, e.wave) = ap (λ l. get_or l i (0, 0)) (sym so_far.keys) ∙ key_at (entries_view now) i (entry_view e) (0, 0) below it in
-    let more : take (i + 1) keys ≡ take i keys ++ (e.stream, e.wave) ∷ [] = take_more keys i (0, 0) few ∙ ap (λ (v : ℕ × ℕ). take i keys ++ v ∷ []) here in
-    let r = replaced p (entries_view now) i (entry_view e) (entry_view f) (own_place (entries_view now) i (entry_view e) (subst AreDistinct (sym so_far.keys) apart) below it) below it h.stream h.wave in
-    let next : StepsEntries p (act_fired p n kin e.stream e.wave) (entries_view now) (entries_view (slice_set now i f)) m q =
-    subst (λ l. StepsEntries p (act_fired p n kin e.stream e.wave) (entries_view now) l m q) (sym (map-set entry_view now i f)) (goes_by p (act_fired p n kin e.stream e.wave) (entries_view now) (set (entries_view now) i (entry_view f)) (entry_view e) (entry_view f) m q so_far.fits r h) in
-    let both = goes_then p (each_fired p n kin (take i keys)) (act_fired p n kin e.stream e.wave) (entries_view start) (entries_view now) (entries_view (slice_set now i f)) o m q so_far next in
+pub fired_more : (p : Plan) (n : ℕ) (kin : Kin) (start now : List EntryView) (i : ℕ) (e f : EntryView) (o m q : Output)
+    → AreDistinct (keys_of start) → StepsEntries p (each_fired p n kin (take i (keys_of start))) start now o m
+    → i < length now → e ≡ get_or now i e → StepsEntry p (act_fired p n kin e.stream e.wave) e f m q
+    → StepsEntries p (each_fired p n kin (take (i + 1) (keys_of start))) start (slice_set now i f) o q
+fired_more p n kin start now i e f o m q distinct so_far lt at h =
+    let keys : List (ℕ × ℕ) = keys_of start in
+    let within_limit : i < length keys = subst (λ l. i < length l) so_far.keys (subst (λ k. i < k) (sym (length_keys now)) lt) in
+    let here : get_or keys i (0, 0) ≡ (e.stream, e.wave) = ap (λ l. get_or l i (0, 0)) (sym so_far.keys) ∙ key_at now i e (0, 0) lt at in
+    let more : take (i + 1) keys ≡ take i keys ++ (e.stream, e.wave) ∷ [] = take_more keys i (0, 0) within_limit ∙ ap (λ (v : ℕ × ℕ). take i keys ++ v ∷ []) here in
+    let r = replaced p now i e f (own_index now i e (subst AreDistinct (sym so_far.keys) distinct) lt at) lt at h.stream h.wave in
+    let next : StepsEntries p (act_fired p n kin e.stream e.wave) now (slice_set now i f) m q =
+    steps_by p (act_fired p n kin e.stream e.wave) now (set now i f) e f m q so_far.fits r h in
+    let both = steps_then p (each_fired p n kin (take i keys)) (act_fired p n kin e.stream e.wave) start now (slice_set now i f) o m q so_far next in
     record {
       keys = both.keys;
       fits = both.fits;
       output = both.output;
       numbers = both.numbers;
       counts = both.counts;
-      work = both.work ∙ sym (each_more p n kin (take i keys) (e.stream, e.wave) (work_of (entries_view start) o)) ∙ ap (λ l. each_fired p n kin l (work_of (entries_view start) o)) (sym more);
+      work = both.work ∙ sym (each_more p n kin (take i keys) (e.stream, e.wave) (effects_of start o)) ∙ ap (λ l. each_fired p n kin l (effects_of start o)) (sym more);
     }
 
 -- all waves
-pub fired_all : {X : Type 0} (p : Plan) (n : ℕ) (kin : Kin) (start now : List (WaveEntry X)) (i : ℕ) (o q : Output) → StepsEntries p (each_fired p n kin (take i (keys_of (entries_view start)))) (entries_view start) (entries_view now) o q → length now ≤ i → StepsEntries p (each_fired p n kin (keys_of (entries_view start))) (entries_view start) (entries_view now) o q
+pub fired_all : (p : Plan) (n : ℕ) (kin : Kin) (start now : List EntryView) (i : ℕ) (o q : Output) → StepsEntries p (each_fired p n kin (take i (keys_of start))) start now o q → length now ≤ i → StepsEntries p (each_fired p n kin (keys_of start)) start now o q
 fired_all p n kin start now i o q h le =
-    let l : length (keys_of (entries_view start)) ≡ length now = ap length (sym h.keys) ∙ length_keys (entries_view now) ∙ length_in now in
-    subst (λ vs. StepsEntries p (each_fired p n kin vs) (entries_view start) (entries_view now) o q) (take_all i (keys_of (entries_view start)) (omega (arith, l, le))) h
+    let l : length (keys_of start) ≡ length now = ap length (sym h.keys) ∙ length_keys now in
+    subst (λ vs. StepsEntries p (each_fired p n kin vs) start now o q) (take_all i (keys_of start) (omega (arith, l, le))) h
 
 -- no wave yet
-pub goes_begin : (p : Plan) (n : ℕ) (kin : Kin) (es : List EntryView) (o : Output) → AllByRecursion (EntryFits p) es → StepsEntries p (each_fired p n kin (take 0 (keys_of es))) es es o o
-goes_begin p n kin es o h = goes_none p es o h
+pub steps_begin : (p : Plan) (n : ℕ) (kin : Kin) (es : List EntryView) (o : Output) → AllByRecursion (EntryFits p) es → StepsEntries p (each_fired p n kin (take 0 (keys_of es))) es es o o
+steps_begin p n kin es o h = steps_none p es o h
 
 -- a whole tick
-pub goes_tick : (p : Plan) (n : ℕ) (kin : Kin) (es mid new : List EntryView) (o q : Output) → AllByRecursion (EntryFits p) es → mid ≡ map ticked_entry es → StepsEntries p (each_fired p n kin (keys_of mid)) mid new o q → StepsEntries p (tick p n kin (keys_of es)) es new o q
-goes_tick p n kin es mid new o q h is fired =
+pub steps_tick : (p : Plan) (n : ℕ) (kin : Kin) (es mid new : List EntryView) (o q : Output) → AllByRecursion (EntryFits p) es → mid ≡ map ticked_entry es → StepsEntries p (each_fired p n kin (keys_of mid)) mid new o q → StepsEntries p (tick p n kin (keys_of es)) es new o q
+steps_tick p n kin es mid new o q h is fired =
     let keys : keys_of mid ≡ keys_of es = ap keys_of is ∙ ticked_keys es in
-    let ticking : StepsEntries p tick_all es mid o o = subst (λ l. StepsEntries p tick_all es l o o) (sym is) (goes_ticked p es o h) in
+    let ticking : StepsEntries p tick_all es mid o o = subst (λ l. StepsEntries p tick_all es l o o) (sym is) (steps_ticked p es o h) in
     let after : StepsEntries p (each_fired p n kin (keys_of es)) mid new o q = subst (λ vs. StepsEntries p (each_fired p n kin vs) mid new o q) keys fired in
-    goes_then p tick_all (each_fired p n kin (keys_of es)) es mid new o o q ticking after
+    steps_then p tick_all (each_fired p n kin (keys_of es)) es mid new o o q ticking after

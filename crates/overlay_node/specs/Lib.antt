@@ -1,6 +1,5 @@
 pub mod Packets
 pub mod NodeViews
-pub mod Entries
 pub mod Acting
 pub mod Contexts
 pub mod Starts

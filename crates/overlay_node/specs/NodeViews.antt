@@ -1,24 +1,25 @@
--- A node as a value: its kin, and what it keeps of each of its waves.
-use Rattle.std.specs.Prelude.{◌≡◌, refl, ℕ, ⊤, ◌<◌, ◌≤◌, Bool, true, ◌&&◌, ◌==◌, cond, List, [], ◌∷◌, map, length, Option, Some, None}
-use Rattle.std.specs.List.{AllByRecursion}
+-- A node as a value: its kin, and the state of each of its waves.
+use Rattle.std.specs.Prelude.{◌≡◌, refl, ℕ, suc, ◌++◌, find, option_map, ⊤, ◌<◌, ◌≤◌, Bool, true, ◌&&◌, ◌==◌, cond, List, [], ◌∷◌, map, length, Option, Some, None}
+use Rattle.std.specs.List.{AllByRecursion, list_any}
 use Rattle.std.specs.Coded.{Coded, code_by, coded×, coded_list, coded_option, coded_ℕ}
 use Rattle.rank_set.specs.Ranks.{Ranks, none, IsSubset, size, coded_ranks}
 use Rattle.stat_plan.specs.NodeSets.{In}
 use Rattle.stat_plan.specs.Plans.{Plan, nodes, daemons, mode, waves_at}
 use Rattle.stat_plan.specs.Kin.{Kin}
-use Rattle.stat_plan.specs.Waves.{Wave, Open, Closed, Book, ticks}
+use Rattle.stat_plan.specs.Waves.{Wave, Open, Closed, Book, is_running, ticks}
 use Rattle.stat_plan.specs.declared.act.Timer.{Timer}
 use Rattle.stat_plan.specs.declared.act.Timer.TheVariants.{Off, Running, Fired}
 use Rattle.stat_desk.specs.declared.event.Event.{Event}
 use Rattle.stat_desk.specs.declared.event.Event.TheVariants.{Sample, Recv, Tick, Lose}
 use Rattle.merge_filter.specs.Contributions.{Contrib, IsPartialMerge, contrib, coded_contrib, cov_of}
-use Rattle.overlay_core.specs.Nodes.{Node, Packet, Release}
-use Rattle.overlay_core.specs.Machine.{start_node, next_sample, is_wave}
+use Rattle.overlay_core.specs.Nodes.{Node, Outcome, Packet, Release, handled}
+use Rattle.overlay_core.specs.TreeReleases.{AreNumberedInOrder, TreeRelease, bare_releases}
+use Rattle.overlay_core.specs.Machine.{start_node, next_sample, is_empty_open, is_wave}
 use Rattle.overlay_core.specs.History.{of_wave}
 use Rattle.overlay_node.specs.Packets.{TreePacket, TreeUp, TreeDone, bare_packet}
 
--- A wave at a node: what has come in, none where the wave has ended; what was passed on; the timer; and how many releases
--- the node has given of it.
+-- A wave at a node: what has come in, none if the wave has ended; what was passed on; the timer; and how many releases of
+-- the wave there were at this node.
 pub record EntryView : Type 0 where
   pub stream : ℕ
   pub wave : ℕ
@@ -36,22 +37,22 @@ pub record NodeView : Type 0 where
 
 -- ---- as the machine's node
 
--- a wave that stands so
-abbrev pub state_of : Option Contrib → Ranks → Timer → Wave
-state_of None sent timer = Closed
-state_of (Some c) sent timer = Open (cov_of c) sent timer
+-- the machine's wave of these parts
+abbrev pub wave_state : Option Contrib → Ranks → Timer → Wave
+wave_state None sent timer = Closed
+wave_state (Some c) sent timer = Open (cov_of c) sent timer
 
 abbrev pub wave_of : EntryView → Wave
-wave_of e = state_of e.part e.sent e.timer
+wave_of e = wave_state e.part e.sent e.timer
 
 -- whether it is this wave's
-abbrev pub is_of : ℕ → ℕ → EntryView → Bool
-is_of s w e = (e.stream == s) && (e.wave == w)
+abbrev pub is_entry_of : ℕ → ℕ → EntryView → Bool
+is_entry_of s w e = (e.stream == s) && (e.wave == w)
 
--- the waves of the entries; each other wave stands as at the start
+-- the waves of the entries; each other wave is as at the start
 abbrev pub book_of : List EntryView → Book
 book_of [] s w = Open none none Off
-book_of (e ∷ es) s w = cond (is_of s w e) (wave_of e) (book_of es s w)
+book_of (e ∷ es) s w = cond (is_entry_of s w e) (wave_of e) (book_of es s w)
 
 -- the machine's node
 abbrev pub node_of : NodeView → Node
@@ -61,10 +62,10 @@ node_of v = record { kin = v.kin; book = book_of v.entries; count = v.count }
 abbrev pub keys_of : List EntryView → List (ℕ × ℕ)
 keys_of es = map (λ e. (e.stream, e.wave)) es
 
--- how many releases of a wave were given
+-- how many releases of a wave the entries have counted
 abbrev pub given_of : List EntryView → ℕ → ℕ → ℕ
 given_of [] s w = 0
-given_of (e ∷ es) s w = cond (is_of s w e) e.given (given_of es s w)
+given_of (e ∷ es) s w = cond (is_entry_of s w e) e.given (given_of es s w)
 
 -- the entries have counted the releases of their waves
 abbrev pub Counts : List EntryView → List Release → Type 0
@@ -78,14 +79,14 @@ TimerFits p s Off = ⊤
 TimerFits p s (Running t) = (1 ≤ t) × (t ≤ ticks (mode p s))
 TimerFits p s Fired = 1 ≤ ticks (mode p s)
 
--- What has come in of an open wave is of the wave and stands for the plan. What was passed on is of it. Each release given
--- so far passed something new on, so there are no more of them than ranks that were passed on.
+-- What has come in of an open wave is a partial merge of that wave, and covers what was passed on. Each release so far
+-- passed on a new rank, so there are at most as many of them as ranks that were passed on.
 pub record OpenFits (p : Plan) (s w : ℕ) (sent : Ranks) (timer : Timer) (given : ℕ) (c : Contrib) : Type 0 where
   pub stream : c.stream ≡ s
   pub wave : c.wave ≡ w
-  pub stands : IsPartialMerge p c
+  pub merge : IsPartialMerge p c
   pub within : IsSubset sent (cov_of c)
-  pub few : given ≤ size sent
+  pub within_limit : given ≤ size sent
   pub timer_fits : TimerFits p s timer
 
 abbrev pub PartFits : Plan → ℕ → ℕ → Ranks → Timer → ℕ → Option Contrib → Type 0
@@ -104,12 +105,12 @@ pub record IsNodeOf (p : Plan) (v : NodeView) : Type 0 where
 
 -- ---- which events a node may handle
 
--- a packet is of a wave that the node has, and what it brings stands for the plan
+-- a packet is of a wave that the node has, and what it brings is a partial merge of the plan
 abbrev pub MayReceive : Plan → ℕ → TreePacket → Type 0
 MayReceive p n (TreeUp s w t) = In {X = ℕ × ℕ} (s, w) (waves_at p n) × IsPartialMerge p (contrib s w t)
 MayReceive p n (TreeDone s w) = In {X = ℕ × ℕ} (s, w) (waves_at p n)
 
--- The event is the node's own and may come next there, and a packet is given exactly where one is received.
+-- The event is one of the node's that may come next there, and there is a packet exactly if one is received.
 abbrev pub MayHandle : Plan → NodeView → Event → Option TreePacket → Type 0
 MayHandle p v (Sample n s w) None = (n ≡ v.number) × In n (daemons p s) × (is_wave (next_sample p (node_of v) s) w ≡ true)
 MayHandle p v (Sample n s w) (Some q) = ⊥
@@ -120,12 +121,45 @@ MayHandle p v (Tick n) (Some q) = ⊥
 MayHandle p v (Lose n) packet = ⊥
 
 -- the packet that an event takes off a link, with its sender
-abbrev pub taken_with : Event → Option TreePacket → Option (ℕ × Packet)
-taken_with (Sample n s w) packet = None
-taken_with (Recv n m) None = None
-taken_with (Recv n m) (Some q) = Some (m, bare_packet q)
-taken_with (Tick n) packet = None
-taken_with (Lose n) packet = None
+abbrev pub received_with : Event → Option TreePacket → Option (ℕ × Packet)
+received_with (Sample n s w) packet = None
+received_with (Recv n m) None = None
+received_with (Recv n m) (Some q) = Some (m, bare_packet q)
+received_with (Tick n) packet = None
+received_with (Lose n) packet = None
+
+-- ---- what a node does with an event
+
+-- the machine's outcome of an event of a node, with the packet that it receives
+abbrev pub outcome_at : Plan → NodeView → Event → Option TreePacket → Outcome
+outcome_at p v e packet = handled p v.number (node_of v) e (received_with e packet)
+
+-- the new node is the machine's node after the event
+abbrev pub IsNodeAfter : Plan → NodeView → NodeView → Event → Option TreePacket → Type 0
+IsNodeAfter p old new e packet = (o : Outcome) → o ≡ outcome_at p old e packet
+    → ◌≡◌ {A = Node} (node_of new) (record { kin = o.kin; book = o.work.book; count = suc old.count })
+
+-- the releases go on with the numbers of those that the entries have counted
+abbrev pub ContinueNumbers : List EntryView → List TreeRelease → Type 0
+ContinueNumbers es more = (earlier : List Release) → Counts es earlier → AreNumberedInOrder earlier more
+
+-- the new entries have counted the releases in addition
+abbrev pub CountMore : List EntryView → List EntryView → List TreeRelease → Type 0
+CountMore old new more = (earlier : List Release) → Counts old earlier → Counts new (earlier ++ bare_releases more)
+
+-- ---- what may come next at a node
+
+-- the first wave of a stream among the entries that is open and of which nothing has come in
+abbrev pub first_empty : List EntryView → ℕ → Option ℕ
+first_empty es s = option_map (λ (e : EntryView). e.wave) (find (λ (e : EntryView). (e.stream == s) && is_empty_open (wave_of e)) es)
+
+-- the wave of a node's next sample of a stream
+abbrev pub next_wave : Plan → NodeView → ℕ → Option ℕ
+next_wave p v s = option_map (λ (u : ℕ × ℕ). u.1) (next_sample p (node_of v) s)
+
+-- whether a timer of the node runs
+abbrev pub has_running : Plan → NodeView → Bool
+has_running p v = list_any (λ (u : ℕ × ℕ). is_running (book_of v.entries u.0 u.1)) (waves_at p v.number)
 
 -- ---- codes, by which a value is stored
 

@@ -1,4 +1,4 @@
-//! What a node does about a wave.
+//! The acts of a node on a wave.
 
 ghost use Rattle.std.specs.Prelude.{◌≡◌, ◌<◌, ◌≤◌, ◌+◌, ◌^◌, ◌++◌, [], suc, IsSome, OnOk};
 ghost use Rattle.rank_set.specs.Ranks.{size};
@@ -6,10 +6,9 @@ ghost use Rattle.stat_plan.specs.Plans.{nodes};
 ghost use Rattle.stat_plan.specs.Waves.{ticks};
 ghost use Rattle.overlay_core.specs.TreeReleases.{release_view};
 ghost use Rattle.overlay_node.specs.NodeViews.{EntryFits};
-ghost use Rattle.overlay_node.specs.Entries.{entry_view};
-ghost use Rattle.overlay_node.specs.Contexts.{IsNodeContext, kin_of};
-ghost use Rattle.overlay_node.specs.Acting.{acted_entry, acted_output, dones_to, done_to, entry_by, output_by, output_view};
-ghost use Rattle.overlay_node.specs.Packets.{sends_view};
+ghost use Rattle.overlay_node.specs.Contexts.{IsNodeContext, entry_after_act, entry_after_due, output_after_act, output_after_due};
+ghost use Rattle.overlay_node.specs.Acting.{dones_to, done_to, release_with};
+ghost use Rattle.overlay_node.specs.Packets.{SendsMore};
 
 use crate::context::NodeContext;
 use crate::due::{due_for, mode_of};
@@ -37,8 +36,8 @@ fn send_up<T: PrefixTree>(
     entry: &mut WaveEntry<T>,
     out: &mut Outgoing<T>,
 ) -> Result<(), AllocError>
-    ensures entry { OnOk result (entry_view entry.new ≡ entry_by context.now.plan.now Act.Send (entry_view entry.old) entry.old.part) }
-    ensures out { OnOk result (output_view T.tree out.new ≡ output_by context.now.plan.now (kin_of context.now) Act.Send (entry_view entry.old) (output_view T.tree out.old) entry.old.part) }
+    ensures entry { OnOk result (entry.new ≡ entry_after_act context.now Act.Send entry.old) }
+    ensures out { OnOk result (out.new ≡ output_after_act context.now Act.Send entry.old out.old) }
 {
     if let Some(part) = &entry.part {
         if let Some(m) = context.parent {
@@ -55,7 +54,7 @@ fn send_up<T: PrefixTree>(
     Ok(())
 }
 
-// Tells a child that a wave has ended, where it serves the stream.
+// Sends a child that a wave has ended, if the child serves the stream.
 fn send_done<T: PrefixTree>(
     context: &NodeContext<'_>,
     child: u32,
@@ -64,7 +63,7 @@ fn send_done<T: PrefixTree>(
     sends: &mut Vec<(u32, Packet<T>)>,
 ) -> Result<(), AllocError>
     requires { child < nodes context.now.plan.now }
-    ensures { OnOk result (sends_view T.tree sends.new.items ≡ sends_view T.tree sends.old.items ++ done_to context.now.plan.now s w child) }
+    ensures { OnOk result (SendsMore T.tree sends.old.items sends.new.items (done_to context.now.plan.now s w child)) }
 {
     if context.plan.serves(child, s) {
         sends.push((child, Packet::Done { stream: s, wave: w }))?;
@@ -72,7 +71,7 @@ fn send_done<T: PrefixTree>(
     Ok(())
 }
 
-// Tells the children that a wave has ended.
+// Sends the children that a wave has ended.
 pub fn send_dones<T: PrefixTree>(
     context: &NodeContext<'_>,
     s: u8,
@@ -80,7 +79,8 @@ pub fn send_dones<T: PrefixTree>(
     sends: &mut Vec<(u32, Packet<T>)>,
 ) -> Result<(), AllocError>
     requires { IsNodeContext context.now }
-    ensures { OnOk result (sends_view T.tree sends.new.items ≡ sends_view T.tree sends.old.items ++ dones_to context.now.plan.now s w context.now.children.now) }
+    ensures { OnOk result (SendsMore T.tree sends.old.items sends.new.items
+        (dones_to context.now.plan.now s w context.now.children.now)) }
 {
     for child in context.children {
         send_done(context, *child, s, w, sends)?;
@@ -88,10 +88,11 @@ pub fn send_dones<T: PrefixTree>(
     Ok(())
 }
 
-// A set of ranks has few of them. Each release of a wave passes on a rank more than the one before, so their numbers are small.
-fn has_few_ranks(set: &RankSet)
+// For the proof: a set has at most all ranks. Each release of a wave passes on a new rank, so its number is within that limit.
+fn ranks_within_limit(set: &RankSet)
     ensures { size set.now ≤ RANK_LIMIT }
 {
+    // for the proof: the count of a set is at most the number of ranks
     let _ = set.count();
 }
 
@@ -103,7 +104,7 @@ fn next_release<T: PrefixTree>(
     tree: T,
 ) -> Release<T>
     requires { entry.now.given + 1 < 2 ^ 32 }
-    ensures { release_view T.tree result ≡ record { stream = entry.now.stream; wave = entry.now.wave; number = suc entry.now.given; kind = kind; tree = T.tree tree; lost = [] } }
+    ensures { release_view T.tree result ≡ release_with entry.now kind (T.tree tree) }
 {
     Release {
         stream: entry.stream,
@@ -115,18 +116,18 @@ fn next_release<T: PrefixTree>(
     }
 }
 
-// Gives out what has come in of a wave, which goes on.
+// Releases what has come in of a wave, which goes on.
 fn give_partial<T: PrefixTree>(
     context: &NodeContext<'_>,
     entry: &mut WaveEntry<T>,
     out: &mut Outgoing<T>,
 ) -> Result<(), AllocError>
-    requires { EntryFits context.now.plan.now (entry_view entry.old) }
-    ensures entry { OnOk result (entry_view entry.new ≡ entry_by context.now.plan.now Act.Partial (entry_view entry.old) entry.old.part) }
-    ensures out { OnOk result (output_view T.tree out.new ≡ output_by context.now.plan.now (kin_of context.now) Act.Partial (entry_view entry.old) (output_view T.tree out.old) entry.old.part) }
+    requires { EntryFits context.now.plan.now entry.old }
+    ensures entry { OnOk result (entry.new ≡ entry_after_act context.now Act.Partial entry.old) }
+    ensures out { OnOk result (out.new ≡ output_after_act context.now Act.Partial entry.old out.old) }
 {
     if let Some(part) = &entry.part {
-        has_few_ranks(part.coverage());
+        ranks_within_limit(part.coverage());
         let alloc = *out.releases.allocator();
         let tree = part.tree().copy()?;
         out.releases
@@ -138,20 +139,20 @@ fn give_partial<T: PrefixTree>(
     Ok(())
 }
 
-// Gives out what has come in of a wave, which ends.
+// Releases what has come in of a wave, which ends.
 fn give_final<T: PrefixTree>(
     context: &NodeContext<'_>,
     entry: &mut WaveEntry<T>,
     out: &mut Outgoing<T>,
 ) -> Result<(), AllocError>
-    requires fits { EntryFits context.now.plan.now (entry_view entry.old) }
+    requires fits { EntryFits context.now.plan.now entry.old }
     requires context { IsNodeContext context.now }
-    ensures entry { OnOk result (entry_view entry.new ≡ entry_by context.now.plan.now Act.Final (entry_view entry.old) entry.old.part) }
-    ensures out { OnOk result (output_view T.tree out.new ≡ output_by context.now.plan.now (kin_of context.now) Act.Final (entry_view entry.old) (output_view T.tree out.old) entry.old.part) }
+    ensures entry { OnOk result (entry.new ≡ entry_after_act context.now Act.Final entry.old) }
+    ensures out { OnOk result (out.new ≡ output_after_act context.now Act.Final entry.old out.old) }
 {
     if let Some(part) = entry.part.take() {
         send_dones(context, entry.stream, entry.wave, &mut out.sends)?;
-        has_few_ranks(part.coverage());
+        ranks_within_limit(part.coverage());
         let alloc = *out.releases.allocator();
         let tree = part.into_tree();
         out.releases
@@ -161,18 +162,18 @@ fn give_final<T: PrefixTree>(
     Ok(())
 }
 
-// Does an act about an open wave.
+// Performs an act on an open wave.
 fn do_act<T: PrefixTree>(
     context: &NodeContext<'_>,
     what: Act,
     entry: &mut WaveEntry<T>,
     out: &mut Outgoing<T>,
 ) -> Result<(), AllocError>
-    requires fits { EntryFits context.now.plan.now (entry_view entry.old) }
+    requires fits { EntryFits context.now.plan.now entry.old }
     requires context { IsNodeContext context.now }
     requires open { IsSome entry.old.part }
-    ensures entry { OnOk result (entry_view entry.new ≡ entry_by context.now.plan.now what (entry_view entry.old) entry.old.part) }
-    ensures out { OnOk result (output_view T.tree out.new ≡ output_by context.now.plan.now (kin_of context.now) what (entry_view entry.old) (output_view T.tree out.old) entry.old.part) }
+    ensures entry { OnOk result (entry.new ≡ entry_after_act context.now what entry.old) }
+    ensures out { OnOk result (out.new ≡ output_after_act context.now what entry.old out.old) }
 {
     match what {
         Act::Hold => {}
@@ -191,9 +192,9 @@ pub fn act<T: PrefixTree>(
     out: &mut Outgoing<T>,
 ) -> Result<(), AllocError>
     requires context { IsNodeContext context.now }
-    requires fits { EntryFits context.now.plan.now (entry_view entry.old) }
-    ensures entry { OnOk result (entry_view entry.new ≡ acted_entry context.now.plan.now context.now.node (entry_view entry.old)) }
-    ensures out { OnOk result (output_view T.tree out.new ≡ acted_output context.now.plan.now context.now.node (kin_of context.now) (entry_view entry.old) (output_view T.tree out.old)) }
+    requires fits { EntryFits context.now.plan.now entry.old }
+    ensures entry { OnOk result (entry.new ≡ entry_after_due context.now entry.old) }
+    ensures out { OnOk result (out.new ≡ output_after_due context.now entry.old out.old) }
 {
     let what = match &entry.part {
         None => return Ok(()),

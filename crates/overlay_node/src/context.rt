@@ -1,8 +1,8 @@
-//! Where a node stands.
+//! The context of a node's events.
 
 use stat_plan::Plan;
 
-/// What a node's events have to know besides its waves.
+/// What the events of a node need to know besides its waves.
 #[derive(Clone, Copy)]
 pub struct NodeContext<'a> {
     /// The plan.

@@ -20,7 +20,7 @@ pub fn mode_of(plan: &Plan, s: u8) -> Mode
     }
 }
 
-/// Whether all has come in of a wave that can, where these ranks have and no node is lost.
+/// Whether everything that can come in of a wave has come in, if these ranks have and no node is lost.
 fn is_complete(context: &NodeContext<'_>, s: u8, cov: &RankSet) -> bool
     requires node { context.now.node < nodes context.now.plan.now }
     requires stream { IsSome (stream_of context.now.plan.now s) }

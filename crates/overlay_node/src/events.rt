@@ -9,9 +9,8 @@ ghost use Rattle.stat_plan.specs.Waves.{covering, growing, is_fired, ticked_time
 ghost use Rattle.merge_filter.specs.Contributions.{HasWave, IsPartialMerge, contrib, cov_of};
 ghost use Rattle.overlay_core.specs.Machine.{is_empty_open};
 ghost use Rattle.overlay_node.specs.NodeViews.{EntryFits, wave_of, keys_of, book_of};
-ghost use Rattle.overlay_node.specs.Entries.{entry_view, entries_view};
-ghost use Rattle.overlay_node.specs.Contexts.{IsNodeContext, kin_of};
-ghost use Rattle.overlay_node.specs.Acting.{AreDistinct, StepsEntries, StepsEntry, act_changed, act_fired, each_fired, tick, end, ended, ended_output, grown, output_view, place_of, standing, ticked_entry};
+ghost use Rattle.overlay_node.specs.Contexts.{IsNodeContext, StepsEntriesAt, StepsEntryAt, changed_at, each_fired_at, end_at, fired_at, output_after_end, tick_at};
+ghost use Rattle.overlay_node.specs.Acting.{AreDistinct, ended_entry, entry_index, grown_entry, partial_merge, ticked_entry};
 
 use crate::actions::{act, send_dones};
 use crate::context::NodeContext;
@@ -22,11 +21,11 @@ use prefix_tree::PrefixTree;
 use stat_plan::{Plan, Timer};
 use std::alloc::{AllocError, Global};
 
-// Where a wave stands among the entries.
-fn place_of<T: PrefixTree>(entries: &[WaveEntry<T>], s: u8, w: u8) -> usize
-    requires { In {X = ℕ × ℕ} (s, w) (keys_of (entries_view entries.now)) }
-    ensures context { result ≡ place_of s w (entries_view entries.now) }
-    ensures below { result < length entries.now }
+// The index of a wave's entry.
+fn entry_index<T: PrefixTree>(entries: &[WaveEntry<T>], s: u8, w: u8) -> usize
+    requires { In {X = ℕ × ℕ} (s, w) (keys_of entries.now) }
+    ensures index { result ≡ entry_index s w entries.now }
+    ensures in_range { result < length entries.now }
 {
     for (i, entry) in entries.iter().enumerate() {
         if entry.stream == s && entry.wave == w {
@@ -42,11 +41,12 @@ fn unite<T: PrefixTree>(
     part: &mut Contribution<T>,
     received: Contribution<T>,
 ) -> Result<(), AllocError>
-    requires part { IsPartialMerge plan.now part.old }
-    requires received { IsPartialMerge plan.now received }
+    requires part_merge { IsPartialMerge plan.now part.old }
+    requires received_merge { IsPartialMerge plan.now received }
     requires stream { received.stream ≡ part.old.stream }
     requires wave { received.wave ≡ part.old.wave }
-    ensures { OnOk result (part.new ≡ standing plan.now part.old.stream part.old.wave (union (cov_of part.old) (cov_of received))) }
+    ensures { OnOk result (part.new
+        ≡ partial_merge plan.now part.old.stream part.old.wave (union (cov_of part.old) (cov_of received))) }
 {
     if part.coverage().first().is_none() {
         *part = received;
@@ -61,11 +61,11 @@ fn grow<T: PrefixTree>(
     entry: &mut WaveEntry<T>,
     received: Contribution<T>,
 ) -> Result<(), AllocError>
-    requires fits { EntryFits plan.now (entry_view entry.old) }
-    requires received { IsPartialMerge plan.now received }
+    requires fits { EntryFits plan.now entry.old }
+    requires received_merge { IsPartialMerge plan.now received }
     requires stream { received.stream ≡ entry.old.stream }
     requires wave { received.wave ≡ entry.old.wave }
-    ensures { OnOk result (entry_view entry.new ≡ grown plan.now (cov_of received) (entry_view entry.old)) }
+    ensures { OnOk result (entry.new ≡ grown_entry plan.now (cov_of received) entry.old) }
 {
     match &mut entry.part {
         Some(part) => unite(plan, part, received),
@@ -73,7 +73,7 @@ fn grow<T: PrefixTree>(
     }
 }
 
-// Takes what was received of a wave, and does what is due then.
+// Unites what was received of a wave with what has come in of it, and does what is due then.
 fn take_up<T: PrefixTree>(
     context: &NodeContext<'_>,
     entry: &mut WaveEntry<T>,
@@ -81,11 +81,13 @@ fn take_up<T: PrefixTree>(
     out: &mut Outgoing<T>,
 ) -> Result<(), AllocError>
     requires context { IsNodeContext context.now }
-    requires fits { EntryFits context.now.plan.now (entry_view entry.old) }
-    requires received { IsPartialMerge context.now.plan.now received }
+    requires fits { EntryFits context.now.plan.now entry.old }
+    requires received_merge { IsPartialMerge context.now.plan.now received }
     requires stream { received.stream ≡ entry.old.stream }
     requires wave { received.wave ≡ entry.old.wave }
-    ensures { OnOk result (StepsEntry context.now.plan.now (act_changed context.now.plan.now context.now.node (kin_of context.now) entry.old.stream entry.old.wave (growing (cov_of received))) (entry_view entry.old) (entry_view entry.new) (output_view T.tree out.old) (output_view T.tree out.new)) }
+    ensures { OnOk result (StepsEntryAt context.now
+        (changed_at context.now entry.old.stream entry.old.wave (growing (cov_of received)))
+        entry.old entry.new out.old out.new) }
 {
     context.plan.invariant();
     grow(context.plan, entry, received)?;
@@ -100,12 +102,14 @@ fn take_sample<T: PrefixTree>(
     out: &mut Outgoing<T>,
 ) -> Result<(), AllocError>
     requires context { IsNodeContext context.now }
-    requires fits { EntryFits context.now.plan.now (entry_view entry.old) }
-    requires empty { IsTrue (is_empty_open (wave_of (entry_view entry.old))) }
-    requires own { IsPartialMerge context.now.plan.now own }
+    requires fits { EntryFits context.now.plan.now entry.old }
+    requires empty { IsTrue (is_empty_open (wave_of entry.old)) }
+    requires partial_merge { IsPartialMerge context.now.plan.now own }
     requires stream { own.stream ≡ entry.old.stream }
     requires wave { own.wave ≡ entry.old.wave }
-    ensures { OnOk result (StepsEntry context.now.plan.now (act_changed context.now.plan.now context.now.node (kin_of context.now) entry.old.stream entry.old.wave (covering (cov_of own))) (entry_view entry.old) (entry_view entry.new) (output_view T.tree out.old) (output_view T.tree out.new)) }
+    ensures { OnOk result (StepsEntryAt context.now
+        (changed_at context.now entry.old.stream entry.old.wave (covering (cov_of own)))
+        entry.old entry.new out.old out.new) }
 {
     context.plan.invariant();
     entry.part = Some(own);
@@ -119,8 +123,8 @@ fn end<T: PrefixTree>(
     out: &mut Outgoing<T>,
 ) -> Result<(), AllocError>
     requires context { IsNodeContext context.now }
-    ensures entry { OnOk result (entry_view entry.new ≡ ended (entry_view entry.old)) }
-    ensures out { OnOk result (output_view T.tree out.new ≡ ended_output context.now.plan.now (kin_of context.now) entry.old.stream entry.old.wave (output_view T.tree out.old) entry.old.part) }
+    ensures entry { OnOk result (entry.new ≡ ended_entry entry.old) }
+    ensures out { OnOk result (out.new ≡ output_after_end context.now entry.old out.old) }
 {
     if entry.part.take().is_some() {
         send_dones(context, entry.stream, entry.wave, &mut out.sends)?;
@@ -128,7 +132,7 @@ fn end<T: PrefixTree>(
     Ok(())
 }
 
-/// A daemon takes its samples of a wave of which nothing has come in.
+/// A daemon takes its samples of a wave of which nothing has come in yet.
 pub fn on_sample<T: PrefixTree>(
     alloc: Global,
     context: &NodeContext<'_>,
@@ -138,21 +142,23 @@ pub fn on_sample<T: PrefixTree>(
     out: &mut Outgoing<T>,
 ) -> Result<(), AllocError>
     requires context { IsNodeContext context.now }
-    requires fits { AllByRecursion (EntryFits context.now.plan.now) (entries_view entries.old) }
-    requires there { In {X = ℕ × ℕ} (s, w) (keys_of (entries_view entries.old)) }
+    requires fits { AllByRecursion (EntryFits context.now.plan.now) entries.old }
+    requires has_entry { In {X = ℕ × ℕ} (s, w) (keys_of entries.old) }
     requires wave { HasWave context.now.plan.now s w }
     requires daemon { In context.now.node (daemons context.now.plan.now s) }
-    requires empty { IsTrue (is_empty_open (book_of (entries_view entries.old) s w)) }
-    ensures { OnOk result (StepsEntries context.now.plan.now (act_changed context.now.plan.now context.now.node (kin_of context.now) s w (covering (ranks context.now.plan.now context.now.node))) (entries_view entries.old) (entries_view entries.new) (output_view T.tree out.old) (output_view T.tree out.new)) }
+    requires empty { IsTrue (is_empty_open (book_of entries.old s w)) }
+    ensures { OnOk result (StepsEntriesAt context.now
+        (changed_at context.now s w (covering (ranks context.now.plan.now context.now.node)))
+        entries.old entries.new out.old out.new) }
 {
     let own = Contribution::of_daemon(alloc, context.plan, context.node, s, w)?;
-    let i = place_of(entries, s, w);
+    let i = entry_index(entries, s, w);
     let entry = &mut entries[i];
     take_sample(context, entry, own, out)?;
     Ok(())
 }
 
-/// What a child has of a wave comes in.
+/// A child has sent what has come in of a wave at it.
 pub fn on_up<T: PrefixTree>(
     context: &NodeContext<'_>,
     entries: &mut [WaveEntry<T>],
@@ -162,19 +168,21 @@ pub fn on_up<T: PrefixTree>(
     out: &mut Outgoing<T>,
 ) -> Result<(), AllocError>
     requires context { IsNodeContext context.now }
-    requires fits { AllByRecursion (EntryFits context.now.plan.now) (entries_view entries.old) }
-    requires there { In {X = ℕ × ℕ} (s, w) (keys_of (entries_view entries.old)) }
-    requires stands { IsPartialMerge context.now.plan.now (contrib s w (T.tree tree)) }
-    ensures { OnOk result (StepsEntries context.now.plan.now (act_changed context.now.plan.now context.now.node (kin_of context.now) s w (growing (cov_of (contrib s w (T.tree tree))))) (entries_view entries.old) (entries_view entries.new) (output_view T.tree out.old) (output_view T.tree out.new)) }
+    requires fits { AllByRecursion (EntryFits context.now.plan.now) entries.old }
+    requires has_entry { In {X = ℕ × ℕ} (s, w) (keys_of entries.old) }
+    requires partial_merge { IsPartialMerge context.now.plan.now (contrib s w (T.tree tree)) }
+    ensures { OnOk result (StepsEntriesAt context.now
+        (changed_at context.now s w (growing (cov_of (contrib s w (T.tree tree)))))
+        entries.old entries.new out.old out.new) }
 {
     let received = Contribution::of_tree(s, w, tree);
-    let i = place_of(entries, s, w);
+    let i = entry_index(entries, s, w);
     let entry = &mut entries[i];
     take_up(context, entry, received, out)?;
     Ok(())
 }
 
-/// The parent says that a wave has ended.
+/// The parent has sent that a wave has ended.
 pub fn on_done<T: PrefixTree>(
     context: &NodeContext<'_>,
     entries: &mut [WaveEntry<T>],
@@ -183,11 +191,12 @@ pub fn on_done<T: PrefixTree>(
     out: &mut Outgoing<T>,
 ) -> Result<(), AllocError>
     requires context { IsNodeContext context.now }
-    requires fits { AllByRecursion (EntryFits context.now.plan.now) (entries_view entries.old) }
-    requires there { In {X = ℕ × ℕ} (s, w) (keys_of (entries_view entries.old)) }
-    ensures { OnOk result (StepsEntries context.now.plan.now (end context.now.plan.now (kin_of context.now) s w) (entries_view entries.old) (entries_view entries.new) (output_view T.tree out.old) (output_view T.tree out.new)) }
+    requires fits { AllByRecursion (EntryFits context.now.plan.now) entries.old }
+    requires has_entry { In {X = ℕ × ℕ} (s, w) (keys_of entries.old) }
+    ensures { OnOk result (StepsEntriesAt context.now (end_at context.now s w)
+        entries.old entries.new out.old out.new) }
 {
-    let i = place_of(entries, s, w);
+    let i = entry_index(entries, s, w);
     let entry = &mut entries[i];
     end(context, entry, out)?;
     Ok(())
@@ -206,7 +215,7 @@ fn ticked(timer: Timer) -> Timer
 
 // The timers go on by one.
 fn tick_timers<T: PrefixTree>(entries: &mut [WaveEntry<T>])
-    ensures { entries_view entries.new ≡ map ticked_entry (entries_view entries.old) }
+    ensures { entries.new ≡ map ticked_entry entries.old }
 {
     for i in 0..entries.len() {
         let entry = &mut entries[i];
@@ -216,7 +225,7 @@ fn tick_timers<T: PrefixTree>(entries: &mut [WaveEntry<T>])
 
 // Whether a wave is open and its timer has run out.
 fn is_fired<T: PrefixTree>(entry: &WaveEntry<T>) -> bool
-    ensures { result ≡ is_fired (wave_of (entry_view entry.now)) }
+    ensures { result ≡ is_fired (wave_of entry.now) }
 {
     entry.part.is_some() && entry.timer == Timer::Fired
 }
@@ -228,8 +237,9 @@ fn act_if_fired<T: PrefixTree>(
     out: &mut Outgoing<T>,
 ) -> Result<(), AllocError>
     requires context { IsNodeContext context.now }
-    requires fits { EntryFits context.now.plan.now (entry_view entry.old) }
-    ensures { OnOk result (StepsEntry context.now.plan.now (act_fired context.now.plan.now context.now.node (kin_of context.now) entry.old.stream entry.old.wave) (entry_view entry.old) (entry_view entry.new) (output_view T.tree out.old) (output_view T.tree out.new)) }
+    requires fits { EntryFits context.now.plan.now entry.old }
+    ensures { OnOk result (StepsEntryAt context.now (fired_at context.now entry.old.stream entry.old.wave)
+        entry.old entry.new out.old out.new) }
 {
     context.plan.invariant();
     if is_fired(entry) {
@@ -245,9 +255,10 @@ fn act_on_fired<T: PrefixTree>(
     out: &mut Outgoing<T>,
 ) -> Result<(), AllocError>
     requires context { IsNodeContext context.now }
-    requires fits { AllByRecursion (EntryFits context.now.plan.now) (entries_view entries.old) }
-    requires apart { AreDistinct (keys_of (entries_view entries.old)) }
-    ensures { OnOk result (StepsEntries context.now.plan.now (each_fired context.now.plan.now context.now.node (kin_of context.now) (keys_of (entries_view entries.old))) (entries_view entries.old) (entries_view entries.new) (output_view T.tree out.old) (output_view T.tree out.new)) }
+    requires fits { AllByRecursion (EntryFits context.now.plan.now) entries.old }
+    requires distinct { AreDistinct (keys_of entries.old) }
+    ensures { OnOk result (StepsEntriesAt context.now (each_fired_at context.now (keys_of entries.old))
+        entries.old entries.new out.old out.new) }
 {
     for i in 0..entries.len() {
         let entry = &mut entries[i];
@@ -263,9 +274,10 @@ pub fn on_tick<T: PrefixTree>(
     out: &mut Outgoing<T>,
 ) -> Result<(), AllocError>
     requires context { IsNodeContext context.now }
-    requires fits { AllByRecursion (EntryFits context.now.plan.now) (entries_view entries.old) }
-    requires apart { AreDistinct (keys_of (entries_view entries.old)) }
-    ensures { OnOk result (StepsEntries context.now.plan.now (tick context.now.plan.now context.now.node (kin_of context.now) (keys_of (entries_view entries.old))) (entries_view entries.old) (entries_view entries.new) (output_view T.tree out.old) (output_view T.tree out.new)) }
+    requires fits { AllByRecursion (EntryFits context.now.plan.now) entries.old }
+    requires distinct { AreDistinct (keys_of entries.old) }
+    ensures { OnOk result (StepsEntriesAt context.now (tick_at context.now (keys_of entries.old))
+        entries.old entries.new out.old out.new) }
 {
     tick_timers(entries);
     act_on_fired(context, entries, out)?;

@@ -1,4 +1,4 @@
-//! How a node starts.
+//! The initial state of a node.
 
 ghost use Rattle.std.specs.Prelude.{◌≡◌, ◌<◌, ◌++◌, [], ℕ, IfOk, OnOk, map};
 ghost use Rattle.std.specs.List.{AllByRecursion};
@@ -6,9 +6,8 @@ ghost use Rattle.stat_plan.specs.Kin.{is_parent, nearest};
 ghost use Rattle.stat_plan.specs.Plans.{Plan, ancestors, nodes, up_to, waves_at};
 ghost use Rattle.merge_filter.specs.Contributions.{HasWave};
 ghost use Rattle.overlay_core.specs.Machine.{children_of};
-ghost use Rattle.overlay_node.specs.Entries.{entries_view, entry_view};
 ghost use Rattle.overlay_node.specs.NodeViews.{keys_of};
-ghost use Rattle.overlay_node.specs.Starts.{HasWaves, IsFresh};
+ghost use Rattle.overlay_node.specs.Starts.{AreUntouched, HasWaves, IsUntouched, first_waves};
 
 use crate::entry::WaveEntry;
 use merge_filter::Contribution;
@@ -50,10 +49,10 @@ pub fn children_of(alloc: Global, plan: &Plan, n: u32) -> Result<Vec<u32>, Alloc
 }
 
 // A wave of which nothing has come in yet.
-fn fresh_entry<T: PrefixTree>(alloc: Global, s: u8, w: u8) -> WaveEntry<T>
+fn untouched_entry<T: PrefixTree>(alloc: Global, s: u8, w: u8) -> WaveEntry<T>
     ensures stream { result.stream ≡ s }
     ensures wave { result.wave ≡ w }
-    ensures fresh { (p : Plan) → HasWave p s w → IsFresh p (entry_view result) }
+    ensures untouched { (p : Plan) → HasWave p s w → IsUntouched p result }
 {
     WaveEntry {
         stream: s,
@@ -72,24 +71,25 @@ fn add_waves<T: PrefixTree>(
     s: u8,
     waves: u8,
 ) -> Result<(), AllocError>
-    ensures keys { OnOk result (keys_of (entries_view entries.new.items) ≡ keys_of (entries_view entries.old.items) ++ map (λ w. (s, w)) (up_to waves)) }
-    ensures fresh { OnOk result ((p : Plan) → HasWaves p s waves → AllByRecursion (IsFresh p) (entries_view entries.old.items) → AllByRecursion (IsFresh p) (entries_view entries.new.items)) }
+    ensures keys { OnOk result (keys_of entries.new.items ≡ keys_of entries.old.items ++ first_waves s waves) }
+    ensures untouched { OnOk result ((p : Plan) → HasWaves p s waves
+        → AreUntouched p entries.old.items → AreUntouched p entries.new.items) }
 {
     for w in 0..waves {
-        entries.push(fresh_entry(alloc, s, w))?;
+        entries.push(untouched_entry(alloc, s, w))?;
     }
     Ok(())
 }
 
-/// The waves of the streams that a node serves, by stream and wave: of none has anything come in yet.
+/// One entry for each wave of each stream that the node serves, ordered by stream and wave. Nothing has come in yet.
 pub fn entries_of<T: PrefixTree>(
     alloc: Global,
     plan: &Plan,
     n: u32,
 ) -> Result<Vec<WaveEntry<T>>, AllocError>
     requires { n < nodes plan.now }
-    ensures keys { IfOk result (λ entries. keys_of (entries_view entries.items) ≡ waves_at plan.now n) }
-    ensures fresh { IfOk result (λ entries. AllByRecursion (IsFresh plan.now) (entries_view entries.items)) }
+    ensures keys { IfOk result (λ entries. keys_of entries.items ≡ waves_at plan.now n) }
+    ensures untouched { IfOk result (λ entries. AreUntouched plan.now entries.items) }
 {
     let mut entries = Vec::new(alloc);
     for stream in plan.streams() {

@@ -1,15 +1,14 @@
 //! A node and what its events do.
 
-ghost use Rattle.std.specs.Prelude.{◌≡◌, ◌<◌, ◌++◌, ◌^◌, [], ℕ, List, IfOk, true, suc, option_map};
-ghost use Rattle.std.specs.List.{AllByRecursion, list_any};
+ghost use Rattle.std.specs.Prelude.{◌≡◌, ◌<◌, ◌^◌, [], IfOk, true};
+ghost use Rattle.std.specs.List.{AllByRecursion};
 ghost use Rattle.stat_plan.specs.Invariants.{IsPlan};
-ghost use Rattle.stat_plan.specs.Plans.{Plan, nodes, serves, waves_at};
-ghost use Rattle.stat_plan.specs.Waves.{is_running};
-ghost use Rattle.overlay_core.specs.Machine.{next_sample, start_node};
-ghost use Rattle.overlay_core.specs.Nodes.{Node as MachineNode, Outcome, Release as Released, handled};
-ghost use Rattle.overlay_core.specs.TreeReleases.{AreNumberedInOrder, bare_releases, releases_view};
-ghost use Rattle.overlay_node.specs.NodeViews.{Counts, IsNodeOf, MayHandle, node_of, taken_with, book_of};
-ghost use Rattle.overlay_node.specs.Packets.{PacketFits, ReleaseFits, bare_sends, packet_view, sends_view};
+ghost use Rattle.stat_plan.specs.Plans.{Plan, nodes, serves};
+ghost use Rattle.overlay_core.specs.Machine.{start_node};
+ghost use Rattle.overlay_core.specs.Nodes.{Node as MachineNode};
+ghost use Rattle.overlay_core.specs.TreeReleases.{bare_releases};
+ghost use Rattle.overlay_node.specs.NodeViews.{ContinueNumbers, CountMore, Counts, IsNodeAfter, IsNodeOf, MayHandle, has_running, next_wave, node_of, outcome_at};
+ghost use Rattle.overlay_node.specs.Packets.{PacketFits, ReleaseFits, bare_sends, received_view};
 
 use crate::context::NodeContext;
 use crate::entry::WaveEntry;
@@ -39,17 +38,21 @@ pub struct Node<T: PrefixTree> {
 impl<T: PrefixTree> Model for Node<T> {
     ghost use Rattle.std.specs.Prelude.{[]};
     ghost use Rattle.overlay_node.specs.NodeViews.{NodeView, coded_node};
-    ghost use Rattle.overlay_node.specs.Entries.{entries_view};
 
     ghost Value = { NodeView };
 
     ghost coded = { coded_node };
 
-    ghost view = { λ n. record { number = n.number; kin = record { parent = n.parent; children = n.children.items; lost = [] }; entries = entries_view n.entries.items; count = n.count } };
+    ghost view = { λ n. record {
+      number = n.number;
+      kin = record { parent = n.parent; children = n.children.items; lost = [] };
+      entries = n.entries.items;
+      count = n.count;
+    } };
 }
 
 impl<T: PrefixTree> Node<T> {
-    /// A node that has done nothing yet.
+    /// A node that has done no event yet.
     pub fn new(alloc: Global, plan: &Plan, n: u32) -> Result<Node<T>, AllocError>
         requires { n < nodes plan.now }
         ensures number { IfOk result (λ node. node.number ≡ n) }
@@ -68,10 +71,10 @@ impl<T: PrefixTree> Node<T> {
         })
     }
 
-    /// Does an event of the node. A packet is given exactly for `Recv`: the one that is received. After a refusal the node
-    /// isn't used any more.
+    /// Does an event of the node. `packet` is the packet that is received at `Recv`, and none at other events. After an
+    /// error the node must not be used any more.
     ///
-    /// What the event leaves of the node, what it sends in order and what it releases is what the machine says.
+    /// The node afterwards, what it sends, in order, and what it releases are the machine's.
     pub fn handle(
         &mut self,
         alloc: Global,
@@ -80,18 +83,19 @@ impl<T: PrefixTree> Node<T> {
         packet: Option<Packet<T>>,
     ) -> Result<Outgoing<T>, AllocError>
         requires node { IsNodeOf plan.now self.old }
-        requires event { MayHandle plan.now self.old event (option_map (packet_view T.tree) packet) }
+        requires event { MayHandle plan.now self.old event (received_view T.tree packet) }
         requires count { self.old.count < 2 ^ 62 }
         ensures number { IfOk result (λ out. self.new.number ≡ self.old.number) }
-        ensures node { IfOk result (λ out. (o : Outcome) → o ≡ handled plan.now self.old.number (node_of self.old) event (taken_with event (option_map (packet_view T.tree) packet))
-            → ◌≡◌ {A = MachineNode} (node_of self.new) (record { kin = o.kin; book = o.work.book; count = suc self.old.count })) }
-        ensures sends { IfOk result (λ out. bare_sends (sends_view T.tree out.sends.items) ≡ (handled plan.now self.old.number (node_of self.old) event (taken_with event (option_map (packet_view T.tree) packet))).work.sends) }
-        ensures releases { IfOk result (λ out. bare_releases (releases_view T.tree out.releases.items) ≡ (handled plan.now self.old.number (node_of self.old) event (taken_with event (option_map (packet_view T.tree) packet))).work.releases) }
+        ensures node { IfOk result (λ out. IsNodeAfter plan.now self.old self.new event (received_view T.tree packet)) }
+        ensures sends { IfOk result (λ out. bare_sends out.sends
+            ≡ (outcome_at plan.now self.old event (received_view T.tree packet)).work.sends) }
+        ensures releases { IfOk result (λ out. bare_releases out.releases
+            ≡ (outcome_at plan.now self.old event (received_view T.tree packet)).work.releases) }
         ensures fits { IfOk result (λ out. IsNodeOf plan.now self.new) }
-        ensures packets { IfOk result (λ out. AllByRecursion (λ v. PacketFits plan.now v.1) (sends_view T.tree out.sends.items)) }
-        ensures trees { IfOk result (λ out. AllByRecursion (ReleaseFits plan.now) (releases_view T.tree out.releases.items)) }
-        ensures numbers { IfOk result (λ out. (earlier : List Released) → Counts self.old.entries earlier → AreNumberedInOrder earlier (releases_view T.tree out.releases.items)) }
-        ensures counts { IfOk result (λ out. (earlier : List Released) → Counts self.old.entries earlier → Counts self.new.entries (earlier ++ bare_releases (releases_view T.tree out.releases.items))) }
+        ensures packets { IfOk result (λ out. AllByRecursion (λ v. PacketFits plan.now v.1) out.sends) }
+        ensures trees { IfOk result (λ out. AllByRecursion (ReleaseFits plan.now) out.releases) }
+        ensures numbers { IfOk result (λ out. ContinueNumbers self.old.entries out.releases) }
+        ensures counts { IfOk result (λ out. CountMore self.old.entries self.new.entries out.releases) }
     {
         let mut out = Outgoing {
             sends: Vec::new(alloc),
@@ -116,16 +120,17 @@ impl<T: PrefixTree> Node<T> {
         Ok(out)
     }
 
-    /// The least wave of a stream that the node serves of which nothing has come in yet, if there is one.
+    /// The first wave of a stream that the node serves of which nothing has come in yet, if there is one.
     pub fn next_sample(&self, s: u8) -> Option<u8>
-        ensures { (p : Plan) → IsPlan p → IsNodeOf p self.now → serves p self.now.number s ≡ true → result ≡ option_map (λ v. v.1) (next_sample p (node_of self.now) s) }
+        ensures { (p : Plan) → IsPlan p → IsNodeOf p self.now → serves p self.now.number s ≡ true
+            → result ≡ next_wave p self.now s }
     {
         first_empty(self.entries.as_slice(), s)
     }
 
-    /// Whether some timer is running.
+    /// Whether a timer runs.
     pub fn has_running(&self) -> bool
-        ensures { (p : Plan) → IsPlan p → IsNodeOf p self.now → result ≡ list_any (λ v. is_running (book_of self.now.entries v.0 v.1)) (waves_at p self.now.number) }
+        ensures { (p : Plan) → IsPlan p → IsNodeOf p self.now → result ≡ has_running p self.now }
     {
         any_running(self.entries.as_slice())
     }

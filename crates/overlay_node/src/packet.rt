@@ -1,7 +1,8 @@
-//! What nodes send each other.
+//! What nodes send each other, and what an event of a node produces.
 
 use overlay_core::Release;
 use prefix_tree::PrefixTree;
+use std::marker::Model;
 
 /// What goes over a link from one node to another.
 #[derive(Drop)]
@@ -24,11 +25,25 @@ pub enum Packet<T: PrefixTree> {
     },
 }
 
-/// What an event of a node gives.
+/// What an event of a node sends and releases.
 #[derive(Drop)]
 pub struct Outgoing<T: PrefixTree> {
     /// What the node sends, in order, each with its receiver.
     pub sends: Vec<(u32, Packet<T>)>,
     /// What the node releases, in order. Only the front end releases anything.
     pub releases: Vec<Release<T>>,
+}
+
+impl<T: PrefixTree> Model for Outgoing<T> {
+    ghost use Rattle.overlay_core.specs.TreeReleases.{releases_view};
+    ghost use Rattle.overlay_node.specs.Packets.{Output, coded_output, sends_view};
+
+    ghost Value = { Output };
+
+    ghost coded = { coded_output };
+
+    ghost view = { λ out. record {
+      sends = sends_view T.tree out.sends.items;
+      releases = releases_view T.tree out.releases.items;
+    } };
 }

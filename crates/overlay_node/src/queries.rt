@@ -1,11 +1,10 @@
-//! What is read off the waves of a node.
+//! Queries about the waves of a node.
 
 ghost use Rattle.std.specs.Prelude.{◌≡◌, ◌==◌, ◌&&◌, find, option_map};
 ghost use Rattle.std.specs.List.{list_any};
 ghost use Rattle.stat_plan.specs.Waves.{is_running};
 ghost use Rattle.overlay_core.specs.Machine.{is_empty_open};
-ghost use Rattle.overlay_node.specs.Entries.{entries_view, entry_view};
-ghost use Rattle.overlay_node.specs.NodeViews.{EntryView, wave_of};
+ghost use Rattle.overlay_node.specs.NodeViews.{first_empty, wave_of};
 
 use crate::entry::WaveEntry;
 use prefix_tree::PrefixTree;
@@ -13,7 +12,7 @@ use stat_plan::Timer;
 
 // Whether a wave is open, and nothing of it has come in yet.
 fn is_empty_open<T: PrefixTree>(entry: &WaveEntry<T>) -> bool
-    ensures { result ≡ is_empty_open (wave_of (entry_view entry.now)) }
+    ensures { result ≡ is_empty_open (wave_of entry.now) }
 {
     match &entry.part {
         Some(part) => part.coverage().first().is_none(),
@@ -23,21 +22,21 @@ fn is_empty_open<T: PrefixTree>(entry: &WaveEntry<T>) -> bool
 
 // Whether it is a wave of the stream that is open, and nothing of it has come in yet.
 fn is_next_of<T: PrefixTree>(entry: &WaveEntry<T>, s: u8) -> bool
-    ensures { result ≡ (entry.now.stream == s) && is_empty_open (wave_of (entry_view entry.now)) }
+    ensures { result ≡ (entry.now.stream == s) && is_empty_open (wave_of entry.now) }
 {
     entry.stream == s && is_empty_open(entry)
 }
 
 // Whether a wave is open, and its timer runs.
 fn is_running<T: PrefixTree>(entry: &WaveEntry<T>) -> bool
-    ensures { result ≡ is_running (wave_of (entry_view entry.now)) }
+    ensures { result ≡ is_running (wave_of entry.now) }
 {
     entry.part.is_some() && matches!(entry.timer, Timer::Running(_))
 }
 
 /// The first wave of a stream that is open and of which nothing has come in yet.
 pub fn first_empty<T: PrefixTree>(entries: &[WaveEntry<T>], s: u8) -> Option<u8>
-    ensures { result ≡ option_map (λ (e : EntryView). e.wave) (find (λ (e : EntryView). (e.stream == s) && is_empty_open (wave_of e)) (entries_view entries.now)) }
+    ensures { result ≡ first_empty entries.now s }
 {
     for entry in entries {
         if is_next_of(entry, s) {
@@ -47,9 +46,9 @@ pub fn first_empty<T: PrefixTree>(entries: &[WaveEntry<T>], s: u8) -> Option<u8>
     None
 }
 
-/// Whether some timer runs.
+/// Whether a timer runs.
 pub fn any_running<T: PrefixTree>(entries: &[WaveEntry<T>]) -> bool
-    ensures { result ≡ list_any (λ e. is_running (wave_of (entry_view e))) entries.now }
+    ensures { result ≡ list_any (λ e. is_running (wave_of e)) entries.now }
 {
     entries.iter().any(|entry| is_running(entry))
 }

@@ -1,13 +1,11 @@
 //! One event of a node.
 
-ghost use Rattle.std.specs.Prelude.{◌≡◌, OnOk, option_map};
+ghost use Rattle.std.specs.Prelude.{◌≡◌, OnOk};
 ghost use Rattle.std.specs.List.{AllByRecursion};
 ghost use Rattle.stat_plan.specs.Plans.{waves_at};
 ghost use Rattle.overlay_node.specs.NodeViews.{EntryFits, MayHandle, keys_of};
-ghost use Rattle.overlay_node.specs.Entries.{entries_view};
-ghost use Rattle.overlay_node.specs.Packets.{packet_view};
-ghost use Rattle.overlay_node.specs.Contexts.{IsNodeContext, kin_of};
-ghost use Rattle.overlay_node.specs.Acting.{StepsEntries, output_view, step_of};
+ghost use Rattle.overlay_node.specs.Packets.{received_view};
+ghost use Rattle.overlay_node.specs.Contexts.{IsNodeContext, StepsEntriesAt, node_at, step_at};
 
 use crate::context::NodeContext;
 use crate::entry::WaveEntry;
@@ -17,7 +15,7 @@ use prefix_tree::PrefixTree;
 use stat_desk::Event;
 use std::alloc::{AllocError, Global};
 
-/// Does an event of the node that stands at this place.
+/// Does an event of the node of this context.
 pub fn step<T: PrefixTree>(
     alloc: Global,
     context: &NodeContext<'_>,
@@ -27,10 +25,13 @@ pub fn step<T: PrefixTree>(
     out: &mut Outgoing<T>,
 ) -> Result<(), AllocError>
     requires context { IsNodeContext context.now }
-    requires fits { AllByRecursion (EntryFits context.now.plan.now) (entries_view entries.old) }
-    requires keys { keys_of (entries_view entries.old) ≡ waves_at context.now.plan.now context.now.node }
-    requires event { MayHandle context.now.plan.now (record { number = context.now.node; kin = kin_of context.now; entries = entries_view entries.old; count = 0 }) event (option_map (packet_view T.tree) packet) }
-    ensures { OnOk result (StepsEntries context.now.plan.now (step_of context.now.plan.now context.now.node (kin_of context.now) (keys_of (entries_view entries.old)) event (option_map (packet_view T.tree) packet)) (entries_view entries.old) (entries_view entries.new) (output_view T.tree out.old) (output_view T.tree out.new)) }
+    requires fits { AllByRecursion (EntryFits context.now.plan.now) entries.old }
+    requires keys { keys_of entries.old ≡ waves_at context.now.plan.now context.now.node }
+    requires event { MayHandle context.now.plan.now (node_at context.now entries.old) event
+        (received_view T.tree packet) }
+    ensures { OnOk result (StepsEntriesAt context.now
+        (step_at context.now (keys_of entries.old) event (received_view T.tree packet))
+        entries.old entries.new out.old out.new) }
 {
     context.plan.invariant();
     match event {

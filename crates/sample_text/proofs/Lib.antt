@@ -5,3 +5,5 @@ pub mod Texts
 pub mod SomeRank
 pub mod InvariantLemmas
 pub mod Lines
+pub mod LineViews
+pub mod Grammar

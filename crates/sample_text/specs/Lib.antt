@@ -4,4 +4,5 @@ pub mod Whole
 pub mod Invariants
 pub mod LineViews
 pub mod ParserViews
+pub mod Grammar
 pub mod Rows

@@ -8,6 +8,7 @@
 ghost use Rattle.std.specs.Prelude.{IfOk};
 ghost use Rattle.stat_plan.specs.Invariants.{SamplesFit};
 ghost use Rattle.text_lines.specs.Parsing.{IsValueOf, IsErrorOf};
+ghost use Rattle.sample_text.specs.Grammar.{IsWritten};
 ghost use Rattle.sample_text.specs.Whole.{samples_of_text};
 
 mod parser;
@@ -22,12 +23,15 @@ use std::alloc::Global;
 use text_lines::{TextError, read_lines};
 
 /// Reads samples of the nodes of a topology. A text is refused by its first error, read from the front line by line, and
-/// then by line 0 where a daemon has no rank.
+/// then by line 0 where a daemon has no rank. Of a text that is accepted, each rank is on the nodes where some `daemon` line
+/// places it, and the samples are those of the `stack` lines, in order: `IsWritten`.
 pub fn read(alloc: Global, text: &[u8], topology: &Topology) -> Result<Samples, TextError>
     ensures ok { IsValueOf result (samples_of_text topology.now text.now) }
+    ensures written { IfOk result (λ samples. IsWritten topology.now text.now samples) }
     ensures fits { IfOk result (λ samples. SamplesFit topology.now samples) }
     ensures err { IsErrorOf result (samples_of_text topology.now text.now) }
 {
+    topology.invariant();
     let mut parser = Parser::new(alloc, topology)?;
     read_lines(text, &mut parser)?;
     parser.finish()

@@ -1,57 +1,37 @@
 -- How a run ends that loses no node.
-use Rattle.std.proofs.Common.{◌≡◌, ◌≢◌, inl, inr, ◌==◌, ◌&&◌, ℕ, Bool, true, false, List, [], ◌∷◌, ◌++◌, Option, Some, None, filter, find, refl, sym, ap, subst, ◌∙◌, eqb-true}
+use Rattle.std.proofs.Common.{◌≡◌, ◌≢◌, inl, inr, ◌==◌, ◌&&◌, ℕ, Bool, true, false, List, [], ◌∷◌, ◌++◌, filter, refl, sym, ap, subst, ◌∙◌, eqb-true}
 use Rattle.std.specs.Prelude.{cond}
 use Rattle.std.specs.List.{AllByRecursion}
-use Rattle.std.proofs.lemmas.Bool.{and_parts, true≢false}
+use Rattle.std.proofs.lemmas.Bool.{and_parts}
 use Rattle.rank_set.specs.Ranks.{Ranks, Has, none}
 use Rattle.prefix_tree.specs.Pairs.{HasNoEmptyPath}
-use Rattle.prefix_tree.specs.Tree.{tree_of}
 use Rattle.equiv_class.proofs.SamePairs.{classes_of_tree}
 use Rattle.stat_plan.specs.Invariants.{IsPlan, IsSampleLine}
 use Rattle.stat_plan.specs.NodeSets.{In}
-use Rattle.stat_plan.specs.Plans.{Plan, daemons, fault, front, samples, sample_count, ranks, stream_ranks, waves_of}
+use Rattle.stat_plan.specs.Plans.{Plan, daemons, front, samples, sample_count, ranks, stream_ranks, waves_of}
 use Rattle.stat_plan.specs.Samples.{AreNoDeeper, SampleLine, is_in_wave}
-use Rattle.stat_plan.specs.declared.script.Fault.{Fault}
 use Rattle.stat_plan.proofs.LinePrefixes.{paths-samples_of}
 use Rattle.stat_desk.specs.declared.event.Event.{Event}
-use Rattle.stat_desk.specs.declared.event.Event.TheVariants.{Lose}
 use Rattle.overlay_core.specs.History.{of_wave, ByKind, IsHistory, MissesOnlyLost}
 use Rattle.overlay_core.specs.declared.release.Kind.{Kind}
 use Rattle.overlay_core.specs.declared.release.Kind.TheVariants.{Partial, Final}
 use Rattle.stat_plan.specs.Waves.{Wave, is_open}
-use Rattle.overlay_core.specs.Losses.{IsLost}
-use Rattle.overlay_core.specs.Machine.{State, start, step, is_doomed, is_enabled, is_spent}
+use Rattle.overlay_core.specs.Machine.{start}
 use Rattle.overlay_core.specs.Nodes.{Release}
 use Rattle.overlay_core.specs.Releases.{CoversAll}
-use Rattle.overlay_core.specs.Runs.{IsLegalFrom, IsWhole, after}
+use Rattle.overlay_core.specs.Runs.{IsWhole, after}
 use Rattle.overlay_core.specs.TreeReleases.{AreNumberedInOrder, TreeRelease, bare_releases}
 use Rattle.overlay_core.specs.Whole.{EndsFinally, HasOneRelease}
 use Rattle.overlay_core.proofs.Ended.{all_of_stream, whole_has_ended, waits_for_all}
 use Rattle.overlay_core.proofs.Whole.{legal_is_sound}
 use Rattle.overlay_core.proofs.PlanFacts.{plan_facts}
 use Rattle.overlay_core.proofs.Lists.{append_right, filter_from}
+use Rattle.overlay_core.proofs.NamedLosses.{none_is_lost}
 use Rattle.overlay_core.proofs.Releases.{legal_log}
 use Rattle.overlay_node.specs.Packets.{ReleaseFits}
-use Rattle.front_end.specs.Report.{IsReport}
-use Rattle.stat_tool.specs.RunOutput.{CoveragesGrow, EndsWithAll, HasRun, IsDirect, TakesFirst}
-
--- ---- no node is lost
-
-no_fault : (p : Plan) → p.faults ≡ [] → (n : ℕ) → fault p n ≡ None
-unfolding fault
-no_fault p no_faults n = ap (λ (faults : List Fault). find (λ f. f.node == n) faults) no_faults
-
-none_doomed : (p : Plan) → p.faults ≡ [] → (st : State) (n : ℕ) → is_doomed p st n ≡ false
-unfolding is_doomed
-none_doomed p no_faults st n = ap (λ (o : Option Fault). is_spent o (st.node n).count) (no_fault p no_faults n)
-
-no_loss_comes : (p : Plan) → p.faults ≡ [] → (st : State) (n : ℕ) → is_enabled p st (Lose n) ≡ true → ⊥
-no_loss_comes p no_faults st n comes = true≢false (sym (and_parts (st.alive n) (is_doomed p st n) comes).1 ∙ none_doomed p no_faults st n)
-
-none_lost_from : (p : Plan) → p.faults ≡ [] → (st : State) (es : List Event) → IsLegalFrom p st es → (n : ℕ) → IsLost es n → ⊥
-none_lost_from p no_faults st [] legal n lost = absurd lost
-none_lost_from p no_faults st (e ∷ es) legal n (inl is) = no_loss_comes p no_faults st n (subst (λ (e : Event). is_enabled p st e ≡ true) (sym is) legal.0)
-none_lost_from p no_faults st (e ∷ es) legal n (inr lost) = none_lost_from p no_faults (step p st e) es legal.1 n lost
+use Rattle.front_end.specs.Report.{IsDirect, IsReport}
+use Rattle.front_end.proofs.Direct.{direct_where_all_wait}
+use Rattle.stat_tool.specs.RunOutput.{CoveragesGrow, EndsWithAll, HasRun, TakesFirst}
 
 -- ---- each wave ends with all ranks of its stream
 
@@ -70,7 +50,7 @@ ends_with_all p journal plan no_faults whole s w wave =
       final = ended.kind;
       covers = all_of_stream p s ended.final.cov
           (λ r has. let from = sound.whole r has in (from.daemon, subst (λ (s : ℕ). In from.daemon (daemons p s)) own from.place.listed, from.holds))
-          (λ d there. ended.covers d there (none_lost_from p no_faults (start p) journal whole.0 d));
+          (λ d there. ended.covers d there (none_is_lost p journal no_faults whole.0 d));
     }
 
 -- ---- each release is of the samples
@@ -127,6 +107,7 @@ pub record RunFacts (p : Plan) (journal : List Event) (report : List ℕ) : Type
 pub whole_run : (p : Plan) (journal : List Event) (report : List ℕ) → RunFacts p journal report → HasRun p journal report
 whole_run p journal report run =
     let facts = plan_facts p run.plan in
+    let direct : AllByRecursion (IsDirect p) run.releases = all_direct p run.plan run.releases run.trees in
     record {
       plan = run.plan;
       no_faults = run.no_faults;
@@ -137,10 +118,12 @@ whole_run p journal report run =
       numbered = run.numbered;
       text = run.text;
       sound = λ r there. legal_log p journal facts run.whole.0 r (subst (λ (rs : List Release). In r rs) run.reached there);
-      direct = all_direct p run.plan run.releases run.trees;
+      direct = direct;
       grow = λ s w. subst (λ (rs : List Release). CoveragesGrow none (of_wave s w rs)) (sym run.reached)
           (coverages_grow p (after p journal).alive s none (of_wave s w (after p journal).releases) (((after p journal).node (front p)).book s w) ((legal_is_sound p journal facts run.whole.0).history.releases s w));
       waves = λ s w wave. subst (λ (rs : List Release). EndsWithAll p s (of_wave s w rs)) (sym run.reached) (ends_with_all p journal run.plan run.no_faults run.whole s w wave);
       once = λ s w wave waits. subst (λ (rs : List Release). HasOneRelease p s (of_wave s w rs)) (sym run.reached)
-          (waits_for_all p journal s w facts run.whole waits (λ d there. none_lost_from p run.no_faults (start p) journal run.whole.0 d) wave);
+          (waits_for_all p journal s w facts run.whole waits (λ d there. none_is_lost p journal run.no_faults run.whole.0 d) wave);
+      all_wait = λ waits.
+          direct_where_all_wait p journal run.releases run.plan run.no_faults waits (record { whole = run.whole; reached = run.reached; numbered = run.numbered; direct = direct }) report run.text;
     }

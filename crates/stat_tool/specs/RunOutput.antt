@@ -1,12 +1,10 @@
 -- The job that the files of a call say, and its output.
 use Rattle.std.specs.Prelude.{◌≡◌, ◌≢◌, ⊤, ℕ, List, [], ◌∷◌, ◌++◌, slice_get, Some}
 use Rattle.std.specs.List.{AllByRecursion}
-use Rattle.prefix_tree.specs.Tree.{tree_of}
-use Rattle.equiv_class.specs.Classes.{classes_of}
 use Rattle.stat_plan.specs.Invariants.{IsPlan}
 use Rattle.stat_plan.specs.NodeSets.{In}
 use Rattle.rank_set.specs.Ranks.{Ranks, none, IsSubset}
-use Rattle.stat_plan.specs.Plans.{Plan, mode, samples, waves_of}
+use Rattle.stat_plan.specs.Plans.{Plan, mode, waves_of}
 use Rattle.stat_plan.specs.declared.script.Mode.TheVariants.{WaitForAll}
 use Rattle.stat_desk.specs.declared.event.Event.{Event}
 use Rattle.overlay_core.specs.declared.release.Kind.TheVariants.{Partial, Final}
@@ -17,8 +15,7 @@ use Rattle.overlay_core.specs.Releases.{CoversAll, ReleaseIsSound}
 use Rattle.overlay_core.specs.Whole.{HasOneRelease}
 use Rattle.overlay_core.specs.Runs.{IsWhole, after}
 use Rattle.overlay_core.specs.TreeReleases.{AreNumberedInOrder, TreeRelease, bare_releases}
-use Rattle.front_end.specs.ReleaseText.{classes_in}
-use Rattle.front_end.specs.Report.{IsReport}
+use Rattle.front_end.specs.Report.{AllStreamsWait, IsDirect, IsReport, direct_releases}
 use Rattle.stat_tool.specs.declared.run.Ran.{Ran}
 
 -- a job, with all that its files say
@@ -47,11 +44,6 @@ pub record EndsWithAll (p : Plan) (s : ℕ) (rs : List Release) : Type 0 where
   pub partial : (r : Release) → In r before → r.kind ≡ Partial
   pub final : last.kind ≡ Final
   pub covers : CoversAll p s last.cov
-
--- a release's tree and classes are those of the samples of its wave, merged directly over exactly the ranks that it covers
-pub record IsDirect (p : Plan) (r : TreeRelease) : Type 0 where
-  pub tree : r.tree ≡ tree_of (samples p r.stream r.wave) r.tree.coverage
-  pub classes : classes_in r.tree ≡ classes_of (samples p r.stream r.wave) r.tree.coverage
 
 -- from a coverage on, each release of a wave covers what the one before covers, and a partial one more than that
 abbrev pub CoveragesGrow : Ranks → List Release → Type 0
@@ -82,6 +74,8 @@ pub record HasRun (p : Plan) (journal : List Event) (report : List ℕ) : Type 0
   -- that is the only one where the stream waits for all
   pub once : (s w : ℕ) → In (s, w) (waves_of p.streams) → mode p s ≡ WaitForAll
       → HasOneRelease p s (of_wave s w (bare_releases releases))
+  -- where every stream waits for all, the report is that of the direct merge of each wave, whatever the journal is
+  pub all_wait : AllStreamsWait p → IsReport p (direct_releases p) [] report
 
 -- what the output of a job may be
 abbrev pub HasOutput : Job → RunOutput → Type 0

@@ -5,8 +5,10 @@ use Rattle.text_lines.specs.Lines.{lines}
 use Rattle.text_lines.specs.Parsing.{IsValueOf, IsErrorOf}
 use Rattle.text_lines.specs.declared.text_error.TextError.{TextError}
 use Rattle.text_lines.specs.declared.text_error.TextError.TheVariants.{OutOfMemory}
-use Rattle.text_lines.proofs.Errors.{handed_on}
+use Rattle.text_lines.proofs.Errors.{handed_on, value_has}
 use Rattle.text_lines.proofs.Parsing.{all_parsed, same_context, first_error}
+use Rattle.sample_text.specs.Grammar.{IsWritten}
+use Rattle.sample_text.proofs.Grammar.{is_written}
 use Rattle.sample_text.specs.Invariants.{ParserInvariant}
 use Rattle.sample_text.specs.ParserViews.{parser_view, parser_nodes}
 use Rattle.sample_text.specs.Whole.{nothing_parsed, whole, samples_of_text}
@@ -56,3 +58,8 @@ weaker (Err e) x h = λ _. h
 
 pub returns-clause-err : goal.returns-clause-err
 returns-clause-err c = subst (IsErrorOf c.finish.result) (sym (is_whole c)) (weaker c.finish.result _ c.finish.ensures.err)
+
+pub returns-clause-written : goal.returns-clause-written
+returns-clause-written c =
+    value_has c.finish.result (samples_of_text c.args.topology.now c.args.text.now) (IsWritten c.args.topology.now c.args.text.now)
+    (subst (IsValueOf c.finish.result) (sym (is_whole c)) c.finish.ensures.ok) (is_written c.args.topology.now c.invariant.ensures c.args.text.now)

@@ -11,7 +11,7 @@ loop-to-preserved g c =
     let one = c.in_ok-send.ensures in
     let all = subst (λ l. GoBelow (length c.loop-to.inboxes) (sends_view tree l)) c.in-Some.ensures.steps.0 c.loop-to.invariant.below in
     record {
-      below = subst (λ k. GoBelow k (sends_view tree c.next.new.self.rest.items)) (sym one.all) all.1;
+      below = subst (λ k. GoBelow k (sends_view tree c.next.new.self.rest.items)) (sym one.inbox_count) all.1;
       left = λ new listed_now h.
           c.loop-to.invariant.left new listed_now
           (subst (λ l. AreSent c.args.from (sends_view tree l) c.loop-to.inboxes new c.loop-to.ready.keys listed_now) (sym c.in-Some.ensures.steps.0)

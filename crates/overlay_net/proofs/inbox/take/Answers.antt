@@ -8,10 +8,10 @@ use Rattle.overlay_net.proofs.Queues.{first_waits, what_waits, nothing_waits, se
 use Rattle.overlay_net.proofs.inbox.take.Goals as goal
 
 pub unreachable-requires : goal.unreachable-requires
-unreachable-requires g c = c.requires.some (nothing_waits g.T.PrefixTree.tree c.args.sender c.args.queues.now.entries (sym c.in_default.ensures.value))
+unreachable-requires g c = c.requires.not_empty (nothing_waits g.T.PrefixTree.tree c.args.sender c.args.queues.now.entries (sym c.in_default.ensures.value))
 
 pub unreachable-requires-in_default-pop_front : goal.unreachable-requires-in_default-pop_front
-unreachable-requires-in_default-pop_front g c = c.requires.some (what_waits g.T.PrefixTree.tree c.args.sender c.in-Some.queue.now c.args.queues.now.entries (sym c.in-Some.ensures.value) ∙ ap (map (packet_view g.T.PrefixTree.tree)) (none_of_length c.in-Some.queue.now.items (sym c.in-Some.queue.now.ok.0 ∙ c.in_default-pop_front.ensures.cases.0)))
+unreachable-requires-in_default-pop_front g c = c.requires.not_empty (what_waits g.T.PrefixTree.tree c.args.sender c.in-Some.queue.now c.args.queues.now.entries (sym c.in-Some.ensures.value) ∙ ap (map (packet_view g.T.PrefixTree.tree)) (none_of_length c.in-Some.queue.now.items (sym c.in-Some.queue.now.ok.0 ∙ c.in_default-pop_front.ensures.cases.0)))
 
 pub returns-then-is_empty-clause-first : goal.returns-then-is_empty-clause-first
 returns-then-is_empty-clause-first g c =

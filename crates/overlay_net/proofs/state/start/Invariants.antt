@@ -1,7 +1,7 @@
-use Rattle.overlay_net.specs.Parts.{AreFresh}
+use Rattle.overlay_net.specs.States.{AreInitial}
 use Rattle.overlay_net.proofs.state.start.Given as goal
 
 abbrev pub invariant-loop-n : goal.invariant-loop-n
 invariant-loop-n g l = record {
-  fresh : AreFresh l.plan l.n l.nodes.items l.inboxes.items l.ready.keys;
+  initial : AreInitial l.plan l.n l.nodes.items l.inboxes.items l.ready.keys;
 }

@@ -1,6 +1,5 @@
 use Rattle.std.proofs.Common.{◌∙◌, ap, sym}
 use Rattle.stat_plan.specs.Plans.{serves, waves_at}
-use Rattle.overlay_node.specs.Entries.{entries_view}
 use Rattle.overlay_node.specs.NodeViews.{keys_of}
 use Rattle.overlay_node.proofs.Starting.{all_taken, entries_taken, has_waves, stream_passed}
 use Rattle.overlay_node.proofs.init.entries_of.Goals as goal
@@ -12,16 +11,16 @@ loop-stream-preserved g c =
     let xs = c.streams-stream-items.result.now in
     elim c.if-serves.branch [
       | then-serves+in_ok-add_waves w ↦ rw w.entries-is (record {
-        keys = entries_taken {X = g.row.T.Denot} test xs c.loop-stream.stream-index c.stream-item.result c.number-s.result w.waves.result c.loop-stream.entries.items w.add_waves.new.entries.items c.loop-stream-test.true c.stream-item.is c.number-s.ensures w.waves.ensures (sym c.serves.ensures ∙ w.if-serves.true) w.in_ok-add_waves.ensures.keys c.loop-stream.invariant.keys;
-        fresh = w.in_ok-add_waves.ensures.fresh c.args.plan.now (has_waves c.args.plan.now xs c.loop-stream.stream-index c.stream-item.result c.number-s.result w.waves.result c.streams-stream-items.ensures c.loop-stream-test.true c.stream-item.is c.number-s.ensures w.waves.ensures) c.loop-stream.invariant.fresh;
+        keys = entries_taken test xs c.loop-stream.stream-index c.stream-item.result c.number-s.result w.waves.result c.loop-stream.entries.items w.add_waves.new.entries.items c.loop-stream-test.true c.stream-item.is c.number-s.ensures w.waves.ensures (sym c.serves.ensures ∙ w.if-serves.true) w.in_ok-add_waves.ensures.keys c.loop-stream.invariant.keys;
+        untouched = w.in_ok-add_waves.ensures.untouched c.args.plan.now (has_waves c.args.plan.now xs c.loop-stream.stream-index c.stream-item.result c.number-s.result w.waves.result c.streams-stream-items.ensures c.loop-stream-test.true c.stream-item.is c.number-s.ensures w.waves.ensures) c.loop-stream.invariant.untouched;
       })
       | else-serves w ↦ rw w.entries-is (record {
-        keys = stream_passed test xs c.loop-stream.stream-index c.stream-item.result (keys_of (entries_view {X = g.row.T.Denot} c.loop-stream.entries.items)) c.loop-stream-test.true c.stream-item.is (ap test (sym c.number-s.ensures) ∙ sym c.serves.ensures ∙ w.if-serves.false) c.loop-stream.invariant.keys;
-        fresh = c.loop-stream.invariant.fresh;
+        keys = stream_passed test xs c.loop-stream.stream-index c.stream-item.result (keys_of c.loop-stream.entries.items) c.loop-stream-test.true c.stream-item.is (ap test (sym c.number-s.ensures) ∙ sym c.serves.ensures ∙ w.if-serves.false) c.loop-stream.invariant.keys;
+        untouched = c.loop-stream.invariant.untouched;
       })
     ]
 
 pub returns-clause-keys : goal.returns-clause-keys
 unfolding waves_at
 returns-clause-keys g c =
-    all_taken (serves c.args.plan.now c.args.n) c.streams-stream-items.result.now c.args.plan.now.streams c.loop-stream.stream-index (keys_of (entries_view {X = g.row.T.Denot} c.loop-stream.entries.items)) c.loop-stream-test.false c.streams-stream-items.ensures c.loop-stream.invariant.keys
+    all_taken (serves c.args.plan.now c.args.n) c.streams-stream-items.result.now c.args.plan.now.streams c.loop-stream.stream-index (keys_of c.loop-stream.entries.items) c.loop-stream-test.false c.streams-stream-items.ensures c.loop-stream.invariant.keys

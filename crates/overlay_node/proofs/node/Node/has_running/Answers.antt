@@ -1,15 +1,13 @@
-use Rattle.std.proofs.Common.{◌≡◌, ◌∙◌, List, ap, sym}
+use Rattle.std.proofs.Common.{◌≡◌, ◌∙◌, List, ap}
 use Rattle.std.specs.List.{list_any}
 use Rattle.stat_plan.specs.Waves.{is_running}
-use Rattle.overlay_node.specs.Entries.{entries_view}
 use Rattle.overlay_node.specs.NodeViews.{EntryView, NodeView, wave_of}
-use Rattle.overlay_node.proofs.Reading.{any-entries, running-book}
+use Rattle.overlay_node.proofs.Reading.{running-book}
 use Rattle.overlay_node.proofs.node.Node.has_running.Goals as goal
 
 pub returns : goal.returns
 returns g c p plan fits =
-    let seen : ◌≡◌ {A = List EntryView} (entries_view {X = g.row.T.Denot} c.as_slice.result.now) c.args.self.now.entries = ap (entries_view {X = g.row.T.Denot}) c.as_slice.ensures.value ∙ ap (λ (v : NodeView). v.entries) c.self.view_is in
+    let seen : ◌≡◌ {A = List EntryView} c.as_slice.result.now c.args.self.now.entries = c.as_slice.ensures.value ∙ ap (λ (v : NodeView). v.entries) c.self.view_is in
     c.any_running.ensures
-    ∙ sym (any-entries {X = g.row.T.Denot} (λ (e : EntryView). is_running (wave_of e)) c.as_slice.result.now)
     ∙ ap (list_any (λ (e : EntryView). is_running (wave_of e))) seen
     ∙ running-book p c.args.self.now.number c.args.self.now.entries plan fits.keys

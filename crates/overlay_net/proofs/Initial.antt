@@ -14,7 +14,7 @@ use Rattle.overlay_node.specs.NodeViews.{Counts, IsNodeOf, NodeView, node_of}
 use Rattle.overlay_net.specs.Inboxes.{HaveSent, Waiting, is_waiting, queue_of, senders_of}
 use Rattle.overlay_net.specs.Nets.{IsReachedBy, inbox_at, net_view_of, node_events, state_with}
 use Rattle.overlay_net.specs.Events.{IsNet, has_some, is_listed}
-use Rattle.overlay_net.specs.Parts.{AreFresh}
+use Rattle.overlay_net.specs.States.{AreInitial}
 
 -- what stands behind other elements
 last_here : {X : Type 0} (xs : List X) (y : X) → slice_get (xs ++ y ∷ []) (length xs) ≡ Some y
@@ -50,33 +50,33 @@ at_end n e k from to is = omega arith
 
 module _ (p : Plan) where
   -- a node that has done nothing yet, behind others
-  pub fresh_more : (k : ℕ) (xs ys : List NodeView) (ib ic : List Waiting) (la lb : List ℕ) (x : NodeView) (box : Waiting) → AreFresh p k xs ib la → ys ≡ xs ++ x ∷ [] → ic ≡ ib ++ box ∷ [] → box ≡ []
+  pub initial_more : (k : ℕ) (xs ys : List NodeView) (ib ic : List Waiting) (la lb : List ℕ) (x : NodeView) (box : Waiting) → AreInitial p k xs ib la → ys ≡ xs ++ x ∷ [] → ic ≡ ib ++ box ∷ [] → box ≡ []
       → x.number ≡ k → IsNodeOf p x → ◌≡◌ {A = Node} (node_of x) (start_node p k) → Counts x.entries []
       → ((b : ℕ) → is_listed lb b ≡ cond (b == x.number) (has_some (node_events p x box)) (is_listed la b))
-      → AreFresh p (k + 1) ys ic lb
-  fresh_more k xs ys ib ic la lb x box h eys eic ebox number fits begins counts marked =
-      subst (λ zs. AreFresh p (k + 1) zs ic lb) (sym eys) (subst (λ id. AreFresh p (k + 1) (xs ++ x ∷ []) id lb) (sym (eic ∙ ap (λ w. ib ++ w ∷ []) ebox)) (record {
-        all_nodes = length-last xs x ∙ ap (λ n. n + 1) h.all_nodes;
-        all_inboxes = length-last ib [] ∙ ap (λ n. n + 1) h.all_inboxes;
+      → AreInitial p (k + 1) ys ic lb
+  initial_more k xs ys ib ic la lb x box h eys eic ebox number fits begins counts marked =
+      subst (λ zs. AreInitial p (k + 1) zs ic lb) (sym eys) (subst (λ id. AreInitial p (k + 1) (xs ++ x ∷ []) id lb) (sym (eic ∙ ap (λ w. ib ++ w ∷ []) ebox)) (record {
+        node_count = length-last xs x ∙ ap (λ n. n + 1) h.node_count;
+        inbox_count = length-last ib [] ∙ ap (λ n. n + 1) h.inbox_count;
         numbers = λ n. each n (λ y. (y.number ≡ n) × IsNodeOf p y) (h.numbers n) (λ e. (number ∙ e, fits));
         start = λ n. each n (λ y. ◌≡◌ {A = Node} (node_of y) (start_node p n)) (h.start n) (λ e. begins ∙ ap (start_node p) e);
         counts = λ n. each n (λ y. Counts y.entries []) (h.counts n) (λ e. counts);
         empty = empty_last ib h.empty;
         below = below;
-        each = λ n. each n (λ y. is_listed lb n ≡ has_some (node_events p y [])) (λ y at. listed_else n (λ e. away n y at e) ∙ h.each n y at) (λ e. subst (λ m. is_listed lb m ≡ has_some (node_events p x [])) e listed_here);
+        has_event = λ n. each n (λ y. is_listed lb n ≡ has_some (node_events p y [])) (λ y at. listed_else n (λ e. away n y at e) ∙ h.has_event n y at) (λ e. subst (λ m. is_listed lb m ≡ has_some (node_events p x [])) e listed_here);
       }))
     where
       here : slice_get (xs ++ x ∷ []) k ≡ Some x
-      here = subst (λ n. slice_get (xs ++ x ∷ []) n ≡ Some x) h.all_nodes (last_here xs x)
+      here = subst (λ n. slice_get (xs ++ x ∷ []) n ≡ Some x) h.node_count (last_here xs x)
 
       each : (n : ℕ) (P : NodeView → Type 0) → ((y : NodeView) → slice_get xs n ≡ Some y → P y) → (k ≡ n → P x) → (y : NodeView) → slice_get (xs ++ x ∷ []) n ≡ Some y → P y
       each n P old new y at = elim (cases_Bool (n == k)) [
         | (inl t) ↦ let e : n ≡ k = eqb-true n k t in subst P (some_same x y (sym here ∙ ap (slice_get (xs ++ x ∷ [])) (sym e) ∙ at)) (new (sym e))
-        | (inr f) ↦ old y (sym (last_else xs x n (λ e. eqb-false n k f (e ∙ h.all_nodes))) ∙ at)
+        | (inr f) ↦ old y (sym (last_else xs x n (λ e. eqb-false n k f (e ∙ h.node_count))) ∙ at)
       ]
 
       away : (n : ℕ) (y : NodeView) → slice_get xs n ≡ Some y → n ≡ k → ⊥
-      away n y at e = let lt : n < length xs = slice_get_within xs n y at in let l : length xs ≡ k = h.all_nodes in absurd (omega arith)
+      away n y at e = let lt : n < length xs = slice_get_within xs n y at in let l : length xs ≡ k = h.node_count in absurd (omega arith)
 
       listed_else : (n : ℕ) → (n ≡ k → ⊥) → is_listed lb n ≡ is_listed la n
       listed_else n other = marked n ∙ go (n == x.number) refl
@@ -95,16 +95,16 @@ module _ (p : Plan) where
       ]
 
   -- nothing is there yet
-  pub none_fresh : (listed : List ℕ) → listed ≡ [] → AreFresh p 0 [] [] listed
-  none_fresh listed e = subst (AreFresh p 0 [] []) (sym e) (record {
-    all_nodes = refl;
-    all_inboxes = refl;
+  pub none_initial : (listed : List ℕ) → listed ≡ [] → AreInitial p 0 [] [] listed
+  none_initial listed e = subst (AreInitial p 0 [] []) (sym e) (record {
+    node_count = refl;
+    inbox_count = refl;
     numbers = λ n x at. absurd (no_node n x at);
     start = λ n x at. absurd (no_node n x at);
     counts = λ n x at. absurd (no_node n x at);
     empty = λ n. nothing n;
     below = λ n t. absurd (true≢false (sym t));
-    each = λ n x at. absurd (no_node n x at);
+    has_event = λ n x at. absurd (no_node n x at);
   })
     where
       no_node : (n : ℕ) (x : NodeView) → slice_get {X = NodeView} [] n ≡ Some x → ⊥
@@ -114,7 +114,7 @@ module _ (p : Plan) where
       nothing zero = refl
       nothing (suc n) = refl
 
-  module _ (safe : p.faults ≡ []) (xs : List NodeView) (ib : List Waiting) (rs : List TreeRelease) (listed : List ℕ) (h : AreFresh p (nodes p) xs ib listed) (none : rs ≡ []) where
+  module _ (no_faults : p.faults ≡ []) (xs : List NodeView) (ib : List Waiting) (rs : List TreeRelease) (listed : List ℕ) (h : AreInitial p (nodes p) xs ib listed) (none : rs ≡ []) where
     -- the state is the start
     state_starts : ◌≡◌ {A = State} (state_with p xs ib []) (start p)
     unfolding start
@@ -133,24 +133,24 @@ module _ (p : Plan) where
         link_starts m n = ap (λ w. map bare_packet (queue_of w m)) (h.empty n)
 
     -- the empty journal leaves it
-    pub fresh_left : IsReachedBy (net_view_of p xs ib rs false) []
-    fresh_left = subst (λ l. IsReachedBy (net_view_of p xs ib l false) []) (sym none) (record { legal = tt; state = state_starts; numbered = refl; trees = tt })
+    pub initial_reached : IsReachedBy (net_view_of p xs ib rs false) []
+    initial_reached = subst (λ l. IsReachedBy (net_view_of p xs ib l false) []) (sym none) (record { legal = tt; state = state_starts; numbered = refl; trees = tt })
 
     -- all nodes that have done nothing yet are a net
-    pub fresh_net : IsNet (net_view_of p xs ib rs false) listed
-    fresh_net = record {
-      safe = safe;
+    pub initial_net : IsNet (net_view_of p xs ib rs false) listed
+    initial_net = record {
+      no_faults = no_faults;
       journal = [];
-      reached = fresh_left;
+      reached = initial_reached;
       parts = record {
-        all_nodes = h.all_nodes;
-        all_inboxes = h.all_inboxes;
-        each = h.numbers;
+        node_count = h.node_count;
+        inbox_count = h.inbox_count;
+        node = h.numbers;
         packets = λ m n. subst (λ w. AllByRecursion (PacketFits p) (queue_of w m)) (sym (h.empty n)) tt;
         senders = λ m n t. absurd (true≢false (sym t ∙ ap (λ w. is_waiting w m) (h.empty n)));
         sent = λ n. subst HaveSent (sym (h.empty n)) tt;
-        rises = λ n. subst (λ w. IsStrictlySortedBy nat_cmp (senders_of w)) (sym (h.empty n)) no_sender;
+        increasing = λ n. subst (λ w. IsStrictlySortedBy nat_cmp (senders_of w)) (sym (h.empty n)) no_sender;
       };
       counts = λ x at. subst (λ l. Counts x.entries (bare_releases l)) (sym none) (h.counts (front p) x at);
-      listed = record { below = h.below; each = λ n x at. h.each n x at ∙ ap (λ w. has_some (node_events p x w)) (sym (h.empty n)) };
+      listed = record { below = h.below; has_event = λ n x at. h.has_event n x at ∙ ap (λ w. has_some (node_events p x w)) (sym (h.empty n)) };
     }

@@ -1,4 +1,4 @@
--- Children that are told of a wave's end, one after another.
+-- A wave's end is sent to the children, one after another.
 use Rattle.std.proofs.Common.{◌≡◌, ◌<◌, ◌≤◌, ◌+◌, ℕ, zero, suc, List, [], ◌∷◌, ◌++◌, length, get_or, drop, refl, sym, ap, subst, ◌∙◌, arith, append_assoc, drop-cons}
 use Rattle.std.specs.List.{AllByRecursion}
 use Rattle.std.proofs.lemmas.List.{append-nil}
@@ -25,13 +25,13 @@ drop_end (x ∷ xs) zero h = absurd (omega (arith, h))
 drop_end (x ∷ xs) (suc i) h = drop_end xs i (omega (arith, h))
 
 -- one child more
-pub told_more : (p : Plan) (s w : ℕ) (cs : List ℕ) (i : ℕ) (now new all : List (ℕ × TreePacket)) → i < length cs → new ≡ now ++ done_to p s w (get_or cs i 0) → now ++ dones_to p s w (drop i cs) ≡ all → new ++ dones_to p s w (drop (i + 1) cs) ≡ all
-told_more p s w cs i now new all lt en e =
+pub dones_more : (p : Plan) (s w : ℕ) (cs : List ℕ) (i : ℕ) (now new all : List (ℕ × TreePacket)) → i < length cs → new ≡ now ++ done_to p s w (get_or cs i 0) → now ++ dones_to p s w (drop i cs) ≡ all → new ++ dones_to p s w (drop (i + 1) cs) ≡ all
+dones_more p s w cs i now new all lt en e =
     ap (λ l. l ++ dones_to p s w (drop (i + 1) cs)) en
     ∙ append_assoc now (done_to p s w (get_or cs i 0)) (dones_to p s w (drop (i + 1) cs))
     ∙ ap (λ k. now ++ (done_to p s w (get_or cs i 0) ++ dones_to p s w (drop k cs))) (sym (one_more i))
     ∙ ap (λ l. now ++ dones_to p s w l) (sym (drop-cons cs i 0 lt)) ∙ e
 
 -- all children
-pub all_told : (p : Plan) (s w : ℕ) (cs : List ℕ) (i : ℕ) (now all : List (ℕ × TreePacket)) → length cs ≤ i → now ++ dones_to p s w (drop i cs) ≡ all → now ≡ all
-all_told p s w cs i now all ge h = sym (append-nil now) ∙ ap (λ l. now ++ dones_to p s w l) (sym (drop_end cs i ge)) ∙ h
+pub dones_all : (p : Plan) (s w : ℕ) (cs : List ℕ) (i : ℕ) (now all : List (ℕ × TreePacket)) → length cs ≤ i → now ++ dones_to p s w (drop i cs) ≡ all → now ≡ all
+dones_all p s w cs i now all ge h = sym (append-nil now) ∙ ap (λ l. now ++ dones_to p s w l) (sym (drop_end cs i ge)) ∙ h

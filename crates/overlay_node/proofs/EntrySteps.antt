@@ -18,11 +18,11 @@ use Rattle.overlay_core.specs.Machine.{is_empty_open}
 use Rattle.overlay_core.specs.Nodes.{Packet, Up, Done, Release, Effects, act, act_as, acted, dones, due_at, to_parent}
 use Rattle.overlay_core.specs.TreeReleases.{TreeRelease, bare_release, bare_releases}
 use Rattle.overlay_core.proofs.ParentLinks.{set_wave_here}
-use Rattle.overlay_node.specs.Packets.{PacketFits, ReleaseFits, TreePacket, TreeUp, TreeDone, bare_packet, bare_sends}
+use Rattle.overlay_node.specs.Packets.{Output, PacketFits, ReleaseFits, TreePacket, TreeUp, TreeDone, bare_packet, bare_sends}
 use Rattle.overlay_node.specs.NodeViews.{EntryFits, EntryView, wave_of}
-use Rattle.overlay_node.specs.Acting.{GivesNothing, GivesNext, Output, OutputFits, ContextFits, StepsEntry, act_changed, acted_entry, acted_output, covered, done_to, dones_to, end, end_as, ended, ended_output, entry_after, grown, next_of, output_after, with_dones, with_up, work_with}
+use Rattle.overlay_node.specs.Acting.{GivesNothing, GivesNext, OutputFits, ContextFits, StepsEntry, act_changed, acted_entry, acted_output, covered_entry, done_to, dones_to, end, end_as, ended_entry, ended_output, entry_after, grown_entry, next_release, output_after, with_dones, with_up, effects_with}
 use Rattle.overlay_node.proofs.Books.{same_book, set_twice}
-use Rattle.overlay_node.proofs.Fitting.{after_fits, covered_wave, grown_wave, stands_named}
+use Rattle.overlay_node.proofs.Fitting.{after_fits, covered_wave, grown_wave, merge_named}
 
 pub all_append : {X : Type 0} (P : X → Type 0) (xs ys : List X) → AllByRecursion P xs → AllByRecursion P ys → AllByRecursion P (xs ++ ys)
 all_append P [] ys hx hy = hy
@@ -33,7 +33,7 @@ entry s w part sent timer given = record { stream = s; wave = w; part = part; se
 
 -- ---- what is sent
 
-pub up_work : (b : Book) (parent : Option ℕ) (s w : ℕ) (c : Contrib) (o : Output) → ◌≡◌ {A = Effects} (work_with b (with_up parent s w c o)) (record { book = b; sends = bare_sends o.sends ++ to_parent parent (Up s w (cov_of c)); releases = bare_releases o.releases })
+pub up_work : (b : Book) (parent : Option ℕ) (s w : ℕ) (c : Contrib) (o : Output) → ◌≡◌ {A = Effects} (effects_with b (with_up parent s w c o)) (record { book = b; sends = bare_sends o.sends ++ to_parent parent (Up s w (cov_of c)); releases = bare_releases o.releases })
 up_work b None s w c o = λ i. record { book = b; sends = sym (append-nil (bare_sends o.sends)) i; releases = bare_releases o.releases }
 up_work b (Some m) s w c o = λ i. record { book = b; sends = map-append (λ (v : ℕ × TreePacket). let u : ℕ × Packet = (v.0, bare_packet v.1) in u) o.sends ((m, TreeUp s w c.tree) ∷ []) i; releases = bare_releases o.releases }
 
@@ -42,8 +42,8 @@ up_releases None s w c o = refl
 up_releases (Some m) s w c o = refl
 
 up_fits : (p : Plan) (parent : Option ℕ) (s w : ℕ) (c : Contrib) (o : Output) → PacketFits p (TreeUp s w c.tree) → OutputFits p o → OutputFits p (with_up parent s w c o)
-up_fits p None s w c o stands h = h
-up_fits p (Some m) s w c o stands h = record { packets = all_append (λ (v : ℕ × TreePacket). PacketFits p v.1) o.sends ((m, TreeUp s w c.tree) ∷ []) h.packets (stands, tt); trees = h.trees }
+up_fits p None s w c o merge h = h
+up_fits p (Some m) s w c o merge h = record { packets = all_append (λ (v : ℕ × TreePacket). PacketFits p v.1) o.sends ((m, TreeUp s w c.tree) ∷ []) h.packets (merge, tt); trees = h.trees }
 
 bare_dones : (p : Plan) (s w : ℕ) (cs : List ℕ) → bare_sends (dones_to p s w cs) ≡ map (λ c. (c, Done s w)) (filter (λ c. serves p c s) cs)
 bare_dones p s w [] = refl
@@ -70,31 +70,31 @@ with_dones_fit p kin s w o h = record { packets = all_append (λ (v : ℕ × Tre
 
 -- ---- acts
 
-after_output : (p : Plan) (kin : Kin) (a : Act) (c : Contrib) (e : EntryView) (o : Output) → ReleaseFits p (next_of e c PartialRelease) → OutputFits p o → OutputFits p (output_after p kin a c e o)
-after_output p kin Hold c e o stands h = h
-after_output p kin Arm c e o stands h = h
-after_output p kin Send c e o stands h = up_fits p kin.parent e.stream e.wave c o stands h
-after_output p kin Partial c e o stands h = record { packets = h.packets; trees = all_append (ReleaseFits p) o.releases (next_of e c PartialRelease ∷ []) h.trees (stands, tt) }
-after_output p kin Final c e o stands h = record { packets = (with_dones_fit p kin e.stream e.wave o h).packets; trees = all_append (ReleaseFits p) o.releases (next_of e c FinalRelease ∷ []) h.trees (stands, tt) }
+after_output : (p : Plan) (kin : Kin) (a : Act) (c : Contrib) (e : EntryView) (o : Output) → ReleaseFits p (next_release e c PartialRelease) → OutputFits p o → OutputFits p (output_after p kin a c e o)
+after_output p kin Hold c e o merge h = h
+after_output p kin Arm c e o merge h = h
+after_output p kin Send c e o merge h = up_fits p kin.parent e.stream e.wave c o merge h
+after_output p kin Partial c e o merge h = record { packets = h.packets; trees = all_append (ReleaseFits p) o.releases (next_release e c PartialRelease ∷ []) h.trees (merge, tt) }
+after_output p kin Final c e o merge h = record { packets = (with_dones_fit p kin e.stream e.wave o h).packets; trees = all_append (ReleaseFits p) o.releases (next_release e c FinalRelease ∷ []) h.trees (merge, tt) }
 
 after_gives : (p : Plan) (kin : Kin) (a : Act) (c : Contrib) (e : EntryView) (o : Output) → GivesNothing e (entry_after p a c e) o.releases (output_after p kin a c e o).releases ⊎ GivesNext e (entry_after p a c e) o.releases (output_after p kin a c e o).releases
 after_gives p kin Hold c e o = inl (record { given = refl; releases = refl })
 after_gives p kin Arm c e o = inl (record { given = refl; releases = refl })
 after_gives p kin Send c e o = inl (record { given = refl; releases = up_releases kin.parent e.stream e.wave c o })
-after_gives p kin Partial c e o = inr (record { next = next_of e c PartialRelease; stream = refl; wave = refl; number = refl; given = refl; releases = refl })
-after_gives p kin Final c e o = inr (record { next = next_of e c FinalRelease; stream = refl; wave = refl; number = refl; given = refl; releases = refl })
+after_gives p kin Partial c e o = inr (record { next = next_release e c PartialRelease; stream = refl; wave = refl; number = refl; given = refl; releases = refl })
+after_gives p kin Final c e o = inr (record { next = next_release e c FinalRelease; stream = refl; wave = refl; number = refl; given = refl; releases = refl })
 
 abbrev machine_release : ℕ → ℕ → Ranks → Kind → List ℕ → Release
 machine_release s w cov kind lost = record { stream = s; wave = w; cov = cov; kind = kind; lost = lost }
 
-released : (e : EntryView) (c : Contrib) (kind : Kind) (kin : Kin) (rs : List TreeRelease) → kin.lost ≡ [] → bare_releases (rs ++ next_of e c kind ∷ []) ≡ bare_releases rs ++ machine_release e.stream e.wave (cov_of c) kind kin.lost ∷ []
-released e c kind kin rs lost = map-append bare_release rs (next_of e c kind ∷ []) ∙ (λ i. bare_releases rs ++ machine_release e.stream e.wave (cov_of c) kind (sym lost i) ∷ [])
+released : (e : EntryView) (c : Contrib) (kind : Kind) (kin : Kin) (rs : List TreeRelease) → kin.lost ≡ [] → bare_releases (rs ++ next_release e c kind ∷ []) ≡ bare_releases rs ++ machine_release e.stream e.wave (cov_of c) kind kin.lost ∷ []
+released e c kind kin rs lost = map-append bare_release rs (next_release e c kind ∷ []) ∙ (λ i. bare_releases rs ++ machine_release e.stream e.wave (cov_of c) kind (sym lost i) ∷ [])
 
 -- the work of an act on an open wave
 after_work : (p : Plan) (kin : Kin) (a : Act) (c : Contrib) (s w : ℕ) (sent : Ranks) (timer : Timer) (given : ℕ) (o : Output) (b : Book) → kin.lost ≡ [] → b s w ≡ Open (cov_of c) sent timer
-    → ◌≡◌ {A = Effects} (work_with (set_wave b s w (wave_of (entry_after p a c (entry s w (Some c) sent timer given)))) (output_after p kin a c (entry s w (Some c) sent timer given) o)) (acted p kin s w (cov_of c) sent timer (work_with b o) a)
+    → ◌≡◌ {A = Effects} (effects_with (set_wave b s w (wave_of (entry_after p a c (entry s w (Some c) sent timer given)))) (output_after p kin a c (entry s w (Some c) sent timer given) o)) (acted p kin s w (cov_of c) sent timer (effects_with b o) a)
 unfolding acted
-after_work p kin Hold c s w sent timer given o b lost eb = λ i. work_with (same_book b s w (Open (cov_of c) sent timer) eb i) o
+after_work p kin Hold c s w sent timer given o b lost eb = λ i. effects_with (same_book b s w (Open (cov_of c) sent timer) eb i) o
 after_work p kin Arm c s w sent timer given o b lost eb = refl
 after_work p kin Send c s w sent timer given o b lost eb = up_work (set_wave b s w (Open (cov_of c) (cov_of c) Off)) kin.parent s w c o
 after_work p kin Partial c s w sent timer given o b lost eb = λ i. record {
@@ -116,44 +116,44 @@ after_names p Partial c s w sent timer given = (refl, refl)
 after_names p Final c s w sent timer given = (refl, refl)
 
 -- what is due is done
-turns_by : (p : Plan) (n : ℕ) (kin : Kin) (part : Option Contrib) (s w : ℕ) (sent : Ranks) (timer : Timer) (given : ℕ) (o : Output) → IsPlan p → kin.lost ≡ [] → EntryFits p (entry s w part sent timer given)
+acted_steps : (p : Plan) (n : ℕ) (kin : Kin) (part : Option Contrib) (s w : ℕ) (sent : Ranks) (timer : Timer) (given : ℕ) (o : Output) → IsPlan p → kin.lost ≡ [] → EntryFits p (entry s w part sent timer given)
     → StepsEntry p (act p n kin s w) (entry s w part sent timer given) (acted_entry p n (entry s w part sent timer given)) o (acted_output p n kin (entry s w part sent timer given) o)
-turns_by p n kin None s w sent timer given o plan lost h = record {
+acted_steps p n kin None s w sent timer given o plan lost h = record {
   stream = refl;
   wave = refl;
   fits = tt;
   output = λ x. x;
   gives = inl (record { given = refl; releases = refl });
-  work = λ b eb. (λ i. work_with (same_book b s w Closed eb i) o) ∙ ap (act_as p n kin s w (work_with b o)) (sym eb);
+  work = λ b eb. (λ i. effects_with (same_book b s w Closed eb i) o) ∙ ap (act_as p n kin s w (effects_with b o)) (sym eb);
 }
-turns_by p n kin (Some c) s w sent timer given o plan lost h = by (due_at p n [] s (cov_of c) sent timer) refl
+acted_steps p n kin (Some c) s w sent timer given o plan lost h = by (due_at p n [] s (cov_of c) sent timer) refl
   where
     by : (a : Act) → due_at p n [] s (cov_of c) sent timer ≡ a → StepsEntry p (act p n kin s w) (entry s w (Some c) sent timer given) (entry_after p a c (entry s w (Some c) sent timer given)) o (output_after p kin a c (entry s w (Some c) sent timer given) o)
     by a ea = record {
       stream = (after_names p a c s w sent timer given).0;
       wave = (after_names p a c s w sent timer given).1;
       fits = after_fits p n a c s w sent timer given plan ea h;
-      output = after_output p kin a c (entry s w (Some c) sent timer given) o (stands_named p c s w h.stands h.stream h.wave);
+      output = after_output p kin a c (entry s w (Some c) sent timer given) o (merge_named p c s w h.merge h.stream h.wave);
       gives = after_gives p kin a c (entry s w (Some c) sent timer given) o;
       work = λ b eb.
           after_work p kin a c s w sent timer given o b lost eb
-          ∙ ap (acted p kin s w (cov_of c) sent timer (work_with b o)) (sym ea)
-          ∙ ap (λ l. acted p kin s w (cov_of c) sent timer (work_with b o) (due_at p n l s (cov_of c) sent timer)) (sym lost)
-          ∙ ap (act_as p n kin s w (work_with b o)) (sym eb);
+          ∙ ap (acted p kin s w (cov_of c) sent timer (effects_with b o)) (sym ea)
+          ∙ ap (λ l. acted p kin s w (cov_of c) sent timer (effects_with b o) (due_at p n l s (cov_of c) sent timer)) (sym lost)
+          ∙ ap (act_as p n kin s w (effects_with b o)) (sym eb);
     }
 
-pub act_turns : (p : Plan) (n : ℕ) (kin : Kin) (e f : EntryView) (o q : Output) → IsPlan p → ContextFits p n kin → EntryFits p e → f ≡ acted_entry p n e → q ≡ acted_output p n kin e o → StepsEntry p (act p n kin e.stream e.wave) e f o q
-act_turns p n kin e f o q plan context h ef eq =
+pub act_steps : (p : Plan) (n : ℕ) (kin : Kin) (e f : EntryView) (o q : Output) → IsPlan p → ContextFits p n kin → EntryFits p e → f ≡ acted_entry p n e → q ≡ acted_output p n kin e o → StepsEntry p (act p n kin e.stream e.wave) e f o q
+act_steps p n kin e f o q plan context h ef eq =
     subst (λ g. StepsEntry p (act p n kin e.stream e.wave) e g o q) (sym ef)
     (subst (λ r. StepsEntry p (act p n kin e.stream e.wave) e (acted_entry p n e) o r) (sym eq)
-    (turns_by p n kin e.part e.stream e.wave e.sent e.timer e.given o plan context.lost h))
+    (acted_steps p n kin e.part e.stream e.wave e.sent e.timer e.given o plan context.lost h))
 
 abbrev DoesAt : Plan → ℕ → Kin → (g f : EntryView) → (o q : Output) → ℕ → ℕ → Type 0
-DoesAt p n kin g f o q s w = (b : Book) → b s w ≡ wave_of g → ◌≡◌ {A = Effects} (work_with (set_wave b s w (wave_of f)) q) (act p n kin s w (work_with b o))
+DoesAt p n kin g f o q s w = (b : Book) → b s w ≡ wave_of g → ◌≡◌ {A = Effects} (effects_with (set_wave b s w (wave_of f)) q) (act p n kin s w (effects_with b o))
 
 -- a change of the wave comes first
-pub changed_turns : (p : Plan) (n : ℕ) (kin : Kin) (change : Wave → Wave) (e g f : EntryView) (o q : Output) → g.stream ≡ e.stream → g.wave ≡ e.wave → g.given ≡ e.given → wave_of g ≡ change (wave_of e) → StepsEntry p (act p n kin g.stream g.wave) g f o q → StepsEntry p (act_changed p n kin e.stream e.wave change) e f o q
-changed_turns p n kin change e g f o q es ew eg ev h = record {
+pub changed_steps : (p : Plan) (n : ℕ) (kin : Kin) (change : Wave → Wave) (e g f : EntryView) (o q : Output) → g.stream ≡ e.stream → g.wave ≡ e.wave → g.given ≡ e.given → wave_of g ≡ change (wave_of e) → StepsEntry p (act p n kin g.stream g.wave) g f o q → StepsEntry p (act_changed p n kin e.stream e.wave change) e f o q
+changed_steps p n kin change e g f o q es ew eg ev h = record {
   stream = h.stream ∙ es;
   wave = h.wave ∙ ew;
   fits = h.fits;
@@ -164,37 +164,37 @@ changed_turns p n kin change e g f o q es ew eg ev h = record {
   ];
   work = λ b eb.
       let v : Wave = change (b e.stream e.wave) in
-      ap (λ k. work_with k q) (sym (set_twice b e.stream e.wave v (wave_of f)))
+      ap (λ k. effects_with k q) (sym (set_twice b e.stream e.wave v (wave_of f)))
       ∙ there (set_wave b e.stream e.wave v) (set_wave_here b e.stream e.wave v ∙ ap change eb ∙ sym ev);
 }
   where
     there : DoesAt p n kin g f o q e.stream e.wave
     there = subst (λ s. DoesAt p n kin g f o q s e.wave) es (subst (λ w. DoesAt p n kin g f o q g.stream w) ew h.work)
 
-grown_names : (p : Plan) (set : Ranks) (s w : ℕ) (part : Option Contrib) (sent : Ranks) (timer : Timer) (given : ℕ) → ((grown p set (entry s w part sent timer given)).stream ≡ s) × ((grown p set (entry s w part sent timer given)).wave ≡ w) × ((grown p set (entry s w part sent timer given)).given ≡ given)
+grown_names : (p : Plan) (set : Ranks) (s w : ℕ) (part : Option Contrib) (sent : Ranks) (timer : Timer) (given : ℕ) → ((grown_entry p set (entry s w part sent timer given)).stream ≡ s) × ((grown_entry p set (entry s w part sent timer given)).wave ≡ w) × ((grown_entry p set (entry s w part sent timer given)).given ≡ given)
 grown_names p set s w None sent timer given = (refl, refl, refl)
 grown_names p set s w (Some c) sent timer given = (refl, refl, refl)
 
 -- ranks come up
-pub up_turns : (p : Plan) (n : ℕ) (kin : Kin) (set : Ranks) (e g f : EntryView) (o q : Output) → g ≡ grown p set e → StepsEntry p (act p n kin g.stream g.wave) g f o q → StepsEntry p (act_changed p n kin e.stream e.wave (growing set)) e f o q
-up_turns p n kin set e g f o q is h =
+pub up_steps : (p : Plan) (n : ℕ) (kin : Kin) (set : Ranks) (e g f : EntryView) (o q : Output) → g ≡ grown_entry p set e → StepsEntry p (act p n kin g.stream g.wave) g f o q → StepsEntry p (act_changed p n kin e.stream e.wave (growing set)) e f o q
+up_steps p n kin set e g f o q is h =
     let k = grown_names p set e.stream e.wave e.part e.sent e.timer e.given in
-    changed_turns p n kin (growing set) e g f o q (ap (λ (x : EntryView). x.stream) is ∙ k.0) (ap (λ (x : EntryView). x.wave) is ∙ k.1) (ap (λ (x : EntryView). x.given) is ∙ k.2) (ap wave_of is ∙ grown_wave p set e.stream e.wave e.part e.sent e.timer e.given) h
+    changed_steps p n kin (growing set) e g f o q (ap (λ (x : EntryView). x.stream) is ∙ k.0) (ap (λ (x : EntryView). x.wave) is ∙ k.1) (ap (λ (x : EntryView). x.given) is ∙ k.2) (ap wave_of is ∙ grown_wave p set e.stream e.wave e.part e.sent e.timer e.given) h
 
 -- a daemon's own ranks come in
-pub sample_turns : (p : Plan) (n : ℕ) (kin : Kin) (set : Ranks) (e g f : EntryView) (o q : Output) → is_empty_open (wave_of e) ≡ true → g ≡ covered p set e → StepsEntry p (act p n kin g.stream g.wave) g f o q → StepsEntry p (act_changed p n kin e.stream e.wave (covering set)) e f o q
-sample_turns p n kin set e g f o q empty is h =
-    changed_turns p n kin (covering set) e g f o q (ap (λ (x : EntryView). x.stream) is) (ap (λ (x : EntryView). x.wave) is) (ap (λ (x : EntryView). x.given) is) (ap wave_of is ∙ covered_wave p set e.stream e.wave e.part e.sent e.timer e.given empty) h
+pub sample_steps : (p : Plan) (n : ℕ) (kin : Kin) (set : Ranks) (e g f : EntryView) (o q : Output) → is_empty_open (wave_of e) ≡ true → g ≡ covered_entry p set e → StepsEntry p (act p n kin g.stream g.wave) g f o q → StepsEntry p (act_changed p n kin e.stream e.wave (covering set)) e f o q
+sample_steps p n kin set e g f o q empty is h =
+    changed_steps p n kin (covering set) e g f o q (ap (λ (x : EntryView). x.stream) is) (ap (λ (x : EntryView). x.wave) is) (ap (λ (x : EntryView). x.given) is) (ap wave_of is ∙ covered_wave p set e.stream e.wave e.part e.sent e.timer e.given empty) h
 
--- the word of an end comes
-end_by : (p : Plan) (kin : Kin) (part : Option Contrib) (s w : ℕ) (sent : Ranks) (timer : Timer) (given : ℕ) (o : Output) → StepsEntry p (end p kin s w) (entry s w part sent timer given) (ended (entry s w part sent timer given)) o (ended_output p kin s w o part)
+-- a wave's end is received
+end_by : (p : Plan) (kin : Kin) (part : Option Contrib) (s w : ℕ) (sent : Ranks) (timer : Timer) (given : ℕ) (o : Output) → StepsEntry p (end p kin s w) (entry s w part sent timer given) (ended_entry (entry s w part sent timer given)) o (ended_output p kin s w o part)
 end_by p kin None s w sent timer given o = record {
   stream = refl;
   wave = refl;
   fits = tt;
   output = λ x. x;
   gives = inl (record { given = refl; releases = refl });
-  work = λ b eb. (λ i. work_with (same_book b s w Closed eb i) o) ∙ ap (end_as p kin s w (work_with b o)) (sym eb);
+  work = λ b eb. (λ i. effects_with (same_book b s w Closed eb i) o) ∙ ap (end_as p kin s w (effects_with b o)) (sym eb);
 }
 end_by p kin (Some c) s w sent timer given o = record {
   stream = refl;
@@ -202,11 +202,11 @@ end_by p kin (Some c) s w sent timer given o = record {
   fits = tt;
   output = with_dones_fit p kin s w o;
   gives = inl (record { given = refl; releases = refl });
-  work = λ b eb. (λ i. record { book = set_wave b s w Closed; sends = dones_sends p kin s w o i; releases = bare_releases o.releases }) ∙ ap (end_as p kin s w (work_with b o)) (sym eb);
+  work = λ b eb. (λ i. record { book = set_wave b s w Closed; sends = dones_sends p kin s w o i; releases = bare_releases o.releases }) ∙ ap (end_as p kin s w (effects_with b o)) (sym eb);
 }
 
-pub end_turns : (p : Plan) (kin : Kin) (e f : EntryView) (o q : Output) → f ≡ ended e → q ≡ ended_output p kin e.stream e.wave o e.part → StepsEntry p (end p kin e.stream e.wave) e f o q
-end_turns p kin e f o q ef eq =
+pub end_steps : (p : Plan) (kin : Kin) (e f : EntryView) (o q : Output) → f ≡ ended_entry e → q ≡ ended_output p kin e.stream e.wave o e.part → StepsEntry p (end p kin e.stream e.wave) e f o q
+end_steps p kin e f o q ef eq =
     subst (λ g. StepsEntry p (end p kin e.stream e.wave) e g o q) (sym ef)
-    (subst (λ r. StepsEntry p (end p kin e.stream e.wave) e (ended e) o r) (sym eq)
+    (subst (λ r. StepsEntry p (end p kin e.stream e.wave) e (ended_entry e) o r) (sym eq)
     (end_by p kin e.part e.stream e.wave e.sent e.timer e.given o))

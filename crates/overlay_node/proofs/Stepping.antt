@@ -3,20 +3,17 @@ use Rattle.std.proofs.Common.{◌≡◌, ◌<◌, ℕ, zero, suc, Bool, true, fa
 use Rattle.std.specs.Prelude.{slice_set}
 use Rattle.std.specs.List.{AllByRecursion}
 use Rattle.std.specs.Cmp.{both_ways}
-use Rattle.std.proofs.Math.ListN.{get_or-map, set}
+use Rattle.std.proofs.Math.ListN.{set}
 use Rattle.std.proofs.lemmas.Bool.{and_parts, and_from, true≢false}
-use Rattle.std.proofs.lemmas.List.{map-set}
 use Rattle.stat_plan.specs.NodeSets.{In}
 use Rattle.stat_plan.specs.Plans.{Plan}
 use Rattle.stat_plan.specs.Waves.{set_wave}
 use Rattle.overlay_core.specs.Nodes.{Release, Effects}
 use Rattle.overlay_core.specs.History.{of_wave}
 use Rattle.overlay_core.specs.TreeReleases.{AreNumberedInOrder, bare_release, bare_releases}
-use Rattle.overlay_node.specs.declared.entry.WaveEntry.{WaveEntry}
-use Rattle.overlay_node.specs.Packets.{bare_sends}
-use Rattle.overlay_node.specs.Entries.{entry_view, entries_view}
-use Rattle.overlay_node.specs.NodeViews.{EntryFits, EntryView, book_of, given_of, is_of, keys_of, wave_of}
-use Rattle.overlay_node.specs.Acting.{StepsEntries, Output, StepsEntry, place_of}
+use Rattle.overlay_node.specs.Packets.{Output, bare_sends}
+use Rattle.overlay_node.specs.NodeViews.{EntryFits, EntryView, book_of, given_of, is_entry_of, keys_of, wave_of}
+use Rattle.overlay_node.specs.Acting.{StepsEntries, StepsEntry, entry_index}
 use Rattle.overlay_node.proofs.Books.{book_read, shadow}
 use Rattle.overlay_node.proofs.Numbering.{after_more, count_more, numbered_more}
 
@@ -36,7 +33,7 @@ swapped x y a b = both_ways _ _
     (λ t. let u = and_parts (x == a) (y == b) t in and_from (a == x) (b == y) (eq-eqb a x (sym (eqb-true x a u.0))) (eq-eqb b y (sym (eqb-true y b u.1))))
     (λ t. let u = and_parts (a == x) (b == y) t in and_from (x == a) (y == b) (eq-eqb x a (sym (eqb-true a x u.0))) (eq-eqb y b (sym (eqb-true b y u.1))))
 
-test_for : (e : EntryView) (s w a b : ℕ) → e.stream ≡ s → e.wave ≡ w → is_of a b e ≡ ((a == s) && (b == w))
+test_for : (e : EntryView) (s w a b : ℕ) → e.stream ≡ s → e.wave ≡ w → is_entry_of a b e ≡ ((a == s) && (b == w))
 test_for e s w a b es ew = swapped e.stream e.wave a b ∙ (λ i. (a == es i) && (b == ew i))
 
 crossed : {A : Type 0} (i t : Bool) (x v r : A) → (i ≡ true → t ≡ true → ⊥) → cond i x (cond t v r) ≡ cond t v (cond i x r)
@@ -44,18 +41,18 @@ crossed true true x v r h = absurd (h refl refl)
 crossed true false x v r h = refl
 crossed false t x v r h = refl
 
-place_here : (c : Bool) (n : ℕ) → cond c zero (suc n) ≡ zero → c ≡ true
-place_here true n e = refl
-place_here false n e = absurd (cc)
+index_here : (c : Bool) (n : ℕ) → cond c zero (suc n) ≡ zero → c ≡ true
+index_here true n e = refl
+index_here false n e = absurd (cc)
 
-place_later : (c : Bool) (n i : ℕ) → cond c zero (suc n) ≡ suc i → (c ≡ false) × (n ≡ i)
-place_later true n i e = absurd (cc)
-place_later false n i e = (refl, omega (arith, e))
+index_later : (c : Bool) (n i : ℕ) → cond c zero (suc n) ≡ suc i → (c ≡ false) × (n ≡ i)
+index_later true n i e = absurd (cc)
+index_later false n i e = (refl, omega (arith, e))
 
-pub replaced : (p : Plan) (es : List EntryView) (i : ℕ) (e f : EntryView) → place_of e.stream e.wave es ≡ i → i < length es → e ≡ get_or es i e → f.stream ≡ e.stream → f.wave ≡ e.wave → Replaces p es e f (set es i f)
+pub replaced : (p : Plan) (es : List EntryView) (i : ℕ) (e f : EntryView) → entry_index e.stream e.wave es ≡ i → i < length es → e ≡ get_or es i e → f.stream ≡ e.stream → f.wave ≡ e.wave → Replaces p es e f (set es i f)
 replaced p [] i e f at lt is fs fw = absurd (omega (arith, lt))
 replaced p (x ∷ xs) zero e f at lt is fs fw =
-    let ec : is_of e.stream e.wave x ≡ true = place_here (is_of e.stream e.wave x) (place_of e.stream e.wave xs) at in
+    let ec : is_entry_of e.stream e.wave x ≡ true = index_here (is_entry_of e.stream e.wave x) (entry_index e.stream e.wave xs) at in
     let xs' : x.stream ≡ e.stream = ap (λ (y : EntryView). y.stream) (sym is) in
     let xw' : x.wave ≡ e.wave = ap (λ (y : EntryView). y.wave) (sym is) in
     record {
@@ -76,28 +73,28 @@ replaced p (x ∷ xs) zero e f at lt is fs fw =
           ∙ (λ i. cond ((a == e.stream) && (b == e.wave)) f.given (cond (sym (test_for x e.stream e.wave a b xs' xw') i) x.given (given_of xs a b)));
     }
 replaced p (x ∷ xs) (suc i) e f at lt is fs fw =
-    let k = place_later (is_of e.stream e.wave x) (place_of e.stream e.wave xs) i at in
+    let k = index_later (is_entry_of e.stream e.wave x) (entry_index e.stream e.wave xs) i at in
     let r = replaced p xs i e f k.1 (omega (arith, lt)) is fs fw in
-    let apart : (a b : ℕ) → is_of a b x ≡ true → ((a == e.stream) && (b == e.wave)) ≡ true → ⊥ = (λ a b t u. true≢false (sym t ∙ (let v = and_parts (a == e.stream) (b == e.wave) u in (λ j. is_of (eqb-true a e.stream v.0 j) (eqb-true b e.wave v.1 j) x) ∙ k.0))) in
+    let distinct : (a b : ℕ) → is_entry_of a b x ≡ true → ((a == e.stream) && (b == e.wave)) ≡ true → ⊥ = (λ a b t u. true≢false (sym t ∙ (let v = and_parts (a == e.stream) (b == e.wave) u in (λ j. is_entry_of (eqb-true a e.stream v.0 j) (eqb-true b e.wave v.1 j) x) ∙ k.0))) in
     record {
       there = inr r.there;
       here = ap (λ c. cond c (wave_of x) (book_of xs e.stream e.wave)) k.0 ∙ r.here;
       book = λ a b.
-          ap (cond (is_of a b x) (wave_of x)) (r.book a b ∙ book_read (book_of xs) e.stream e.wave (wave_of f) a b)
-          ∙ crossed (is_of a b x) ((a == e.stream) && (b == e.wave)) (wave_of x) (wave_of f) (book_of xs a b) (apart a b)
+          ap (cond (is_entry_of a b x) (wave_of x)) (r.book a b ∙ book_read (book_of xs) e.stream e.wave (wave_of f) a b)
+          ∙ crossed (is_entry_of a b x) ((a == e.stream) && (b == e.wave)) (wave_of x) (wave_of f) (book_of xs a b) (distinct a b)
           ∙ sym (book_read (book_of (x ∷ xs)) e.stream e.wave (wave_of f) a b);
       keys = ap (λ l. (x.stream, x.wave) ∷ l) r.keys;
       fits_here = λ h. r.fits_here h.1;
       fits = λ h g. (h.0, r.fits h.1 g);
       given_here = ap (λ c. cond c x.given (given_of xs e.stream e.wave)) k.0 ∙ r.given_here;
       given = λ a b.
-          ap (cond (is_of a b x) x.given) (r.given a b)
-          ∙ crossed (is_of a b x) ((a == e.stream) && (b == e.wave)) x.given f.given (given_of xs a b) (apart a b);
+          ap (cond (is_entry_of a b x) x.given) (r.given a b)
+          ∙ crossed (is_entry_of a b x) ((a == e.stream) && (b == e.wave)) x.given f.given (given_of xs a b) (distinct a b);
     }
 
 -- ---- counts
 
--- what each wave has given, where one has given g
+-- the releases of each wave that are counted, where one wave has counted g
 same_given : (es : List EntryView) (e : EntryView) (g a b : ℕ) → given_of es e.stream e.wave ≡ e.given → g ≡ e.given → cond ((a == e.stream) && (b == e.wave)) g (given_of es a b) ≡ given_of es a b
 same_given es e g a b here is = by ((a == e.stream) && (b == e.wave)) refl
   where
@@ -122,8 +119,8 @@ more_given es e g a b n rs r here rs' rw' is h =
 -- ---- a step
 
 -- a step on the entry is a step on all
-pub goes_by : (p : Plan) (does : Effects → Effects) (es new : List EntryView) (e f : EntryView) (o q : Output) → AllByRecursion (EntryFits p) es → Replaces p es e f new → StepsEntry p does e f o q → StepsEntries p does es new o q
-goes_by p does es new e f o q all r h = record {
+pub steps_by : (p : Plan) (does : Effects → Effects) (es new : List EntryView) (e f : EntryView) (o q : Output) → AllByRecursion (EntryFits p) es → Replaces p es e f new → StepsEntry p does e f o q → StepsEntries p does es new o q
+steps_by p does es new e f o q all r h = record {
   keys = r.keys;
   fits = r.fits all h.fits;
   output = h.output;
@@ -150,66 +147,57 @@ goes_by p does es new e f o q all r h = record {
 
 -- ---- the entry of a wave
 
-pub place_there : (s w : ℕ) (es : List EntryView) → In {X = ℕ × ℕ} (s, w) (keys_of es) → place_of s w es < length es
-place_there s w [] i = absurd i
-place_there s w (e ∷ es) i = go (is_of s w e) refl (λ j. place_there s w es j) i
+pub index_there : (s w : ℕ) (es : List EntryView) → In {X = ℕ × ℕ} (s, w) (keys_of es) → entry_index s w es < length es
+index_there s w [] i = absurd i
+index_there s w (e ∷ es) i = go (is_entry_of s w e) refl (λ j. index_there s w es j) i
   where
-    go : (c : Bool) → is_of s w e ≡ c → (In {X = ℕ × ℕ} (s, w) (keys_of es) → place_of s w es < length es) → In {X = ℕ × ℕ} (s, w) (keys_of (e ∷ es)) → cond c zero (suc (place_of s w es)) < length (e ∷ es)
+    go : (c : Bool) → is_entry_of s w e ≡ c → (In {X = ℕ × ℕ} (s, w) (keys_of es) → entry_index s w es < length es) → In {X = ℕ × ℕ} (s, w) (keys_of (e ∷ es)) → cond c zero (suc (entry_index s w es)) < length (e ∷ es)
     go true ec ih j = omega arith
     go false ec ih (inl k) = absurd (true≢false (sym (and_from (e.stream == s) (e.wave == w) (eq-eqb e.stream s (ap (λ (v : ℕ × ℕ). v.0) (sym k))) (eq-eqb e.wave w (ap (λ (v : ℕ × ℕ). v.1) (sym k)))) ∙ ec))
     go false ec ih (inr j) = let q = ih j in omega (arith, q)
 
--- the entry at a wave's place is the wave's
-pub named_at : (s w : ℕ) (es : List EntryView) (e : EntryView) → place_of s w es < length es → e ≡ get_or es (place_of s w es) e → (e.stream ≡ s) × (e.wave ≡ w)
+-- the entry at a wave's index is the wave's
+pub named_at : (s w : ℕ) (es : List EntryView) (e : EntryView) → entry_index s w es < length es → e ≡ get_or es (entry_index s w es) e → (e.stream ≡ s) × (e.wave ≡ w)
 named_at s w [] e lt is = absurd (omega (arith, lt))
-named_at s w (x ∷ xs) e lt is = go (is_of s w x) refl (λ l k. named_at s w xs e l k) lt is
+named_at s w (x ∷ xs) e lt is = go (is_entry_of s w x) refl (λ l k. named_at s w xs e l k) lt is
   where
-    go : (c : Bool) → is_of s w x ≡ c → (place_of s w xs < length xs → e ≡ get_or xs (place_of s w xs) e → (e.stream ≡ s) × (e.wave ≡ w)) → cond c zero (suc (place_of s w xs)) < length (x ∷ xs) → e ≡ get_or (x ∷ xs) (cond c zero (suc (place_of s w xs))) e → (e.stream ≡ s) × (e.wave ≡ w)
+    go : (c : Bool) → is_entry_of s w x ≡ c → (entry_index s w xs < length xs → e ≡ get_or xs (entry_index s w xs) e → (e.stream ≡ s) × (e.wave ≡ w)) → cond c zero (suc (entry_index s w xs)) < length (x ∷ xs) → e ≡ get_or (x ∷ xs) (cond c zero (suc (entry_index s w xs))) e → (e.stream ≡ s) × (e.wave ≡ w)
     go true ec ih l k = let u = and_parts (x.stream == s) (x.wave == w) ec in (ap (λ (y : EntryView). y.stream) k ∙ eqb-true x.stream s u.0, ap (λ (y : EntryView). y.wave) k ∙ eqb-true x.wave w u.1)
     go false ec ih l k = ih (omega (arith, l)) k
 
-pub length_in : {X : Type 0} (es : List (WaveEntry X)) → length (entries_view es) ≡ length es
-length_in [] = refl
-length_in (e ∷ es) = ap suc (length_in es)
-
-pub item_in : {X : Type 0} (es : List (WaveEntry X)) (i : ℕ) (e : WaveEntry X) → e ≡ get_or es i e → entry_view e ≡ get_or (entries_view es) i (entry_view e)
-item_in es i e is = ap entry_view is ∙ sym (get_or-map entry_view es i e)
-
--- what a look-up finds
+-- an entry that a search found, and its index
 pub record Finds (p : Plan) (s w : ℕ) (es : List EntryView) (i : ℕ) (e : EntryView) : Type 0 where
-  pub context : place_of e.stream e.wave es ≡ i
+  pub index : entry_index e.stream e.wave es ≡ i
   pub below : i < length es
   pub item : e ≡ get_or es i e
   pub stream : e.stream ≡ s
   pub wave : e.wave ≡ w
 
-pub finds : {X : Type 0} (p : Plan) (s w : ℕ) (es : List (WaveEntry X)) (i : ℕ) (e : WaveEntry X) → In {X = ℕ × ℕ} (s, w) (keys_of (entries_view es)) → i ≡ place_of s w (entries_view es) → e ≡ get_or es i e → Finds p s w (entries_view es) i (entry_view e)
+pub finds : (p : Plan) (s w : ℕ) (es : List EntryView) (i : ℕ) (e : EntryView) → In {X = ℕ × ℕ} (s, w) (keys_of es) → i ≡ entry_index s w es → e ≡ get_or es i e → Finds p s w es i e
 finds p s w es i e there at is =
-    let lt : place_of s w (entries_view es) < length (entries_view es) = place_there s w (entries_view es) there in
-    let it : entry_view e ≡ get_or (entries_view es) i (entry_view e) = item_in es i e is in
-    let names = named_at s w (entries_view es) (entry_view e) lt (subst (λ k. entry_view e ≡ get_or (entries_view es) k (entry_view e)) at it) in
+    let lt : entry_index s w es < length es = index_there s w es there in
+    let names = named_at s w es e lt (subst (λ k. e ≡ get_or es k e) at is) in
     record {
-      context = (λ j. place_of (names.0 j) (names.1 j) (entries_view es)) ∙ sym at;
-      below = subst (λ k. k < length (entries_view es)) (sym at) lt;
-      item = it;
+      index = (λ j. entry_index (names.0 j) (names.1 j) es) ∙ sym at;
+      below = subst (λ k. k < length es) (sym at) lt;
+      item = is;
       stream = names.0;
       wave = names.1;
     }
 
 -- a step on the entry that was found
-pub goes_found : {X : Type 0} (p : Plan) (does : ℕ → ℕ → Effects → Effects) (s w : ℕ) (es : List (WaveEntry X)) (i : ℕ) (e f : WaveEntry X) (o q : Output) → AllByRecursion (EntryFits p) (entries_view es) → Finds p s w (entries_view es) i (entry_view e) → StepsEntry p (does e.stream e.wave) (entry_view e) (entry_view f) o q → StepsEntries p (does s w) (entries_view es) (entries_view (slice_set es i f)) o q
-goes_found p does s w es i e f o q all found h =
-    let named : StepsEntry p (does s w) (entry_view e) (entry_view f) o q = subst (λ x. StepsEntry p (does x w) (entry_view e) (entry_view f) o q) found.stream (subst (λ y. StepsEntry p (does e.stream y) (entry_view e) (entry_view f) o q) found.wave h) in
-    subst (λ l. StepsEntries p (does s w) (entries_view es) l o q) (sym (map-set entry_view es i f))
-    (goes_by p (does s w) (entries_view es) (set (entries_view es) i (entry_view f)) (entry_view e) (entry_view f) o q all (replaced p (entries_view es) i (entry_view e) (entry_view f) found.context found.below found.item h.stream h.wave) named)
+pub steps_found : (p : Plan) (does : ℕ → ℕ → Effects → Effects) (s w : ℕ) (es : List EntryView) (i : ℕ) (e f : EntryView) (o q : Output) → AllByRecursion (EntryFits p) es → Finds p s w es i e → StepsEntry p (does e.stream e.wave) e f o q → StepsEntries p (does s w) es (slice_set es i f) o q
+steps_found p does s w es i e f o q all found h =
+    let named : StepsEntry p (does s w) e f o q = subst (λ x. StepsEntry p (does x w) e f o q) found.stream (subst (λ y. StepsEntry p (does e.stream y) e f o q) found.wave h) in
+    steps_by p (does s w) es (set es i f) e f o q all (replaced p es i e f found.index found.below found.item h.stream h.wave) named
 
 -- what holds of the entry that was found
 pub fits_found : (p : Plan) (s w : ℕ) (es : List EntryView) (i : ℕ) (e : EntryView) → AllByRecursion (EntryFits p) es → Finds p s w es i e → EntryFits p e
-fits_found p s w es i e all found = (replaced p es i e e found.context found.below found.item refl refl).fits_here all
+fits_found p s w es i e all found = (replaced p es i e e found.index found.below found.item refl refl).fits_here all
 
 pub wave_found : (p : Plan) (s w : ℕ) (es : List EntryView) (i : ℕ) (e : EntryView) → Finds p s w es i e → book_of es s w ≡ wave_of e
-wave_found p s w es i e found = (λ j. book_of es (sym found.stream j) (sym found.wave j)) ∙ (replaced p es i e e found.context found.below found.item refl refl).here
+wave_found p s w es i e found = (λ j. book_of es (sym found.stream j) (sym found.wave j)) ∙ (replaced p es i e e found.index found.below found.item refl refl).here
 
 -- a step that is the same
-pub goes_as : (p : Plan) (does did : Effects → Effects) (es new : List EntryView) (o q : Output) → did ≡ does → StepsEntries p did es new o q → StepsEntries p does es new o q
-goes_as p does did es new o q is h = subst (λ d. StepsEntries p d es new o q) is h
+pub steps_as : (p : Plan) (does did : Effects → Effects) (es new : List EntryView) (o q : Output) → did ≡ does → StepsEntries p did es new o q → StepsEntries p does es new o q
+steps_as p does did es new o q is h = subst (λ d. StepsEntries p d es new o q) is h

@@ -1,0 +1,6 @@
+use Rattle.overlay_core.proofs.NamedLosses.{named_is_lost}
+use Rattle.overlay_core.proofs.PlanFacts.{plan_facts}
+use Rattle.overlay_core.proofs.releases_name_lost_nodes.Goals as goal
+
+pub returns : goal.returns
+returns c = record { named = λ p journal r n plan. named_is_lost p journal r n (plan_facts p plan) }

@@ -1,0 +1,16 @@
+//! Nodes and what they send may be handed to another thread.
+use crate::{Node, Outgoing, Packet};
+use prefix_tree::OwnedTree;
+use std::test::*;
+
+fn is_sent<T: Send>() -> bool {
+    true
+}
+
+#[test]
+fn nodes_and_packets_may_change_threads(rt: HostRuntime) -> Result<(), Fail> {
+    assert!(rt; is_sent::<Node<OwnedTree>>());
+    assert!(rt; is_sent::<Packet<OwnedTree>>());
+    assert!(rt; is_sent::<Outgoing<OwnedTree>>());
+    Ok(())
+}

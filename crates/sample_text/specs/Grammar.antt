@@ -1,0 +1,52 @@
+-- What a samples text says in the words of its format: its `daemon` lines place ranks on nodes, and its `stack` lines give
+-- the samples.
+use Rattle.std.specs.Prelude.{◌≡◌, ◌↔◌, ◌<◌, ⊤, ℕ, false, List, [], ◌∷◌, length, filter, slice_index_or, Some, Ok, codes}
+use Rattle.rank_set.specs.Ranks.{Ranks, none, Has}
+use Rattle.rank_set.specs.RanksText.{ranks_text}
+use Rattle.call_path.specs.Reading.{path_of}
+use Rattle.text_lines.specs.Lines.{lines, words, is_comment, after_blanks, after_word, number_in}
+use Rattle.text_lines.specs.Directives.{is_line_of}
+use Rattle.stat_plan.specs.Names.{name_of}
+use Rattle.stat_plan.specs.NodeSets.{In}
+use Rattle.stat_plan.specs.Plans.{Sampled}
+use Rattle.stat_plan.specs.Samples.{SampleLine}
+use Rattle.stat_plan.specs.Topologies.{Nodes}
+
+-- a line `daemon NAME RANKS`
+abbrev pub IsDaemonLine : List ℕ → List ℕ → List ℕ → Type 0
+IsDaemonLine line name word = (is_comment line ≡ false) × (words line ≡ codes "daemon" ∷ name ∷ word ∷ [])
+
+-- a line places a rank on node n: it is a `daemon` line with the node's name, and its RANKS have the rank
+pub record PlacesRank (t : Nodes) (line : List ℕ) (n r : ℕ) : Type 0 where
+  pub word : List ℕ
+  pub is : IsDaemonLine line (name_of t.names n) word
+  pub ranks : Ranks
+  pub read : ranks_text word ≡ Ok ranks
+  pub has : Has r ranks
+
+-- some line places a rank on node n
+abbrev pub SomePlacesRank : Nodes → List (List ℕ) → ℕ → ℕ → Type 0
+SomePlacesRank t lines n r = (line : List ℕ) × In line lines × PlacesRank t line n r
+
+-- a sample is that of a line `stack TIME RANKS PATH`, where PATH is the rest of the line after the blanks behind RANKS
+pub record IsSampleOf (line : List ℕ) (sample : SampleLine) : Type 0 where
+  pub time_word : List ℕ
+  pub ranks_word : List ℕ
+  pub more : List (List ℕ)
+  pub is : words line ≡ codes "stack" ∷ time_word ∷ ranks_word ∷ more
+  pub time : number_in time_word ≡ Some sample.time
+  pub ranks : ranks_text ranks_word ≡ Ok sample.ranks
+  pub path : path_of (after_blanks (after_word (after_word (after_word line)))) ≡ Ok sample.path
+
+-- samples are those of lines, in order
+abbrev pub AreSamplesOf : List (List ℕ) → List SampleLine → Type 0
+AreSamplesOf [] [] = ⊤
+AreSamplesOf [] (sample ∷ samples) = ⊥
+AreSamplesOf (line ∷ lines) [] = ⊥
+AreSamplesOf (line ∷ lines) (sample ∷ samples) = IsSampleOf line sample × AreSamplesOf lines samples
+
+-- A rank is placed on a node exactly where some line of the text places it there, and the samples are those of the text's
+-- `stack` lines, in order.
+pub record IsWritten (t : Nodes) (text : List ℕ) (s : Sampled) : Type 0 where
+  pub placed : (n r : ℕ) → n < length t.parents → Has r (slice_index_or s.placed n none) ↔ SomePlacesRank t (lines text) n r
+  pub samples : AreSamplesOf (filter (is_line_of (codes "stack")) (lines text)) s.lines
