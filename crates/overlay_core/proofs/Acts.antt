@@ -3,18 +3,18 @@ use Rattle.rank_set.specs.Ranks.{Ranks, none, is_same, IsSubset}
 use Rattle.std.proofs.Common.{◌≡◌, ◌≢◌, inl, inr, ℕ, Bool, true, false, not, ◌==◌, List, [], ◌∷◌, ◌++◌, refl, sym, ap, subst, ◌∙◌, eqb-true, Option, Some, None}
 use Rattle.std.proofs.lemmas.Bool.{cond_both, true≢false}
 use Rattle.stat_plan.specs.NodeSets.{In}
-use Rattle.stat_plan.specs.Waves.{put_at, Wave, Open, Closed, Book, set_wave}
+use Rattle.stat_plan.specs.Machine.Waves.{put_at, Wave, Open, Closed, Book, set_wave}
 use Rattle.stat_plan.specs.Plans.{Plan, IsUnder, serves, mode, is_front, waves_of}
-use Rattle.stat_plan.specs.Due.{due_act}
+use Rattle.stat_plan.specs.Machine.Due.{due_act}
 use Rattle.overlay_core.specs.Nodes.{Packet, Up, Done, Effects, due_at, to_parent, dones, acted, act_as, act, act_each}
-use Rattle.stat_plan.specs.Kin.{Kin, complete}
+use Rattle.stat_plan.specs.Machine.Kin.{Kin, complete}
 use Rattle.overlay_core.specs.LinkInvariant.{SendIsSound, OpenIsSound, WaveIsSound, BookIsSound}
 use Rattle.stat_plan.specs.declared.script.Mode.{Mode}
 use Rattle.stat_plan.specs.declared.script.Mode.TheVariants.{WaitForAll, TimeOut, DontWait}
-use Rattle.stat_plan.specs.declared.act.Timer.{Timer}
-use Rattle.stat_plan.specs.declared.act.Timer.TheVariants.{Off, Running, Fired}
-use Rattle.stat_plan.specs.declared.act.Act.{Act}
-use Rattle.stat_plan.specs.declared.act.Act.TheVariants.{Hold, Arm, Send, Partial, Final}
+use Rattle.stat_plan.specs.declared.machine.Timer.{Timer}
+use Rattle.stat_plan.specs.declared.machine.Timer.TheVariants.{Off, Running, Fired}
+use Rattle.stat_plan.specs.declared.machine.Act.{Act}
+use Rattle.stat_plan.specs.declared.machine.Act.TheVariants.{Hold, Arm, Send, Partial, Final}
 use Rattle.overlay_core.proofs.Lists.{in_append, in_map_filter, none_from_subset, test_from_same}
 
 -- what holds of each wave still holds where one is set to what it holds of

@@ -3,7 +3,7 @@ use Rattle.std.proofs.Common.{◌≡◌, ℕ, Bool, true, ◌==◌, List, [], �
 use Rattle.std.proofs.lemmas.Bool.{and_parts, cases_Bool, eqb-false}
 use Rattle.stat_plan.specs.NodeSets.{In}
 use Rattle.stat_plan.specs.Plans.{Plan}
-use Rattle.stat_plan.specs.Waves.{Wave}
+use Rattle.stat_plan.specs.Machine.Waves.{Wave}
 use Rattle.stat_desk.specs.declared.event.Event.{Event}
 use Rattle.stat_desk.specs.declared.event.Event.TheVariants.{Sample, Recv, Tick, Lose}
 use Rattle.overlay_core.specs.Nodes.{Packet, Node, Outcome, sampled, after_tick, received}

@@ -4,11 +4,11 @@ use Rattle.std.proofs.Common.{◌≡◌, ◌≢◌, ◌⊎◌, inl, inr, ℕ, Bo
 use Rattle.std.proofs.lemmas.Bool.{cond_both, cond-true, cond-false, and_parts, and_from, cases_Bool, eqb-false, true≢false, or_cases, not_from_true}
 use Rattle.std.proofs.lemmas.List.Elements.{filter-append}
 use Rattle.stat_plan.specs.NodeSets.{In, member}
-use Rattle.stat_plan.specs.Waves.{put_at, Wave, Open, Closed, Book, set_wave, is_open, is_closed, is_fired, sent_of, covering, growing, ticked, unsent}
+use Rattle.stat_plan.specs.Machine.Waves.{put_at, Wave, Open, Closed, Book, set_wave, is_open, is_closed, is_fired, sent_of, covering, growing, ticked, unsent}
 use Rattle.stat_plan.specs.Plans.{Plan, IsUnder, ancestors, serves, mode, is_front, front, daemons, ranks, is_within, is_related, waves_at, waves_of}
-use Rattle.stat_plan.specs.Due.{due_act}
+use Rattle.stat_plan.specs.Machine.Due.{due_act}
 use Rattle.overlay_core.specs.Nodes.{Packet, Up, Done, Attach, Down, Node, Effects, Outcome, Release, begin, due_at, to_parent, dones, acted, act_as, act, act_each, done_work, sampled, after_tick, received_up, received_done, received_attach, received_down, received}
-use Rattle.stat_plan.specs.Kin.{Kin, complete, is_parent, without_child, with_parent}
+use Rattle.stat_plan.specs.Machine.Kin.{Kin, complete, is_parent, without_child, with_parent}
 use Rattle.overlay_core.specs.Machine.{State, start, step, commit, with_link, lose, receive, is_enabled, is_empty_open}
 use Rattle.overlay_core.proofs.PlanFacts.{HasPlanFacts}
 use Rattle.overlay_core.specs.LinkInvariant.{LinkInvariant, KinIsSound, PacketIsSound, WaveIsSound, BookIsSound, OpenIsSound}
@@ -17,10 +17,10 @@ use Rattle.overlay_core.specs.declared.release.Kind.{Kind}
 use Rattle.overlay_core.specs.declared.release.Kind.TheVariants.{Partial as PartialRelease, Final as FinalRelease}
 use Rattle.stat_plan.specs.declared.script.Mode.{Mode}
 use Rattle.stat_plan.specs.declared.script.Mode.TheVariants.{WaitForAll, TimeOut, DontWait}
-use Rattle.stat_plan.specs.declared.act.Timer.{Timer}
-use Rattle.stat_plan.specs.declared.act.Timer.TheVariants.{Off, Running, Fired}
-use Rattle.stat_plan.specs.declared.act.Act.{Act}
-use Rattle.stat_plan.specs.declared.act.Act.TheVariants.{Hold, Arm, Send, Partial, Final}
+use Rattle.stat_plan.specs.declared.machine.Timer.{Timer}
+use Rattle.stat_plan.specs.declared.machine.Timer.TheVariants.{Off, Running, Fired}
+use Rattle.stat_plan.specs.declared.machine.Act.{Act}
+use Rattle.stat_plan.specs.declared.machine.Act.TheVariants.{Hold, Arm, Send, Partial, Final}
 use Rattle.stat_desk.specs.declared.event.Event.{Event}
 use Rattle.stat_desk.specs.declared.event.Event.TheVariants.{Sample, Recv, Tick, Lose}
 use Rattle.overlay_core.proofs.Lists.{filter_from, list_all_in, subset_from_test, in_from_member, in_append, in_map_filter, in_take}

@@ -4,7 +4,7 @@ use Rattle.std.specs.List.{list_any, AllByRecursion}
 use Rattle.std.proofs.lemmas.Bool.{cond_both, and_parts, true≢false}
 use Rattle.stat_plan.specs.NodeSets.{member}
 use Rattle.stat_plan.specs.Plans.{Plan, daemons, waves_at, is_related, fault}
-use Rattle.stat_plan.specs.Waves.{is_running}
+use Rattle.stat_plan.specs.Machine.Waves.{is_running}
 use Rattle.stat_desk.specs.declared.event.Event.{Event}
 use Rattle.stat_desk.specs.declared.event.Event.TheVariants.{Sample, Recv, Tick, Lose}
 use Rattle.overlay_core.specs.Nodes.{Packet, Down, Node, Outcome, handled}

@@ -5,11 +5,11 @@ use Rattle.rank_set.specs.Ranks.{Ranks}
 use Rattle.stat_plan.specs.NodeSets.{In}
 use Rattle.stat_plan.specs.Plans.{Plan, fault, nodes, ranks, waves_at}
 use Rattle.stat_plan.specs.declared.script.Fault.{Fault}
-use Rattle.stat_plan.specs.Kin.{Kin, is_parent, without_child, with_parent}
-use Rattle.stat_plan.specs.Waves.{Wave, Open, Closed, Book, set_wave, covering, growing, is_fired, ticked}
-use Rattle.stat_plan.specs.declared.act.Timer.{Timer}
-use Rattle.stat_plan.specs.declared.act.Act.{Act}
-use Rattle.stat_plan.specs.declared.act.Act.TheVariants.{Hold, Arm, Send, Partial, Final}
+use Rattle.stat_plan.specs.Machine.Kin.{Kin, is_parent, without_child, with_parent}
+use Rattle.stat_plan.specs.Machine.Waves.{Wave, Open, Closed, Book, set_wave, covering, growing, is_fired, ticked}
+use Rattle.stat_plan.specs.declared.machine.Timer.{Timer}
+use Rattle.stat_plan.specs.declared.machine.Act.{Act}
+use Rattle.stat_plan.specs.declared.machine.Act.TheVariants.{Hold, Arm, Send, Partial, Final}
 use Rattle.stat_desk.specs.declared.event.Event.{Event}
 use Rattle.stat_desk.specs.declared.event.Event.TheVariants.{Sample, Recv, Tick, Lose}
 use Rattle.overlay_core.specs.Nodes.{Packet, Up, Done, Attach, Down, Node, Effects, Outcome, Release, begin, acted, act_as, act, act_each, done_work, due_at, received, received_up, received_done, received_attach, received_down, sampled, after_tick}

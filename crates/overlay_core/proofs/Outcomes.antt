@@ -5,8 +5,8 @@ use Rattle.std.proofs.lemmas.Bool.{cond_both, and_parts, cases_Bool, eqb-false}
 use Rattle.stat_plan.specs.NodeSets.{In, member, with_number}
 use Rattle.stat_plan.specs.Plans.{Plan, IsUnder, ancestors, serves, daemons, ranks, waves_at, waves_of}
 use Rattle.overlay_core.specs.Nodes.{Packet, Up, Done, Attach, Down, Node, Effects, Outcome, begin, done_work, sampled, after_tick, received_up, received_done, received_attach, received_down, received}
-use Rattle.stat_plan.specs.Kin.{Kin, nearest, is_parent, without_child, with_parent}
-use Rattle.stat_plan.specs.Waves.{Wave, Open, Closed, Book, covering, growing, ticked, unsent, is_closed, is_fired}
+use Rattle.stat_plan.specs.Machine.Kin.{Kin, nearest, is_parent, without_child, with_parent}
+use Rattle.stat_plan.specs.Machine.Waves.{Wave, Open, Closed, Book, covering, growing, ticked, unsent, is_closed, is_fired}
 use Rattle.overlay_core.specs.Machine.{next_sample, is_empty_open, is_wave}
 use Rattle.overlay_core.proofs.PlanFacts.{HasPlanFacts}
 use Rattle.overlay_core.specs.LinkInvariant.{AreRelated, ComesWhole, KinIsSound, PacketIsSound, SendIsSound, WaveIsSound, BookIsSound, IsUnion}

@@ -4,7 +4,7 @@ use Rattle.std.proofs.lemmas.Bool.{cond-true, cond-false, and_parts, and_from, c
 use Rattle.stat_plan.specs.NodeSets.{In}
 use Rattle.stat_plan.specs.Plans.{Plan, ancestors, waves_at, serves}
 use Rattle.overlay_core.specs.Nodes.{Packet, Up, Done, Attach, Down, Node, Outcome, received}
-use Rattle.stat_plan.specs.Waves.{is_open}
+use Rattle.stat_plan.specs.Machine.Waves.{is_open}
 use Rattle.overlay_core.specs.Machine.{State, step, commit, with_link, lose, receive, to, is_enabled}
 use Rattle.overlay_core.proofs.PlanFacts.{HasPlanFacts}
 use Rattle.overlay_core.specs.LinkInvariant.{LinkInvariant, KinIsSound}

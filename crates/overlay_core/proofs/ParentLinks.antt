@@ -5,19 +5,19 @@ use Rattle.std.specs.List.{list_any}
 use Rattle.std.proofs.lemmas.Bool.{cond_both, and_from, or_cases, or_left, or_right, cond-true}
 use Rattle.stat_plan.specs.NodeSets.{In, with_number, without_number}
 use Rattle.stat_plan.specs.Plans.{Plan, IsUnder, ancestors, serves, mode, is_front, front, daemons, is_within, is_under, waves_at, waves_of}
-use Rattle.stat_plan.specs.Due.{due_act}
+use Rattle.stat_plan.specs.Machine.Due.{due_act}
 use Rattle.overlay_core.specs.Nodes.{Packet, Up, Done, Attach, Down, Node, Effects, Outcome, begin, due_at, to_parent, dones, acted, act_as, act, act_each, done_work, sampled, after_tick, received_up, received_done, received_attach, received_down, received}
-use Rattle.stat_plan.specs.Kin.{Kin, complete, nearest, is_parent, without_child, with_parent}
-use Rattle.stat_plan.specs.Waves.{Wave, Open, Closed, Book, set_wave, is_open, is_closed, is_fired, cov_of, sent_of, covering, growing, ticked, unsent}
+use Rattle.stat_plan.specs.Machine.Kin.{Kin, complete, nearest, is_parent, without_child, with_parent}
+use Rattle.stat_plan.specs.Machine.Waves.{Wave, Open, Closed, Book, set_wave, is_open, is_closed, is_fired, cov_of, sent_of, covering, growing, ticked, unsent}
 use Rattle.overlay_core.specs.Machine.{is_empty_open}
 use Rattle.overlay_core.proofs.PlanFacts.{HasPlanFacts}
 use Rattle.overlay_core.specs.LinkInvariant.{KinIsSound, PacketIsSound}
 use Rattle.stat_plan.specs.declared.script.Mode.{Mode}
 use Rattle.stat_plan.specs.declared.script.Mode.TheVariants.{WaitForAll, TimeOut, DontWait}
-use Rattle.stat_plan.specs.declared.act.Timer.{Timer}
-use Rattle.stat_plan.specs.declared.act.Timer.TheVariants.{Off, Running, Fired}
-use Rattle.stat_plan.specs.declared.act.Act.{Act}
-use Rattle.stat_plan.specs.declared.act.Act.TheVariants.{Hold, Arm, Send, Partial, Final}
+use Rattle.stat_plan.specs.declared.machine.Timer.{Timer}
+use Rattle.stat_plan.specs.declared.machine.Timer.TheVariants.{Off, Running, Fired}
+use Rattle.stat_plan.specs.declared.machine.Act.{Act}
+use Rattle.stat_plan.specs.declared.machine.Act.TheVariants.{Hold, Arm, Send, Partial, Final}
 use Rattle.overlay_core.proofs.Lists.{append_left, append_right, with_number_old, with_number_new, union_left, union_right, in_member, in_from_member, no_rank, empty_true}
 use Rattle.overlay_core.proofs.Acts.{each_wave_set}
 

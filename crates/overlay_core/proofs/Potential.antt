@@ -5,15 +5,15 @@ use Rattle.std.proofs.lemmas.Bool.{cond_both, cond-true, cond-false, and_parts, 
 use Rattle.stat_plan.specs.NodeSets.{In, IsStrictlyIncreasing, member}
 use Rattle.stat_plan.specs.Plans.{Plan, IsUnder, ancestors, nodes, daemons, ranks, is_related, waves_at, waves_of, up_to, fault, is_within, serves}
 use Rattle.overlay_core.specs.Nodes.{Packet, Up, Done, Attach, Down, Node, Outcome, sampled, after_tick, received}
-use Rattle.stat_plan.specs.Waves.{Open}
-use Rattle.stat_plan.specs.Kin.{without_child}
+use Rattle.stat_plan.specs.Machine.Waves.{Open}
+use Rattle.stat_plan.specs.Machine.Kin.{without_child}
 use Rattle.overlay_core.specs.Machine.{State, start, step, commit, with_link, lose, receive, to, keep_of, is_enabled, is_pending}
 use Rattle.overlay_core.specs.Runs.{IsLegal, IsLegalFrom}
 use Rattle.overlay_core.proofs.PlanFacts.{HasPlanFacts}
 use Rattle.overlay_core.specs.LinkInvariant.{LinkInvariant, KinIsSound, PacketIsSound, BookIsSound}
 use Rattle.overlay_core.specs.Whole.{IsSound}
 use Rattle.overlay_core.specs.Bound.{bound, longest}
-use Rattle.stat_plan.specs.declared.act.Timer.TheVariants.{Off}
+use Rattle.stat_plan.specs.declared.machine.Timer.TheVariants.{Off}
 use Rattle.stat_desk.specs.declared.event.Event.{Event}
 use Rattle.stat_desk.specs.declared.event.Event.TheVariants.{Sample, Recv, Tick, Lose}
 use Rattle.overlay_core.proofs.Lists.{in_from_member, without_rises, in_without, up_to_below}

@@ -7,10 +7,10 @@ use Rattle.std.specs.Cmp.{nat_cmp_total, tied_itself}
 use Rattle.std.proofs.lemmas.Bool.{cond_both, or_left, or_right, and_parts, and_from, cases_Bool, true≢false}
 use Rattle.stat_plan.specs.NodeSets.{In, member, with_number}
 use Rattle.stat_plan.specs.Plans.{Plan, Stream, ancestors, serves, mode, stream_of, is_front, nodes, daemons, ranks, is_within, waves_at, waves_of}
-use Rattle.stat_plan.specs.Due.{due_act}
+use Rattle.stat_plan.specs.Machine.Due.{due_act}
 use Rattle.overlay_core.specs.Nodes.{Packet, Up, Done, Attach, Down, Node, Effects, Outcome, begin, due_at, to_parent, dones, acted, act_as, act, act_each, done_work, sampled, after_tick, received_up, received_done, received_attach, received_down}
-use Rattle.stat_plan.specs.Kin.{Kin, complete, nearest, is_parent, without_child, with_parent}
-use Rattle.stat_plan.specs.Waves.{Wave, Open, Closed, Book, set_wave, ticks, is_closed, is_fired, is_running, covering, growing, ticked, unsent}
+use Rattle.stat_plan.specs.Machine.Kin.{Kin, complete, nearest, is_parent, without_child, with_parent}
+use Rattle.stat_plan.specs.Machine.Waves.{Wave, Open, Closed, Book, set_wave, ticks, is_closed, is_fired, is_running, covering, growing, ticked, unsent}
 use Rattle.overlay_core.specs.Machine.{is_empty_open}
 use Rattle.overlay_core.proofs.PlanFacts.{HasPlanFacts}
 use Rattle.overlay_core.specs.LinkInvariant.{KinIsSound, WaveIsSound}
@@ -18,10 +18,10 @@ use Rattle.overlay_core.specs.Settled.{WaveIsSettled, NodeIsSettled, TimerIsSoun
 use Rattle.overlay_core.specs.Bound.{longest}
 use Rattle.stat_plan.specs.declared.script.Mode.{Mode}
 use Rattle.stat_plan.specs.declared.script.Mode.TheVariants.{WaitForAll, TimeOut, DontWait}
-use Rattle.stat_plan.specs.declared.act.Timer.{Timer}
-use Rattle.stat_plan.specs.declared.act.Timer.TheVariants.{Off, Running, Fired}
-use Rattle.stat_plan.specs.declared.act.Act.{Act}
-use Rattle.stat_plan.specs.declared.act.Act.TheVariants.{Hold, Arm, Send, Partial, Final}
+use Rattle.stat_plan.specs.declared.machine.Timer.{Timer}
+use Rattle.stat_plan.specs.declared.machine.Timer.TheVariants.{Off, Running, Fired}
+use Rattle.stat_plan.specs.declared.machine.Act.{Act}
+use Rattle.stat_plan.specs.declared.machine.Act.TheVariants.{Hold, Arm, Send, Partial, Final}
 use Rattle.overlay_core.proofs.Lists.{test_from_same, same_from_members, union_left, in_member, in_from_member, with_number_old, with_number_new, subset_from_test, test_from_subset, filter_from, no_rank, empty_true, none_from_subset}
 use Rattle.overlay_core.proofs.Totals.{total, total_append, total_drop, total_rise, length_filter_le, length_filter_less, length_filter_drop}
 use Rattle.overlay_core.proofs.Acts.{IsSubsetOf, each_wave_set, send_grown}

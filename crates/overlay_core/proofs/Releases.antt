@@ -4,10 +4,10 @@ use Rattle.std.proofs.Common.{◌≡◌, ◌≢◌, inl, inr, ℕ, Bool, true, f
 use Rattle.std.proofs.lemmas.Bool.{cond_both, and_parts}
 use Rattle.stat_plan.specs.NodeSets.{In}
 use Rattle.stat_plan.specs.Plans.{Plan, front, is_front, mode, daemons, waves_at, waves_of}
-use Rattle.stat_plan.specs.Due.{due_act}
+use Rattle.stat_plan.specs.Machine.Due.{due_act}
 use Rattle.overlay_core.specs.Nodes.{Packet, Up, Done, Attach, Down, Node, Effects, Outcome, Release, begin, due_at, acted, act_as, act, act_each, to_parent, done_work, sampled, after_tick, received_up, received_done, received_attach, received_down, received}
-use Rattle.stat_plan.specs.Kin.{Kin, is_parent, without_child, with_parent}
-use Rattle.stat_plan.specs.Waves.{Wave, Open, Closed, Book, is_fired, ticked, unsent}
+use Rattle.stat_plan.specs.Machine.Kin.{Kin, is_parent, without_child, with_parent}
+use Rattle.stat_plan.specs.Machine.Waves.{Wave, Open, Closed, Book, is_fired, ticked, unsent}
 use Rattle.overlay_core.specs.Machine.{State, start, step, commit, with_link, lose, receive, is_enabled}
 use Rattle.overlay_core.specs.Runs.{run, after, IsLegal, IsLegalFrom}
 use Rattle.overlay_core.proofs.PlanFacts.{HasPlanFacts}
@@ -17,9 +17,9 @@ use Rattle.overlay_core.specs.Releases.{ReleaseIsSound, ReleasesAreSound}
 use Rattle.overlay_core.specs.declared.release.Kind.TheVariants.{Partial as PartialRelease, Final as FinalRelease}
 use Rattle.stat_plan.specs.declared.script.Mode.{Mode}
 use Rattle.stat_plan.specs.declared.script.Mode.TheVariants.{WaitForAll, TimeOut, DontWait}
-use Rattle.stat_plan.specs.declared.act.Timer.{Timer}
-use Rattle.stat_plan.specs.declared.act.Act.{Act}
-use Rattle.stat_plan.specs.declared.act.Act.TheVariants.{Hold, Arm, Send, Partial, Final}
+use Rattle.stat_plan.specs.declared.machine.Timer.{Timer}
+use Rattle.stat_plan.specs.declared.machine.Act.{Act}
+use Rattle.stat_plan.specs.declared.machine.Act.TheVariants.{Hold, Arm, Send, Partial, Final}
 use Rattle.stat_desk.specs.declared.event.Event.{Event}
 use Rattle.stat_desk.specs.declared.event.Event.TheVariants.{Sample, Recv, Tick, Lose}
 use Rattle.overlay_core.proofs.Lists.{in_append, in_from_member, filter_from}

@@ -6,15 +6,15 @@ use Rattle.std.proofs.lemmas.Bool.{cond_both, cases_Bool, and_parts, eqb-false, 
 use Rattle.rank_set.specs.Ranks.{Ranks, none, is_same}
 use Rattle.stat_plan.specs.NodeSets.{member, with_number}
 use Rattle.stat_plan.specs.Plans.{Plan, ancestors, ranks, mode, is_front, serves, waves_at}
-use Rattle.stat_plan.specs.Due.{due_act}
-use Rattle.stat_plan.specs.Kin.{Kin, complete, nearest, is_parent, with_parent, without_child}
-use Rattle.stat_plan.specs.Waves.{Wave, Open, Closed, Book, set_wave, has_grown, ticks, is_fired, is_closed, covering, growing, ticked, unsent}
+use Rattle.stat_plan.specs.Machine.Due.{due_act}
+use Rattle.stat_plan.specs.Machine.Kin.{Kin, complete, nearest, is_parent, with_parent, without_child}
+use Rattle.stat_plan.specs.Machine.Waves.{Wave, Open, Closed, Book, set_wave, has_grown, ticks, is_fired, is_closed, covering, growing, ticked, unsent}
 use Rattle.stat_plan.specs.declared.script.Mode.{Mode}
 use Rattle.stat_plan.specs.declared.script.Mode.TheVariants.{WaitForAll, TimeOut, DontWait}
-use Rattle.stat_plan.specs.declared.act.Timer.{Timer}
-use Rattle.stat_plan.specs.declared.act.Timer.TheVariants.{Off, Running, Fired}
-use Rattle.stat_plan.specs.declared.act.Act.{Act}
-use Rattle.stat_plan.specs.declared.act.Act.TheVariants.{Hold, Arm, Send, Partial, Final}
+use Rattle.stat_plan.specs.declared.machine.Timer.{Timer}
+use Rattle.stat_plan.specs.declared.machine.Timer.TheVariants.{Off, Running, Fired}
+use Rattle.stat_plan.specs.declared.machine.Act.{Act}
+use Rattle.stat_plan.specs.declared.machine.Act.TheVariants.{Hold, Arm, Send, Partial, Final}
 use Rattle.stat_desk.specs.declared.event.Event.{Event}
 use Rattle.stat_desk.specs.declared.event.Event.TheVariants.{Sample, Recv, Tick, Lose}
 use Rattle.overlay_core.specs.declared.release.Kind.TheVariants.{Partial as PartialRelease, Final as FinalRelease}

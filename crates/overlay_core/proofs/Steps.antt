@@ -4,7 +4,7 @@ use Rattle.std.proofs.lemmas.Bool.{cond_both, cond-true, and_parts, and_from, no
 use Rattle.stat_plan.specs.NodeSets.{In}
 use Rattle.stat_plan.specs.Plans.{Plan, IsUnder, ancestors, daemons, front, nodes, up_to}
 use Rattle.overlay_core.specs.Nodes.{Packet, Up, Done, Attach, Down}
-use Rattle.stat_plan.specs.Kin.{nearest}
+use Rattle.stat_plan.specs.Machine.Kin.{nearest}
 use Rattle.overlay_core.specs.Machine.{State, start, step, with_link, receive, is_enabled, is_active, is_doomed, children_of}
 use Rattle.overlay_core.specs.Runs.{run, after, IsLegal, IsLegalFrom}
 use Rattle.overlay_core.proofs.PlanFacts.{HasPlanFacts}

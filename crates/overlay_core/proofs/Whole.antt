@@ -4,10 +4,10 @@ use Rattle.std.proofs.Common.{◌≡◌, ◌≢◌, ◌⊎◌, ◌≤◌, ◌<�
 use Rattle.std.proofs.lemmas.Bool.{and_from, cases_Bool, eqb-false, true≢false, or_left, or_right, not-false, ltb-true}
 use Rattle.stat_plan.specs.NodeSets.{In, member}
 use Rattle.stat_plan.specs.Plans.{Plan, IsUnder, ancestors, serves, mode, is_front, front, nodes, daemons, ranks, is_within, waves_at, waves_of, up_to}
-use Rattle.stat_plan.specs.Due.{due_act}
+use Rattle.stat_plan.specs.Machine.Due.{due_act}
 use Rattle.overlay_core.specs.Nodes.{Packet, Up, Done, Attach, Down, Release, due_at}
-use Rattle.stat_plan.specs.Waves.{Wave, Open, Closed, is_open, cov_of, sent_of}
-use Rattle.stat_plan.specs.Kin.{complete, nearest}
+use Rattle.stat_plan.specs.Machine.Waves.{Wave, Open, Closed, is_open, cov_of, sent_of}
+use Rattle.stat_plan.specs.Machine.Kin.{complete, nearest}
 use Rattle.overlay_core.specs.Machine.{State, start, step, is_enabled, is_active, is_doomed, is_pending, is_empty_open, next_sample, is_wave, commit, lose, with_link, receive}
 use Rattle.overlay_core.specs.Runs.{run, after, IsLegal, IsLegalFrom, IsQuiet, IsWhole}
 use Rattle.overlay_core.proofs.PlanFacts.{HasPlanFacts}
@@ -19,8 +19,8 @@ use Rattle.overlay_core.specs.Whole.{IsSound}
 use Rattle.overlay_core.specs.declared.release.Kind.{Kind}
 use Rattle.overlay_core.specs.declared.release.Kind.TheVariants.{Partial as PartialRelease, Final as FinalRelease}
 use Rattle.stat_plan.specs.declared.script.Mode.{Mode}
-use Rattle.stat_plan.specs.declared.act.Timer.{Timer}
-use Rattle.stat_plan.specs.declared.act.Act.TheVariants.{Hold}
+use Rattle.stat_plan.specs.declared.machine.Timer.{Timer}
+use Rattle.stat_plan.specs.declared.machine.Act.TheVariants.{Hold}
 use Rattle.stat_desk.specs.declared.event.Event.{Event}
 use Rattle.stat_desk.specs.declared.event.Event.TheVariants.{Sample, Recv, Tick, Lose}
 use Rattle.overlay_core.proofs.Lists.{in_append, append_left, append_right, in_member, in_from_member, list_all_from, test_from_subset, no_rank, some_rank, same_true}

@@ -3,7 +3,7 @@ use Rattle.std.specs.Prelude.{◌≡◌, ℕ, ◌+◌, Bool, true, false, ◌&&�
 use Rattle.std.specs.List.{count_by}
 use Rattle.rank_set.specs.Ranks.{IsSubset, is_same}
 use Rattle.stat_plan.specs.Plans.{Plan}
-use Rattle.stat_plan.specs.Waves.{Wave, Open, Closed, is_open, cov_of, has_grown}
+use Rattle.stat_plan.specs.Machine.Waves.{Wave, Open, Closed, is_open, cov_of, has_grown}
 use Rattle.stat_desk.specs.declared.event.Event.{Event}
 use Rattle.overlay_core.specs.declared.release.Kind.{Kind}
 use Rattle.overlay_core.specs.declared.release.Kind.TheVariants.{Partial as PartialRelease, Final as FinalRelease}

@@ -4,7 +4,7 @@ use Rattle.std.specs.Prelude.{ℕ, ◌≡◌, ◌≢◌, ◌⊎◌, Bool, false,
 use Rattle.stat_plan.specs.NodeSets.{In}
 use Rattle.stat_plan.specs.Plans.{Plan, front, daemons, ranks}
 use Rattle.overlay_core.specs.Nodes.{Done, Release}
-use Rattle.stat_plan.specs.Waves.{Wave, Open, Closed, is_open}
+use Rattle.stat_plan.specs.Machine.Waves.{Wave, Open, Closed, is_open}
 use Rattle.overlay_core.specs.Machine.{State}
 use Rattle.overlay_core.specs.declared.release.Kind.{Kind}
 use Rattle.overlay_core.specs.declared.release.Kind.TheVariants.{Partial as PartialRelease, Final as FinalRelease}

@@ -6,8 +6,8 @@ use Rattle.stat_plan.specs.NodeSets.{In, IsStrictlyIncreasing}
 use Rattle.stat_plan.specs.Plans.{Plan, ancestors, IsUnder, front, fault, ranks, daemons, serves, waves_of}
 use Rattle.stat_plan.specs.declared.script.Fault.{Fault}
 use Rattle.overlay_core.specs.Nodes.{Packet, Up, Done, Attach, Down, Node}
-use Rattle.stat_plan.specs.Kin.{Kin, nearest}
-use Rattle.stat_plan.specs.Waves.{Wave, Open, Closed, Book}
+use Rattle.stat_plan.specs.Machine.Kin.{Kin, nearest}
+use Rattle.stat_plan.specs.Machine.Waves.{Wave, Open, Closed, Book}
 use Rattle.overlay_core.specs.Machine.{State}
 
 -- one is an original ancestor of the other

@@ -4,10 +4,10 @@ use Rattle.std.specs.List.{list_any}
 use Rattle.rank_set.specs.Ranks.{none, is_empty}
 use Rattle.stat_plan.specs.NodeSets.{member}
 use Rattle.stat_plan.specs.Plans.{Plan, nodes, up_to, ancestors, is_related, waves_at, waves_of, daemons, fault}
-use Rattle.stat_plan.specs.Kin.{nearest}
-use Rattle.stat_plan.specs.Waves.{Wave, Open, Closed, put_at, is_running}
+use Rattle.stat_plan.specs.Machine.Kin.{nearest}
+use Rattle.stat_plan.specs.Machine.Waves.{Wave, Open, Closed, put_at, is_running}
 use Rattle.stat_plan.specs.declared.script.Fault.{Fault}
-use Rattle.stat_plan.specs.declared.act.Timer.TheVariants.{Off}
+use Rattle.stat_plan.specs.declared.machine.Timer.TheVariants.{Off}
 use Rattle.stat_desk.specs.declared.event.Event.{Event}
 use Rattle.stat_desk.specs.declared.event.Event.TheVariants.{Sample, Recv, Tick, Lose}
 use Rattle.overlay_core.specs.Nodes.{Packet, Down, Node, Release, Outcome, handled}

@@ -4,7 +4,7 @@ use Rattle.std.specs.Prelude.{ℕ, ◌≡◌, ◌⊎◌, true, false, List, Some
 use Rattle.stat_plan.specs.NodeSets.{In}
 use Rattle.stat_plan.specs.Plans.{Plan, waves_at}
 use Rattle.overlay_core.specs.Nodes.{Packet, Up, Done, Attach, Node}
-use Rattle.stat_plan.specs.Waves.{is_open, cov_of, sent_of}
+use Rattle.stat_plan.specs.Machine.Waves.{is_open, cov_of, sent_of}
 use Rattle.overlay_core.specs.Machine.{State}
 
 -- r is on the way up in a packet of the wave

@@ -2,9 +2,9 @@
 use Rattle.std.specs.Prelude.{◌≡◌, refl, codes, ℕ, true, List, [], ◌∷◌, Option, Some, None}
 use Rattle.rank_set.specs.Ranks.{Ranks, none, has, with_rank, union, those, set_of}
 use Rattle.stat_plan.specs.Plans.{Plan, stream, ancestors, is_under, is_within, is_related, front, is_front, ranks, stream_of, daemons, mode, serves, waves_at, fault}
-use Rattle.stat_plan.specs.Kin.{complete}
-use Rattle.stat_plan.specs.Waves.{Open}
-use Rattle.stat_plan.specs.declared.act.Timer.TheVariants.{Running}
+use Rattle.stat_plan.specs.Machine.Kin.{complete}
+use Rattle.stat_plan.specs.Machine.Waves.{Open}
+use Rattle.stat_plan.specs.declared.machine.Timer.TheVariants.{Running}
 use Rattle.stat_plan.specs.declared.script.Mode.{Mode}
 use Rattle.stat_plan.specs.declared.script.Mode.TheVariants.{WaitForAll, TimeOut, DontWait}
 use Rattle.stat_plan.specs.declared.script.Fault.{Fault}

@@ -4,11 +4,11 @@ use Rattle.std.specs.Prelude.{ℕ, ◌≡◌, ◌≢◌, ◌≤◌, true, ⊤, L
 use Rattle.stat_plan.specs.NodeSets.{In}
 use Rattle.stat_plan.specs.Plans.{Plan, mode, waves_at}
 use Rattle.overlay_core.specs.Nodes.{Node, due_at}
-use Rattle.stat_plan.specs.Waves.{Wave, Open, Closed, ticks}
+use Rattle.stat_plan.specs.Machine.Waves.{Wave, Open, Closed, ticks}
 use Rattle.overlay_core.specs.Machine.{State}
-use Rattle.stat_plan.specs.declared.act.Timer.{Timer}
-use Rattle.stat_plan.specs.declared.act.Timer.TheVariants.{Off, Running, Fired}
-use Rattle.stat_plan.specs.declared.act.Act.TheVariants.{Hold}
+use Rattle.stat_plan.specs.declared.machine.Timer.{Timer}
+use Rattle.stat_plan.specs.declared.machine.Timer.TheVariants.{Off, Running, Fired}
+use Rattle.stat_plan.specs.declared.machine.Act.TheVariants.{Hold}
 
 -- a timer runs for at least a tick and at most the timeout, and only where something was not sent yet; none has run out
 abbrev pub TimerIsSound : Plan → ℕ → Ranks → Ranks → Timer → Type 0

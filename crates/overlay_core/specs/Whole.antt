@@ -3,7 +3,7 @@ use Rattle.std.specs.Prelude.{ℕ, ◌≡◌, ◌<◌, true, false, List, [], �
 use Rattle.rank_set.specs.Ranks.{Has, IsSubset}
 use Rattle.stat_plan.specs.NodeSets.{In}
 use Rattle.stat_plan.specs.Plans.{Plan, nodes, daemons, ranks, waves_of, waves_at}
-use Rattle.stat_plan.specs.Waves.{is_open}
+use Rattle.stat_plan.specs.Machine.Waves.{is_open}
 use Rattle.stat_desk.specs.declared.event.Event.{Event}
 use Rattle.overlay_core.specs.declared.release.Kind.TheVariants.{Partial as PartialRelease, Final as FinalRelease}
 use Rattle.overlay_core.specs.Nodes.{Release}

@@ -5,7 +5,7 @@ use Rattle.std.proofs.lemmas.Bool.Decides.{nat_tests}
 use Rattle.std.specs.List.{AllByRecursion}
 use Rattle.stat_plan.specs.NodeSets.{In}
 use Rattle.stat_plan.specs.Invariants.{IsPlan}
-use Rattle.stat_plan.specs.Waves.{Wave, Open, Closed, set_wave, covering, growing, ticked, is_fired}
+use Rattle.stat_plan.specs.Machine.Waves.{Wave, Open, Closed, set_wave, covering, growing, ticked, is_fired}
 use Rattle.stat_plan.specs.Plans.{Plan, nodes, front, is_front, is_within, serves, daemons, ranks, waves_at, waves_of}
 use Rattle.stat_desk.specs.declared.event.Event.{Event}
 use Rattle.stat_desk.specs.declared.event.Event.TheVariants.{Sample, Recv, Tick, Lose}

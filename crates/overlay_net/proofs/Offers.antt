@@ -12,7 +12,7 @@ use Rattle.stat_plan.specs.NodeSets.{In, IsStrictlyIncreasing, member}
 use Rattle.stat_plan.specs.Plans.{Plan, Stream, nodes, nodes_of, ancestors, is_within, daemons, stream_of, serves, up_to, waves_of, waves_at, fault}
 use Rattle.stat_plan.specs.Trees.{climb, is_daemon, parent_of}
 use Rattle.stat_plan.specs.Invariants.{IsPlan, IsDaemon}
-use Rattle.stat_plan.specs.Waves.{is_running}
+use Rattle.stat_plan.specs.Machine.Waves.{is_running}
 use Rattle.stat_plan.proofs.FirstOver.{all_in, found_in}
 use Rattle.stat_plan.proofs.InLists.{in_append, in_at, in_map, any_from_in, in_from_any}
 use Rattle.stat_plan.proofs.Leaves.{daemon_is_leaf}

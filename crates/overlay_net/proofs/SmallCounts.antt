@@ -9,7 +9,7 @@ use Rattle.stat_plan.specs.declared.script.Mode.TheVariants.{WaitForAll, TimeOut
 use Rattle.stat_plan.specs.Invariants.{IsMode, IsPlan, IsStream}
 use Rattle.stat_plan.specs.NodeSets.{In, IsStrictlyIncreasing}
 use Rattle.stat_plan.specs.Plans.{Plan, Stream, nodes, up_to, waves_of}
-use Rattle.stat_plan.specs.Waves.{ticks}
+use Rattle.stat_plan.specs.Machine.Waves.{ticks}
 use Rattle.stat_plan.proofs.TableLemmas.{length-up_to}
 use Rattle.stat_desk.specs.declared.event.Event.{Event}
 use Rattle.stat_desk.specs.declared.event.Event.TheVariants.{Sample, Recv, Tick, Lose}

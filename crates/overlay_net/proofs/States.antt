@@ -5,7 +5,7 @@ use Rattle.std.proofs.lemmas.Bool.Decides.{nat_tests}
 use Rattle.std.proofs.lemmas.List.{map-append, length-set, get_or-set_same, get_or-set_other}
 use Rattle.std.proofs.lemmas.Option.{slice_get-get_or, slice_get_past, slice_get_within}
 use Rattle.stat_plan.specs.Plans.{Plan, nodes}
-use Rattle.stat_plan.specs.Waves.{put_at}
+use Rattle.stat_plan.specs.Machine.Waves.{put_at}
 use Rattle.overlay_core.specs.Nodes.{Node, Outcome}
 use Rattle.overlay_core.specs.Machine.{State, start_node, to, commit, with_link}
 use Rattle.overlay_core.specs.TreeReleases.{TreeRelease, bare_release, bare_releases}

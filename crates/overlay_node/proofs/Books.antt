@@ -1,7 +1,7 @@
 -- What a book reads, with waves changed.
 use Rattle.std.proofs.Common.{◌≡◌, ℕ, Bool, true, false, cond, ◌&&◌, ◌==◌, refl, sym, ap, ◌∙◌, eqb-true, inl, inr}
 use Rattle.std.proofs.lemmas.Bool.{and_parts, cases_Bool}
-use Rattle.stat_plan.specs.Waves.{Wave, Book, set_wave}
+use Rattle.stat_plan.specs.Machine.Waves.{Wave, Book, set_wave}
 use Rattle.overlay_core.proofs.Acts.{each_wave_set}
 use Rattle.overlay_core.proofs.ParentLinks.{set_wave_here}
 use Rattle.overlay_core.proofs.Settled.{set_wave_else}

@@ -5,7 +5,7 @@ use Rattle.std.specs.Cmp.{both_ways}
 use Rattle.std.proofs.lemmas.Bool.{and_parts, and_from}
 use Rattle.rank_set.specs.Ranks.{Ranks, none, IsSubset, union, is_subset, subset_has, subset_from}
 use Rattle.stat_plan.specs.NodeSets.{member}
-use Rattle.stat_plan.specs.Kin.{complete}
+use Rattle.stat_plan.specs.Machine.Kin.{complete}
 use Rattle.stat_plan.specs.Samples.{ranks_with}
 use Rattle.stat_plan.specs.Plans.{Plan, Stream, daemons, expected, is_within, mode, ranks, stream_of, those_within}
 use Rattle.stat_plan.specs.declared.script.Mode.{Mode}

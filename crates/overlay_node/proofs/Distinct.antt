@@ -3,7 +3,7 @@ use Rattle.std.proofs.Common.{◌≡◌, inl, inr, ℕ, Bool, true, false, cond,
 use Rattle.std.proofs.lemmas.Bool.{and_parts, and_from, cases_Bool}
 use Rattle.stat_plan.specs.NodeSets.{In, IsStrictlyIncreasing}
 use Rattle.stat_plan.specs.Invariants.{IsPlan}
-use Rattle.stat_plan.specs.Waves.{Wave}
+use Rattle.stat_plan.specs.Machine.Waves.{Wave}
 use Rattle.stat_plan.proofs.InLists.{in_at}
 use Rattle.stat_plan.specs.Plans.{Plan, Stream, serves, up_to, waves_of, waves_at}
 use Rattle.overlay_core.proofs.Lists.{in_append, filter_from, up_to_rises, eqb_self}

@@ -5,12 +5,12 @@ use Rattle.std.proofs.lemmas.List.{append-nil, map-append}
 use Rattle.rank_set.specs.Ranks.{Ranks}
 use Rattle.stat_plan.specs.Invariants.{IsPlan}
 use Rattle.stat_plan.specs.Plans.{Plan, serves}
-use Rattle.stat_plan.specs.Kin.{Kin}
-use Rattle.stat_plan.specs.Waves.{Wave, Open, Closed, Book, set_wave, covering, growing}
-use Rattle.stat_plan.specs.declared.act.Timer.{Timer}
-use Rattle.stat_plan.specs.declared.act.Timer.TheVariants.{Off}
-use Rattle.stat_plan.specs.declared.act.Act.{Act}
-use Rattle.stat_plan.specs.declared.act.Act.TheVariants.{Hold, Arm, Send, Partial, Final}
+use Rattle.stat_plan.specs.Machine.Kin.{Kin}
+use Rattle.stat_plan.specs.Machine.Waves.{Wave, Open, Closed, Book, set_wave, covering, growing}
+use Rattle.stat_plan.specs.declared.machine.Timer.{Timer}
+use Rattle.stat_plan.specs.declared.machine.Timer.TheVariants.{Off}
+use Rattle.stat_plan.specs.declared.machine.Act.{Act}
+use Rattle.stat_plan.specs.declared.machine.Act.TheVariants.{Hold, Arm, Send, Partial, Final}
 use Rattle.merge_filter.specs.Contributions.{Contrib, cov_of}
 use Rattle.overlay_core.specs.declared.release.Kind.{Kind}
 use Rattle.overlay_core.specs.declared.release.Kind.TheVariants.{Partial as PartialRelease, Final as FinalRelease}

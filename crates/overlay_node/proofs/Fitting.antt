@@ -5,15 +5,15 @@ use Rattle.prefix_tree.specs.Tree.{tree_of}
 use Rattle.prefix_tree.proofs.TreeLemmas.{coverage-tree_of}
 use Rattle.stat_plan.specs.Invariants.{IsPlan}
 use Rattle.stat_plan.specs.Plans.{Plan, is_front, mode, samples, stream_of, stream_ranks}
-use Rattle.stat_plan.specs.Kin.{complete}
-use Rattle.stat_plan.specs.Due.{due_act}
-use Rattle.stat_plan.specs.Waves.{ticks, ticked_timer, Open, covering, growing, has_grown}
+use Rattle.stat_plan.specs.Machine.Kin.{complete}
+use Rattle.stat_plan.specs.Machine.Due.{due_act}
+use Rattle.stat_plan.specs.Machine.Waves.{ticks, ticked_timer, Open, covering, growing, has_grown}
 use Rattle.stat_plan.specs.declared.script.Mode.{Mode}
 use Rattle.stat_plan.specs.declared.script.Mode.TheVariants.{WaitForAll, TimeOut, DontWait}
-use Rattle.stat_plan.specs.declared.act.Timer.{Timer}
-use Rattle.stat_plan.specs.declared.act.Timer.TheVariants.{Off, Running, Fired}
-use Rattle.stat_plan.specs.declared.act.Act.{Act}
-use Rattle.stat_plan.specs.declared.act.Act.TheVariants.{Hold, Arm, Send, Partial, Final}
+use Rattle.stat_plan.specs.declared.machine.Timer.{Timer}
+use Rattle.stat_plan.specs.declared.machine.Timer.TheVariants.{Off, Running, Fired}
+use Rattle.stat_plan.specs.declared.machine.Act.{Act}
+use Rattle.stat_plan.specs.declared.machine.Act.TheVariants.{Hold, Arm, Send, Partial, Final}
 use Rattle.merge_filter.specs.Contributions.{Contrib, IsPartialMerge, contrib, cov_of}
 use Rattle.merge_filter.proofs.Daemons.{stream_some}
 use Rattle.merge_filter.proofs.Standing.{stands_from}

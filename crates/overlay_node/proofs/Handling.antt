@@ -5,10 +5,10 @@ use Rattle.std.proofs.lemmas.Bool.{and_parts, cases_Bool}
 use Rattle.std.proofs.lemmas.List.{append-nil}
 use Rattle.prefix_tree.specs.Tree.{Tree}
 use Rattle.stat_plan.specs.NodeSets.{In}
-use Rattle.stat_plan.specs.Kin.{Kin}
+use Rattle.stat_plan.specs.Machine.Kin.{Kin}
 use Rattle.stat_plan.specs.Invariants.{IsPlan}
 use Rattle.stat_plan.specs.Plans.{Plan, daemons, nodes, waves_at}
-use Rattle.stat_plan.specs.Waves.{Wave, Open, Closed, Book, is_fired}
+use Rattle.stat_plan.specs.Machine.Waves.{Wave, Open, Closed, Book, is_fired}
 use Rattle.stat_desk.specs.declared.event.Event.{Event}
 use Rattle.stat_desk.specs.declared.event.Event.TheVariants.{Sample, Recv, Tick, Lose}
 use Rattle.merge_filter.specs.Contributions.{HasWave, IsPartialMerge, contrib}

@@ -5,7 +5,7 @@ use Rattle.std.proofs.lemmas.Bool.{and_parts, eqb-true}
 use Rattle.stat_plan.specs.NodeSets.{In}
 use Rattle.stat_plan.specs.Invariants.{IsPlan}
 use Rattle.stat_plan.specs.Plans.{Plan, serves, waves_at, waves_of}
-use Rattle.stat_plan.specs.Waves.{is_running}
+use Rattle.stat_plan.specs.Machine.Waves.{is_running}
 use Rattle.overlay_core.specs.Machine.{is_empty_open}
 use Rattle.overlay_node.specs.NodeViews.{EntryView, book_of, keys_of, wave_of}
 use Rattle.overlay_node.proofs.Distinct.{book_own, keys_once}

@@ -6,8 +6,8 @@ use Rattle.std.specs.List.{AllByRecursion}
 use Rattle.rank_set.specs.Ranks.{none}
 use Rattle.stat_plan.specs.NodeSets.{In}
 use Rattle.stat_plan.specs.Plans.{Plan, Stream, up_to, waves_of}
-use Rattle.stat_plan.specs.Waves.{Book, Open}
-use Rattle.stat_plan.specs.declared.act.Timer.TheVariants.{Off}
+use Rattle.stat_plan.specs.Machine.Waves.{Book, Open}
+use Rattle.stat_plan.specs.declared.machine.Timer.TheVariants.{Off}
 use Rattle.stat_plan.proofs.InLists.{append_left, append_right, in_at, in_map}
 use Rattle.overlay_core.proofs.Whole.{in_up_to}
 use Rattle.overlay_node.specs.NodeViews.{EntryView, EntryFits, book_of, given_of, is_entry_of, keys_of}

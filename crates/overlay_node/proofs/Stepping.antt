@@ -7,7 +7,7 @@ use Rattle.std.proofs.Math.ListN.{set}
 use Rattle.std.proofs.lemmas.Bool.{and_parts, and_from, true≢false}
 use Rattle.stat_plan.specs.NodeSets.{In}
 use Rattle.stat_plan.specs.Plans.{Plan}
-use Rattle.stat_plan.specs.Waves.{set_wave}
+use Rattle.stat_plan.specs.Machine.Waves.{set_wave}
 use Rattle.overlay_core.specs.Nodes.{Release, Effects}
 use Rattle.overlay_core.specs.History.{of_wave}
 use Rattle.overlay_core.specs.TreeReleases.{AreNumberedInOrder, bare_release, bare_releases}

@@ -8,10 +8,10 @@ use Rattle.std.proofs.lemmas.List.{take_more, take_all}
 use Rattle.rank_set.specs.Ranks.{Ranks}
 use Rattle.stat_plan.specs.NodeSets.{In}
 use Rattle.stat_plan.specs.Plans.{Plan}
-use Rattle.stat_plan.specs.Kin.{Kin}
-use Rattle.stat_plan.specs.Waves.{Wave, Closed, is_fired, ticked, ticked_timer}
-use Rattle.stat_plan.specs.declared.act.Timer.{Timer}
-use Rattle.stat_plan.specs.declared.act.Timer.TheVariants.{Off, Running, Fired}
+use Rattle.stat_plan.specs.Machine.Kin.{Kin}
+use Rattle.stat_plan.specs.Machine.Waves.{Wave, Closed, is_fired, ticked, ticked_timer}
+use Rattle.stat_plan.specs.declared.machine.Timer.{Timer}
+use Rattle.stat_plan.specs.declared.machine.Timer.TheVariants.{Off, Running, Fired}
 use Rattle.merge_filter.specs.Contributions.{Contrib}
 use Rattle.overlay_core.specs.Nodes.{Effects, act, act_as}
 use Rattle.overlay_core.specs.TreeReleases.{bare_releases}

@@ -5,11 +5,11 @@ use Rattle.rank_set.specs.Ranks.{Ranks, union}
 use Rattle.prefix_tree.specs.Tree.{Tree, tree_of}
 use Rattle.stat_plan.specs.NodeSets.{In}
 use Rattle.stat_plan.specs.Plans.{Plan, nodes, mode, ranks, samples, serves}
-use Rattle.stat_plan.specs.Kin.{Kin}
-use Rattle.stat_plan.specs.Waves.{Wave, Open, Closed, Book, set_wave, is_fired, ticked, ticks, ticked_timer, covering, growing}
-use Rattle.stat_plan.specs.declared.act.Timer.TheVariants.{Off, Running}
-use Rattle.stat_plan.specs.declared.act.Act.{Act}
-use Rattle.stat_plan.specs.declared.act.Act.TheVariants.{Hold, Arm, Send, Partial, Final}
+use Rattle.stat_plan.specs.Machine.Kin.{Kin}
+use Rattle.stat_plan.specs.Machine.Waves.{Wave, Open, Closed, Book, set_wave, is_fired, ticked, ticks, ticked_timer, covering, growing}
+use Rattle.stat_plan.specs.declared.machine.Timer.TheVariants.{Off, Running}
+use Rattle.stat_plan.specs.declared.machine.Act.{Act}
+use Rattle.stat_plan.specs.declared.machine.Act.TheVariants.{Hold, Arm, Send, Partial, Final}
 use Rattle.stat_desk.specs.declared.event.Event.{Event}
 use Rattle.stat_desk.specs.declared.event.Event.TheVariants.{Sample, Recv, Tick, Lose}
 use Rattle.merge_filter.specs.Contributions.{Contrib, contrib, cov_of}

@@ -1,8 +1,8 @@
 -- The context of a node, and the machine's steps in it.
 use Rattle.std.specs.Prelude.{ℕ, List, [], Option}
-use Rattle.stat_plan.specs.Kin.{Kin}
-use Rattle.stat_plan.specs.Waves.{Wave}
-use Rattle.stat_plan.specs.declared.act.Act.{Act}
+use Rattle.stat_plan.specs.Machine.Kin.{Kin}
+use Rattle.stat_plan.specs.Machine.Waves.{Wave}
+use Rattle.stat_plan.specs.declared.machine.Act.{Act}
 use Rattle.stat_desk.specs.declared.event.Event.{Event}
 use Rattle.overlay_core.specs.Nodes.{Effects}
 use Rattle.overlay_node.specs.Packets.{Output, TreePacket}

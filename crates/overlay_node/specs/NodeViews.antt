@@ -5,10 +5,10 @@ use Rattle.std.specs.Coded.{Coded, code_by, coded×, coded_list, coded_option, c
 use Rattle.rank_set.specs.Ranks.{Ranks, none, IsSubset, size, coded_ranks}
 use Rattle.stat_plan.specs.NodeSets.{In}
 use Rattle.stat_plan.specs.Plans.{Plan, nodes, daemons, mode, waves_at}
-use Rattle.stat_plan.specs.Kin.{Kin}
-use Rattle.stat_plan.specs.Waves.{Wave, Open, Closed, Book, is_running, ticks}
-use Rattle.stat_plan.specs.declared.act.Timer.{Timer}
-use Rattle.stat_plan.specs.declared.act.Timer.TheVariants.{Off, Running, Fired}
+use Rattle.stat_plan.specs.Machine.Kin.{Kin}
+use Rattle.stat_plan.specs.Machine.Waves.{Wave, Open, Closed, Book, is_running, ticks}
+use Rattle.stat_plan.specs.declared.machine.Timer.{Timer}
+use Rattle.stat_plan.specs.declared.machine.Timer.TheVariants.{Off, Running, Fired}
 use Rattle.stat_desk.specs.declared.event.Event.{Event}
 use Rattle.stat_desk.specs.declared.event.Event.TheVariants.{Sample, Recv, Tick, Lose}
 use Rattle.merge_filter.specs.Contributions.{Contrib, IsPartialMerge, contrib, coded_contrib, cov_of}

@@ -3,8 +3,8 @@ use Rattle.std.specs.Prelude.{◌≡◌, ℕ, ◌<◌, List, map}
 use Rattle.std.specs.List.{AllByRecursion}
 use Rattle.rank_set.specs.Ranks.{none}
 use Rattle.stat_plan.specs.Plans.{Plan, up_to}
-use Rattle.stat_plan.specs.Waves.{Open}
-use Rattle.stat_plan.specs.declared.act.Timer.TheVariants.{Off}
+use Rattle.stat_plan.specs.Machine.Waves.{Open}
+use Rattle.stat_plan.specs.declared.machine.Timer.TheVariants.{Off}
 use Rattle.merge_filter.specs.Contributions.{HasWave}
 use Rattle.overlay_node.specs.NodeViews.{EntryView, EntryFits, wave_of}
 

@@ -3,7 +3,7 @@
 ghost use Rattle.std.specs.Prelude.{◌≡◌, ◌<◌, ◌≤◌, ◌+◌, ◌^◌, ◌++◌, [], suc, IsSome, OnOk};
 ghost use Rattle.rank_set.specs.Ranks.{size};
 ghost use Rattle.stat_plan.specs.Plans.{nodes};
-ghost use Rattle.stat_plan.specs.Waves.{ticks};
+ghost use Rattle.stat_plan.specs.Machine.Waves.{ticks};
 ghost use Rattle.overlay_core.specs.TreeReleases.{release_view};
 ghost use Rattle.overlay_node.specs.NodeViews.{EntryFits};
 ghost use Rattle.overlay_node.specs.Contexts.{IsNodeContext, entry_after_act, entry_after_due, output_after_act, output_after_due};

@@ -1,7 +1,7 @@
 //! What is due for a wave at a node.
 
 ghost use Rattle.std.specs.Prelude.{◌≡◌, ◌<◌, IsSome, []};
-ghost use Rattle.stat_plan.specs.Kin.{complete};
+ghost use Rattle.stat_plan.specs.Machine.Kin.{complete};
 ghost use Rattle.stat_plan.specs.Plans.{mode, nodes, stream_of};
 ghost use Rattle.overlay_core.specs.Nodes.{due_at};
 

@@ -5,7 +5,7 @@ ghost use Rattle.std.specs.List.{AllByRecursion};
 ghost use Rattle.rank_set.specs.Ranks.{union};
 ghost use Rattle.stat_plan.specs.NodeSets.{In};
 ghost use Rattle.stat_plan.specs.Plans.{daemons, ranks};
-ghost use Rattle.stat_plan.specs.Waves.{covering, growing, is_fired, ticked_timer};
+ghost use Rattle.stat_plan.specs.Machine.Waves.{covering, growing, is_fired, ticked_timer};
 ghost use Rattle.merge_filter.specs.Contributions.{HasWave, IsPartialMerge, contrib, cov_of};
 ghost use Rattle.overlay_core.specs.Machine.{is_empty_open};
 ghost use Rattle.overlay_node.specs.NodeViews.{EntryFits, wave_of, keys_of, book_of};

@@ -2,7 +2,7 @@
 
 ghost use Rattle.std.specs.Prelude.{◌≡◌, ◌<◌, ◌++◌, [], ℕ, IfOk, OnOk, map};
 ghost use Rattle.std.specs.List.{AllByRecursion};
-ghost use Rattle.stat_plan.specs.Kin.{is_parent, nearest};
+ghost use Rattle.stat_plan.specs.Machine.Kin.{is_parent, nearest};
 ghost use Rattle.stat_plan.specs.Plans.{Plan, ancestors, nodes, up_to, waves_at};
 ghost use Rattle.merge_filter.specs.Contributions.{HasWave};
 ghost use Rattle.overlay_core.specs.Machine.{children_of};

@@ -2,7 +2,7 @@
 
 ghost use Rattle.std.specs.Prelude.{◌≡◌, ◌==◌, ◌&&◌, find, option_map};
 ghost use Rattle.std.specs.List.{list_any};
-ghost use Rattle.stat_plan.specs.Waves.{is_running};
+ghost use Rattle.stat_plan.specs.Machine.Waves.{is_running};
 ghost use Rattle.overlay_core.specs.Machine.{is_empty_open};
 ghost use Rattle.overlay_node.specs.NodeViews.{first_empty, wave_of};
 

@@ -7,7 +7,6 @@
 //! The words of the overlay's machine that several crates need stand apart, in the module `machine` and in `specs/Machine/`.
 #![tactic(auto)]
 
-mod act;
 mod ancestors;
 mod expected;
 mod find;
@@ -15,6 +14,7 @@ mod job;
 mod limit;
 mod line_index;
 mod line_order;
+mod machine;
 mod plan;
 mod plan_error;
 mod samples;
@@ -23,7 +23,7 @@ mod script;
 mod tests;
 mod topology;
 
-pub use act::{Act, Timer};
+pub use machine::{Act, Timer};
 pub use plan::Plan;
 pub use plan_error::PlanError;
 pub use samples::{LINE_LIMIT, Line, Lines, Samples, StackLine, TIME_LIMIT, is_in_wave};

@@ -15,7 +15,7 @@ use Rattle.stat_desk.specs.declared.event.Event.{Event}
 use Rattle.overlay_core.specs.History.{of_wave, ByKind, IsHistory, MissesOnlyLost}
 use Rattle.overlay_core.specs.declared.release.Kind.{Kind}
 use Rattle.overlay_core.specs.declared.release.Kind.TheVariants.{Partial, Final}
-use Rattle.stat_plan.specs.Waves.{Wave, is_open}
+use Rattle.stat_plan.specs.Machine.Waves.{Wave, is_open}
 use Rattle.overlay_core.specs.Machine.{start}
 use Rattle.overlay_core.specs.Nodes.{Release}
 use Rattle.overlay_core.specs.Releases.{CoversAll}

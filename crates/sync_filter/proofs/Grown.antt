@@ -4,7 +4,7 @@ use Rattle.std.specs.Prelude.{◌↔◌}
 use Rattle.std.specs.Cmp.{both_ways}
 use Rattle.std.proofs.lemmas.Bool.{and_from, and_parts, cases_Bool, true≢false}
 use Rattle.rank_set.specs.Ranks.{Ranks, has, is_subset, is_same, same_ranks, subset_has, subset_from}
-use Rattle.stat_plan.specs.Waves.{has_grown}
+use Rattle.stat_plan.specs.Machine.Waves.{has_grown}
 
 same_self : (s : Ranks) → is_same s s ≡ true
 same_self s = and_from (is_subset s s) (is_subset s s) (subset_from s s (λ r h. h)) (subset_from s s (λ r h. h))

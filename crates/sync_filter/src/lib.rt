@@ -1,8 +1,8 @@
 //! What a node does about a wave that it works on: whether it holds back what has come in, or passes it on.
 #![tactic(auto)]
 
-ghost use Rattle.stat_plan.specs.Due.{due_act};
-ghost use Rattle.stat_plan.specs.Waves.{has_grown};
+ghost use Rattle.stat_plan.specs.Machine.Due.{due_act};
+ghost use Rattle.stat_plan.specs.Machine.Waves.{has_grown};
 ghost use Rattle.std.specs.Prelude.{◌≡◌};
 
 #[cfg(test)]

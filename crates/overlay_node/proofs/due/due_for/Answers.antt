@@ -1,7 +1,7 @@
 use Rattle.std.proofs.Common.{◌∙◌, ◌==◌}
-use Rattle.stat_plan.specs.Due.{due_act}
+use Rattle.stat_plan.specs.Machine.Due.{due_act}
 use Rattle.stat_plan.specs.Plans.{is_front}
-use Rattle.stat_plan.specs.Waves.{has_grown}
+use Rattle.stat_plan.specs.Machine.Waves.{has_grown}
 use Rattle.overlay_core.specs.Nodes.{due_at}
 use Rattle.overlay_node.proofs.due.due_for.Goals as goal
 

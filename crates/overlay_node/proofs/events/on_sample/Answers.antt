@@ -1,5 +1,5 @@
 use Rattle.std.proofs.Common.{◌≡◌, ap, get_or, sym, subst, ◌∙◌, true}
-use Rattle.stat_plan.specs.Waves.{covering}
+use Rattle.stat_plan.specs.Machine.Waves.{covering}
 use Rattle.merge_filter.specs.Contributions.{cov_of}
 use Rattle.overlay_core.specs.Machine.{is_empty_open}
 use Rattle.overlay_node.specs.Acting.{act_changed}

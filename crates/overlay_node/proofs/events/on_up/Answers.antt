@@ -1,5 +1,5 @@
 use Rattle.std.proofs.Common.{ap, get_or, sym, ◌∙◌}
-use Rattle.stat_plan.specs.Waves.{growing}
+use Rattle.stat_plan.specs.Machine.Waves.{growing}
 use Rattle.merge_filter.specs.Contributions.{Contrib, cov_of}
 use Rattle.overlay_node.specs.Acting.{act_changed}
 use Rattle.overlay_node.specs.Contexts.{kin_of}

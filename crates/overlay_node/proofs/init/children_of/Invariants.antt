@@ -1,5 +1,5 @@
 use Rattle.std.proofs.Common.{◌≡◌, [], filter}
-use Rattle.stat_plan.specs.Kin.{is_parent, nearest}
+use Rattle.stat_plan.specs.Machine.Kin.{is_parent, nearest}
 use Rattle.stat_plan.specs.Plans.{ancestors, up_to}
 use Rattle.overlay_node.proofs.init.children_of.Given as goal
 

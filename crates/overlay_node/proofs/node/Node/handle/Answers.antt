@@ -2,7 +2,7 @@ use Rattle.std.proofs.Common.{◌≡◌, ◌∙◌, ◌+◌, length, sym, ap, []
 use Rattle.std.specs.Prelude.{option_map}
 use Rattle.std.specs.Vec.{with_items}
 use Rattle.std.proofs.lemmas.List.{with_items_is}
-use Rattle.stat_plan.specs.Kin.{Kin}
+use Rattle.stat_plan.specs.Machine.Kin.{Kin}
 use Rattle.overlay_core.specs.TreeReleases.{releases_view}
 use Rattle.overlay_node.specs.NodeViews.{NodeView}
 use Rattle.overlay_node.specs.Packets.{packet_view, sends_view}

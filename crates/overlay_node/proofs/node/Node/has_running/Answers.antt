@@ -1,6 +1,6 @@
 use Rattle.std.proofs.Common.{◌≡◌, ◌∙◌, List, ap}
 use Rattle.std.specs.List.{list_any}
-use Rattle.stat_plan.specs.Waves.{is_running}
+use Rattle.stat_plan.specs.Machine.Waves.{is_running}
 use Rattle.overlay_node.specs.NodeViews.{EntryView, NodeView, wave_of}
 use Rattle.overlay_node.proofs.Reading.{running-book}
 use Rattle.overlay_node.proofs.node.Node.has_running.Goals as goal

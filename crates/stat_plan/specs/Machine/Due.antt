@@ -2,10 +2,10 @@
 use Rattle.std.specs.Prelude.{Bool, true, false, if◌then◌else◌}
 use Rattle.stat_plan.specs.declared.script.Mode.{Mode}
 use Rattle.stat_plan.specs.declared.script.Mode.TheVariants.{WaitForAll, TimeOut, DontWait}
-use Rattle.stat_plan.specs.declared.act.Timer.{Timer}
-use Rattle.stat_plan.specs.declared.act.Timer.TheVariants.{Off, Running, Fired}
-use Rattle.stat_plan.specs.declared.act.Act.{Act}
-use Rattle.stat_plan.specs.declared.act.Act.TheVariants.{Hold, Arm, Send, Partial, Final}
+use Rattle.stat_plan.specs.declared.machine.Timer.{Timer}
+use Rattle.stat_plan.specs.declared.machine.Timer.TheVariants.{Off, Running, Fired}
+use Rattle.stat_plan.specs.declared.machine.Act.{Act}
+use Rattle.stat_plan.specs.declared.machine.Act.TheVariants.{Hold, Arm, Send, Partial, Final}
 
 -- a wave that isn't held goes up, or out at the front end
 abbrev pub passed_on : Bool → Act
