@@ -16,7 +16,8 @@ use Rattle.stat_plan.proofs.DaemonNames.{found_by_name, number_of_name}
 use Rattle.sample_text.specs.Grammar.{IsDaemonLine, PlacesRank, SomePlacesRank, IsSampleOf, AreSamplesOf, IsWritten}
 use Rattle.sample_text.specs.Steps.{add_at, with_line}
 use Rattle.sample_text.specs.Whole.{nothing_parsed, lacks_rank, whole, samples_of_text}
-use Rattle.sample_text.proofs.LineViews.{AddsRanks, Changes, changes, then_inv, test_inv}
+use Rattle.sample_text.proofs.LineViews.{AddsRanks, Changes, changes, test_inv}
+use Rattle.text_lines.proofs.Errors.{then_inv}
 use Rattle.sample_text.proofs.Sets.{there_before, length-add_at, length-nones, nones_none, or_first, or_second}
 
 -- a set that gets more ranks has those it had, and those that it gets

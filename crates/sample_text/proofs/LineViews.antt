@@ -9,7 +9,7 @@ use Rattle.call_path.specs.Path.{Path}
 use Rattle.call_path.specs.Reading.{path_of}
 use Rattle.call_path.specs.declared.read.PathError.{PathError}
 use Rattle.text_lines.specs.Lines.{words, says_nothing, is_comment, are_none, after_word, number_in}
-use Rattle.text_lines.specs.Parsing.{and_then, some_or}
+use Rattle.text_lines.proofs.Errors.{then_inv, ok_inj, some_inv}
 use Rattle.text_lines.specs.declared.text_error.TextError.{TextError}
 use Rattle.text_lines.specs.declared.text_error.TextError.TheVariants.{Bad, Over}
 use Rattle.text_lines.specs.declared.text_error.Reason.TheVariants.{NotUtf8, BadDirective, NotADaemon, BadTime, PlacedTwice, Unplaced}
@@ -23,24 +23,10 @@ use Rattle.sample_text.specs.Grammar.{IsDaemonLine, IsSampleOf}
 use Rattle.sample_text.specs.Steps.{if_holds, daemon_on, ranks_or_error, ranks_on, time_at, time_on, path_or_error, path_on, are_disjoint, add_at, sample, with_daemon, with_stack, with_line_view, with_line}
 use Rattle.sample_text.specs.Words.{LineView, Nothing, Daemon, Stack, daemon_words, stack_words, path_in, directive, read_line}
 
--- steps that end well
-pub then_inv : {A B : Type 0} (r : Result A TextError) (f : A → Result B TextError) (u : B) → and_then r f ≡ Ok u → (x : A) × (r ≡ Ok x) × (f x ≡ Ok u)
-then_inv (Err e) f u h = cc
-then_inv (Ok x) f u h = (x, refl, h)
-
+-- a test that ends well
 pub test_inv : {A : Type 0} (b : Bool) (e : TextError) (next : Result A TextError) (u : A) → if_holds b e next ≡ Ok u → (b ≡ true) × (next ≡ Ok u)
 test_inv true e next u h = (refl, h)
 test_inv false e next u h = cc
-
-abbrev good : {A : Type 0} → A → Result A TextError
-good x = Ok x
-
-ok_inj : {A : Type 0} (x y : A) → good x ≡ good y → x ≡ y
-ok_inj x y h = cc
-
-some_inv : {A : Type 0} (e : TextError) (o : Option A) (x : A) → some_or e o ≡ Ok x → o ≡ Some x
-some_inv e None x h = cc
-some_inv e (Some y) x h = ap Some (ok_inj y x h)
 
 -- words that are read
 ranks_read : (number : ℕ) (r : Result Ranks RanksError) (ranks : Ranks) → ranks_or_error number r ≡ Ok ranks → r ≡ Ok ranks

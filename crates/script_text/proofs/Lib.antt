@@ -8,3 +8,5 @@ pub mod WholeScript
 pub mod SomeDaemon
 pub mod NodeLists
 pub mod InvariantLemmas
+pub mod LineViews
+pub mod Grammar

@@ -30,7 +30,7 @@ module _ (x : ℕ) where
       by false true = some_first y ys
       by false false = some_first y (with_number x ys)
 
-  in_number : (ys : List ℕ) (n : ℕ) → In n (with_number x ys) → (n ≡ x) ⊎ In n ys
+  pub in_number : (ys : List ℕ) (n : ℕ) → In n (with_number x ys) → (n ≡ x) ⊎ In n ys
   in_number [] n (inl e) = inl e
   in_number [] n (inr h) = absurd h
   in_number (y ∷ ys) n h = by (nat_lt x y) (nat_eq x y) h (in_number ys n)
@@ -101,7 +101,7 @@ module _ (p : ℕ → Bool) where
     none_up : p n ≡ false → filter p (up_to (suc n)) ≡ filter p (up_to n)
     none_up e = up_by false e ∙ append_none (filter p (up_to n))
 
-  passed : (n y : ℕ) → In y (filter p (up_to n)) → (y < n) × (p y ≡ true)
+  pub passed : (n y : ℕ) → In y (filter p (up_to n)) → (y < n) × (p y ≡ true)
   passed zero y h = absurd h
   passed (suc n) y h = by (p n) refl h (passed n y)
     where
@@ -120,7 +120,7 @@ module _ (p : ℕ → Bool) where
   pub passed_all : (P : ℕ → Type 0) (n : ℕ) → ((y : ℕ) → y < n → p y ≡ true → P y) → AllByRecursion P (filter p (up_to n))
   passed_all P n each = all_of P (filter p (up_to n)) (λ y h. let k = passed n y h in each y k.0 k.1)
 
-  is_passed : (n d : ℕ) → d < n → p d ≡ true → In d (filter p (up_to n))
+  pub is_passed : (n d : ℕ) → d < n → p d ≡ true → In d (filter p (up_to n))
   is_passed zero d lt e = absurd (omega arith)
   is_passed (suc n) d lt e = by (p n) refl (is_passed n d) (either d n)
     where

@@ -7,4 +7,5 @@ pub mod Whole
 pub mod Invariants
 pub mod Marks
 pub mod ParserViews
+pub mod Grammar
 pub mod Rows

@@ -4,8 +4,10 @@ use Rattle.stat_plan.specs.Plans.{scripted}
 use Rattle.text_lines.specs.Lines.{lines}
 use Rattle.text_lines.specs.Parsing.{IsValueOf, IsErrorOf}
 use Rattle.text_lines.specs.declared.text_error.TextError.TheVariants.{OutOfMemory}
-use Rattle.text_lines.proofs.Errors.{handed_on}
+use Rattle.text_lines.proofs.Errors.{handed_on, value_has}
 use Rattle.text_lines.proofs.Parsing.{all_parsed, same_context, first_error}
+use Rattle.script_text.specs.Grammar.{IsWritten}
+use Rattle.script_text.proofs.Grammar.{is_written}
 use Rattle.script_text.specs.Invariants.{ParserInvariant}
 use Rattle.script_text.specs.ParserViews.{parser_view, parser_nodes}
 use Rattle.script_text.specs.Whole.{with_line, script_of}
@@ -51,3 +53,12 @@ returns-clause-err c =
     let new = c.read_lines.new.parser in
     subst (IsErrorOf c.finish.result) (sym (script_good t text (parser_view new) (all_parsed parser_nodes parser_view with_line t (scripted [] []) (lines text) c.new-parser.result c.new-parser.ensures.nodes c.new-parser.ensures.view new c.in_ok-read_lines.ensures.taken)))
     c.finish.ensures.err
+
+pub returns-clause-written : goal.returns-clause-written
+returns-clause-written c =
+    let t = c.args.topology.now in
+    let text = c.args.text.now in
+    let new = c.read_lines.new.parser in
+    value_has c.finish.result (script_of t text) (IsWritten t text)
+    (subst (IsValueOf c.finish.result) (sym (script_good t text (parser_view new) (all_parsed parser_nodes parser_view with_line t (scripted [] []) (lines text) c.new-parser.result c.new-parser.ensures.nodes c.new-parser.ensures.view new c.in_ok-read_lines.ensures.taken)))
+    c.finish.ensures.ok) (is_written t c.invariant.ensures text)

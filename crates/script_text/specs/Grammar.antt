@@ -1,0 +1,64 @@
+-- What a script text says in the words of its format: its `stream` lines define streams, and its `lose` lines lose nodes.
+use Rattle.std.specs.Prelude.{◌≡◌, ◌↔◌, ◌⊎◌, ℕ, true, List, ◌∷◌, length, map, filter, Some, codes}
+use Rattle.text_lines.specs.Lines.{lines, words, number_in}
+use Rattle.text_lines.specs.Directives.{first_is, is_line_of}
+use Rattle.stat_plan.specs.Invariants.{IsDaemon}
+use Rattle.stat_plan.specs.Names.{name_of, number_of}
+use Rattle.stat_plan.specs.NodeSets.{In, IsStrictlyIncreasing}
+use Rattle.stat_plan.specs.Plans.{Stream, Scripted}
+use Rattle.stat_plan.specs.Topologies.{Nodes}
+use Rattle.stat_plan.specs.declared.script.Fault.{Fault}
+use Rattle.stat_plan.specs.declared.script.Mode.{Mode}
+use Rattle.stat_plan.specs.declared.script.Mode.TheVariants as mode
+use Rattle.script_text.specs.Words.{ModeWords, WaitForAll, TimeOut, DontWait, StreamWords, LoseWords, stream_words, lose_words}
+
+-- a mode is that of its words
+abbrev pub IsModeOf : ModeWords → Mode → Type 0
+IsModeOf WaitForAll m = m ≡ mode.WaitForAll
+IsModeOf (TimeOut ticks) m = (t : ℕ) × (number_in ticks ≡ Some t) × (m ≡ mode.TimeOut t)
+IsModeOf DontWait m = m ≡ mode.DontWait
+
+-- node n is one of the daemons that stand after `on`: it has one of the names, or `all` is the first word there
+abbrev pub IsNamedDaemon : Nodes → List (List ℕ) → ℕ → Type 0
+IsNamedDaemon t names n = IsDaemon t n × ((first_is (codes "all") names ≡ true) ⊎ In (name_of t.names n) names)
+
+-- a stream is that of a line `stream S MODE waves W samples K on NAMES`
+pub record IsStreamOf (t : Nodes) (line : List ℕ) (x : Stream) : Type 0 where
+  pub rest : List (List ℕ)
+  pub is : words line ≡ codes "stream" ∷ rest
+  pub words_of : StreamWords
+  pub form : stream_words rest ≡ Some words_of
+  pub number : number_in words_of.number ≡ Some x.number
+  pub mode : IsModeOf words_of.mode x.mode
+  pub waves : number_in words_of.waves ≡ Some x.waves
+  pub samples : number_in words_of.samples ≡ Some x.samples
+  pub daemons : (n : ℕ) → In n x.daemons ↔ IsNamedDaemon t words_of.names n
+
+-- a loss is that of a line `lose NAME after E keep K`
+pub record IsLossOf (t : Nodes) (line : List ℕ) (f : Fault) : Type 0 where
+  pub rest : List (List ℕ)
+  pub is : words line ≡ codes "lose" ∷ rest
+  pub words_of : LoseWords
+  pub form : lose_words rest ≡ Some words_of
+  pub node : number_of words_of.name t.names ≡ Some f.node
+  pub after : number_in words_of.after ≡ Some f.after
+  pub keep : number_in words_of.keep ≡ Some f.keep
+
+-- the lines of a text that begin with `stream`, and those that begin with `lose`
+abbrev pub stream_lines : List (List ℕ) → List (List ℕ)
+stream_lines lines = filter (is_line_of (codes "stream")) lines
+
+abbrev pub lose_lines : List (List ℕ) → List (List ℕ)
+lose_lines lines = filter (is_line_of (codes "lose")) lines
+
+-- Each stream is that of a `stream` line of the text, each such line has its stream, and there are as many of both; the
+-- same is true of losses and `lose` lines. Streams ascend by number, and losses by node.
+pub record IsWritten (t : Nodes) (text : List ℕ) (c : Scripted) : Type 0 where
+  pub streams : (x : Stream) → In x c.streams → (line : List ℕ) × In line (stream_lines (lines text)) × IsStreamOf t line x
+  pub of_stream_lines : (line : List ℕ) → In line (stream_lines (lines text)) → (x : Stream) × In x c.streams × IsStreamOf t line x
+  pub stream_count : length c.streams ≡ length (stream_lines (lines text))
+  pub streams_rise : IsStrictlyIncreasing (map (λ x. x.number) c.streams)
+  pub losses : (f : Fault) → In f c.faults → (line : List ℕ) × In line (lose_lines (lines text)) × IsLossOf t line f
+  pub of_lose_lines : (line : List ℕ) → In line (lose_lines (lines text)) → (f : Fault) × In f c.faults × IsLossOf t line f
+  pub loss_count : length c.faults ≡ length (lose_lines (lines text))
+  pub losses_rise : IsStrictlyIncreasing (map (λ f. f.node) c.faults)
