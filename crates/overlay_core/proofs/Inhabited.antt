@@ -131,6 +131,8 @@ script = record {
   some = some_of _ _;
   streams = (record { number = omega arith; mode = tt; waves_some = omega arith; waves_few = omega arith; samples_some = omega arith; samples_few = omega arith; daemons_some = some_of _ _; daemons_rise = (stream_good, ((λ y i. absurd i), tt)) }, tt);
   streams_rise = ((λ y i. absurd i), tt);
+  faults = (record { after = omega arith; keep = omega arith }, tt);
+  faults_limit = omega arith;
   faults_rise = ((λ y i. absurd i), tt);
 }
 

@@ -1,10 +1,11 @@
 -- The invariant of a script, line by line, and at its end.
-use Rattle.std.proofs.Common.{◌≡◌, ◌≢◌, ℕ, suc, ◌<◌, ◌≤◌, Bool, true, false, cond, nat_lt, nat_le, nat_eq, List, [], ◌∷◌, length, Option, None, Some, Ok, Err, Result, refl, arith, codes}
+use Rattle.std.proofs.Common.{◌≡◌, ◌≢◌, ℕ, suc, ◌<◌, ◌≤◌, Bool, true, false, cond, nat_lt, nat_le, nat_eq, List, [], ◌∷◌, length, Option, None, Some, Ok, Err, Result, refl, arith, codes, zero-le}
 use Rattle.std.specs.Result.{IfOk}
 use Rattle.std.specs.List.{AllByRecursion, list_any}
 use Rattle.std.specs.Str.{bytes_eq}
 use Rattle.std.proofs.lemmas.Bool.{ltb-false, eqb-false}
-use Rattle.stat_plan.specs.Invariants.{IsMode, IsStream, IsScript, ScriptFits, IsDaemon}
+use Rattle.stat_plan.specs.Invariants.{IsMode, IsStream, IsFault, IsScript, ScriptFits, IsDaemon}
+use Rattle.std.proofs.lemmas.Bool.Decides.{nat_tests}
 use Rattle.text_lines.specs.Lines.{words, says_nothing}
 use Rattle.stat_plan.specs.Names.{number_of}
 use Rattle.stat_plan.specs.NodeSets.{IsStrictlyIncreasing, with_number}
@@ -27,7 +28,7 @@ use Rattle.script_text.specs.Streams.{new_number, stream_number, mode_of, daemon
 use Rattle.script_text.specs.Losses.{as_lost, lost_node, fault_of, with_fault}
 use Rattle.script_text.specs.Whole.{with_stream_line, with_lose_line, with_words, with_line}
 use Rattle.script_text.proofs.NodeLists.{number_all, number_some, number_rises, passed_rise, passed_all, passed_some}
-use Rattle.script_text.proofs.Placing.{all_placed, placed_rises}
+use Rattle.script_text.proofs.Placing.{all_placed, length_placed, placed_rises}
 use Rattle.script_text.proofs.SomeDaemon.{some_daemon}
 
 -- a step after another
@@ -142,40 +143,46 @@ pub record IsNewFault (t : Nodes) (faults : List Fault) (f : Fault) : Type 0 whe
   pub node : f.node < length t.parents
   pub other : f.node ≢ root_of t.parents
   pub new : list_any (λ g. nat_eq g.node f.node) faults ≡ false
+  pub ranges : IsFault f
+  pub limit : length faults < 256
 
 -- a node that may be lost, and is not yet
 IsFree : Nodes → List Fault → ℕ → Type 0
-IsFree t faults n = (n < length t.parents) × (n ≢ root_of t.parents) × (list_any (λ g. nat_eq g.node n) faults ≡ false)
+IsFree t faults n = (n < length t.parents) × (n ≢ root_of t.parents) × (list_any (λ g. nat_eq g.node n) faults ≡ false) × (length faults < 256)
 
 module _ (t : Nodes) (is : IsTopology t) (faults : List Fault) (line : ℕ) where
-  lost_by : (n : ℕ) → n < length t.parents → (a : Bool) → nat_eq n (root_of t.parents) ≡ a → (b : Bool) → list_any (λ f. nat_eq f.node n) faults ≡ b → IfOk (cond a (Err (Bad line LosesFront)) (cond b (Err (Bad line SecondLoss)) (Ok n))) (IsFree t faults)
-  unfolding IsFree
-  lost_by n lt true e b f = tt
-  lost_by n lt false e true f = tt
-  lost_by n lt false e false f = (lt, eqb-false n (root_of t.parents) e, f)
+  module _ (limit : length faults < 256) where
+    lost_by : (n : ℕ) → n < length t.parents → (a : Bool) → nat_eq n (root_of t.parents) ≡ a → (b : Bool) → list_any (λ f. nat_eq f.node n) faults ≡ b → IfOk (cond a (Err (Bad line LosesFront)) (cond b (Err (Bad line SecondLoss)) (Ok n))) (IsFree t faults)
+    unfolding IsFree
+    lost_by n lt true e b f = tt
+    lost_by n lt false e true f = tt
+    lost_by n lt false e false f = (lt, eqb-false n (root_of t.parents) e, f, limit)
 
-  as_lost_holds : (name : List ℕ) (o : Option ℕ) → number_of name t.names ≡ o → IfOk (as_lost t faults line o) (IsFree t faults)
-  as_lost_holds name None e = tt
-  as_lost_holds name (Some n) e = lost_by n ((let at = named name t.names n e in let lt = at.0 in omega (arith, lt, is.paired))) (nat_eq n (root_of t.parents)) refl (list_any (λ f. nat_eq f.node n) faults) refl
+    as_lost_holds : (name : List ℕ) (o : Option ℕ) → number_of name t.names ≡ o → IfOk (as_lost t faults line o) (IsFree t faults)
+    as_lost_holds name None e = tt
+    as_lost_holds name (Some n) e = lost_by n ((let at = named name t.names n e in let lt = at.0 in omega (arith, lt, is.paired))) (nat_eq n (root_of t.parents)) refl (list_any (λ f. nat_eq f.node n) faults) refl
 
-  over_by : (b : Bool) (r : Result ℕ TextError) → IfOk r (IsFree t faults) → IfOk (cond b (Err (Over line Faults 256)) r) (IsFree t faults)
-  over_by true r h = tt
-  over_by false r h = h
+  below : nat_le 256 (length faults) ≡ false → length faults < 256
+  below e = grind (arith, nat_tests)
+
+  over_by : (name : List ℕ) (b : Bool) → nat_le 256 (length faults) ≡ b → IfOk (cond b (Err (Over line Faults 256)) (as_lost t faults line (number_of name t.names))) (IsFree t faults)
+  over_by name true e = tt
+  over_by name false e = as_lost_holds (below e) name (number_of name t.names) refl
 
   lost_holds : (name : List ℕ) → IfOk (lost_node t faults line name) (IsFree t faults)
   unfolding lost_node
-  lost_holds name = over_by (nat_le 256 (length faults)) (as_lost t faults line (number_of name t.names)) (as_lost_holds name (number_of name t.names) refl)
+  lost_holds name = over_by name (nat_le 256 (length faults)) refl
 
   fault_holds : (w : LoseWords) → IfOk (fault_of t faults line w) (IsNewFault t faults)
   unfolding fault_of IsFree
   fault_holds w =
       then_ok (lost_node t faults line w.name) _ (IsFree t faults) (IsNewFault t faults) (lost_holds w.name) (λ n a.
       then_ok (number_from line 0 65535 (Bad line BadNumber) w.after) _ _ (IsNewFault t faults) (number_in_range line 0 65535 (Bad line BadNumber) w.after) (λ after b.
-      then_ok (number_from line 0 65535 (Bad line BadNumber) w.keep) _ _ (IsNewFault t faults) (number_in_range line 0 65535 (Bad line BadNumber) w.keep) (λ keep c. record { node = a.0; other = a.1; new = a.2 })))
+      then_ok (number_from line 0 65535 (Bad line BadNumber) w.keep) _ _ (IsNewFault t faults) (number_in_range line 0 65535 (Bad line BadNumber) w.keep) (λ keep c. record { node = a.0; other = a.1; new = a.2; ranges = record { after = b.1; keep = c.1 }; limit = a.3 })))
 
 -- it holds before the first line
 pub nothing_holds : (t : Nodes) → ParserInvariant t (scripted [] [])
-nothing_holds t = record { streams = tt; streams_rise = tt; faults_rise = tt; daemons = tt; faults = tt }
+nothing_holds t = record { streams = tt; streams_rise = tt; fault_ranges = tt; faults_limit = zero-le; faults_rise = tt; daemons = tt; faults = tt }
 
 module _ (t : Nodes) (is : IsTopology t) where
   module _ (c : Scripted) (line : ℕ) (h : ParserInvariant t c) where
@@ -183,6 +190,8 @@ module _ (t : Nodes) (is : IsTopology t) where
     stream_more x new = record {
       streams = all_placed (λ (y : Stream). y.number) x IsStream c.streams new.is h.streams;
       streams_rise = placed_rises (λ (y : Stream). y.number) x c.streams new.new h.streams_rise;
+      fault_ranges = h.fault_ranges;
+      faults_limit = h.faults_limit;
       faults_rise = h.faults_rise;
       daemons = all_placed (λ (y : Stream). y.number) x (λ y. AllByRecursion (IsDaemon t) y.daemons) c.streams new.daemons h.daemons;
       faults = h.faults;
@@ -192,6 +201,8 @@ module _ (t : Nodes) (is : IsTopology t) where
     fault_more f new = record {
       streams = h.streams;
       streams_rise = h.streams_rise;
+      fault_ranges = all_placed (λ (g : Fault). g.node) f IsFault c.faults new.ranges h.fault_ranges;
+      faults_limit = (let long = length_placed (λ (g : Fault). g.node) f c.faults in let limit = new.limit in omega arith);
       faults_rise = placed_rises (λ (g : Fault). g.node) f c.faults new.new h.faults_rise;
       daemons = h.daemons;
       faults = all_placed (λ (g : Fault). g.node) f (λ g. (g.node < length t.parents) × (g.node ≢ root_of t.parents)) c.faults (new.node, new.other) h.faults;
@@ -232,7 +243,7 @@ module _ (t : Nodes) (is : IsTopology t) where
 
 -- a script of a job, where the invariant holds and there is a stream
 pub script_from_invariant : (t : Nodes) (c : Scripted) → ParserInvariant t c → c.streams ≢ [] → IsScript c
-script_from_invariant t c h some = record { some = some; streams = h.streams; streams_rise = h.streams_rise; faults_rise = h.faults_rise }
+script_from_invariant t c h some = record { some = some; streams = h.streams; streams_rise = h.streams_rise; faults = h.fault_ranges; faults_limit = h.faults_limit; faults_rise = h.faults_rise }
 
 pub fits_from_invariant : (t : Nodes) (c : Scripted) → ParserInvariant t c → ScriptFits t c
 fits_from_invariant t c h = record { daemons = h.daemons; faults = h.faults }

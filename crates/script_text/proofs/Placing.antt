@@ -1,5 +1,5 @@
 -- An item more in a list that ascends by a number of each item.
-use Rattle.std.proofs.Common.{◌≡◌, ℕ, suc, ◌+◌, ◌⊎◌, inl, inr, Bool, true, false, ◌||◌, not, cond, nat_lt, nat_eq, List, [], ◌∷◌, map, refl, ap, ◌∙◌, arith}
+use Rattle.std.proofs.Common.{◌≡◌, ℕ, suc, ◌+◌, ◌⊎◌, inl, inr, Bool, true, false, ◌||◌, not, cond, nat_lt, nat_eq, List, [], ◌∷◌, length, map, refl, ap, ◌∙◌, arith}
 use Rattle.std.specs.List.{insert, prefix_len, list_any, AllByRecursion}
 use Rattle.std.proofs.lemmas.Bool.{ltb-true, ltb-false, eqb-false}
 use Rattle.stat_plan.specs.NodeSets.{In, IsStrictlyIncreasing}
@@ -25,6 +25,15 @@ module _ {X : Type 0} (number : X → ℕ) (x : X) where
       by : (b : Bool) → AllByRecursion P (with_item number x ys) → AllByRecursion P (cond b (x ∷ y ∷ ys) (y ∷ with_item number x ys))
       by true h = (here, all)
       by false h = (all.0, h)
+
+  -- how many items it has
+  pub length_placed : (xs : List X) → length (with_item number x xs) ≡ suc (length xs)
+  length_placed [] = refl
+  length_placed (y ∷ ys) = by (nat_lt (number x) (number y)) (length_placed ys)
+    where
+      by : (b : Bool) → length (with_item number x ys) ≡ suc (length ys) → length (cond b (x ∷ y ∷ ys) (y ∷ with_item number x ys)) ≡ suc (suc (length ys))
+      by true h = refl
+      by false h = ap suc h
 
   -- what is in it
   in_placed : (xs : List X) (n : ℕ) → In n (map number (with_item number x xs)) → (n ≡ number x) ⊎ In n (map number xs)

@@ -1,7 +1,8 @@
 -- What holds of a script after each line.
-use Rattle.std.specs.Prelude.{◌≢◌, ◌<◌, length, map}
+use Rattle.std.specs.Prelude.{◌≢◌, ◌<◌, ◌≤◌, length, map}
 use Rattle.std.specs.List.{AllByRecursion}
-use Rattle.stat_plan.specs.Invariants.{IsStream, IsDaemon}
+use Rattle.stat_plan.specs.Invariants.{IsStream, IsFault, IsDaemon}
+use Rattle.stat_plan.specs.declared.script.TheConstants.{FAULT_LIMIT}
 use Rattle.stat_plan.specs.NodeSets.{IsStrictlyIncreasing}
 use Rattle.stat_plan.specs.Plans.{Scripted}
 use Rattle.stat_plan.specs.Topologies.{Nodes}
@@ -11,6 +12,8 @@ use Rattle.stat_plan.specs.Trees.{root_of}
 pub record ParserInvariant (t : Nodes) (c : Scripted) : Type 0 where
   pub streams : AllByRecursion IsStream c.streams
   pub streams_rise : IsStrictlyIncreasing (map (λ x. x.number) c.streams)
+  pub fault_ranges : AllByRecursion IsFault c.faults
+  pub faults_limit : length c.faults ≤ FAULT_LIMIT
   pub faults_rise : IsStrictlyIncreasing (map (λ f. f.node) c.faults)
   pub daemons : AllByRecursion (λ x. AllByRecursion (IsDaemon t) x.daemons) c.streams
   pub faults : AllByRecursion (λ f. (f.node < length t.parents) × (f.node ≢ root_of t.parents)) c.faults

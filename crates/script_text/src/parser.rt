@@ -66,11 +66,11 @@ impl<'t> Parser<'t> {
         ensures ok { OnOk result (
             with_stream_line (parser_nodes self.old) (parser_view self.old) line_number (stream_words (words line.now))
             ≡ Ok (parser_view self.new)
-        ) }
+            ) }
         ensures nodes { parser_nodes self.new ≡ parser_nodes self.old }
         ensures err { IsErrorOf result (
             with_stream_line (parser_nodes self.old) (parser_view self.old) line_number (stream_words (words line.now))
-        ) }
+            ) }
     {
         let Some(words) = stream_words(line) else {
             return Err(TextError::bad(line_number, Reason::BadDirective));
@@ -87,11 +87,11 @@ impl<'t> Parser<'t> {
         ensures ok { OnOk result (
             with_lose_line (parser_nodes self.old) (parser_view self.old) line_number (lose_words (words line.now))
             ≡ Ok (parser_view self.new)
-        ) }
+            ) }
         ensures nodes { parser_nodes self.new ≡ parser_nodes self.old }
         ensures err { IsErrorOf result (
             with_lose_line (parser_nodes self.old) (parser_view self.old) line_number (lose_words (words line.now))
-        ) }
+            ) }
     {
         let Some(words) = lose_words(line) else {
             return Err(TextError::bad(line_number, Reason::BadDirective));
@@ -108,11 +108,11 @@ impl<'t> Parser<'t> {
         ensures ok { OnOk result (
             with_words (parser_nodes self.old) (parser_view self.old) line_number (words line.now)
             ≡ Ok (parser_view self.new)
-        ) }
+            ) }
         ensures nodes { parser_nodes self.new ≡ parser_nodes self.old }
         ensures err { IsErrorOf result (
             with_words (parser_nodes self.old) (parser_view self.old) line_number (words line.now)
-        ) }
+            ) }
     {
         match next_word(line) {
             Some((word, rest)) => {

@@ -97,7 +97,12 @@ fn marked(alloc: Global, marks: &[bool]) -> Result<Vec<u32>, AllocError>
 }
 
 // The daemons with these names. Each name is looked up once, and marks its node.
-fn named(alloc: Global, topology: &Topology, line_number: u64, names: &[u8]) -> Result<Vec<u32>, TextError>
+fn named(
+    alloc: Global,
+    topology: &Topology,
+    line_number: u64,
+    names: &[u8],
+) -> Result<Vec<u32>, TextError>
     requires { IsTopology topology.now }
     ensures ok { IfOk result (λ daemons. with_named topology.now line_number [] (words names.now) ≡ Ok daemons.items) }
     ensures err { IsErrorOf result (with_named topology.now line_number [] (words names.now)) }

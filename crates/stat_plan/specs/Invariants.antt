@@ -9,6 +9,7 @@ use Rattle.stat_plan.specs.Topologies.{Nodes, IsTopology}
 use Rattle.stat_plan.specs.Trees.{is_daemon, root_of}
 use Rattle.stat_plan.specs.Plans.{Plan, Stream, Sampled, Scripted, nodes_of, sampled_of, scripted_of, waves_of, samples as wave_samples, stream_ranks}
 use Rattle.stat_plan.specs.declared.samples.TheConstants.{LINE_LIMIT}
+use Rattle.stat_plan.specs.declared.script.TheConstants.{FAULT_LIMIT}
 use Rattle.stat_plan.specs.declared.script.Mode.{Mode}
 use Rattle.stat_plan.specs.declared.script.Mode.TheVariants.{WaitForAll, TimeOut, DontWait}
 use Rattle.stat_plan.specs.declared.script.Fault.{Fault}
@@ -51,11 +52,18 @@ pub record AreSamples (s : Sampled) : Type 0 where
 abbrev pub fault_nodes : List Fault → List ℕ
 fault_nodes faults = map (λ f. f.node) faults
 
--- streams and faults, each ascending, with at least one stream
+-- a node is lost after at most 65,535 events, and at most as many packets stay
+pub record IsFault (f : Fault) : Type 0 where
+  pub after : f.after ≤ 65535
+  pub keep : f.keep ≤ 65535
+
+-- streams and faults, each ascending, with at least one stream and at most 256 faults
 pub record IsScript (c : Scripted) : Type 0 where
   pub some : c.streams ≢ []
   pub streams : AllByRecursion IsStream c.streams
   pub streams_rise : IsStrictlyIncreasing (map (λ x. x.number) c.streams)
+  pub faults : AllByRecursion IsFault c.faults
+  pub faults_limit : length c.faults ≤ FAULT_LIMIT
   pub faults_rise : IsStrictlyIncreasing (fault_nodes c.faults)
 
 -- each node has its ranks: some where it is a daemon, and none else
