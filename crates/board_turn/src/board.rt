@@ -5,8 +5,8 @@ ghost use Rattle.board_turn.specs.declared.holding.Holding.{Holding};
 
 use crate::holding::Holding;
 
-/// A board of nodes. Contracts see its journal, the committed events in order; its holders, for each node the claim that
-/// has it out, if it is out; and its base, the data that it was made from.
+/// A board of nodes. Contracts see its journal, the committed events in order; its holders, for each node the claim
+/// that has it out, if it is out; and its base, the data that it was made from.
 pub trait Board: Drop + Send {
     /// The type of the base, as contracts see it.
     type Base;

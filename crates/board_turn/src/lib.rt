@@ -1,6 +1,6 @@
-//! A board of nodes that threads share by a turn. A seat takes the turn, claims an event of a node that is at home, gives the
-//! turn back, works on the node alone, takes the turn again and commits. So each event is one commit, and between a claim
-//! and its commit no other seat changes the node.
+//! A board of nodes that threads share by a turn. A seat takes the turn, claims an event of a node that is at home,
+//! gives the turn back, works on the node alone, takes the turn again and commits. So each event is one commit, and
+//! between a claim and its commit no other seat changes the node.
 #![tactic(auto)]
 
 mod board;

@@ -1,5 +1,5 @@
-//! The kinds of steps on the table, and what each does to the view of the seat that takes it. No value of these types is
-//! made.
+//! The kinds of steps on the table, and what each does to the view of the seat that takes it. No value of these types
+//! is made.
 use crate::board::Board;
 use crate::view::View;
 use atomic_table::{Join, Play, Split};

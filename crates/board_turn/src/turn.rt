@@ -38,8 +38,8 @@ pub struct TurnSeat {
     ghost down: { (known_of badge.views).lifts ≡ false },
 }
 
-/// The board, while a seat has the turn. It has a snapshot, for contracts alone: the board as it was taken, or as it was
-/// at the last claim or commit since.
+/// The board, while a seat has the turn. It has a snapshot, for contracts alone: the board as it was taken, or as it
+/// was at the last claim or commit since.
 #[derive(Drop)]
 pub struct Held<B> {
     board: B,
@@ -199,8 +199,8 @@ impl<B: Board> Turn<B> {
         self.table.shared.wake_one(0);
     }
 
-    /// Waits for the turn, and takes the board. The journal that the seat saw last is a prefix of the board's. A node that
-    /// the seat has out is still out with it, and no event of that node was committed since the claim.
+    /// Waits for the turn, and takes the board. The journal that the seat saw last is a prefix of the board's. A node
+    /// that the seat has out is still out with it, and no event of that node was committed since the claim.
     pub fn take<R: Wait>(&self, rt: &R, seat: &mut TurnSeat) -> Held<B>
         requires seat_of_turn { IsSeatOf self.now seat.old }
         requires has_no_turn { has_turn seat.old ≡ false }
@@ -293,8 +293,8 @@ impl<B: Board> Turn<B> {
         self.table.shared.fetch_add::<CountEntry>(table_seat, 2, 1);
     }
 
-    /// Brings the seat's node home, with its event. The board's journal must already end with the event, the node must be
-    /// at home, and the board be otherwise unchanged.
+    /// Brings the seat's node home, with its event. The board's journal must already end with the event, the node must
+    /// be at home, and the board be otherwise unchanged.
     pub fn commit(&self, seat: &mut TurnSeat, held: &mut Held<B>)
         requires seat_of_turn { IsSeatOf self.now seat.old }
         requires taken { HasTaken B.journal B.holders B.base self.now seat.old held.old }

@@ -1,5 +1,5 @@
-//! The invariant of the table under a turn, and what a seat knows. No `LogEntry` and no `View` is ever made: both occur in
-//! contracts and proofs alone.
+//! The invariant of the table under a turn, and what a seat knows. No `LogEntry` and no `View` is ever made: both
+//! occur in contracts and proofs alone.
 use crate::board::Board;
 use crate::holding::Holding;
 use atomic_table::{Seat, Table, TableRule};

@@ -62,7 +62,7 @@ module _ (p : Plan) (plan : IsPlan p) (no_faults : p.faults ≡ []) (xs : List N
   no_loss : (n : ℕ) → is_enabled p st (Lose n) ≡ true → ⊥
   no_loss n en = true≢false (sym en ∙ stays_is p st n no_faults)
 
-  -- the packet that it receives is of a wave that the node has, and stands for the plan
+  -- the packet that it receives is of a wave that the node has, and a partial merge of the plan
   pub may_receive : (n m : ℕ) (q : TreePacket) → PacketIsSound p st.alive m n (bare_packet q) → PacketFits p q → MayReceive p n q
   unfolding waves_at serves
   may_receive n m (TreeUp s w t) is fits =
@@ -77,7 +77,7 @@ module _ (p : Plan) (plan : IsPlan p) (no_faults : p.faults ≡ []) (xs : List N
       let t = and_parts _ _ en in
       (sym (parts.node n x at).0, in_from_member n (daemons p s) (and_parts _ _ t.0).1, ap (λ (y : Node). is_wave (next_sample p y s) w) (sym (node_there p xs n x at)) ∙ t.1)
 
-  -- what it receives stands on the link
+  -- the packet that it receives is the first on the link
   pub first_waits : (ic : List Waiting) (n m : ℕ) (q : TreePacket) → IsTaken ib (Recv n m) (Some q) ic → st.link m n ≡ bare_packet q ∷ map bare_packet (queue_of (inbox_at ic n) m)
   first_waits ic n m q taken = ap (map bare_packet) taken.first
 
@@ -95,7 +95,7 @@ module _ (p : Plan) (plan : IsPlan p) (no_faults : p.faults ≡ []) (xs : List N
   may_handle ic (Tick n) x packet en taken at = subst (MayHandle p x (Tick n)) (sym taken.0) (sym (parts.node n x at).0)
   may_handle ic (Lose n) x packet en taken at = absurd (no_loss n en)
 
-  -- what it leaves of its node is sound
+  -- the node is sound afterwards
   sends_sound : (ic : List Waiting) (e : Event) (packet : Option TreePacket) → is_enabled p st e ≡ true → IsTaken ib e packet ic → SendsAreSound p (event_node e) (handled p (event_node e) (st.node (event_node e)) e (received_with e packet)).work.sends
   sends_sound ic (Sample n s w) packet en taken =
       let t = and_parts _ _ en in
@@ -150,7 +150,7 @@ module _ (p : Plan) (plan : IsPlan p) (no_faults : p.faults ≡ []) (xs : List N
       go true false et eu f = let eb : b ≡ n = eqb-true b n et in subst (λ k. queue_of (inbox_at ic k) a ≡ queue_of (inbox_at ib k) a) (sym eb) (taken.rest a eu)
       go false u et eu f = ap (λ box. queue_of box a) (taken.others b et)
 
-  -- the step takes the packet, and then the outcome takes its place
+  -- the step takes the packet, and then the outcome is committed
   step_is : (ic : List Waiting) (e : Event) (packet : Option TreePacket) → is_enabled p st e ≡ true → IsTaken ib e packet ic
       → ◌≡◌ {A = State} (step p st e) (commit (state_with p xs ic rs) (event_node e) (handled p (event_node e) (st.node (event_node e)) e (received_with e packet)))
   step_is ic (Sample n s w) packet en taken = λ i. commit (state_with p xs (sym taken.1 i) rs) n (handled p n (st.node n) (Sample n s w) None)

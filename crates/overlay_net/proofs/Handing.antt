@@ -1,5 +1,5 @@
 -- An event is handed over to its node.
-use Rattle.std.proofs.Common.{◌≡◌, ◌∙◌, ◌<◌, ℕ, suc, List, ◌++◌, length, get_or, slice_get, slice_set, Option, Some, sym, ap, subst}
+use Rattle.std.proofs.Common.{◌≡◌, ◌∙◌, ◌<◌, ℕ, List, length, get_or, slice_get, slice_set, Option, Some, sym, ap, subst}
 use Rattle.std.specs.Prelude.{Result, Ok, Err, IfOk}
 use Rattle.std.specs.List.{AllByRecursion}
 use Rattle.std.proofs.lemmas.Option.{slice_get-get_or}
@@ -13,11 +13,11 @@ use Rattle.overlay_net.specs.Inboxes.{Waiting}
 use Rattle.overlay_net.specs.Sends.{IsTaken}
 use Rattle.overlay_net.specs.States.{IsHandedOver}
 
--- what was read at a node's place is the node
+-- what was read at a node's index is the node
 pub read_at : (xs : List NodeView) (n k : ℕ) (x : NodeView) → k ≡ n → n < length xs → x ≡ get_or xs k x → slice_get xs n ≡ Some (get_or xs k x)
 read_at xs n k x same below is = slice_get-get_or xs n x below ∙ ap (λ i. Some (get_or xs i x)) (sym same)
 
--- what `handle` says of the node and of what it gives, put together
+-- the clauses of `handle`, put together
 pub handed : {E : Type 0} (p : Plan) (e : Event) (xs : List NodeView) (old new : List Waiting) (packet : Option TreePacket) (k : ℕ) (x y : NodeView) (r : Result Output E)
     → IsTaken old e packet new → k ≡ event_node e → slice_get xs (event_node e) ≡ Some x
     → IfOk r (λ out. y.number ≡ x.number)

@@ -62,7 +62,7 @@ module _ (p : Plan) (plan : IsPlan p) (xs : List NodeView) (ib : List Waiting) (
     pub can_deliver : GoBelow (length ic) sends
     can_deliver = subst (λ k. GoBelow k sends) (sym (taken_all ib ic e over.packet over.taken ∙ net.parts.inbox_count)) all_go_below
 
-    -- the node stands at its place
+    -- the node is at its index
     pub node_now : (d : NodeView) → get_or ys (event_node e) d ≡ over.after
     node_now d = ap (λ l. get_or l (event_node e) d) over.now ∙ get_or-set_same xs (event_node e) over.after d (slice_get_within xs (event_node e) over.before over.at)
 
@@ -74,7 +74,7 @@ module _ (p : Plan) (plan : IsPlan p) (xs : List NodeView) (ib : List Waiting) (
     front_alone = only_front p plan net.no_faults xs ib rs net.parts sound e over.before over.after over.packet sends more en over.at over.done
 
     module _ (id : List Waiting) (lb : List ℕ) (sent : AreSent (event_node e) sends ic id listed lb) where
-      -- each journal that left the net leaves it with the event now
+      -- if a journal led to the net, that journal with the event appended leads to it now
       pub extends_by : ExtendsBy e (net_view_of p xs ib rs false) (net_view_of p ys id (rs ++ more) false)
       extends_by journal h =
           let here = subst (λ (s : State). is_enabled p s e ≡ true) h.state en in
@@ -96,7 +96,7 @@ module _ (p : Plan) (plan : IsPlan p) (xs : List NodeView) (ib : List Waiting) (
         listed = ready_kept p e over.before over.after over.packet sends more over.done xs over.at ib ic id listed lb lc net.parts over.taken sent all_go_below marked net.listed;
       })
 
-    -- the node's mark is that of the node as it stands now, with its inbox
+    -- the node is listed as it is now, with its inbox
     pub is_marked : (id : List Waiting) (lb lc : List ℕ) (k : ℕ) (y : NodeView) (box : Waiting) → AreSent (event_node e) sends ic id listed lb → k ≡ event_node e
         → ((b : ℕ) → is_listed lc b ≡ cond (b == (get_or ys k y).number) (has_some (node_events p (get_or ys k y) (get_or id k box))) (is_listed lb b))
         → IsMarked p (event_node e) over.after id lb lc
@@ -124,7 +124,7 @@ ok_then (Err e) a f = tt
 pub releases_more : {X : Type 0} (tree : X → Tree) (xs ys zs : List (Held X)) → zs ≡ xs ++ ys → releases_view tree zs ≡ releases_view tree xs ++ releases_view tree ys
 releases_more tree xs ys zs is = ap (releases_view tree) is ∙ map-append (release_view tree) xs ys
 
--- no event may come next just where none is listed
+-- no event may come next exactly if no node is listed
 pub quiet_where_none : (v : NetView) (ready : List ℕ) (b : Bool) → IsPlan v.plan → IsNet v ready → (b ≡ true) ↔ (enabled_events v.plan (state_of v) ≡ []) → (b ≡ true) ↔ IsQuiet v.plan (state_of v)
 quiet_where_none v ready b plan net none =
     let same = quiet_where_empty v.plan net.journal (plan_facts v.plan plan) net.reached.legal in (

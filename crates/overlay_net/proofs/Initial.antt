@@ -16,7 +16,7 @@ use Rattle.overlay_net.specs.Nets.{IsReachedBy, inbox_at, net_view_of, node_even
 use Rattle.overlay_net.specs.Events.{IsNet, has_some, is_listed}
 use Rattle.overlay_net.specs.States.{AreInitial}
 
--- what stands behind other elements
+-- the elements behind other ones
 last_here : {X : Type 0} (xs : List X) (y : X) → slice_get (xs ++ y ∷ []) (length xs) ≡ Some y
 last_here [] y = refl
 last_here (x ∷ xs) y = last_here xs y
@@ -132,7 +132,7 @@ module _ (p : Plan) where
         link_starts : (m n : ℕ) → map bare_packet (queue_of (inbox_at ib n) m) ≡ []
         link_starts m n = ap (λ w. map bare_packet (queue_of w m)) (h.empty n)
 
-    -- the empty journal leaves it
+    -- the empty journal leads to it
     pub initial_reached : IsReachedBy (net_view_of p xs ib rs false) []
     initial_reached = subst (λ l. IsReachedBy (net_view_of p xs ib l false) []) (sym none) (record { legal = tt; state = state_starts; numbered = refl; trees = tt })
 

@@ -1,4 +1,4 @@
--- What an event keeps of the parts of a net.
+-- An event keeps the invariant of the parts of a net.
 use Rattle.std.proofs.Common.{◌≡◌, ◌≢◌, ◌∙◌, ◌<◌, ℕ, Bool, true, false, ◌==◌, ◌||◌, cond, List, [], ◌++◌, map, length, slice_get, slice_set, Option, Some, refl, sym, ap, subst, inl, inr, eqb-true, eq-eqb, append-nil}
 use Rattle.std.proofs.lemmas.Bool.{cases_Bool, eqb-false, or_cases}
 use Rattle.std.proofs.lemmas.List.{length-set, map-append}
@@ -29,15 +29,15 @@ module _ (p : Plan) (e : Event) (x y : NodeView) (packet : Option TreePacket) (s
   place : event_node e < length xs
   place = slice_get_within xs (event_node e) x at
 
-  -- at the event's node stands what became of it
+  -- the new node is found at the event's node
   stands : slice_get (slice_set xs (event_node e) y) (event_node e) ≡ Some y
   stands = set_here xs (event_node e) y place
 
-  -- what stands at the event's node is what became of it
+  -- what is found at the event's node is the new node
   here_is : (n : ℕ) (z : NodeView) → n ≡ event_node e → slice_get (slice_set xs (event_node e) y) n ≡ Some z → z ≡ y
   here_is n z en h = found_once (slice_get (slice_set xs (event_node e) y) (event_node e)) z y (subst (λ k. slice_get (slice_set xs (event_node e) y) k ≡ Some z) en h) stands
 
-  -- elsewhere stands what stood there
+  -- the other nodes are unchanged
   else_is : (n : ℕ) (z : NodeView) → (n == event_node e) ≡ false → slice_get (slice_set xs (event_node e) y) n ≡ Some z → slice_get xs n ≡ Some z
   else_is n z en h = sym (set_else xs (event_node e) n y (eqb-false n (event_node e) en)) ∙ h
 
@@ -56,7 +56,7 @@ module _ (p : Plan) (e : Event) (x y : NodeView) (packet : Option TreePacket) (s
           (ap (λ (v : NodeView). v.number) is ∙ done.number ∙ (parts.node (event_node e) x at).0 ∙ sym en, subst (λ (v : NodeView). IsNodeOf p v) (sym is) done.fits)
       go false t = parts.node n z (else_is n z t h)
 
-  -- the packets that wait stand for the plan
+  -- the packets that wait are partial merges of the plan
   packets_kept : (ia ib ic : List Waiting) (la lb : List ℕ) → AreParts p xs ia → IsTaken ia e packet ib → AreSent (event_node e) sends ib ic la lb → (m n : ℕ) → AllByRecursion (PacketFits p) (queue_of (inbox_at ic n) m)
   packets_kept ia ib ic la lb parts taken sent m n = subst (λ (l : List TreePacket). AllByRecursion (PacketFits p) l) (sym (sent.queues m n)) (go (m == event_node e))
     where
@@ -120,7 +120,7 @@ module _ (p : Plan) (e : Event) (x y : NodeView) (packet : Option TreePacket) (s
       some_behind (queue_of (inbox_at ib b) (event_node e)) (packets_to b sends) (receiver_gets b sends r)
       (ap (λ (t : Bool). cond t (queue_of (inbox_at ib b) (event_node e) ++ packets_to b sends) (queue_of (inbox_at ib b) (event_node e))) (sym (eq-eqb (event_node e) (event_node e) refl)) ∙ sym (sent.queues (event_node e) b) ∙ none)
 
-  -- a node is listed just where it has an event that may come next
+  -- a node is listed exactly if it has an event that may come next
   listed_kept : (ia ib ic : List Waiting) (la lb lc : List ℕ) → IsTaken ia e packet ib → AreSent (event_node e) sends ib ic la lb → IsMarked p (event_node e) y ic lb lc → AreReady p xs ia la → (b : ℕ) (z : NodeView) → slice_get (slice_set xs (event_node e) y) b ≡ Some z → is_listed lc b ≡ has_some (node_events p z (inbox_at ic b))
   listed_kept ia ib ic la lb lc taken sent marked ready b z h = go (b == event_node e) refl
     where
@@ -138,7 +138,7 @@ module _ (p : Plan) (e : Event) (x y : NodeView) (packet : Option TreePacket) (s
           ∙ ap (λ (v : NodeView). has_some (node_events p v (inbox_at ic b))) (sym is)
       go false t = listed_else ib ic la lb lc sent marked b t ∙ other (is_receiver sends b) refl t
 
-  -- just the nodes with an event that may come next are listed
+  -- exactly the nodes with an event that may come next are listed
   pub ready_kept : (ia ib ic : List Waiting) (la lb lc : List ℕ) → AreParts p xs ia → IsTaken ia e packet ib → AreSent (event_node e) sends ib ic la lb → GoBelow (nodes p) sends → IsMarked p (event_node e) y ic lb lc → AreReady p xs ia la → AreReady p (slice_set xs (event_node e) y) ic lc
   ready_kept ia ib ic la lb lc parts taken sent below marked ready = record {
     below = below_kept ia ib ic la lb lc parts sent below marked ready;
@@ -179,6 +179,6 @@ module _ (p : Plan) (e : Event) (x y : NodeView) (packet : Option TreePacket) (s
           let same : rs ++ more ≡ rs = ap (λ (l : List TreeRelease). rs ++ l) rest ∙ append-nil rs in
           subst (λ (l : List TreeRelease). AreNumberedInOrder [] l) (sym same) numbered
 
-  -- each release's tree stands for the plan
+  -- each release is a partial merge of the plan
   pub trees_kept : (rs : List TreeRelease) → AllByRecursion (ReleaseFits p) rs → AllByRecursion (ReleaseFits p) (rs ++ more)
   trees_kept rs trees = all_append (ReleaseFits p) rs more trees done.trees

@@ -44,7 +44,7 @@ waits_where_some es m some = elim (cases_Bool (is_waiting es m)) [ inl t ↦ t |
 
 -- ---- what was taken
 
--- in each other inbox stands what stood there
+-- each other inbox is unchanged
 pub taken_others : (ia ib : List Waiting) (e : Event) (packet : Option TreePacket) → IsTaken ia e packet ib → (b : ℕ) → (b == event_node e) ≡ false → inbox_at ib b ≡ inbox_at ia b
 taken_others ia ib (Sample n s w) packet h b f = ap (λ (l : List Waiting). inbox_at l b) h.1
 taken_others ia ib (Recv n m) None h b f = absurd h
@@ -68,7 +68,7 @@ taken_kept ia ib (Recv n m) (Some q) h is b = h.inboxes is b
 taken_kept ia ib (Tick n) packet h is b = subst (λ (l : List Waiting). IsInbox (inbox_at l b)) (sym h.1) (is b)
 taken_kept ia ib (Lose n) packet h is b = subst (λ (l : List Waiting). IsInbox (inbox_at l b)) (sym h.1) (is b)
 
--- what is true of a queue where it is the same, and of one that lost its first packet, is true of what is left
+-- what is true of an unchanged queue, and of a queue without its first packet, is true of the queue afterwards
 left_over : (R : List TreePacket → Type 0) (ia ib : List Waiting) (n m : ℕ) (q : TreePacket) → IsFirst m n q ia ib
     → ((rest : List TreePacket) → R (q ∷ rest) → R rest)
     → (a b : ℕ) → R (queue_of (inbox_at ia b) a) → R (queue_of (inbox_at ib b) a)
@@ -111,7 +111,7 @@ sent_fit R b (v ∷ vs) h = go (v.0 == b) (sent_fit R b vs h.1)
     go true rest = (h.0, rest)
     go false rest = rest
 
--- a receiver is one of the first so many nodes
+-- a receiver is below the number that the receivers are below
 pub receiver_below : (count b : ℕ) (sends : List (ℕ × TreePacket)) → GoBelow count sends → is_receiver sends b ≡ true → b < count
 receiver_below count b [] below h = absurd (true≢false (sym h))
 receiver_below count b (v ∷ vs) below h = elim (or_cases (v.0 == b) (is_receiver vs b) h) [
@@ -138,14 +138,14 @@ pub all_append : {X : Type 0} (R : X → Type 0) (xs ys : List X) → AllByRecur
 all_append R [] ys h k = k
 all_append R (x ∷ xs) ys h k = (h.0, all_append R xs ys h.1 k)
 
--- ---- whether there are some
+-- ---- lists that are not empty
 
--- there are some in two lists together where there are some in one of them
+-- two lists together are not empty if one of them isn't
 pub some_of_both : (xs ys : List Event) → has_some (xs ++ ys) ≡ (has_some xs || has_some ys)
 some_of_both [] ys = refl
 some_of_both (x ∷ xs) ys = refl
 
--- there are some between other events
+-- a list between other events that isn't empty
 pub some_between : (xs ys zs : List Event) → has_some ys ≡ true → has_some ((xs ++ ys) ++ zs) ≡ true
 some_between xs ys zs h = some_of_both (xs ++ ys) zs ∙ ap (λ t. t || has_some zs) (some_of_both xs ys ∙ ap (λ t. has_some xs || t) h) ∙ turn (has_some xs) (has_some zs)
   where

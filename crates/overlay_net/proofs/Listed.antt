@@ -1,4 +1,4 @@
--- Events by number, ascending lists, and what a filter keeps.
+-- Events by index, ascending lists, and filters.
 use Rattle.std.proofs.Common.{◌≡◌, inl, inr, ◌∙◌, ℕ, suc, zero, ◌+◌, ◌<◌, Bool, true, false, ◌==◌, cond, List, [], ◌∷◌, ◌++◌, map, filter, length, Some, refl, sym, ap, arith, eqb-true, eq-eqb, Less}
 use Rattle.std.specs.Prelude.{slice_get}
 use Rattle.std.specs.List.{flat_map}
@@ -24,7 +24,7 @@ use Rattle.overlay_net.proofs.Queues.{finds_key}
 
 -- ---- events by number
 
--- a place beyond the first list is one of the second
+-- an index beyond the first list is one of the second
 pub get_past : {X : Type 0} (xs ys : List X) (k : ℕ) → slice_get (xs ++ ys) (length xs + k) ≡ slice_get ys k
 get_past [] ys k = let e : 0 + k ≡ k = omega arith in ap (slice_get ys) e
 get_past (x ∷ xs) ys k = let e : suc (length xs) + k ≡ suc (length xs + k) = omega arith in ap (slice_get (x ∷ (xs ++ ys))) e ∙ get_past xs ys k
@@ -87,30 +87,30 @@ listed_from_in [] n i = absurd i
 listed_from_in (m ∷ ready) n (inl e) = or_left (is_at (nat_cmp n) m) (is_listed ready n) (finds_key n m ∙ eq-eqb m n (sym e))
 listed_from_in (m ∷ ready) n (inr i) = or_right (is_at (nat_cmp n) m) (is_listed ready n) (listed_from_in ready n i)
 
--- a sender of whom something waits is one of the senders
+-- a sender with packets waiting is one of the senders
 pub sender_listed : (es : Waiting) (m : ℕ) → is_waiting es m ≡ true → In m (senders_of es)
 sender_listed [] m h = absurd (true≢false (sym h))
 sender_listed (e ∷ es) m h = elim (or_cases (e.0 == m) (is_waiting es m) h) [ inl a ↦ inl (sym (eqb-true e.0 m a)) | inr b ↦ inr (sender_listed es m b) ]
 
--- of each of the senders something waits
+-- each of the senders has packets waiting
 pub listed_waits : (es : Waiting) (m : ℕ) → In m (senders_of es) → is_waiting es m ≡ true
 listed_waits [] m i = absurd i
 listed_waits (e ∷ es) m (inl k) = or_left (e.0 == m) (is_waiting es m) (eq-eqb e.0 m (sym k))
 listed_waits (e ∷ es) m (inr i) = or_right (e.0 == m) (is_waiting es m) (listed_waits es m i)
 
--- ---- what a filter keeps
+-- ---- filters
 
 -- tests that agree keep the same
 pub filter_same : {X : Type 0} (f g : X → Bool) (xs : List X) → ((x : X) → In x xs → f x ≡ g x) → filter f xs ≡ filter g xs
 filter_same f g [] h = refl
 filter_same {X} f g (x ∷ xs) h = ap (λ (b : Bool). cond b (x ∷ filter f xs) (filter f xs)) (h x (inl refl)) ∙ ap (λ (ys : List X). cond (g x) (x ∷ ys) ys) (filter_same f g xs (λ y i. h y (inr i)))
 
--- a test that nothing passes keeps nothing
+-- a filter by a test that no element passes is empty
 pub filter_none : {X : Type 0} (f : X → Bool) (xs : List X) → ((x : X) → In x xs → f x ≡ false) → filter f xs ≡ []
 filter_none f [] h = refl
 filter_none {X} f (x ∷ xs) h = ap (λ (b : Bool). cond b (x ∷ filter f xs) (filter f xs)) (h x (inl refl)) ∙ filter_none f xs (λ y i. h y (inr i))
 
--- a test of what a function gives
+-- a test of a function's results
 pub filter_mapped : {X Y : Type 0} (test : Y → Bool) (f : X → Y) (xs : List X) → filter test (map f xs) ≡ map f (filter (λ x. test (f x)) xs)
 filter_mapped test f [] = refl
 filter_mapped {X} {Y} test f (x ∷ xs) = ap (λ (ys : List Y). cond (test (f x)) (f x ∷ ys) ys) (filter_mapped test f xs) ∙ go (test (f x))
@@ -119,14 +119,14 @@ filter_mapped {X} {Y} test f (x ∷ xs) = ap (λ (ys : List Y). cond (test (f x)
     go true = refl
     go false = refl
 
--- of the numbers below n, a test keeps an ascending list of such numbers that pass it
+-- the numbers below n that pass a test, if they are those of an ascending list
 pub filter_up_to : (test : ℕ → Bool) (n : ℕ) (xs : List ℕ) → IsStrictlyIncreasing xs → ((m : ℕ) → In m xs → (m < n) × (test m ≡ true)) → ((m : ℕ) → m < n → test m ≡ true → In m xs) → filter test (up_to n) ≡ xs
 filter_up_to test n xs rise each all =
     same_rising (filter test (up_to n)) xs (filter_rises test (up_to n) (up_to_rises n)) rise
     (λ m i. let r = in_from_filter test m (up_to n) i in all m (up_to_below n m r.0) r.1)
     (λ m i. let r = each m i in in_filter test m (up_to n) (in_up_to n m r.0) r.1)
 
--- only those with some count where lists are put together
+-- empty lists don't count where lists are put together
 pub flat_kept : (g : ℕ → List Event) (xs : List ℕ) → flat_map g xs ≡ flat_map g (filter (λ n. has_some (g n)) xs)
 flat_kept g [] = refl
 flat_kept g (x ∷ xs) = ap (λ (es : List Event). g x ++ es) (flat_kept g xs) ∙ go (has_some (g x)) refl
@@ -135,7 +135,7 @@ flat_kept g (x ∷ xs) = ap (λ (es : List Event). g x ++ es) (flat_kept g xs) �
     go true e = refl
     go false e = ap (λ (es : List Event). es ++ flat_map g (filter (λ n. has_some (g n)) xs)) (none_from_test (g x) e)
 
--- what is put together of an ascending list of just those with some
+-- the lists of an ascending list of exactly those that have one, put together
 pub flat_ready : (g : ℕ → List Event) (n : ℕ) (ready : List ℕ) → IsStrictlyIncreasing ready → ((m : ℕ) → In m ready → m < n) → ((m : ℕ) → m < n → is_listed ready m ≡ has_some (g m)) → flat_map g (up_to n) ≡ flat_map g ready
 flat_ready g n ready rise below just =
     flat_kept g (up_to n)

@@ -114,14 +114,14 @@ daemon_is p x n plan i there =
 pub samples_it : (p : Plan) (x : Stream) (n : ℕ) → IsPlan p → In x p.streams → is_daemon p.parents n ≡ true → serves p n x.number ≡ true → member n x.daemons ≡ true
 samples_it p x n plan i leaf there = subst (λ (ds : List ℕ). member n ds ≡ true) (daemons_are p x plan i) (serving_daemon p n x.number leaf there)
 
--- a node that is no daemon is none of the stream's
+-- a node that is not a daemon is not a daemon of the stream
 pub no_daemon : (p : Plan) (x : Stream) (n : ℕ) → IsPlan p → In x p.streams → is_daemon p.parents n ≡ false → member n x.daemons ≡ false
 no_daemon p x n plan i not_leaf = elim (cases_Bool (member n x.daemons)) [
   | inl t ↦ absurd (true≢false (sym (daemon_is p x n plan i t) ∙ not_leaf))
   | inr f ↦ f
 ]
 
--- a node that doesn't serve a stream of the plan is none of its daemons
+-- a node that doesn't serve a stream of the plan is not one of its daemons
 pub serves_not : (p : Plan) (x : Stream) (n : ℕ) → IsPlan p → In x p.streams → serves p n x.number ≡ false → member n x.daemons ≡ false
 serves_not p x n plan i not_there = elim (cases_Bool (member n x.daemons)) [
   | inl t ↦ absurd (true≢false (sym (daemon_serves p n x.number (subst (λ (ds : List ℕ). member n ds ≡ true) (sym (daemons_are p x plan i)) t)) ∙ not_there))
@@ -192,7 +192,7 @@ own_wave (y ∷ ys) x w h i j = elim (in_append {X = ℕ × ℕ} (x.number, w) (
     there ih b (inl e) = absurd (let lt : y.number < x.number = h.0 x.number (wave_stream ys (x.number, w) b) in let k : x.number ≡ y.number = ap (λ (z : Stream). z.number) e in omega arith)
     there ih b (inr k) = ih k b
 
--- of the numbers below n, just one of them is this one
+-- exactly one of the numbers below n is this one
 only_one : (k n : ℕ) → k < n → filter (λ w. k == w) (up_to n) ≡ k ∷ []
 only_one k n lt = filter_up_to (λ w. k == w) n (k ∷ []) (λ y i. absurd i, tt)
     (λ m i. elim i [ inl e ↦ (subst (λ j. j < n) (sym e) lt, eq-eqb k m (sym e)) | inr j ↦ absurd j ])
@@ -203,7 +203,7 @@ samples_block : (n s : ℕ) (ws : List ℕ) (vs : List (ℕ × ℕ)) → samples
 samples_block n s [] vs = refl
 samples_block n s (w ∷ ws) vs = ap (λ (es : List Event). Sample n s w ∷ es) (samples_block n s ws vs)
 
--- what a test keeps of a node's samples, stream by stream
+-- a node's samples that pass a test, stream by stream
 samples_kept : (test : Event → Bool) (n : ℕ) (f : Stream → List Event) (xs : List Stream) → ((x : Stream) → In x xs → filter test (map (λ w. Sample n x.number w) (up_to x.waves)) ≡ f x) → filter test (samples_of n (waves_of xs)) ≡ flat_map f xs
 samples_kept test n f [] h = refl
 samples_kept test n f (x ∷ xs) h =
@@ -212,7 +212,7 @@ samples_kept test n f (x ∷ xs) h =
     ∙ ap (λ (es : List Event). es ++ filter test (samples_of n (waves_of xs))) (h x (inl refl))
     ∙ ap (λ (es : List Event). f x ++ es) (samples_kept test n f xs (λ y i. h y (inr i)))
 
--- a node in a state: it can do something, stands as this node, and this is what waits for it, from senders of the plan
+-- a node in a state: it is active, it is this node, and this is its inbox, with senders of the plan
 pub record IsNodeIn (p : Plan) (st : State) (x : NodeView) (box : Waiting) : Type 0 where
   pub active : is_active p st x.number ≡ true
   pub node : st.node x.number ≡ node_of x
@@ -274,13 +274,13 @@ node_offers p st x box plan h =
     later : List Event
     later = samples_of x.number (waves_of p.streams) ++ map (λ m. Recv x.number m) (up_to (nodes p)) ++ Tick x.number ∷ []
 
--- ---- what is left of a list
+-- ---- the rest of a list
 
--- what a list puts together from a place on
+-- what a list puts together from an index on
 pub flat_from : {X : Type 0} (f : X → List Event) (xs : List X) (k : ℕ) (x : X) → k < length xs → x ≡ get_or xs k x → flat_map f (drop k xs) ≡ f x ++ flat_map f (drop (k + 1) xs)
 flat_from f xs k x lt is = ap (flat_map f) (drop_more xs k x lt) ∙ ap (λ y. f y ++ flat_map f (drop (k + 1) xs)) (sym is)
 
--- what is read at a place is in the list
+-- what is read at an index is in the list
 pub in_read : {X : Type 0} (xs : List X) (k : ℕ) (x : X) → k < length xs → x ≡ get_or xs k x → In x xs
 in_read xs k x lt is = subst (λ y. In y xs) (sym is) (in_at xs k x lt)
 
@@ -331,11 +331,11 @@ pending_is (e ∷ es) m h = go (pending_is es m h.1) (e.0 == m)
 less_test : (m n : ℕ) → m < n → nat_lt m n ≡ true
 less_test m n lt = elim (cases_Bool (nat_lt m n)) [ inl t ↦ t | inr f ↦ absurd (let le : n ≤ m = ltb-false m n f in omega arith) ]
 
--- a node that is there stands as it is
+-- the state's node is the node of the list
 pub node_there : (p : Plan) (xs : List NodeView) (n : ℕ) (x : NodeView) → slice_get xs n ≡ Some x → node_at p xs n ≡ node_of x
 node_there p xs n x at = ap (λ (o : Option NodeView). elim o [ None ↦ start_node p n | Some x ↦ node_of x ]) at
 
--- each node of the parts stands in their state
+-- each node of the parts is in their state
 pub node_in_state : (p : Plan) (xs : List NodeView) (inboxes : List Waiting) (releases : List TreeRelease) (x : NodeView) → p.faults ≡ [] → AreParts p xs inboxes → slice_get xs x.number ≡ Some x → x.number < nodes p → IsNodeIn p (state_with p xs inboxes releases) x (inbox_at inboxes x.number)
 node_in_state p xs inboxes releases x no_faults parts at lt = record {
   active = active_is p (state_with p xs inboxes releases) x.number no_faults ∙ less_test x.number (nodes p) lt;
@@ -346,15 +346,15 @@ node_in_state p xs inboxes releases x no_faults parts at lt = record {
   senders = λ m w. parts.senders m x.number w;
 }
 
--- a number that is no less fails the test
+-- a number that is not less fails the test
 pub not_less : (m n : ℕ) → n ≤ m → nat_lt m n ≡ false
 not_less m n le = elim (cases_Bool (nat_lt m n)) [ inl t ↦ absurd (let lt : m < n = ltb-true m n t in omega arith) | inr f ↦ f ]
 
--- what is read at a place of the list of nodes is a node
+-- what is read at an index of the list of nodes is a node
 pub node_read : (p : Plan) (xs : List NodeView) (inboxes : List Waiting) (n : ℕ) (x : NodeView) → AreParts p xs inboxes → n < nodes p → x ≡ get_or xs n x → slice_get xs n ≡ Some x
 node_read p xs inboxes n x parts lt is = slice_get_read xs (nodes p) n x (sym parts.node_count) lt is
 
--- what is read at a place of the list of inboxes is the inbox of the node
+-- what is read at an index of the list of inboxes is the inbox of the node
 pub inbox_read : (p : Plan) (xs : List NodeView) (inboxes : List Waiting) (n : ℕ) (box : Waiting) → AreParts p xs inboxes → n < nodes p → box ≡ get_or inboxes n box → box ≡ inbox_at inboxes n
 inbox_read p xs inboxes n box parts lt is = get_or_read inboxes n box (subst (λ k. n < k) (sym parts.inbox_count) lt) is []
 
@@ -396,7 +396,7 @@ tick_enabled p xs inboxes releases n x no_faults parts lt at =
     ∙ ap (λ k. list_any (λ v. is_running (k.book v.0 v.1)) (waves_at p n)) (node_there p xs n x at)
     ∙ ap (λ k. list_any (λ v. is_running (book_of x.entries v.0 v.1)) (waves_at p k)) (sym (parts.node n x at).0)
 
--- each place of a list has an element
+-- each index of a list has an element
 some_at : (xs : List NodeView) (n : ℕ) → n < length xs → (x : NodeView) × (slice_get xs n ≡ Some x)
 some_at [] n lt = absurd (omega arith)
 some_at (x ∷ xs) zero lt = (x, refl)
@@ -459,7 +459,7 @@ part_empty g (x ∷ xs) m (inr i) e = part_empty g xs m i (rest (g x) e)
     rest [] e = e
     rest (a ∷ es) e = absurd (cc)
 
--- no event may come next just where no node has one
+-- no event may come next exactly if no node has one
 pub none_is_ready : (p : Plan) (xs : List NodeView) (inboxes : List Waiting) (releases : List TreeRelease) (ready : List ℕ) → IsPlan p → p.faults ≡ [] → AreParts p xs inboxes → AreReady p xs inboxes ready → (ready ≡ [] → enabled_events p (state_with p xs inboxes releases) ≡ []) × (enabled_events p (state_with p xs inboxes releases) ≡ [] → ready ≡ [])
 none_is_ready p xs inboxes releases ready plan no_faults parts listed = (
   λ none. all_offers p xs inboxes releases plan no_faults parts ∙ nothing_below (events_at p xs inboxes) (nodes p) (λ m lt. sym (ready_at p xs inboxes ready m parts listed lt) ∙ ap (λ r. is_listed r m) none),

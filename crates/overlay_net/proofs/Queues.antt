@@ -66,7 +66,7 @@ nothing_waits tree k es h = queue_by_lookup tree k es ∙ ap (found tree) h
 pub what_waits : {X A : Type 0} (tree : X → Tree) (k : ℕ) (v : VecDeque (Packet X) A) (es : List (ℕ × VecDeque (Packet X) A)) → lookup (is_at (nat_cmp k)) es ≡ Some v → queue_of (waiting_view tree es) k ≡ map (packet_view tree) v.items
 what_waits tree k v es h = queue_by_lookup tree k es ∙ ap (found tree) h
 
--- the key that was changed has what it was given
+-- the key that was changed has the new value
 pub changed_here : {X A : Type 0} (tree : X → Tree) (k : ℕ) (w : Option (VecDeque (Packet X) A)) (es ns : List (ℕ × VecDeque (Packet X) A)) → Changes k w es ns → queue_of (waiting_view tree ns) k ≡ found tree w
 changed_here tree k w es ns h = changed_queue tree k w es ns h k ∙ ap (λ b. cond b (found tree w) (queue_of (waiting_view tree es) k)) (eq-eqb k k refl)
 
@@ -113,7 +113,7 @@ not_empty : {X : Type 0} (xs : List X) (x : X) → xs ++ x ∷ [] ≡ [] → ⊥
 not_empty [] x e = cc
 not_empty (z ∷ zs) x e = cc
 
--- a queue that has just been given a packet isn't empty
+-- a queue after a packet was added isn't empty
 pub pushed_some : {X : Type 0} (xs ys : List X) (x : X) → ys ≡ xs ++ x ∷ [] → ys ≢ []
 pushed_some xs ys x is = λ e. not_empty xs x (sym is ∙ e)
 

@@ -22,7 +22,7 @@ use Rattle.overlay_core.proofs.Journals.{legal_has_room}
 
 -- ---- a journal's events, node by node
 
--- an outcome that takes its place raises the count of its node by one
+-- committing an outcome raises the count of its node by one
 commit_raises : (st : State) (k : ℕ) (o : Outcome) (n : ℕ) → ((commit st k o).node n).count ≤ suc (st.node n).count
 unfolding commit
 commit_raises st k o n = go (n == k) refl
@@ -125,7 +125,7 @@ longest_within_limit (x ∷ xs) all = max-le (ticks_within_limit x.mode all.0.mo
 greatest_bound : bound_of 512 128 1000 < 2 ^ 62
 greatest_bound = omega arith
 
--- the bound of few nodes, few waves and a short timeout is small
+-- the bound of nodes, waves and timeouts within their limits is below 2^62
 small_bound_of : (n m t : ℕ) → n ≤ 512 → m ≤ 128 → t ≤ 1000 → bound_of n m t ≤ bound_of 512 128 1000
 small_bound_of n m t hn hm ht =
     let n9 : n + 9 ≤ 512 + 9 = omega arith in

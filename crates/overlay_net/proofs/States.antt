@@ -33,7 +33,7 @@ nothing_beyond count b (v ∷ vs) below over = go (v.0 == b) refl (nothing_beyon
     go true t rest = let e : v.0 ≡ b = eqb-true v.0 b t in let k : v.0 < count = below.0 in absurd (grind (arith, nat_tests))
     go false t rest = rest
 
--- an element in the place of another one
+-- an element that replaces another one
 pub set_here : {X : Type 0} (xs : List X) (n : ℕ) (y : X) → n < length xs → slice_get (slice_set xs n y) n ≡ Some y
 set_here xs n y below =
     slice_get-get_or (slice_set xs n y) n y (subst (λ k. n < k) (sym (length-set xs n y)) below)
@@ -50,7 +50,7 @@ set_else xs n b y other = elim (cases_Bool (nat_lt b (length xs))) [
       ∙ sym (slice_get_past xs b ge)
 ]
 
--- a node in the place of another one
+-- a node that replaces another one
 pub node_set : (p : Plan) (xs : List NodeView) (n : ℕ) (y : NodeView) (v : Node) → n < length xs → node_of y ≡ v → (b : ℕ) → node_at p (slice_set xs n y) b ≡ put_at (node_at p xs) n v b
 node_set p xs n y v below is b = go (b == n) refl
   where
@@ -62,7 +62,7 @@ node_set p xs n y v below is b = go (b == n) refl
         ap (λ a. node_at p (slice_set xs n y) a) e ∙ ap (shown n) (set_here xs n y below) ∙ is
     go false t = ap (shown b) (set_else xs n b y (eqb-false b n t))
 
--- an inbox in the place of another one
+-- an inbox that replaces another one
 pub inbox_here : (ib : List Waiting) (n : ℕ) (w : Waiting) → n < length ib → inbox_at (slice_set ib n w) n ≡ w
 inbox_here ib n w below = get_or-set_same ib n w [] below
 
@@ -98,7 +98,7 @@ module _ (p : Plan) (xs : List NodeView) (rs : List TreeRelease) (n : ℕ) where
           go true false et eu = ap (map bare_packet) (sym (else a b (λ i. eu i && et i)))
           go false u et eu = ap (map bare_packet) (sym (else a b ((λ i. eu i && et i) ∙ and_false u)))
 
-  -- What an event leaves of its node took its place, and what it sent was put behind.
+  -- The event's node was replaced, and what it sent was added to the queues.
   pub commit_state : (ib ic : List Waiting) (x y : NodeView) (o : Outcome) (sends : List (ℕ × TreePacket)) (more : List TreeRelease)
       → slice_get xs n ≡ Some x
       → ◌≡◌ {A = Node} (node_of y) (record { kin = o.kin; book = o.work.book; count = suc x.count })

@@ -1,7 +1,7 @@
 -- A net as a value, and the journals that lead to it.
-use Rattle.std.specs.Prelude.{◌≡◌, refl, ℕ, Bool, true, false, nat_lt, cond, List, [], ◌∷◌, ◌++◌, map, slice_get, slice_index_or, Some, None}
+use Rattle.std.specs.Prelude.{◌≡◌, refl, ℕ, Bool, nat_lt, cond, List, [], ◌∷◌, ◌++◌, map, slice_get, slice_index_or, Some, None}
 use Rattle.std.specs.List.{AllByRecursion, flat_map}
-use Rattle.std.specs.Coded.{Coded, code_by, coded×, coded_bool, coded_list, coded_ℕ}
+use Rattle.std.specs.Coded.{Coded, code_by, coded×, coded_bool, coded_list}
 use Rattle.stat_plan.specs.NodeSets.{member}
 use Rattle.stat_plan.specs.Plans.{Plan, Stream, nodes}
 use Rattle.stat_plan.specs.Codes.{coded_plan}
@@ -37,7 +37,7 @@ inbox_at inboxes n = slice_index_or inboxes n []
 abbrev pub node_at : Plan → List NodeView → ℕ → Node
 node_at p xs n = elim (slice_get xs n) [ None ↦ start_node p n | Some x ↦ node_of x ]
 
--- the state of these parts; nobody is lost
+-- the state of these parts; no node is lost
 abbrev pub state_with : Plan → List NodeView → List Waiting → List TreeRelease → State
 state_with p xs inboxes releases = record {
   alive = λ n. nat_lt n (nodes p);

@@ -65,9 +65,9 @@ impl<'p, T: PrefixTree> Net<'p, T> {
         })
     }
 
-    /// Does an event. It may be any event, even one of nodes, streams or waves that the plan doesn't have; one that may not
-    /// come next changes nothing. After running out of memory, each later call returns that error, and the net must not be
-    /// read any more.
+    /// Does an event. It may be any event, even one of nodes, streams or waves that the plan doesn't have; one that
+    /// may not come next changes nothing. After running out of memory, each later call returns that error, and the net
+    /// must not be read any more.
     pub fn apply(&mut self, event: Event) -> Result<(), NetError>
         ensures plan { self.new.plan ≡ self.old.plan }
         ensures reached { OnOk result (ExtendsBy event self.old self.new) }
@@ -96,8 +96,8 @@ impl<'p, T: PrefixTree> Net<'p, T> {
         }
     }
 
-    /// The `i`-th of the events that may come next, from 0; none past the last. They are ordered by node, and those of a
-    /// node as its samples by stream, what it may receive by sender, and its tick.
+    /// The `i`-th of the events that may come next, from 0; none past the last. They are ordered by node, and those of
+    /// a node as its samples by stream, what it may receive by sender, and its tick.
     pub fn enabled(&self, i: u64) -> Option<Event>
         requires { self.now.failed ≡ false }
         ensures { result ≡ slice_get (enabled_events self.now.plan (state_of self.now)) i }

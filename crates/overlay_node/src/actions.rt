@@ -88,7 +88,8 @@ pub fn send_dones<T: PrefixTree>(
     Ok(())
 }
 
-// For the proof: a set has at most all ranks. Each release of a wave passes on a new rank, so its number is within that limit.
+// For the proof: a set has at most all ranks. Each release of a wave passes on a new rank, so its number is within
+// that limit.
 fn ranks_within_limit(set: &RankSet)
     ensures { size set.now ≤ RANK_LIMIT }
 {

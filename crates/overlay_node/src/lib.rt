@@ -1,5 +1,5 @@
-//! A node of the overlay: it holds what has come in of each of its waves, merges what its children send, and passes it on
-//! or releases it when that is due.
+//! A node of the overlay: it holds what has come in of each of its waves, merges what its children send, and passes it
+//! on or releases it when that is due.
 #![tactic(auto)]
 
 mod actions;

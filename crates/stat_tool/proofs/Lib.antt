@@ -1,4 +1,4 @@
 pub mod Determined
-pub mod Ending
+pub mod Headline
 pub mod Serial
 pub mod Stopping

@@ -18,7 +18,7 @@ use Rattle.overlay_node.specs.Packets.{ReleaseFits}
 use Rattle.overlay_net.specs.Nets.{NetView, IsReachedBy, state_of}
 use Rattle.front_end.specs.Report.{IsReport}
 use Rattle.stat_tool.specs.RunOutput.{HasRun, TakesFirst}
-use Rattle.stat_tool.proofs.Ending.{whole_run}
+use Rattle.stat_tool.proofs.Headline.{whole_run}
 
 first_in : (es : List Event) (e : Event) → Some e ≡ slice_get es 0 → In e es
 first_in [] e is = absurd (cc)

@@ -63,16 +63,16 @@ module _ {A : Type 0} (names : Names) (desk : DeskChange) (role : FileRole) (rea
     (wants : next_step before ≡ Wants role)
     (long : next_step (before ++ TooLong ∷ []) ≡ Answers (too_long role))
     (bad : (bytes : List ℕ) (e : TextError) → read bytes ≡ Err e → next_step (before ++ Bytes bytes ∷ []) ≡ Answers (refusal_of role e))
-    (read : AreReadResults desk.contents (in_order names) before)
+    (earlier : AreReadResults desk.contents (in_order names) before)
     (more : (g : ReadResult) → Agrees (desk.contents (name_of names role)) g → AreReadResults desk.contents (in_order names) (before ++ g ∷ [])) where
   refused : (status : Status) → IsRefused (desk.contents (name_of names role)) read role status → (results : List ReadResult) × (AreReadResults desk.contents (in_order names) results × (next_step results ≡ Answers status))
   refused status r = (before ++ Bytes r.0 ∷ [], (more (Bytes r.0) r.1.0, bad r.0 r.1.1.0 r.1.1.1.0 ∙ ap Answers r.1.1.1.1))
 
   pub stops : (status : Status) → StopsAt read role (name_of names role) desk status → Prevented names desk status
-  stops OutOfMemory r = (before, (read, tt))
+  stops OutOfMemory r = (before, (earlier, tt))
   stops (DeskFault at) r = (
     before,
-    (read, (wants ∙ ap Wants (sym r.0), subst (λ (q : FileRole). FailedAt desk.before desk.now desk.last_fault (name_of names q)) (sym r.0) r.1)),
+    (earlier, (wants ∙ ap Wants (sym r.0), subst (λ (q : FileRole). FailedAt desk.before desk.now desk.last_fault (name_of names q)) (sym r.0) r.1)),
   )
   stops (BadInput file line reason) r = refused (BadInput file line reason) r
   stops (OverLimit file line what most) (inl r) = (before ++ TooLong ∷ [], (more TooLong r.1, long ∙ ap Answers (sym r.0)))
@@ -154,13 +154,16 @@ if_ok (Err e) P Q f h = tt
 
 -- the first of some files was read, or none
 pub reads_first : (before now : List (List ℕ)) (name : List ℕ) (rest : List (List ℕ)) → AreReadInOrder before now (name ∷ []) → AreReadInOrder before now (name ∷ rest)
-reads_first before now name rest (zero, is) = (zero, is)
-reads_first before now name rest (suc n, is) = (1, is ∙ ap (λ xs. before ++ name ∷ xs) (none n))
+reads_first before now name rest some = by some.0 some.1
   where
-    none : (n : ℕ) → take n ([] {A = List ℕ}) ≡ []
+    none : (n : ℕ) → ◌≡◌ {A = List (List ℕ)} (take n []) []
     none zero = refl
     none (suc n) = refl
 
+    by : (n : ℕ) → now ≡ before ++ take n (name ∷ []) → AreReadInOrder before now (name ∷ rest)
+    by zero is = (zero, is)
+    by (suc n) is = (1, is ∙ ap (λ xs. before ++ name ∷ xs) (none n))
+
 -- a file was read, and then some of the rest
 pub reads_more : (before mid now : List (List ℕ)) (name : List ℕ) (rest : List (List ℕ)) → mid ≡ before ++ name ∷ [] → AreReadInOrder mid now rest → AreReadInOrder before now (name ∷ rest)
-reads_more before mid now name rest is (n, more) = (suc n, more ∙ ap (λ xs. xs ++ take n rest) is ∙ append_assoc before (name ∷ []) (take n rest))
+reads_more before mid now name rest is more = (suc more.0, more.1 ∙ ap (λ xs. xs ++ take more.0 rest) is ∙ append_assoc before (name ∷ []) (take more.0 rest))

@@ -42,5 +42,5 @@ returns g c =
     let i = c.entry_index-i.result in
     let kin = kin_of c.args.context.now in
     let found = finds p c.args.s c.args.w es i (get_or es i c.index-entries-i.result) c.requires.has_entry c.entry_index-i.ensures.index (ap (get_or es i) c.index-entries-i.is) in
-    steps_as p _ _ _ _ _ _ (ap (λ set. act_changed p c.args.context.now.node kin c.args.s c.args.w (covering set)) c.in_ok-own.ensures.cov)
+    steps_as p _ _ _ _ _ _ (ap (λ set. act_changed p c.args.context.now.node kin c.args.s c.args.w (covering set)) c.in_ok-own.ensures.coverage)
     (steps_found p (λ s w. act_changed p c.args.context.now.node kin s w (covering (cov_of c.in_ok-own.own))) c.args.s c.args.w es i (get_or es i c.index-entries-i.result) c.take_sample.new.entry _ _ c.requires.fits found c.in_ok-take_sample.ensures)

@@ -1,5 +1,4 @@
-use Rattle.std.proofs.Common.{◌≡◌, ◌∙◌, List, ap, subst}
-use Rattle.stat_desk.specs.declared.event.Event.{Event}
+use Rattle.std.proofs.Common.{◌∙◌, ap, subst}
 use Rattle.overlay_net.specs.Nets.{NetView, IsReachedBy}
 use Rattle.overlay_net.proofs.net.Net.invariant.Goals as goal
 
