@@ -5,13 +5,13 @@ use Rattle.std.specs.FinMap as finmap
 use Rattle.std.specs.List.{flat_map}
 use Rattle.std.proofs.Common.{sym, ap, ◌∙◌, arith}
 use Rattle.std.specs.declared.cmp.Ordering.TheVariants.{Less, Greater}
-use Rattle.rank_set.specs.Ranks.{Ranks, none, has, with_rank, those, set_of, in_order}
+use Rattle.rank_set.specs.Ranks.{Ranks, none, has, with_rank, union, those, set_of, in_order}
 use Rattle.rank_set.specs.Text.{text_of}
 use Rattle.call_path.specs.Path.{Path, path_cmp, path_cmp_total}
 use Rattle.prefix_tree.specs.Pairs.{Pairs, pairs_at}
 use Rattle.prefix_tree.specs.Tree.{Tree, Marks, prefixes_of, rows_at, tree_of}
 use Rattle.equiv_class.specs.Classes.{classes_of}
-use Rattle.stat_plan.specs.Plans.{Plan, stream, daemons, ranks, stream_of}
+use Rattle.stat_plan.specs.Plans.{Plan, stream, daemons, ranks, samples, sample_count, stream_of, stream_ranks}
 use Rattle.stat_plan.specs.declared.script.Fault.{Fault}
 use Rattle.stat_plan.specs.declared.script.Mode.TheVariants.{WaitForAll}
 use Rattle.overlay_core.specs.TreeReleases.{TreeRelease}
@@ -20,7 +20,7 @@ use Rattle.overlay_core.specs.declared.release.Kind.TheVariants.{Partial, Final}
 use Rattle.front_end.specs.TreeText.{row_text}
 use Rattle.front_end.specs.ClassText.{classes_text}
 use Rattle.front_end.specs.ReleaseText.{heading, missing_line, missing_lines, release_text}
-use Rattle.front_end.specs.Report.{fault_line, release_cmp, report_text}
+use Rattle.front_end.specs.Report.{direct_releases, fault_line, release_cmp, report_text}
 
 -- the loss of b:0, before any event of its own
 abbrev loss : Fault
@@ -166,3 +166,20 @@ then_the_wave = refl
 
 then_the_number : release_cmp (bare 1 0 1) (bare 1 0 2) ≡ Less
 then_the_number = refl
+
+-- the direct merge of a plan
+
+-- two waves of one sample time each: rank 1 was seen in main at the first and nobody at the second; time 2 is of no wave
+abbrev two_waves : Plan
+two_waves = record {
+  names = (two_daemons []).names;
+  parents = (two_daemons []).parents;
+  placed = (two_daemons []).placed;
+  lines = record { time = 0; ranks = set_of (1 ∷ []); path = codes "main" ∷ [] } ∷ record { time = 2; ranks = set_of (3 ∷ []); path = codes "main" ∷ [] } ∷ [];
+  streams = stream 0 WaitForAll 2 1 (1 ∷ 2 ∷ []) ∷ [];
+  faults = [];
+}
+
+one_for_each_wave : direct_releases two_waves ≡ release 0 0 1 Final (tree_of (pairs_at (1 ∷ []) (codes "main" ∷ [])) everyone) [] ∷ release 0 1 1 Final (tree_of [] everyone) [] ∷ []
+unfolding samples sample_count stream_ranks stream_of daemons ranks union with_rank
+one_for_each_wave = refl

@@ -36,9 +36,9 @@ handed p e xs old new packet k x y (Ok out) taken same at number node sends rele
   before = x;
   after = y;
   taken = taken;
-  at = at;
-  done = record { number = number; node = node; sent = sends; released = releases; fits = fits; packets = packets; trees = trees; numbers = numbers; counts = counts };
-  now = ap (λ i. slice_set xs i y) same;
+  node_before = at;
+  handled = record { number = number; node = node; sent = sends; released = releases; fits = fits; packets = packets; trees = trees; numbers = numbers; counts = counts };
+  nodes_after = ap (λ i. slice_set xs i y) same;
 }
 
 -- the same of an equal output

@@ -56,7 +56,7 @@ module _ (p : Plan) (plan : IsPlan p) (xs : List NodeView) (ib : List Waiting) (
 
   module _ (ys : List NodeView) (ic : List Waiting) (sends : List (ℕ × TreePacket)) (more : List TreeRelease) (over : IsHandedOver p e xs ys ib ic sends more) where
     all_go_below : GoBelow (nodes p) sends
-    all_go_below = go_below p plan net.no_faults xs ib rs net.parts sound ic e over.before over.after over.packet sends more en over.taken over.at over.done
+    all_go_below = go_below p plan net.no_faults xs ib rs net.parts sound ic e over.before over.after over.packet sends more en over.taken over.node_before over.handled
 
     -- what was sent can be put where it goes
     pub can_deliver : GoBelow (length ic) sends
@@ -64,14 +64,14 @@ module _ (p : Plan) (plan : IsPlan p) (xs : List NodeView) (ib : List Waiting) (
 
     -- the node is at its index
     pub node_now : (d : NodeView) → get_or ys (event_node e) d ≡ over.after
-    node_now d = ap (λ l. get_or l (event_node e) d) over.now ∙ get_or-set_same xs (event_node e) over.after d (slice_get_within xs (event_node e) over.before over.at)
+    node_now d = ap (λ l. get_or l (event_node e) d) over.nodes_after ∙ get_or-set_same xs (event_node e) over.after d (slice_get_within xs (event_node e) over.before over.node_before)
 
     -- there are as many nodes
     pub same_nodes : length ys ≡ length xs
-    same_nodes = ap length over.now ∙ length-set xs (event_node e) over.after
+    same_nodes = ap length over.nodes_after ∙ length-set xs (event_node e) over.after
 
     front_alone : event_node e ≢ front p → more ≡ []
-    front_alone = only_front p plan net.no_faults xs ib rs net.parts sound e over.before over.after over.packet sends more en over.at over.done
+    front_alone = only_front p plan net.no_faults xs ib rs net.parts sound e over.before over.after over.packet sends more en over.node_before over.handled
 
     module _ (id : List Waiting) (lb : List ℕ) (sent : AreSent (event_node e) sends ic id listed lb) where
       -- if a journal led to the net, that journal with the event appended leads to it now
@@ -80,20 +80,20 @@ module _ (p : Plan) (plan : IsPlan p) (xs : List NodeView) (ib : List Waiting) (
           let here = subst (λ (s : State). is_enabled p s e ≡ true) h.state en in
           record {
             legal = legal_more p journal e h.legal here;
-            state = (λ i. state_with p (over.now i) id (rs ++ more)) ∙ stepped p plan net.no_faults xs ib rs net.parts sound ic id listed lb e over.before over.after over.packet sends more en over.taken over.at over.done sent ∙ ap (λ (s : State). step p s e) h.state ∙ sym (after_more p journal e);
-            numbered = numbers_kept p e over.before over.after over.packet sends more over.done xs over.at rs front_alone net.counts h.numbered;
-            trees = trees_kept p e over.before over.after over.packet sends more over.done xs over.at rs h.trees;
+            state = (λ i. state_with p (over.nodes_after i) id (rs ++ more)) ∙ stepped p plan net.no_faults xs ib rs net.parts sound ic id listed lb e over.before over.after over.packet sends more en over.taken over.node_before over.handled sent ∙ ap (λ (s : State). step p s e) h.state ∙ sym (after_more p journal e);
+            numbered = numbers_kept p e over.before over.after over.packet sends more over.handled xs over.node_before rs front_alone net.counts h.numbered;
+            trees = trees_kept p e over.before over.after over.packet sends more over.handled xs over.node_before rs h.trees;
           }
 
       -- it is a net again
       pub is_net : (lc : List ℕ) → IsMarked p (event_node e) over.after id lb lc → IsNet (net_view_of p ys id (rs ++ more) false) lc
-      is_net lc marked = subst (λ zs. IsNet (net_view_of p zs id (rs ++ more) false) lc) (sym over.now) (record {
+      is_net lc marked = subst (λ zs. IsNet (net_view_of p zs id (rs ++ more) false) lc) (sym over.nodes_after) (record {
         no_faults = net.no_faults;
         journal = net.journal ++ e ∷ [];
-        reached = subst (λ zs. IsReachedBy (net_view_of p zs id (rs ++ more) false) (net.journal ++ e ∷ [])) over.now (extends_by net.journal net.reached);
-        parts = parts_kept p e over.before over.after over.packet sends more over.done xs over.at ib ic id listed lb net.parts over.taken sent all_go_below;
-        counts = counts_kept p e over.before over.after over.packet sends more over.done xs over.at rs front_alone net.counts;
-        listed = ready_kept p e over.before over.after over.packet sends more over.done xs over.at ib ic id listed lb lc net.parts over.taken sent all_go_below marked net.listed;
+        reached = subst (λ zs. IsReachedBy (net_view_of p zs id (rs ++ more) false) (net.journal ++ e ∷ [])) over.nodes_after (extends_by net.journal net.reached);
+        parts = parts_kept p e over.before over.after over.packet sends more over.handled xs over.node_before ib ic id listed lb net.parts over.taken sent all_go_below;
+        counts = counts_kept p e over.before over.after over.packet sends more over.handled xs over.node_before rs front_alone net.counts;
+        listed = ready_kept p e over.before over.after over.packet sends more over.handled xs over.node_before ib ic id listed lb lc net.parts over.taken sent all_go_below marked net.listed;
       })
 
     -- the node is listed as it is now, with its inbox
@@ -102,14 +102,14 @@ module _ (p : Plan) (plan : IsPlan p) (xs : List NodeView) (ib : List Waiting) (
         → IsMarked p (event_node e) over.after id lb lc
     is_marked id lb lc k y box sent same marked b =
         let node : get_or ys k y ≡ over.after = ap (λ i. get_or ys i y) same ∙ node_now y in
-        let number : over.after.number ≡ event_node e = over.done.number ∙ (net.parts.node (event_node e) over.before over.at).0 in
+        let number : over.after.number ≡ event_node e = over.handled.number ∙ (net.parts.node (event_node e) over.before over.node_before).0 in
         let below : event_node e < length id = subst (λ j. event_node e < j) (sym (sent.inbox_count ∙ taken_all ib ic e over.packet over.taken ∙ net.parts.inbox_count)) (event_below p plan net.no_faults xs ib rs net.parts sound e en) in
         let inbox : get_or id k box ≡ inbox_at id (event_node e) = ap (λ i. get_or id i box) same ∙ get_or_default id (event_node e) box [] below in
         marked b ∙ (λ i. cond (b == (ap (λ (z : NodeView). z.number) node ∙ number) i) (has_some (node_events p (node i) (inbox i))) (is_listed lb b))
 
     -- the node may be marked
     pub may_mark : (k : ℕ) (y : NodeView) → k ≡ event_node e → IsNodeOf p (get_or ys k y)
-    may_mark k y same = subst (IsNodeOf p) (sym (ap (λ i. get_or ys i y) same ∙ node_now y)) over.done.fits
+    may_mark k y same = subst (IsNodeOf p) (sym (ap (λ i. get_or ys i y) same ∙ node_now y)) over.handled.fits
 
     -- there are as many inboxes
     pub same_inboxes : (id : List Waiting) (lb : List ℕ) → AreSent (event_node e) sends ic id listed lb → length id ≡ length ib

@@ -26,9 +26,9 @@ pub record IsHandedOver (p : Plan) (e : Event) (xs ys : List NodeView) (old new 
   pub before : NodeView
   pub after : NodeView
   pub taken : IsTaken old e packet new
-  pub at : slice_get xs (event_node e) ≡ Some before
-  pub done : HasHandled p before after e packet sends more
-  pub now : ys ≡ slice_set xs (event_node e) after
+  pub node_before : slice_get xs (event_node e) ≡ Some before
+  pub handled : HasHandled p before after e packet sends more
+  pub nodes_after : ys ≡ slice_set xs (event_node e) after
 
 -- The event's packet may be taken, and its node may handle the event with any packet that is taken. The node has done fewer
 -- than 2^62 events.

@@ -106,7 +106,7 @@ module _ (t : Nodes) (s : Sampled) (number : ℕ) (h : ParserInvariant t s) wher
     nowhere_else = λ m lt other. other_set s.placed n m ranks (λ e. true≢false (sym daemon ∙ ap (is_daemon t.parents) (sym e) ∙ other)) ∙ h.nowhere_else m lt other;
     once = once_more s.placed n ranks h.once disjoint;
     lines = all_weaker (IsSampleLine s.placed) (IsSampleLine (add_at s.placed n ranks)) s.lines (line_more s.placed n ranks) h.lines;
-    few = h.few;
+    within_limit = h.within_limit;
   }
 
   daemon_holds : (name word : List ℕ) → Holds (ParserInvariant t) (with_daemon t s number name word)
@@ -123,7 +123,7 @@ module _ (t : Nodes) (s : Sampled) (number : ℕ) (h : ParserInvariant t s) wher
     nowhere_else = h.nowhere_else;
     once = h.once;
     lines = all_append (IsSampleLine s.placed) s.lines (sample time ranks path) h.lines (record { time = low; some = some; placed_ranks = subset_has ranks (all_ranks s.placed) placed; path = good });
-    few = (let len = length-append s.lines (sample time ranks path ∷ []) in omega arith);
+    within_limit = (let len = length-append s.lines (sample time ranks path ∷ []) in omega arith);
   }
 
   abbrev after_path : ℕ → Ranks → Path → Result Sampled TextError
@@ -167,7 +167,7 @@ nothing_holds t = record {
   nowhere_else = λ n lt other. nones_none (length t.parents) n;
   once = λ m n r at_m at_n. absurd (true≢false (sym at_m ∙ ap (λ s. has s r) (nones_none (length t.parents) m) ∙ has-none r));
   lines = tt;
-  few = omega arith;
+  within_limit = omega arith;
 }
 
 -- it holds after the lines of a text
@@ -176,7 +176,7 @@ holds_after t u rest is = at_ok (ParserInvariant t) (parsed_lines (with_line t) 
 
 -- samples, where the invariant holds
 pub are_samples : (t : Nodes) (s : Sampled) → ParserInvariant t s → AreSamples s
-are_samples t s h = record { once = h.once; lines = h.lines; few = h.few }
+are_samples t s h = record { once = h.once; lines = h.lines; few = h.within_limit }
 
 or_false_parts : (a b : Bool) → (a || b) ≡ false → (a ≡ false) × (b ≡ false)
 or_false_parts true b e = cc

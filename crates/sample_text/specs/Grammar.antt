@@ -1,5 +1,5 @@
--- What a samples text says in the words of its format: its `daemon` lines place ranks on nodes, and its `stack` lines give
--- the samples.
+-- What a samples text means in the words of its format: its `daemon` lines place ranks on nodes, and its `stack` lines
+-- give the samples.
 use Rattle.std.specs.Prelude.{◌≡◌, ◌↔◌, ◌<◌, ⊤, ℕ, false, List, [], ◌∷◌, length, filter, slice_index_or, Some, Ok, codes}
 use Rattle.rank_set.specs.Ranks.{Ranks, none, Has}
 use Rattle.rank_set.specs.RanksText.{ranks_text}
@@ -45,8 +45,9 @@ AreSamplesOf [] (sample ∷ samples) = ⊥
 AreSamplesOf (line ∷ lines) [] = ⊥
 AreSamplesOf (line ∷ lines) (sample ∷ samples) = IsSampleOf line sample × AreSamplesOf lines samples
 
--- A rank is placed on a node exactly where some line of the text places it there, and the samples are those of the text's
+-- A rank is placed on a node exactly where some line of the text places it there, and the samples are those of the
 -- `stack` lines, in order.
 pub record IsWritten (t : Nodes) (text : List ℕ) (s : Sampled) : Type 0 where
-  pub placed : (n r : ℕ) → n < length t.parents → Has r (slice_index_or s.placed n none) ↔ SomePlacesRank t (lines text) n r
+  pub placed : (n r : ℕ) → n < length t.parents →
+      Has r (slice_index_or s.placed n none) ↔ SomePlacesRank t (lines text) n r
   pub samples : AreSamplesOf (filter (is_line_of (codes "stack")) (lines text)) s.lines

@@ -1,4 +1,4 @@
--- What the parser stands for, and how its parts fit together.
+-- What the parser has parsed, and how its parts fit together.
 use Rattle.std.specs.Prelude.{◌≡◌, ◌≤◌, ⊤, ℕ, List, [], ◌∷◌, length, slice_index_or, Ok, string_bytes, String}
 use Rattle.std.specs.Global.{Global}
 use Rattle.call_path.specs.Path.{Path}
@@ -17,7 +17,7 @@ AreRead [] (path ∷ paths) = ⊥
 AreRead (text ∷ texts) [] = ⊥
 AreRead (text ∷ texts) (path ∷ paths) = (path_of (string_bytes text) ≡ Ok path) × AreRead texts paths
 
--- the same of the paths that are kept
+-- the same of paths and the texts that find them
 abbrev pub HoldsPaths : Paths → Type 0
 HoldsPaths p = AreRead p.texts.keys p.paths.items
 
@@ -36,7 +36,7 @@ parser_nodes parser = parser.topology.now
 -- a set for each node and one of all placed ranks, and each path once: no more paths than lines
 pub record IsConsistent (parser : Parser) : Type 0 where
   pub paired : length parser.placed.items ≡ length parser.topology.now.parents
-  pub all : parser.all ≡ all_ranks parser.placed.items
+  pub placed : parser.all ≡ all_ranks parser.placed.items
   pub paths : HoldsPaths parser.paths
   pub numbered : PathIndicesInRange parser.paths.paths.items parser.lines.items
-  pub few : length parser.paths.paths.items ≤ length parser.lines.items
+  pub no_more_than_lines : length parser.paths.paths.items ≤ length parser.lines.items

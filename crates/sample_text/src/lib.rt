@@ -1,8 +1,8 @@
 //! Reads samples: lines `daemon NAME RANKS`, which place ranks on a daemon, and `stack TIME RANKS PATH`, which say what
-//! placed ranks were seen in.
+//! placed ranks were doing.
 //!
-//! Lines that are empty, hold only spaces and tabs, or begin with `#` say nothing. `samples_of_text` says what a text stands
-//! for, or its first error, and [`read`] gives exactly that.
+//! Lines that are empty, hold only spaces and tabs, or begin with `#` say nothing. `samples_of_text` says what a text means,
+//! or its first error, and [`read`] gives exactly that.
 #![tactic(auto)]
 
 ghost use Rattle.std.specs.Prelude.{IfOk};

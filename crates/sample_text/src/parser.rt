@@ -1,4 +1,4 @@
-//! What the lines of a samples text have said so far.
+//! What is parsed of a samples text so far.
 
 ghost use Rattle.std.specs.Prelude.{◌≡◌, ◌≢◌, ◌<◌, length, IfOk, IfErr, OnOk, Ok, Err};
 ghost use Rattle.rank_set.specs.Ranks.{none};

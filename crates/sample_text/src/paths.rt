@@ -1,4 +1,4 @@
-//! The paths of a samples text, each kept once.
+//! The paths of a samples text, each of them once.
 
 ghost use Rattle.std.specs.Prelude.{◌≡◌, ◌≢◌, ◌≤◌, ◌<◌, ◌+◌, ℕ, length, IfOk, IfErr, OnOk, Ok, Err};
 ghost use Rattle.call_path.specs.Reading.{path_of};
@@ -22,7 +22,7 @@ pub struct Paths {
 #[tactic(auto, unfolding(crate::specs::Steps::path_on))]
 fn path_on(alloc: Global, line_number: u64, text: &str) -> Result<CallPath, TextError>
     ensures ok { IsValueOf result (path_on line_number text.now) }
-    ensures read { IfOk result (λ path. path_of text.now ≡ Ok path) }
+    ensures path { IfOk result (λ path. path_of text.now ≡ Ok path) }
     ensures err { IsErrorOf result (path_on line_number text.now) }
 {
     match CallPath::read(alloc, text) {
@@ -38,7 +38,7 @@ impl Paths {
     /// No paths.
     pub fn new(alloc: Global) -> Paths
         ensures holds { HoldsPaths result }
-        ensures none { length result.paths.items ≡ 0 }
+        ensures empty { length result.paths.items ≡ 0 }
     {
         Paths {
             texts: IndexSet::new(alloc),
@@ -50,15 +50,15 @@ impl Paths {
     /// not read again.
     pub fn number(&mut self, line_number: u64, text: &str) -> Result<u32, TextError>
         requires holds { HoldsPaths self.old }
-        requires few { length self.old.paths.items < LINE_LIMIT }
+        requires within_limit { length self.old.paths.items < LINE_LIMIT }
         ensures ok { IfOk result (λ n. path_on line_number text.now ≡ Ok (path_at self.new n)) }
         ensures within { IfOk result (λ n. n < length self.new.paths.items) }
         ensures holds { OnOk result (HoldsPaths self.new) }
-        ensures same { OnOk result (
+        ensures old_paths { OnOk result (
             (n : ℕ) → n < length self.old.paths.items → path_at self.new n ≡ path_at self.old n
         ) }
-        ensures more { OnOk result (length self.old.paths.items ≤ length self.new.paths.items) }
-        ensures one { OnOk result (length self.new.paths.items ≤ length self.old.paths.items + 1) }
+        ensures none_lost { OnOk result (length self.old.paths.items ≤ length self.new.paths.items) }
+        ensures at_most_one_new { OnOk result (length self.new.paths.items ≤ length self.old.paths.items + 1) }
         ensures err { IsErrorOf result (path_on line_number text.now) }
     {
         if let Some(number) = self.texts.get_index_of(text) {

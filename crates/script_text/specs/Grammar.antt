@@ -1,4 +1,5 @@
--- What a script text says in the words of its format: its `stream` lines define streams, and its `lose` lines lose nodes.
+-- What a script text means in the words of its format: its `stream` lines define streams, and its `lose` lines lose
+-- nodes.
 use Rattle.std.specs.Prelude.{◌≡◌, ◌↔◌, ◌⊎◌, ℕ, true, List, ◌∷◌, length, map, filter, Some, codes}
 use Rattle.text_lines.specs.Lines.{lines, words, number_in}
 use Rattle.text_lines.specs.Directives.{first_is, is_line_of}
@@ -54,11 +55,15 @@ lose_lines lines = filter (is_line_of (codes "lose")) lines
 -- Each stream is that of a `stream` line of the text, each such line has its stream, and there are as many of both; the
 -- same is true of losses and `lose` lines. Streams ascend by number, and losses by node.
 pub record IsWritten (t : Nodes) (text : List ℕ) (c : Scripted) : Type 0 where
-  pub streams : (x : Stream) → In x c.streams → (line : List ℕ) × In line (stream_lines (lines text)) × IsStreamOf t line x
-  pub of_stream_lines : (line : List ℕ) → In line (stream_lines (lines text)) → (x : Stream) × In x c.streams × IsStreamOf t line x
+  pub streams : (x : Stream) → In x c.streams →
+      (line : List ℕ) × In line (stream_lines (lines text)) × IsStreamOf t line x
+  pub of_stream_lines : (line : List ℕ) → In line (stream_lines (lines text)) →
+      (x : Stream) × In x c.streams × IsStreamOf t line x
   pub stream_count : length c.streams ≡ length (stream_lines (lines text))
   pub streams_rise : IsStrictlyIncreasing (map (λ x. x.number) c.streams)
-  pub losses : (f : Fault) → In f c.faults → (line : List ℕ) × In line (lose_lines (lines text)) × IsLossOf t line f
-  pub of_lose_lines : (line : List ℕ) → In line (lose_lines (lines text)) → (f : Fault) × In f c.faults × IsLossOf t line f
+  pub losses : (f : Fault) → In f c.faults →
+      (line : List ℕ) × In line (lose_lines (lines text)) × IsLossOf t line f
+  pub of_lose_lines : (line : List ℕ) → In line (lose_lines (lines text)) →
+      (f : Fault) × In f c.faults × IsLossOf t line f
   pub loss_count : length c.faults ≡ length (lose_lines (lines text))
   pub losses_rise : IsStrictlyIncreasing (map (λ f. f.node) c.faults)

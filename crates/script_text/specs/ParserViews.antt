@@ -1,13 +1,20 @@
--- What the code's words and its parser stand for.
+-- What the code's words and its parser mean.
 use Rattle.text_lines.specs.Lines.{words}
 use Rattle.stat_plan.specs.Plans.{Scripted, scripted}
 use Rattle.stat_plan.specs.Topologies.{Nodes}
+use Rattle.std.specs.Prelude.{ℕ, List, ◌∷◌}
+use Rattle.script_text.specs.declared.words.FiveWords.{FiveWords}
 use Rattle.script_text.specs.declared.words.ModeText.{ModeText}
 use Rattle.script_text.specs.declared.words.ModeText.TheVariants as text
 use Rattle.script_text.specs.declared.words.StreamLine.{StreamLine}
 use Rattle.script_text.specs.declared.words.LoseLine.{LoseLine}
 use Rattle.script_text.specs.declared.parser.Parser.{Parser}
 use Rattle.script_text.specs.Words.{ModeWords, WaitForAll, TimeOut, DontWait, StreamWords, LoseWords}
+
+-- the five first words of a line, and those after them
+abbrev pub five_view : FiveWords → List (List ℕ)
+five_view five =
+    five.first.now ∷ five.second.now ∷ five.third.now ∷ five.fourth.now ∷ five.fifth.now ∷ words five.rest.now
 
 -- a mode as it is written
 abbrev pub mode_view : ModeText → ModeWords

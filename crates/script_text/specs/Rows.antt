@@ -51,7 +51,7 @@ only_a_loss : read (codes "lose a after 1 keep 1") ≡ Err (Bad 0 NoStream)
 unfolding pieces words number_of after_mode stream_words lose_words number_from new_number stream_number mode_of daemon_of with_named all_daemons daemons_of stream_of lost_node fault_of with_words with_line parsed_lines script_of daemon_named
 only_a_loss = refl
 
--- nothing stands after `all`
+-- nothing follows `all`
 all_and_more : read (codes "stream 0 dont-wait waves 1 samples 1 on all a") ≡ Err (Bad 1 BadDirective)
 unfolding pieces words number_of after_mode stream_words lose_words number_from new_number stream_number mode_of daemon_of with_named all_daemons daemons_of stream_of lost_node fault_of with_words with_line parsed_lines script_of daemon_named
 all_and_more = refl
@@ -61,7 +61,7 @@ all_later : read (codes "stream 0 dont-wait waves 1 samples 1 on a all") ≡ Err
 unfolding pieces words number_of after_mode stream_words lose_words number_from new_number stream_number mode_of daemon_of with_named all_daemons daemons_of stream_of lost_node fault_of with_words with_line parsed_lines script_of daemon_named
 all_later = refl
 
--- something stands after `on`
+-- something follows `on`
 no_names : read (codes "stream 0 dont-wait waves 1 samples 1 on") ≡ Err (Bad 1 BadDirective)
 unfolding pieces words number_of after_mode stream_words lose_words number_from new_number stream_number mode_of daemon_of with_named all_daemons daemons_of stream_of lost_node fault_of with_words with_line parsed_lines script_of daemon_named
 no_names = refl
@@ -141,7 +141,7 @@ turned : read (codes "lose a keep 1 after 2") ≡ Err (Bad 1 BadDirective)
 unfolding pieces words number_of after_mode stream_words lose_words number_from new_number stream_number mode_of daemon_of with_named all_daemons daemons_of stream_of lost_node fault_of with_words with_line parsed_lines script_of daemon_named
 turned = refl
 
--- the first fault decides
+-- the first error decides
 first_fault : read (line (codes "lose") ++ codes "stream") ≡ Err (Bad 1 BadDirective)
 unfolding pieces words number_of after_mode stream_words lose_words number_from new_number stream_number mode_of daemon_of with_named all_daemons daemons_of stream_of lost_node fault_of with_words with_line parsed_lines script_of daemon_named
 first_fault = refl

@@ -21,16 +21,20 @@ use Rattle.script_text.specs.Numbers.{number_from}
 
 -- a number of a stream, unless an earlier line has defined it
 unfoldable pub new_number : List Stream → ℕ → ℕ → Result ℕ TextError
-new_number streams line_number n = if list_any (λ x. x.number == n) streams then Err (Bad line_number SecondStream) else Ok n
+new_number streams line_number n =
+    if list_any (λ x. x.number == n) streams then Err (Bad line_number SecondStream) else Ok n
 
 -- the number of a new stream
 unfoldable pub stream_number : List Stream → ℕ → List ℕ → Result ℕ TextError
-stream_number streams line_number word = and_then (number_from line_number 0 (STREAM_LIMIT - 1) (Over line_number Streams STREAM_LIMIT) word) (new_number streams line_number)
+stream_number streams line_number word =
+    and_then (number_from line_number 0 (STREAM_LIMIT - 1) (Over line_number Streams STREAM_LIMIT) word)
+    (new_number streams line_number)
 
 -- a mode as it is written
 unfoldable pub mode_of : ℕ → ModeWords → Result Mode TextError
 mode_of line_number WaitForAll = Ok mode.WaitForAll
-mode_of line_number (TimeOut ticks) = and_then (number_from line_number 1 TICK_LIMIT (Bad line_number BadNumber) ticks) (λ t. Ok (mode.TimeOut t))
+mode_of line_number (TimeOut ticks) =
+    and_then (number_from line_number 1 TICK_LIMIT (Bad line_number BadNumber) ticks) (λ t. Ok (mode.TimeOut t))
 mode_of line_number DontWait = Ok mode.DontWait
 
 -- the daemon with a name
@@ -40,7 +44,8 @@ daemon_of t line_number name = some_or (Bad line_number NotADaemon) (daemon_name
 -- some daemons with those that are named more, each once
 unfoldable pub with_named : Nodes → ℕ → List ℕ → List (List ℕ) → Result (List ℕ) TextError
 with_named t line_number daemons [] = Ok daemons
-with_named t line_number daemons (name ∷ names) = and_then (daemon_of t line_number name) (λ n. with_named t line_number (with_number n daemons) names)
+with_named t line_number daemons (name ∷ names) =
+    and_then (daemon_of t line_number name) (λ n. with_named t line_number (with_number n daemons) names)
 
 -- all daemons of a job
 unfoldable pub all_daemons : Nodes → List ℕ
@@ -49,7 +54,8 @@ all_daemons t = filter (is_daemon t.parents) (up_to (length t.parents))
 -- the daemons that stand after `on`, where something does
 unfoldable pub daemons_of : Nodes → ℕ → List (List ℕ) → Result (List ℕ) TextError
 daemons_of t line_number [] = Err (Bad line_number BadDirective)
-daemons_of t line_number (name ∷ names) = if bytes_eq name (codes "all") then Ok (all_daemons t) else with_named t line_number [] (name ∷ names)
+daemons_of t line_number (name ∷ names) =
+    if bytes_eq name (codes "all") then Ok (all_daemons t) else with_named t line_number [] (name ∷ names)
 
 -- the stream that the words of a line define, where earlier lines have defined others
 unfoldable pub stream_of : Nodes → List Stream → ℕ → StreamWords → Result Stream TextError

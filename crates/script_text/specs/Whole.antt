@@ -34,7 +34,8 @@ with_words t c line_number (word ∷ rest) =
 
 -- a script with a line more
 unfoldable pub with_line : Nodes → Scripted → ℕ → List ℕ → Result Scripted TextError
-with_line t c line_number line = elim (says_nothing line) [ true ↦ Ok c | false ↦ with_words t c line_number (words line) ]
+with_line t c line_number line =
+    elim (says_nothing line) [ true ↦ Ok c | false ↦ with_words t c line_number (words line) ]
 
 -- a whole script: it must have a stream
 abbrev pub whole : Scripted → Result Scripted TextError

@@ -15,7 +15,7 @@ pub record StreamWords : Type 0 where
   pub mode : ModeWords
   pub waves : List ℕ
   pub samples : List ℕ
-  pub names : List (List ℕ)  -- all that stands after `on`
+  pub names : List (List ℕ)  -- all that follows `on`
 
 -- the words of `lose NAME after E keep K` that are not fixed
 pub record LoseWords : Type 0 where
@@ -52,5 +52,8 @@ stream_words others = None
 
 -- a lose line from NAME on
 unfoldable pub lose_words : List (List ℕ) → Option LoseWords
-lose_words (name ∷ after ∷ e ∷ keep ∷ k ∷ []) = if bytes_eq after (codes "after") && bytes_eq keep (codes "keep") then Some (record { name = name; after = e; keep = k }) else None
+lose_words (name ∷ after ∷ e ∷ keep ∷ k ∷ []) =
+    if bytes_eq after (codes "after") && bytes_eq keep (codes "keep")
+    then Some (record { name = name; after = e; keep = k })
+    else None
 lose_words others = None

@@ -7,7 +7,7 @@ ghost use Rattle.script_text.specs.Numbers.{number_from};
 use text_lines::{Reason, TextError, number_in};
 
 /// The number from `least` to `most` that a word of a line writes. A word that writes no number, or less, is a bad number;
-/// one that writes more has the fault that is given.
+/// one that writes more has the error that is given.
 pub fn number_from(
     line_number: u64,
     least: u32,
@@ -16,7 +16,7 @@ pub fn number_from(
     word: &[u8],
 ) -> Result<u32, TextError>
     requires order { least ≤ most }
-    requires small { most < 2 ^ 24 }
+    requires limit_fits { most < 2 ^ 24 }
     ensures ok { IsValueOf result (number_from line_number least most more word.now) }
     ensures least { IfOk result (λ n. least ≤ n) }
     ensures most { IfOk result (λ n. n ≤ most) }

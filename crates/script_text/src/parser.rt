@@ -1,4 +1,4 @@
-//! What the lines of a script have said so far.
+//! What is parsed of a script so far.
 
 ghost use Rattle.std.specs.Prelude.{◌≡◌, ◌≤◌, OnOk, IfOk, Ok, [], length, not, nat_lt};
 ghost use Rattle.std.specs.List.{prefix_len};

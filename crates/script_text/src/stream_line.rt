@@ -29,7 +29,7 @@ fn is_defined(streams: &[StreamDef], number: u32) -> bool
 // The number of a new stream, where earlier lines have defined these.
 fn stream_number(streams: &[StreamDef], line_number: u64, word: &[u8]) -> Result<u32, TextError>
     ensures ok { IsValueOf result (stream_number streams.now line_number word.now) }
-    ensures small { IfOk result (λ n. n < 8) }
+    ensures below_limit { IfOk result (λ n. n < STREAM_LIMIT) }
     ensures err { IfErr result (λ e. stream_number streams.now line_number word.now ≡ Err e) }
 {
     let more = TextError::over(line_number, Quantity::Streams, STREAM_LIMIT);

@@ -5,7 +5,7 @@ ghost use Rattle.std.specs.Prelude.{◌≡◌, ◌<◌, ◌∷◌, length, IfNon
 ghost use Rattle.std.specs.Str.{bytes_eq};
 ghost use Rattle.text_lines.specs.Lines.{words};
 ghost use Rattle.script_text.specs.Words.{are_names, after_mode, stream_words, lose_words};
-ghost use Rattle.script_text.specs.ParserViews.{mode_view, stream_view, lose_view};
+ghost use Rattle.script_text.specs.ParserViews.{mode_view, five_view, stream_view, lose_view};
 
 use text_lines::{is_word, next_word};
 
@@ -52,8 +52,8 @@ struct FiveWords<'t> {
 
 // The first five words of a line; none where there are fewer.
 fn five_words(line: &[u8]) -> Option<FiveWords<'_>>
-    ensures none { IfNone result (length (words line.now) < 5) }
-    ensures some { IfSome result (λ five. words line.now ≡ five.first.now ∷ five.second.now ∷ five.third.now ∷ five.fourth.now ∷ five.fifth.now ∷ words five.rest.now) }
+    ensures fewer { IfNone result (length (words line.now) < 5) }
+    ensures words { IfSome result (λ five. words line.now ≡ five_view five) }
 {
     let (first, rest) = next_word(line)?;
     let (second, rest) = next_word(rest)?;
@@ -82,7 +82,10 @@ fn are_names(line: &[u8]) -> bool
 
 // Whether the fixed words of a stream line stand in their places after the mode, and names after them.
 fn is_stream_end(five: &FiveWords<'_>) -> bool
-    ensures { result ≡ (bytes_eq five.now.first.now (codes "waves") && (bytes_eq five.now.third.now (codes "samples") && (bytes_eq five.now.fifth.now (codes "on") && are_names (words five.now.rest.now)))) }
+    ensures { result ≡ (
+        bytes_eq five.now.first.now (codes "waves") && (bytes_eq five.now.third.now (codes "samples")
+        && (bytes_eq five.now.fifth.now (codes "on") && are_names (words five.now.rest.now)))
+    ) }
 {
     is_word(five.first, b"waves")
         && (is_word(five.third, b"samples") && (is_word(five.fifth, b"on") && are_names(five.rest)))
@@ -90,7 +93,9 @@ fn is_stream_end(five: &FiveWords<'_>) -> bool
 
 // Whether the fixed words of a lose line stand in their places after the name.
 fn is_lose_end(five: &FiveWords<'_>) -> bool
-    ensures { result ≡ (bytes_eq five.now.second.now (codes "after") && bytes_eq five.now.fourth.now (codes "keep")) }
+    ensures { result ≡ (
+        bytes_eq five.now.second.now (codes "after") && bytes_eq five.now.fourth.now (codes "keep")
+    ) }
 {
     is_word(five.second, b"after") && is_word(five.fourth, b"keep")
 }

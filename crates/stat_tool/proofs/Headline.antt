@@ -1,14 +1,14 @@
 -- How a run ends that loses no node.
-use Rattle.std.proofs.Common.{◌≡◌, ◌≢◌, inl, inr, ◌==◌, ◌&&◌, ℕ, Bool, true, false, List, [], ◌∷◌, ◌++◌, filter, refl, sym, ap, subst, ◌∙◌, eqb-true}
+use Rattle.std.proofs.Common.{◌≡◌, ◌≢◌, inl, ◌==◌, ◌&&◌, ℕ, Bool, true, false, List, [], ◌∷◌, filter, refl, sym, subst, ◌∙◌, eqb-true}
 use Rattle.std.specs.Prelude.{cond}
 use Rattle.std.specs.List.{AllByRecursion}
 use Rattle.std.proofs.lemmas.Bool.{and_parts}
-use Rattle.rank_set.specs.Ranks.{Ranks, Has, none}
+use Rattle.rank_set.specs.Ranks.{Ranks, none}
 use Rattle.prefix_tree.specs.Pairs.{HasNoEmptyPath}
 use Rattle.equiv_class.proofs.SamePairs.{classes_of_tree}
 use Rattle.stat_plan.specs.Invariants.{IsPlan, IsSampleLine}
 use Rattle.stat_plan.specs.NodeSets.{In}
-use Rattle.stat_plan.specs.Plans.{Plan, daemons, front, samples, sample_count, ranks, stream_ranks, waves_of}
+use Rattle.stat_plan.specs.Plans.{Plan, daemons, front, samples, sample_count, waves_of}
 use Rattle.stat_plan.specs.Samples.{AreNoDeeper, SampleLine, is_in_wave}
 use Rattle.stat_plan.proofs.LinePrefixes.{paths-samples_of}
 use Rattle.stat_desk.specs.declared.event.Event.{Event}
@@ -18,7 +18,6 @@ use Rattle.overlay_core.specs.declared.release.Kind.TheVariants.{Partial, Final}
 use Rattle.stat_plan.specs.Machine.Waves.{Wave, is_open}
 use Rattle.overlay_core.specs.Machine.{start}
 use Rattle.overlay_core.specs.Nodes.{Release}
-use Rattle.overlay_core.specs.Releases.{CoversAll}
 use Rattle.overlay_core.specs.Runs.{IsWhole, after}
 use Rattle.overlay_core.specs.TreeReleases.{AreNumberedInOrder, TreeRelease, bare_releases}
 use Rattle.overlay_core.specs.Whole.{EndsFinally, HasOneRelease}

@@ -36,7 +36,8 @@ ends_word (b ∷ rest) = is_blank b
 -- the longest runs of bytes that are no blanks
 unfoldable pub words : List ℕ → List (List ℕ)
 words [] = []
-words (b ∷ rest) = cond (is_blank b) (words rest) (cond (ends_word rest) ((b ∷ []) ∷ words rest) (before_first b (words rest)))
+words (b ∷ rest) =
+    cond (is_blank b) (words rest) (cond (ends_word rest) ((b ∷ []) ∷ words rest) (before_first b (words rest)))
 
 -- how many bytes the line that a text begins with has
 abbrev pub line_len : List ℕ → ℕ

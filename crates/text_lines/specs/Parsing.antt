@@ -21,9 +21,10 @@ abbrev pub some_or : {A : Type 0} → TextError → Option A → Result A TextEr
 some_or error None = Err error
 some_or error (Some x) = Ok x
 
--- What lines are parsed as, one after another, where the first of them has a number: a step parses one line more. The first
--- error decides.
-unfoldable pub parsed_lines : {S : Type 0} → (S → ℕ → List ℕ → Result S TextError) → S → ℕ → List (List ℕ) → Result S TextError
+-- What lines are parsed as, one after another, where the first of them has a number: a step parses one line more. The
+-- first error decides.
+unfoldable pub parsed_lines : {S : Type 0} → (S → ℕ → List ℕ → Result S TextError) →
+    S → ℕ → List (List ℕ) → Result S TextError
 parsed_lines step s line_number [] = Ok s
 parsed_lines step s line_number (line ∷ rest) =
     and_then (step s line_number line) (λ next. parsed_lines step next (suc line_number) rest)
@@ -42,13 +43,13 @@ RefusesLines {P} takes refuses old line_number (line ∷ rest) e =
     refuses old line_number line e
     ⊎ ((next : P) × takes old line_number line next × RefusesLines takes refuses next (suc line_number) rest e)
 
--- a parser takes a line as the step says of what it is seen as, and keeps what it reads the line for
+-- a parser takes a line as the step says of its view, and keeps its context
 abbrev pub TakesBy : {P S C : Type 0} → (P → C) → (P → S) → (C → S → ℕ → List ℕ → Result S TextError) →
     P → ℕ → List ℕ → P → Type 0
 TakesBy context view step old line_number line new =
     (step (context old) (view old) line_number line ≡ Ok (view new)) × (context new ≡ context old)
 
--- a parser refuses a line as the step says of what it is seen as, unless memory runs out
+-- a parser refuses a line as the step says of its view, unless memory runs out
 abbrev pub RefusesBy : {P S C : Type 0} → (P → C) → (P → S) → (C → S → ℕ → List ℕ → Result S TextError) →
     P → ℕ → List ℕ → TextError → Type 0
 RefusesBy context view step old line_number line e =

@@ -1,7 +1,8 @@
 //! The lines of a text, the words of a line, and the numbers that words write.
 //!
-//! A line ends at a line feed or at the end of the text, and a carriage return just before it belongs to the line's end. A
-//! text that ends with a line feed has no line after it. Words are the longest runs of bytes that are no spaces and no tabs.
+//! A line ends at a line feed or at the end of the text, and a carriage return directly before it belongs to the line's
+//! end. A text that ends with a line feed has no line after it. Words are the longest runs of bytes other than spaces and
+//! tabs.
 
 ghost use Rattle.std.specs.Prelude.{◌≡◌, ◌<◌, ◌≤◌, ◌^◌, length, min, MatchOption, IfSome, [], ◌∷◌, option_map};
 ghost use Rattle.std.specs.Char.{is_ascii_digit};
@@ -53,7 +54,9 @@ fn trimmed(line: &[u8]) -> &[u8]
 
 /// The first line of a text, and what is left after its end; none where nothing is left.
 pub fn next_line(text: &[u8]) -> Option<(&[u8], &[u8])>
-    ensures lines { MatchOption result (lines text.now ≡ []) (λ next. lines text.now ≡ next.0.now ∷ lines next.1.now) }
+    ensures lines { MatchOption result (lines text.now ≡ []) (
+        λ next. lines text.now ≡ next.0.now ∷ lines next.1.now
+    ) }
     ensures shorter { IfSome result (λ next. length next.1.now < length text.now) }
 {
     if text.is_empty() {
@@ -77,7 +80,9 @@ pub fn after_blanks(line: &[u8]) -> &[u8]
 
 /// The first word of a line, and what is left just after it; none where there is no word.
 pub fn next_word(line: &[u8]) -> Option<(&[u8], &[u8])>
-    ensures words { MatchOption result (words line.now ≡ []) (λ next. words line.now ≡ next.0.now ∷ words next.1.now) }
+    ensures words { MatchOption result (words line.now ≡ []) (
+        λ next. words line.now ≡ next.0.now ∷ words next.1.now
+    ) }
     ensures rest { IfSome result (λ next. next.1.now ≡ after_word line.now) }
     ensures shorter { IfSome result (λ next. length next.1.now < length line.now) }
 {

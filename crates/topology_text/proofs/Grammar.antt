@@ -8,7 +8,18 @@ use Rattle.topology_text.specs.Tokens.{Piece, Arrow, Semicolon, Name, End, NoTok
 use Rattle.rank_set.specs.Digits.{digits_len}
 use Rattle.text_lines.specs.Lines.{line_len}
 use Rattle.topology_text.specs.Statements.{Parsed, nothing_parsed, appear, number_or_0, add_parent, add_child, is_parent, is_child, take_name, take_arrow, take_semicolon, take_end, with_piece, with_pieces}
-use Rattle.topology_text.specs.Grammar.{Statement, written, IsWritten}
+use Rattle.topology_text.specs.Grammar.{Statement, written, names_in, with_names, IsLink, IsWritten}
+use Rattle.std.specs.List.{IsDistinct}
+use Rattle.std.specs.Str.{bytes_eq}
+use Rattle.stat_plan.specs.Names.{name_of}
+use Rattle.stat_plan.specs.NodeSets.{In}
+use Rattle.stat_plan.specs.Topologies.{Nodes}
+use Rattle.stat_plan.specs.Trees.{parent_of}
+use Rattle.topology_text.specs.Whole.{topology_of}
+use Rattle.topology_text.proofs.InvariantLemmas.{nothing_holds}
+use Rattle.topology_text.proofs.Links.{piece_names, Links, reads}
+use Rattle.topology_text.proofs.NameParts.{pieces_good}
+use Rattle.topology_text.proofs.WholeFile.{accepted}
 use Rattle.topology_text.proofs.Numbers.{appear_known, appear_over, appear_new}
 use Rattle.topology_text.proofs.Nodes.{parent_bad, parent_good, child_bad, child_good, piece_bad, piece_good, none_left}
 
@@ -174,5 +185,74 @@ ends_once line zero (b ∷ rest) = by (nat_eq b 10) (is_space b) (nat_eq b 35) (
     by false false false more = more_once line (piece_at (b ∷ rest)) (pieces line (piece_len (piece_at (b ∷ rest)) - 1) rest) (no_end (b ∷ rest)) (more line (piece_len (piece_at (b ∷ rest)) - 1))
 
 -- a text whose tokens have no error is written as statements
-pub is_written : (text : List ℕ) (t : Parsed) → with_pieces nothing_parsed (pieces 1 0 text) ≡ Ok t → IsWritten text
-is_written text t good = subst (λ r. ContinuesBy Outside (pieces 1 0 text) r) good (continues nothing_parsed (pieces 1 0 text) (ends_once 1 0 text))
+as_statements : (text : List ℕ) (t : Parsed) → with_pieces nothing_parsed (pieces 1 0 text) ≡ Ok t → (statements : List Statement) × (map (λ p. p.1) (pieces 1 0 text) ≡ written statements)
+as_statements text t good = subst (λ r. ContinuesBy Outside (pieces 1 0 text) r) good (continues nothing_parsed (pieces 1 0 text) (ends_once 1 0 text))
+
+-- the names and links of statements
+others_names : (names : List (List ℕ)) (ps : List Piece) → piece_names (map Name names ++ ps) ≡ names ++ piece_names ps
+others_names [] ps = refl
+others_names (name ∷ names) ps = ap (λ t. name ∷ t) (others_names names ps)
+
+statements_names : (statements : List Statement) → piece_names (written statements) ≡ names_in statements
+statements_names [] = refl
+statements_names (s ∷ statements) =
+    ap (λ t. s.parent ∷ s.child ∷ t) (others_names s.others (Semicolon ∷ written statements) ∙ ap (λ t. s.others ++ t) (statements_names statements))
+
+module _ (parent child : List ℕ) where
+  others_to : (begun : List ℕ) (names : List (List ℕ)) (ps : List Piece) → Links (Some begun) (map Name names ++ Semicolon ∷ ps) parent child → ((begun ≡ parent) × In child names) ⊎ Links None ps parent child
+  others_to begun [] ps h = inr h
+  others_to begun (name ∷ names) ps (inl h) = inl (h.0, inl h.1)
+  others_to begun (name ∷ names) ps (inr h) = elim (others_to begun names ps h) [ (inl k) ↦ inl (k.0, inr k.1) | (inr k) ↦ inr k ]
+
+  others_from : (begun : List ℕ) (names : List (List ℕ)) (ps : List Piece) → ((begun ≡ parent) × In child names) ⊎ Links None ps parent child → Links (Some begun) (map Name names ++ Semicolon ∷ ps) parent child
+  others_from begun [] ps (inl h) = absurd h.1
+  others_from begun [] ps (inr h) = h
+  others_from begun (name ∷ names) ps (inl h) = by h.1 (λ k. others_from begun names ps (inl (h.0, k)))
+    where
+      by : In child (name ∷ names) → (In child names → Links (Some begun) (map Name names ++ Semicolon ∷ ps) parent child) → Links (Some begun) (map Name (name ∷ names) ++ Semicolon ∷ ps) parent child
+      by (inl e) more = inl (h.0, e)
+      by (inr k) more = inr (more k)
+  others_from begun (name ∷ names) ps (inr h) = inr (others_from begun names ps (inr h))
+
+  links_to : (statements : List Statement) → Links None (written statements) parent child → IsLink statements parent child
+  links_to [] h = absurd h
+  links_to (s ∷ statements) (inl h) = (s, inl refl, h.0, inl h.1)
+  links_to (s ∷ statements) (inr h) = by (others_to s.parent s.others (written statements) h) (links_to statements)
+    where
+      by : ((s.parent ≡ parent) × In child s.others) ⊎ Links None (written statements) parent child → (Links None (written statements) parent child → IsLink statements parent child) → IsLink (s ∷ statements) parent child
+      by (inl k) more = (s, inl refl, k.0, inr k.1)
+      by (inr k) more = let l = more k in (l.0, inr l.1, l.2, l.3)
+
+  first_link : (s : Statement) (statements : List Statement) → s.parent ≡ parent → In child (s.child ∷ s.others) → Links None (written (s ∷ statements)) parent child
+  first_link s statements e (inl here) = inl (e, here)
+  first_link s statements e (inr h) = inr (others_from s.parent s.others (written statements) (inl (e, h)))
+
+  links_from : (statements : List Statement) → IsLink statements parent child → Links None (written statements) parent child
+  links_from [] h = absurd h.1
+  links_from (s ∷ statements) h = by h.1 (links_from statements)
+    where
+      by : In h.0 (s ∷ statements) → (IsLink statements parent child → Links None (written statements) parent child) → Links None (written (s ∷ statements)) parent child
+      by (inl e) more = first_link s statements (ap (λ x. x.parent) (sym e) ∙ h.2) (subst (λ x. In child (x.child ∷ x.others)) e h.3)
+      by (inr k) more = inr (others_from s.parent s.others (written statements) (inr (more (h.0, k, h.2, h.3))))
+
+-- an accepted text is written as its nodes
+pub is_written : (text : List ℕ) (n : Nodes) → topology_of text ≡ Ok n → IsDistinct bytes_eq n.names → IsWritten text n
+is_written text n is distinct =
+    let a = accepted text n is in
+    let s = a.0 in
+    let same_names = ap (λ x. x.names) a.3 in
+    let w = as_statements text s a.1 in
+    let r = reads s (subst (IsDistinct bytes_eq) (sym same_names) distinct) (pieces 1 0 text) nothing_parsed (pieces_good 1 0 text) nothing_holds a.1 in
+    subst (IsWritten text) a.3 (record {
+      statements = w.0;
+      is = w.1;
+      names = r.all ∙ ap (λ ps. with_names [] (piece_names ps)) w.1 ∙ ap (with_names []) (statements_names w.0);
+      links = λ p c x y. (
+        λ h. links_to (name_of s.names p) (name_of s.names c) w.0 (subst (λ ps. Links None ps (name_of s.names p) (name_of s.names c)) w.1 (elim (r.to p c h) [ (inl old) ↦ absurd (nowhere c p old) | (inr new) ↦ new ])),
+        λ h. r.from p c x y (inr (subst (λ ps. Links None ps (name_of s.names p) (name_of s.names c)) (sym w.1) (links_from (name_of s.names p) (name_of s.names c) w.0 h))),
+      );
+    })
+  where
+    nowhere : (c p : ℕ) → parent_of [] c ≡ Some p → ⊥
+    nowhere zero p e = cc
+    nowhere (suc c) p e = cc

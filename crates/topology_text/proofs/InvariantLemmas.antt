@@ -183,7 +183,7 @@ end_holds s line (AfterParent p) h = tt
 end_holds s line (AfterArrow p) h = tt
 end_holds s line (AfterChild p) h = tt
 
-piece_holds : (s : Parsed) (line : ℕ) (p : Piece) → IsGoodPiece p → ParserInvariant s → InvariantHolds (with_piece s line p)
+pub piece_holds : (s : Parsed) (line : ℕ) (p : Piece) → IsGoodPiece p → ParserInvariant s → InvariantHolds (with_piece s line p)
 piece_holds s line Arrow good h = arrow_holds s line s.state (nodes_of s h) h.state
 piece_holds s line Semicolon good h = semicolon_holds s line s.state (nodes_of s h) h.state
 piece_holds s line (Name name) good h = name_holds line name (appear s line name) (appeared_by s line name good (nodes_of s h) (parent_fits s.nodes s.state h.state) (number_of name s.names) refl)

@@ -8,3 +8,4 @@ pub mod OneTree
 pub mod WholeFile
 pub mod InvariantLemmas
 pub mod Grammar
+pub mod Links

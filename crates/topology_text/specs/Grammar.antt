@@ -1,5 +1,9 @@
--- The form of a topology text: statements, each a parent and its children.
-use Rattle.std.specs.Prelude.{◌≡◌, ℕ, List, [], ◌∷◌, ◌++◌, map}
+-- What a topology text says in the words of its format: statements, each a parent and its children.
+use Rattle.std.specs.Prelude.{◌≡◌, ◌↔◌, ◌<◌, ℕ, List, [], ◌∷◌, ◌++◌, length, map, None, Some}
+use Rattle.stat_plan.specs.Names.{name_of, number_of}
+use Rattle.stat_plan.specs.NodeSets.{In}
+use Rattle.stat_plan.specs.Topologies.{Nodes}
+use Rattle.stat_plan.specs.Trees.{parent_of}
 use Rattle.topology_text.specs.Tokens.{Piece, Arrow, Semicolon, Name, End, pieces}
 
 -- a parent, its first child, and its other children
@@ -11,8 +15,31 @@ pub record Statement : Type 0 where
 -- the tokens of statements, and the text's end
 abbrev pub written : List Statement → List Piece
 written [] = End ∷ []
-written (s ∷ statements) = Name s.parent ∷ Arrow ∷ Name s.child ∷ map Name s.others ++ Semicolon ∷ written statements
+written (s ∷ statements) =
+    Name s.parent ∷ Arrow ∷ Name s.child ∷ map Name s.others ++ Semicolon ∷ written statements
 
--- a text is written as statements
-abbrev pub IsWritten : List ℕ → Type 0
-IsWritten text = (statements : List Statement) × (map (λ p. p.1) (pieces 1 0 text) ≡ written statements)
+-- the names in statements, in order
+abbrev pub names_in : List Statement → List (List ℕ)
+names_in [] = []
+names_in (s ∷ statements) = s.parent ∷ s.child ∷ s.others ++ names_in statements
+
+-- known names, and behind them the others in order of first appearance
+unfoldable pub with_names : List (List ℕ) → List (List ℕ) → List (List ℕ)
+with_names known [] = known
+with_names known (name ∷ names) = elim (number_of name known) [
+  | (Some n) ↦ with_names known names
+  | None ↦ with_names (known ++ name ∷ []) names
+]
+
+-- some statement has one name as its parent, and another among its children
+abbrev pub IsLink : List Statement → List ℕ → List ℕ → Type 0
+IsLink statements parent child = (s : Statement) × In s statements × (s.parent ≡ parent) × In child (s.child ∷ s.others)
+
+-- A text is written as statements. Its names are numbered in order of first appearance, and a node is another's parent
+-- exactly where some statement links them.
+pub record IsWritten (text : List ℕ) (t : Nodes) : Type 0 where
+  pub statements : List Statement
+  pub is : map (λ p. p.1) (pieces 1 0 text) ≡ written statements
+  pub names : t.names ≡ with_names [] (names_in statements)
+  pub links : (p c : ℕ) → p < length t.names → c < length t.names →
+      (parent_of t.parents c ≡ Some p) ↔ IsLink statements (name_of t.names p) (name_of t.names c)

@@ -1,4 +1,4 @@
--- What a parser stands for.
+-- What a parser has parsed.
 use Rattle.std.specs.Prelude.{map, string_bytes}
 use Rattle.topology_text.specs.declared.parser.Parser.{Parser}
 use Rattle.topology_text.specs.Statements.{Parsed}

@@ -1,4 +1,4 @@
--- Texts, and what they stand for.
+-- Texts, and what they mean.
 use Rattle.std.specs.Prelude.{◌≡◌, refl, ℕ, List, [], ◌∷◌, ◌++◌, None, Some, Ok, Err, Result, codes}
 use Rattle.text_lines.specs.declared.text_error.TextError.TheVariants.{Bad}
 use Rattle.text_lines.specs.declared.text_error.Reason.TheVariants.{SecondLine, NoArrow, NoChild, SecondParent, NoSemicolon, NoRoot, TwoRoots, Unreached}
@@ -10,7 +10,7 @@ use Rattle.stat_plan.specs.Topologies.{topology}
 use Rattle.topology_text.specs.Statements.{Parsed, nothing_parsed, appear, add_parent, add_child, with_pieces}
 use Rattle.topology_text.specs.Whole.{whole, nodes_of, whole_error, first_beyond, is_within}
 
--- what a text is parsed as, before the names are told
+-- what a text is parsed as
 abbrev parsed : List ℕ → Result Parsed TextError
 parsed text = and_then (with_pieces nothing_parsed (pieces 1 0 text)) whole
 

@@ -11,7 +11,7 @@ use Rattle.topology_text.specs.declared.parser.ParserState.{ParserState}
 use Rattle.topology_text.specs.declared.parser.ParserState.TheVariants.{Outside, AfterParent, AfterArrow, AfterChild}
 use Rattle.topology_text.specs.Tokens.{Piece, Arrow, Semicolon, Name, End, NoToken}
 
--- what is parsed so far: names and nodes by number, and where the next token stands in its statement
+-- what is parsed so far: names and nodes by number, and what may come next
 pub record Parsed : Type 0 where
   pub names : List (List ℕ)
   pub nodes : List Node
@@ -69,28 +69,28 @@ add_child s line_number p n = elim (is_child (slice_get s.nodes n)) [
   | false ↦ Ok (record s { nodes = at_node s.nodes n (child_of p); state = AfterChild p })
 ]
 
--- a name with its number, by where it stands
+-- a name with its number, by the state
 abbrev pub take_name : Parsed → ℕ → ParserState → ℕ → Result Parsed TextError
 take_name s line_number Outside n = add_parent s line_number n
 take_name s line_number (AfterParent p) n = Err (Bad line_number NoArrow)
 take_name s line_number (AfterArrow p) n = add_child s line_number p n
 take_name s line_number (AfterChild p) n = add_child s line_number p n
 
--- `=>`, by where it stands
+-- `=>`, by the state
 abbrev pub take_arrow : Parsed → ℕ → ParserState → Result Parsed TextError
 take_arrow s line_number Outside = Err (Bad line_number BadToken)
 take_arrow s line_number (AfterParent p) = Ok (record s { state = AfterArrow p })
 take_arrow s line_number (AfterArrow p) = Err (Bad line_number NoChild)
 take_arrow s line_number (AfterChild p) = Err (Bad line_number NoSemicolon)
 
--- `;`, by where it stands
+-- `;`, by the state
 abbrev pub take_semicolon : Parsed → ℕ → ParserState → Result Parsed TextError
 take_semicolon s line_number Outside = Err (Bad line_number BadToken)
 take_semicolon s line_number (AfterParent p) = Err (Bad line_number NoArrow)
 take_semicolon s line_number (AfterArrow p) = Err (Bad line_number NoChild)
 take_semicolon s line_number (AfterChild p) = Ok (record s { state = Outside })
 
--- the end of the text, by where it stands
+-- the end of the text, by the state
 abbrev pub take_end : Parsed → ℕ → ParserState → Result Parsed TextError
 take_end s line_number Outside = Ok s
 take_end s line_number (AfterParent p) = Err (Bad line_number NoArrow)

@@ -1,17 +1,17 @@
--- What the code's tokens stand for.
+-- What the code's tokens mean.
 use denote.Bor.{Bor}
 use Rattle.std.specs.Prelude.{ℕ, List, Option, None, Some}
 use Rattle.topology_text.specs.declared.tokens.Token.{Token}
 use Rattle.topology_text.specs.declared.tokens.Token.TheVariants as token
 use Rattle.topology_text.specs.Tokens.{Piece, Arrow, Semicolon, Name, NoToken, piece_len}
 
--- what a token stands for
+-- what a token means
 abbrev pub token_view : Token → Piece
 token_view token.Arrow = Arrow
 token_view token.Semicolon = Semicolon
 token_view (token.Name name) = Name name.now
 
--- what stands where a token is looked for
+-- what is found where a token is looked for
 abbrev pub token_view_at : Option Token → Piece
 token_view_at None = NoToken
 token_view_at (Some token) = token_view token

@@ -23,12 +23,14 @@ host_len text = prefix_len is_host_byte text
 
 -- 1 to 63 host bytes, `:`, and 1 to 5 digits without a leading zero, but `0` itself
 abbrev pub is_name : ℕ → ℕ → List ℕ → ℕ → Bool
-is_name host colon index digits = nat_le 1 host && nat_le host 63 && nat_eq colon 58 && nat_le 1 digits && nat_le digits 5 && (nat_eq digits 1 || not (begins 48 index))
+is_name host colon index digits =
+    nat_le 1 host && nat_le host 63 && nat_eq colon 58 && nat_le 1 digits && nat_le digits 5 && (nat_eq digits 1 || not (begins 48 index))
 
 -- the name that a text begins with, by what follows its host bytes: a colon, and all digits after it
 abbrev pub name_after : List ℕ → ℕ → List ℕ → Piece
 name_after text host [] = NoToken
-name_after text host (colon ∷ index) = cond (is_name host colon index (digits_len index)) (Name (take (host + 1 + digits_len index) text)) NoToken
+name_after text host (colon ∷ index) =
+    cond (is_name host colon index (digits_len index)) (Name (take (host + 1 + digits_len index) text)) NoToken
 
 -- the name that a text begins with, by longest match
 abbrev pub name_at : List ℕ → Piece
@@ -65,7 +67,7 @@ pieces line_number zero (b ∷ rest) = elim (nat_eq b 10) [
   ]
 ]
 
--- a token or the end of the text stands here: no blank and no comment
+-- a token or the end of the text is here: no blank and no comment
 abbrev pub StopsAt : List ℕ → Type 0
 StopsAt [] = Unit {0}
 StopsAt (b ∷ rest) = (nat_eq b 10 ≡ false) × (is_space b ≡ false) × (nat_eq b 35 ≡ false)

@@ -1,4 +1,4 @@
--- What a topology text says: its nodes, or its first error.
+-- What a topology text means: its nodes, or its first error.
 use Rattle.std.specs.Prelude.{ℕ, zero, suc, ◌-◌, Bool, true, false, not, is_some, List, [], ◌∷◌, map, length, Option, None, Some, Result, Ok, Err, slice_get}
 use Rattle.text_lines.specs.declared.text_error.TextError.{TextError}
 use Rattle.text_lines.specs.declared.text_error.TextError.TheVariants.{Bad, Over}
@@ -77,6 +77,6 @@ abbrev pub nodes_of : Result Parsed TextError → Result Nodes TextError
 nodes_of (Err e) = Err e
 nodes_of (Ok s) = Ok (topology s.names (parents_of s.nodes))
 
--- the nodes that a text stands for, or its first error
+-- the nodes of a text, or its first error
 abbrev pub topology_of : List ℕ → Result Nodes TextError
 topology_of text = nodes_of (and_then (with_pieces nothing_parsed (pieces 1 0 text)) whole)

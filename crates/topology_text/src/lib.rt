@@ -1,7 +1,7 @@
 //! Reads topologies: statements as `fe:0 => a:0 b:0 ;`, each a parent and its children.
 //!
-//! A text stands for the names of its nodes in order of first appearance and each node's parent, or for its first error:
-//! `topology_of` says which, and [`read`] gives exactly that. A text that is accepted is written as statements: `IsWritten`.
+//! A text means the names of its nodes in order of first appearance and each node's parent, or for its first error:
+//! `topology_of` says which, and [`read`] gives exactly that.
 #![tactic(auto)]
 
 ghost use Rattle.std.specs.Prelude.{◌≡◌, IfOk, [], ◌∷◌};
@@ -27,7 +27,8 @@ use tokens::{skipped, token_at, token_len};
 // Takes the tokens of a text into a parser, and gives the line on which the text ends.
 fn read_tokens(text: &[u8], parser: &mut Parser) -> Result<u64, TextError>
     ensures ok { IfOk result (
-        λ end. with_pieces (parser_view parser.old) (pieces 1 0 text.now) ≡ with_pieces (parser_view parser.new) ((end, End) ∷ [])
+        λ end. with_pieces (parser_view parser.old) (pieces 1 0 text.now)
+            ≡ with_pieces (parser_view parser.new) ((end, End) ∷ [])
     ) }
     ensures err { IsErrorOf result (with_pieces (parser_view parser.old) (pieces 1 0 text.now)) }
 {
@@ -44,10 +45,11 @@ fn read_tokens(text: &[u8], parser: &mut Parser) -> Result<u64, TextError>
 }
 
 /// Reads a topology. The bytes of comments may be any; elsewhere the text is refused by its first error, read from the
-/// front token by token, and then by those of the whole text.
+/// front token by token, and then by those of the whole text. A text that is accepted is written as statements: its names
+/// are numbered in order of first appearance, and its links are those of the statements: `IsWritten`.
 pub fn read(alloc: Global, text: &[u8]) -> Result<Topology, TextError>
     ensures ok { IsValueOf result (topology_of text.now) }
-    ensures grammar { IfOk result (λ t. IsWritten text.now) }
+    ensures written { IfOk result (λ t. IsWritten text.now t) }
     ensures err { IsErrorOf result (topology_of text.now) }
 {
     let mut parser = Parser::new(alloc);

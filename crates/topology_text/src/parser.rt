@@ -1,4 +1,4 @@
-//! What is parsed of a topology text so far, and whether the next token may stand where it stands.
+//! What is parsed of a topology text so far, and which token may come next.
 
 ghost use Rattle.std.specs.Prelude.{slice_get, Ok, Err, ◌≡◌, ◌<◌, ◌≤◌, ◌+◌, length, Some, OnOk, IfOk, IfErr, map, string_bytes};
 ghost use Rattle.stat_plan.specs.declared.topology.TheConstants.{NODE_LIMIT};
@@ -16,7 +16,7 @@ use stat_plan::{NODE_LIMIT, Topology};
 use std::alloc::Global;
 use text_lines::{Quantity, Reason, TextError};
 
-/// A node, as far as the text has told of it.
+/// A node, as far as it is known.
 #[derive(Debug, Clone, Copy)]
 pub struct Node {
     /// The line of its name's first appearance.
@@ -59,6 +59,7 @@ impl Parser {
     ghost use Rattle.topology_text.specs.Statements.{take_semicolon, take_name, add_parent, add_child};
     ghost use Rattle.topology_text.specs.Invariants.{ParserInvariant};
     ghost use Rattle.topology_text.specs.Whole.{whole, nodes_of};
+    ghost use Rattle.stat_plan.specs.Topologies.{IsTopology};
 
     /// A parser before the first token.
     pub fn new(alloc: Global) -> Parser
@@ -213,6 +214,7 @@ impl Parser {
         ensures ok { IfOk result (
             λ t. nodes_of (and_then (take_end (parser_view self) line_number self.state) whole) ≡ Ok t
         ) }
+        ensures topology { IfOk result (λ t. IsTopology t) }
         ensures err { IsErrorOf result (
             nodes_of (and_then (take_end (parser_view self) line_number self.state) whole)
         ) }

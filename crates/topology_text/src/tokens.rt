@@ -67,7 +67,7 @@ fn is_name(host: usize, colon: u8, index: &[u8], digits: usize) -> bool
 fn name_at(text: &[u8]) -> Option<&str>
     ensures value { named result ≡ name_at text.now }
     ensures within { IfSome result (λ name. length name.now ≤ length text.now) }
-    ensures some { IfSome result (λ name. 1 ≤ length name.now) }
+    ensures not_empty { IfSome result (λ name. 1 ≤ length name.now) }
 {
     let host = host_len(text);
     let (_, after) = text.split_at(host);
@@ -87,7 +87,7 @@ fn name_at(text: &[u8]) -> Option<&str>
 pub fn token_at(text: &[u8]) -> Option<Token<'_>>
     ensures value { token_view_at result ≡ piece_at text.now }
     ensures within { IfSome result (λ token. token_bytes token ≤ length text.now) }
-    ensures some { IfSome result (λ token. 1 ≤ token_bytes token) }
+    ensures not_empty { IfSome result (λ token. 1 ≤ token_bytes token) }
 {
     if begins(b';', text) {
         return Some(Token::Semicolon);

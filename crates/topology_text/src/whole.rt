@@ -36,7 +36,7 @@ fn is_within(parents: &[Option<u32>], node: u32, links: u32) -> bool
 // The next node without a parent, from one on.
 fn next_root(parents: &[Option<u32>], from: u32) -> Option<u32>
     requires { length parents.now < 2 ^ 31 }
-    ensures next { MatchOption result (roots_from from (drop from parents.now) ≡ []) (
+    ensures root { MatchOption result (roots_from from (drop from parents.now) ≡ []) (
         λ n. roots_from from (drop from parents.now) ≡ n ∷ roots_from (n + 1) (drop (n + 1) parents.now)
     ) }
     ensures within { IfSome result (λ n. n < length parents.now) }

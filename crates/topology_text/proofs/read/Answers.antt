@@ -1,13 +1,15 @@
-use Rattle.std.proofs.Common.{◌≡◌, ◌≢◌, sym, subst, Err}
+use Rattle.std.proofs.Common.{◌≡◌, ◌≢◌, sym, subst, Err, Result, Ok, IfOk}
+use Rattle.stat_plan.specs.Topologies.{Nodes, IsTopology}
+use Rattle.text_lines.specs.declared.text_error.TextError.{TextError}
 use Rattle.text_lines.specs.Parsing.{IsValueOf, IsErrorOf}
 use Rattle.text_lines.specs.declared.text_error.TextError.TheVariants.{OutOfMemory}
-use Rattle.text_lines.proofs.Errors.{handed_on, value_has}
+use Rattle.text_lines.proofs.Errors.{handed_on}
 use Rattle.topology_text.specs.Grammar.{IsWritten}
 use Rattle.topology_text.specs.ParserViews.{parser_view}
 use Rattle.topology_text.specs.Whole.{topology_of}
 use Rattle.topology_text.proofs.Grammar.{is_written}
 use Rattle.topology_text.proofs.InvariantLemmas.{holds_at_end}
-use Rattle.topology_text.proofs.WholeFile.{topology_at_end, topology_bad, accepted}
+use Rattle.topology_text.proofs.WholeFile.{topology_at_end, topology_bad}
 use Rattle.topology_text.proofs.read.Goals as goal
 
 pub returns-in_err-end-clause-err : goal.returns-in_err-end-clause-err
@@ -22,11 +24,16 @@ pub returns-clause-ok : goal.returns-clause-ok
 returns-clause-ok c =
     subst (IsValueOf c.finish.result) (sym (topology_at_end c.args.text.now (parser_view c.new-parser.result) (parser_view c.read_tokens.new.parser) c.in_ok-end.end c.new-parser.ensures c.in_ok-end.ensures.ok)) c.finish.ensures.ok
 
-pub returns-clause-grammar : goal.returns-clause-grammar
-returns-clause-grammar c =
-    value_has c.finish.result (topology_of c.args.text.now) (λ t. IsWritten c.args.text.now)
+distinct_value : (result : Result Nodes TextError) (parsed : Result Nodes TextError) (P : Nodes → Type 0) → IsValueOf result parsed → IfOk result IsTopology → ((n : Nodes) → parsed ≡ Ok n → IsTopology n → P n) → IfOk result P
+distinct_value (Ok n) parsed P is topology has = has n is topology
+distinct_value (Err e) parsed P is topology has = tt
+
+pub returns-clause-written : goal.returns-clause-written
+returns-clause-written c =
+    distinct_value c.finish.result (topology_of c.args.text.now) (IsWritten c.args.text.now)
     (subst (IsValueOf c.finish.result) (sym (topology_at_end c.args.text.now (parser_view c.new-parser.result) (parser_view c.read_tokens.new.parser) c.in_ok-end.end c.new-parser.ensures c.in_ok-end.ensures.ok)) c.finish.ensures.ok)
-    (λ t is. let a = accepted c.args.text.now t is in is_written c.args.text.now a.0 a.1)
+    c.finish.ensures.topology
+    (λ n is topology. is_written c.args.text.now n is topology.distinct)
 
 pub returns-clause-err : goal.returns-clause-err
 returns-clause-err c =

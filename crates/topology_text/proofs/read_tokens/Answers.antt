@@ -33,19 +33,19 @@ pub returns-in_err-take-clause-err : goal.returns-in_err-take-clause-err
 returns-in_err-take-clause-err c =
     handed_on c.from_residual.result c.in_err-take.field-0.0 (λ e. e ≢ OutOfMemory → with_pieces (parser_view c.args.parser.now) (pieces 1 0 c.args.text.now) ≡ Err e) c.from_residual.ensures
     (λ memory. sym c.loop-rest.invariant.parsed
-    ∙ next_bad (parser_view c.loop-rest.parser) c.loop-rest.line_number (token_bytes c.in-Some.token) c.loop-rest.rest.now c.loop-rest.invariant.stops (some_left c.loop-rest.rest.now (sym c.is_empty.ensures ∙ c.loop-rest-test.true)) c.in-Some.ensures.some (ap piece_len c.in-Some.ensures.value) c.in_err-take.field-0.0
+    ∙ next_bad (parser_view c.loop-rest.parser) c.loop-rest.line_number (token_bytes c.in-Some.token) c.loop-rest.rest.now c.loop-rest.invariant.stops (some_left c.loop-rest.rest.now (sym c.is_empty.ensures ∙ c.loop-rest-test.true)) c.in-Some.ensures.not_empty (ap piece_len c.in-Some.ensures.value) c.in_err-take.field-0.0
     (ap (with_piece (parser_view c.loop-rest.parser) c.loop-rest.line_number) (sym c.in-Some.ensures.value) ∙ c.in_err-take.ensures.err memory))
 
 pub loop-rest-smaller : goal.loop-rest-smaller
 loop-rest-smaller c =
-    let e : length c.skipped.result.0.now < length c.loop-rest.rest.now = omega (arith, c.skipped.ensures.shorter, c.split_at.ensures.back_len, c.token_len.ensures, c.in-Some.ensures.some) in e
+    let e : length c.skipped.result.0.now < length c.loop-rest.rest.now = omega (arith, c.skipped.ensures.shorter, c.split_at.ensures.back_len, c.token_len.ensures, c.in-Some.ensures.not_empty) in e
 
 pub loop-rest-preserved : goal.loop-rest-preserved
 loop-rest-preserved c = record {
   room = omega (arith, c.skipped.ensures.room, c.split_at.ensures.back_len, c.loop-rest.invariant.room);
   stops = c.skipped.ensures.stops;
   parsed = ap (with_pieces (parser_view c.take.new.self)) (c.skipped.ensures.pieces ∙ ap (pieces c.loop-rest.line_number 0) (c.split_at.ensures.back ∙ ap (λ n. drop n c.loop-rest.rest.now) c.token_len.ensures))
-      ∙ sym (next_good (parser_view c.loop-rest.parser) c.loop-rest.line_number (token_bytes c.in-Some.token) c.loop-rest.rest.now c.loop-rest.invariant.stops (some_left c.loop-rest.rest.now (sym c.is_empty.ensures ∙ c.loop-rest-test.true)) c.in-Some.ensures.some (ap piece_len c.in-Some.ensures.value) (parser_view c.take.new.self)
+      ∙ sym (next_good (parser_view c.loop-rest.parser) c.loop-rest.line_number (token_bytes c.in-Some.token) c.loop-rest.rest.now c.loop-rest.invariant.stops (some_left c.loop-rest.rest.now (sym c.is_empty.ensures ∙ c.loop-rest-test.true)) c.in-Some.ensures.not_empty (ap piece_len c.in-Some.ensures.value) (parser_view c.take.new.self)
       (ap (with_piece (parser_view c.loop-rest.parser) c.loop-rest.line_number) (sym c.in-Some.ensures.value) ∙ c.in_ok-take.ensures.ok))
       ∙ c.loop-rest.invariant.parsed;
 }

@@ -8,8 +8,8 @@ flip b r e h = e ∙ ap not h
 flip_back : (b r : Bool) → b ≡ not r → r ≡ false → b ≡ true
 flip_back b r e h = e ∙ ap not h
 
-pub returns-then-is_none-clause-next : goal.returns-then-is_none-clause-next
-returns-then-is_none-clause-next c =
+pub returns-then-is_none-clause-root : goal.returns-then-is_none-clause-root
+returns-then-is_none-clause-root c =
     sym c.loop-node.invariant ∙ root_here c.args.parents.now c.loop-node.node c.loop-node-test.true (ap is_some (sym c.parent_at.ensures) ∙ flip _ c.is_none.result c.is_none.ensures c.if-is_none.true)
 
 pub loop-node-preserved : goal.loop-node-preserved

@@ -7,7 +7,7 @@ use Rattle.overlay_node.proofs.node.Node.has_running.Goals as goal
 
 pub returns : goal.returns
 returns g c p plan fits =
-    let seen : ◌≡◌ {A = List EntryView} c.as_slice.result.now c.args.self.now.entries = c.as_slice.ensures.value ∙ ap (λ (v : NodeView). v.entries) c.self.view_is in
+    let entries_now : ◌≡◌ {A = List EntryView} c.as_slice.result.now c.args.self.now.entries = c.as_slice.ensures.value ∙ ap (λ (v : NodeView). v.entries) c.self.view_is in
     c.any_running.ensures
-    ∙ ap (list_any (λ (e : EntryView). is_running (wave_of e))) seen
+    ∙ ap (list_any (λ (e : EntryView). is_running (wave_of e))) entries_now
     ∙ running-book p c.args.self.now.number c.args.self.now.entries plan fits.keys

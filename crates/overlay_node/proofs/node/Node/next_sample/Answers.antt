@@ -6,7 +6,7 @@ use Rattle.overlay_node.proofs.node.Node.next_sample.Goals as goal
 
 pub returns : goal.returns
 returns g c p plan fits there =
-    let seen : ◌≡◌ {A = List EntryView} c.as_slice.result.now c.args.self.now.entries = c.as_slice.ensures.value ∙ ap (λ (v : NodeView). v.entries) c.self.view_is in
+    let entries_now : ◌≡◌ {A = List EntryView} c.as_slice.result.now c.args.self.now.entries = c.as_slice.ensures.value ∙ ap (λ (v : NodeView). v.entries) c.self.view_is in
     c.first_empty.ensures
-    ∙ ap (λ (es : List EntryView). option_map (λ (e : EntryView). e.wave) (find (λ (e : EntryView). (e.stream == c.args.s) && is_empty_open (wave_of e)) es)) seen
+    ∙ ap (λ (es : List EntryView). option_map (λ (e : EntryView). e.wave) (find (λ (e : EntryView). (e.stream == c.args.s) && is_empty_open (wave_of e)) es)) entries_now
     ∙ next-book p c.args.self.now.number c.args.s c.args.self.now.entries plan fits.keys there

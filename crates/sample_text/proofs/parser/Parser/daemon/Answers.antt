@@ -23,23 +23,23 @@ returns-in_err-ranks-clause-err c =
 pub returns-then-not-disjoint-clause-err : goal.returns-then-not-disjoint-clause-err
 returns-then-not-disjoint-clause-err c = λ _.
     daemon_twice (parser_nodes c.args.self.now) (parser_view c.args.self.now) c.args.line_number c.args.name.now c.args.word.now c.in_ok-n.n c.in_ok-n.ensures.ok c.in_ok-ranks.ranks c.in_ok-ranks.ensures.ok
-    (ap (are_disjoint c.in_ok-ranks.ranks) (sym c.requires.all) ∙ sym c.in_ok-disjoint.ensures ∙ c.if-not-disjoint.true)
+    (ap (are_disjoint c.in_ok-ranks.ranks) (sym c.requires.placed) ∙ sym c.in_ok-disjoint.ensures ∙ c.if-not-disjoint.true)
     ∙ ap Err (sym c.bad.ensures)
 
 pub returns-clause-ok : goal.returns-clause-ok
 returns-clause-ok c =
     daemon_good (parser_nodes c.args.self.now) (parser_view c.args.self.now) c.args.line_number c.args.name.now c.args.word.now c.in_ok-n.n c.in_ok-n.ensures.ok c.in_ok-ranks.ranks c.in_ok-ranks.ensures.ok
-    (ap (are_disjoint c.in_ok-ranks.ranks) (sym c.requires.all) ∙ sym c.in_ok-disjoint.ensures ∙ c.if-not-disjoint.false)
+    (ap (are_disjoint c.in_ok-ranks.ranks) (sym c.requires.placed) ∙ sym c.in_ok-disjoint.ensures ∙ c.if-not-disjoint.false)
     ∙ ap (λ sets. Ok (sampled sets (parser_view c.args.self.now).lines)) (sym c.in_ok-add_at.ensures)
 
 pub returns-clause-consistent : goal.returns-clause-consistent
 returns-clause-consistent c = record {
   paired = ap length c.in_ok-add_at.ensures ∙ length-add_at c.args.self.now.placed.items c.in_ok-n.n c.in_ok-ranks.ranks ∙ c.requires.paired;
-  all = c.in_ok-union_into.ensures.ok
-      ∙ ap (λ a. union a c.in_ok-ranks.ranks) c.requires.all
+  placed = c.in_ok-union_into.ensures.ok
+      ∙ ap (λ a. union a c.in_ok-ranks.ranks) c.requires.placed
       ∙ all_ranks-add_at c.args.self.now.placed.items c.in_ok-n.n c.in_ok-ranks.ranks (omega (arith, c.in_ok-n.ensures.node, c.requires.paired))
       ∙ ap all_ranks (sym c.in_ok-add_at.ensures);
   paths = c.requires.paths;
   numbered = c.requires.numbered;
-  few = c.requires.few;
+  no_more_than_lines = c.requires.no_more_than_lines;
 }

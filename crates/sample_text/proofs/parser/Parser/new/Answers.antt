@@ -7,8 +7,8 @@ use Rattle.sample_text.proofs.parser.Parser.new.Goals as goal
 pub returns-clause-consistent : goal.returns-clause-consistent
 returns-clause-consistent c = record {
   paired = ap length c.in_ok-nones.ensures ∙ length-nones c.nodes.result ∙ c.nodes.ensures;
-  all = c.new.ensures ∙ all_ranks-nones c.nodes.result ∙ ap all_ranks (sym c.in_ok-nones.ensures);
+  placed = c.new.ensures ∙ all_ranks-nones c.nodes.result ∙ ap all_ranks (sym c.in_ok-nones.ensures);
   paths = c.new-2.ensures.holds;
   numbered = subst (PathIndicesInRange c.new-2.result.paths.items) (sym c.new-3.ensures.items) tt;
-  few = omega (arith, c.new-2.ensures.none);
+  no_more_than_lines = omega (arith, c.new-2.ensures.empty);
 }

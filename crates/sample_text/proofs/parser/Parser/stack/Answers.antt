@@ -39,7 +39,7 @@ returns-then-not-is_subset-clause-err c = λ _.
     stack_unplaced (parser_view c.args.self.now) c.args.line_number c.args.time.now c.args.word.now c.args.text.now
     (few c.args.self.now.paths.paths.items c.args.self.now.lines.items c.len.result c.args.self.now.lines.len c.len.ensures c.if-len.false c.args.self.now.lines.ok.0)
     c.in_ok-time.time c.in_ok-time.ensures.ok c.in_ok-ranks.ranks c.in_ok-ranks.ensures.ok
-    (ap (is_subset c.in_ok-ranks.ranks) (sym c.requires.all) ∙ sym c.is_subset.ensures ∙ c.if-not-is_subset.true)
+    (ap (is_subset c.in_ok-ranks.ranks) (sym c.requires.placed) ∙ sym c.is_subset.ensures ∙ c.if-not-is_subset.true)
     ∙ ap Err (sym c.bad.ensures)
 
 pub returns-in_err-path-clause-err : goal.returns-in_err-path-clause-err
@@ -48,7 +48,7 @@ returns-in_err-path-clause-err c =
     (λ memory. stack_bad_path (parser_view c.args.self.now) c.args.line_number c.args.time.now c.args.word.now c.args.text.now
     (few c.args.self.now.paths.paths.items c.args.self.now.lines.items c.len.result c.args.self.now.lines.len c.len.ensures c.if-len.false c.args.self.now.lines.ok.0)
     c.in_ok-time.time c.in_ok-time.ensures.ok c.in_ok-ranks.ranks c.in_ok-ranks.ensures.ok
-    (ap (is_subset c.in_ok-ranks.ranks) (sym c.requires.all) ∙ sym c.is_subset.ensures ∙ c.if-not-is_subset.false)
+    (ap (is_subset c.in_ok-ranks.ranks) (sym c.requires.placed) ∙ sym c.is_subset.ensures ∙ c.if-not-is_subset.false)
     c.in_err-path.field-0.0 (c.in_err-path.ensures.err memory))
 
 abbrev line : goal.In_ok-push → StackLine
@@ -60,13 +60,13 @@ returns-clause-ok c =
     let new = c.number.new.self.paths.items in
     let lines = c.args.self.now.lines.items in
     let more : lines_of old lines ++ line_of new (line c) ∷ [] ≡ lines_of new c.push.new.self.items =
-    ap (λ ls. ls ++ line_of new (line c) ∷ []) (sym (same_lines old new lines c.in_ok-path.ensures.same c.requires.numbered))
+    ap (λ ls. ls ++ line_of new (line c) ∷ []) (sym (same_lines old new lines c.in_ok-path.ensures.old_paths c.requires.numbered))
     ∙ sym (lines_more new lines (line c))
     ∙ ap (lines_of new) (sym c.in_ok-push.ensures.items) in
     stack_good (parser_view c.args.self.now) c.args.line_number c.args.time.now c.args.word.now c.args.text.now
     (few old lines c.len.result c.args.self.now.lines.len c.len.ensures c.if-len.false c.args.self.now.lines.ok.0)
     c.in_ok-time.time c.in_ok-time.ensures.ok c.in_ok-ranks.ranks c.in_ok-ranks.ensures.ok
-    (ap (is_subset c.in_ok-ranks.ranks) (sym c.requires.all) ∙ sym c.is_subset.ensures ∙ c.if-not-is_subset.false)
+    (ap (is_subset c.in_ok-ranks.ranks) (sym c.requires.placed) ∙ sym c.is_subset.ensures ∙ c.if-not-is_subset.false)
     (path_at c.number.new.self c.in_ok-path.path) c.in_ok-path.ensures.ok
     ∙ ap (λ ls. Ok (sampled c.args.self.now.placed.items ls)) more
 
@@ -76,12 +76,12 @@ returns-clause-consistent c =
     let new = c.number.new.self.paths.items in
     let lines = c.args.self.now.lines.items in
     let len = ap length c.in_ok-push.ensures.items ∙ length-append lines (line c ∷ []) in
-    let one : length new ≤ length old + 1 = c.in_ok-path.ensures.one in
-    let few = c.requires.few in
+    let one : length new ≤ length old + 1 = c.in_ok-path.ensures.at_most_one_new in
+    let few = c.requires.no_more_than_lines in
     record {
       paired = c.requires.paired;
-      all = c.requires.all;
+      placed = c.requires.placed;
       paths = c.in_ok-path.ensures.holds;
-      numbered = subst (PathIndicesInRange new) (sym c.in_ok-push.ensures.items) (numbered_more old new lines (line c) c.in_ok-path.ensures.more c.requires.numbered c.in_ok-path.ensures.within);
-      few = omega (arith, len, one, few);
+      numbered = subst (PathIndicesInRange new) (sym c.in_ok-push.ensures.items) (numbered_more old new lines (line c) c.in_ok-path.ensures.none_lost c.requires.numbered c.in_ok-path.ensures.within);
+      no_more_than_lines = omega (arith, len, one, few);
     }
