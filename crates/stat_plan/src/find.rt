@@ -1,8 +1,8 @@
-//! Finds streams and faults by number.
+//! Finds streams by number.
 
 ghost use Rattle.std.specs.Prelude.{◌≡◌, ◌<◌, ◌==◌, MatchOption, None, find, length, slice_get};
 
-use crate::script::{Fault, StreamDef};
+use crate::script::StreamDef;
 
 /// The index of the stream with a number, if there is one.
 pub fn stream_index(streams: &[StreamDef], s: u8) -> Option<usize>
@@ -12,18 +12,6 @@ pub fn stream_index(streams: &[StreamDef], s: u8) -> Option<usize>
     for (i, x) in streams.iter().enumerate() {
         if x.number() == s {
             return Some(i);
-        }
-    }
-    None
-}
-
-/// The fault of a node.
-pub fn fault_of(faults: &[Fault], n: u32) -> Option<Fault>
-    ensures { result ≡ find (λ f. f.node == n) faults.now }
-{
-    for f in faults {
-        if f.node == n {
-            return Some(*f);
         }
     }
     None

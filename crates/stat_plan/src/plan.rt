@@ -13,7 +13,7 @@ ghost use Rattle.stat_plan.specs.Trees.{is_daemon};
 
 use crate::ancestors::ancestors_table;
 use crate::expected::expected_sets;
-use crate::find::{fault_of, stream_index};
+use crate::find::stream_index;
 use crate::job::Job;
 use crate::limit::check_limit;
 use crate::line_index::line_index;
@@ -253,7 +253,13 @@ impl Plan {
     pub fn fault(&self, n: u32) -> Option<Fault>
         ensures { result ≡ fault self.now n }
     {
-        fault_of(self.job.faults(), n)
+        let faults = self.job.faults();
+        for f in faults {
+            if f.node == n {
+                return Some(*f);
+            }
+        }
+        None
     }
 
     /// The lines of samples in the order of their text, with the numbers of their paths, and the paths.

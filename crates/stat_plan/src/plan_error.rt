@@ -1,6 +1,6 @@
 //! Why a plan was refused.
 
-use std::alloc::{AllocError, AllocFailed};
+use std::alloc::AllocError;
 
 /// Why a plan was refused.
 #[derive(Debug, PartialEq, Eq, Clone, Copy)]
@@ -18,17 +18,6 @@ impl From<AllocError> for PlanError {
     ghost from_gives = { λ _ e. e ≡ OutOfMemory };
 
     fn from(_: AllocError) -> Self {
-        PlanError::OutOfMemory
-    }
-}
-
-impl<T: Drop> From<AllocFailed<T>> for PlanError {
-    ghost use Rattle.std.specs.Prelude.{◌≡◌};
-    ghost use Rattle.stat_plan.specs.declared.plan_error.PlanError.TheVariants.{OutOfMemory};
-
-    ghost from_gives = { λ _ e. e ≡ OutOfMemory };
-
-    fn from(_: AllocFailed<T>) -> Self {
         PlanError::OutOfMemory
     }
 }

@@ -108,13 +108,6 @@ impl Samples {
         self.placed.as_slice()
     }
 
-    /// How many lines there are.
-    pub fn len(&self) -> usize
-        ensures { result ≡ length self.now.lines }
-    {
-        self.lines.len()
-    }
-
     /// A line, by its number from 0 in the order of the text.
     pub fn line(&self, i: usize) -> Line<'_>
         requires { i < length self.now.lines }

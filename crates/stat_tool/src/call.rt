@@ -26,7 +26,8 @@ pub fn stat<D: Desk, O: Sink>(alloc: Global, words: &[String], desk: &mut D, out
     ensures determined { IfSome (asked (map string_bytes words.now)) (λ names. IsDetermined names
         (desk_change D.faults D.last_fault D.contents desk.old desk.new)
         (sink_change O.faults O.contents out.old out.new) result.status) }
-    ensures bad_words { (result.status ≡ Status.BadWords WordFault.Options) ↔ (asked (map string_bytes words.now) ≡ None) }
+    ensures bad_words { (result.status ≡ Status.BadWords WordFault.Options)
+        ↔ (asked (map string_bytes words.now) ≡ None) }
     ensures unread { result.status ≡ Status.BadWords WordFault.Options → desk.new ≡ desk.old }
     ensures reads { IfSome (asked (map string_bytes words.now)) (λ names.
         AreReadInOrder (D.reads desk.old) (D.reads desk.new) (in_order names)) }
@@ -43,7 +44,8 @@ fn run<D: Desk, O: Sink>(alloc: Global, words: &[String], desk: &mut D, out: &mu
     ensures answered { Answered (asked (map string_bytes words.now))
         (desk_change D.faults D.last_fault D.contents desk.old desk.new)
         (sink_change O.faults O.contents out.old out.new) result.journal result.status }
-    ensures bad_words { (result.status ≡ Status.BadWords WordFault.Options) ↔ (asked (map string_bytes words.now) ≡ None) }
+    ensures bad_words { (result.status ≡ Status.BadWords WordFault.Options)
+        ↔ (asked (map string_bytes words.now) ≡ None) }
     ensures unread { result.status ≡ Status.BadWords WordFault.Options → desk.new ≡ desk.old }
     ensures reads { IfSome (asked (map string_bytes words.now)) (λ names.
         AreReadInOrder (D.reads desk.old) (D.reads desk.new) (in_order names)) }

@@ -26,7 +26,8 @@ const FILE_LIMIT: u64 = 33_554_432;
 /// All bytes of one file.
 fn read_file<D: Desk>(desk: &mut D, name: &str, role: FileRole) -> Result<Vec<u8>, Status>
     ensures ok { IfOk result (λ bytes. IsWhole (D.contents desk.old name.now) limit_of bytes.items) }
-    ensures err { IfErr result (Refuses role name.now (desk_change D.faults D.last_fault D.contents desk.old desk.new)) }
+    ensures err { IfErr result
+        (Refuses role name.now (desk_change D.faults D.last_fault D.contents desk.old desk.new)) }
     ensures read { OnOk result (D.reads desk.new ≡ D.reads desk.old ++ name.now ∷ []) }
     ensures reads { AreReadInOrder (D.reads desk.old) (D.reads desk.new) (name.now ∷ []) }
     ensures later { D.faults desk.old ≤ D.faults desk.new }
