@@ -65,16 +65,16 @@ none_is_it a earlier (r ∷ rs) numbered few = (
       none_is_it a (earlier ++ bare_release r ∷ []) rs (rest_numbered earlier r rs numbered) (omega arith),
 )
 
-numbered_apart : (earlier : List Release) (rs : List TreeRelease) → AreNumberedInOrder earlier rs → AreDistinct rs
+numbered_distinct : (earlier : List Release) (rs : List TreeRelease) → AreNumberedInOrder earlier rs → AreDistinct rs
 unfolding IsDistinct
-numbered_apart earlier [] numbered = tt
-numbered_apart earlier (r ∷ rs) numbered =
+numbered_distinct earlier [] numbered = tt
+numbered_distinct earlier (r ∷ rs) numbered =
     let next : r.number ≡ suc (length (of_wave r.stream r.wave earlier)) = first_number earlier r rs numbered in
     let more : length (of_wave r.stream r.wave (earlier ++ bare_release r ∷ [])) ≡ length (of_wave r.stream r.wave earlier) + length (of_wave r.stream r.wave (bare_release r ∷ [])) = length_more r.stream r.wave earlier (bare_release r) in
     let own : length (of_wave r.stream r.wave (bare_release r ∷ [])) ≡ 1 = ap (λ (rs : List Release). length rs) (one_of_own_wave (bare_release r)) in
     let later : AreNumberedInOrder (earlier ++ bare_release r ∷ []) rs = rest_numbered earlier r rs numbered in
-    (none_is_it r (earlier ++ bare_release r ∷ []) rs later (omega arith), numbered_apart (earlier ++ bare_release r ∷ []) rs later)
+    (none_is_it r (earlier ++ bare_release r ∷ []) rs later (omega arith), numbered_distinct (earlier ++ bare_release r ∷ []) rs later)
 
 -- releases that are numbered in order are distinct
-pub apart_where_numbered : (releases : List TreeRelease) → AreNumberedInOrder [] releases → AreDistinct releases
-apart_where_numbered releases numbered = numbered_apart [] releases numbered
+pub distinct_where_numbered : (releases : List TreeRelease) → AreNumberedInOrder [] releases → AreDistinct releases
+distinct_where_numbered releases numbered = numbered_distinct [] releases numbered

@@ -66,17 +66,17 @@ module _ {X : Type 0} (R : X → X → Ordering) (total : IsTotalOrder R) where
       λ i. first i ∷ rest i
 
   less_from : (o : Ordering) → is_lt (ordering_reverse o) ≡ false → is_eq o ≡ false → o ≡ Less
-  less_from Less not_less apart = λ i. Less
-  less_from Equal not_less apart = absurd (true≢false apart)
-  less_from Greater not_less apart = absurd (true≢false not_less)
+  less_from Less not_less distinct = λ i. Less
+  less_from Equal not_less distinct = absurd (true≢false distinct)
+  less_from Greater not_less distinct = absurd (true≢false not_less)
 
   -- a list that does not fall and has no ties rises
-  rises_where_apart : (xs : List X) → IsSortedBy (λ x y. is_lt (R x y)) xs → IsDistinct (eq_by_cmp R) xs → IsStrictlySortedBy R xs
+  increasing_where_distinct : (xs : List X) → IsSortedBy (λ x y. is_lt (R x y)) xs → IsDistinct (eq_by_cmp R) xs → IsStrictlySortedBy R xs
   unfolding IsStrictlySortedBy
-  rises_where_apart [] up apart = tt
-  rises_where_apart (x ∷ xs) up apart = sorted_from_all_adjacent total (x ∷ xs) x (λ k lt.
+  increasing_where_distinct [] up distinct = tt
+  increasing_where_distinct (x ∷ xs) up distinct = sorted_from_all_adjacent total (x ∷ xs) x (λ k lt.
       less_from (R (get_or (x ∷ xs) k x) (get_or (x ∷ xs) (k + 1) x)) (ap is_lt (sym (total.antisymm (get_or (x ∷ xs) (k + 1) x) (get_or (x ∷ xs) k x))) ∙ up k x (omega arith) lt)
-      (apart_from_distinct (eq_by_cmp R) (x ∷ xs) k (k + 1) x apart (omega arith) lt))
+      (apart_from_distinct (eq_by_cmp R) (x ∷ xs) k (k + 1) x distinct (omega arith) lt))
 
 pub release_cmp_total : IsTotalOrder release_cmp
 release_cmp_total =
@@ -101,12 +101,12 @@ sorted_map f lt (x ∷ xs) up k d low high =
 -- what references show is in order where what they refer to is distinct, and a sort by stream, wave and number moved them
 pub in_order_from_sort : {X : Type 0} (tree : X → Tree) (given : List (Release X)) (all sorted : List (Bor (Release X))) → AreDistinct (releases_view tree given) → map (λ r. r.now) all ≡ given → IsPermutation all sorted
     → IsSortedBy (λ (a b : Bor (Release X)). is_lt (release_cmp (release_view tree a.now) (release_view tree b.now))) sorted → IsInOrder (releases_view tree given) (shown_releases tree sorted)
-in_order_from_sort {X} tree given all sorted apart shows moved up =
+in_order_from_sort {X} tree given all sorted distinct shows moved up =
     let view : Bor (Release X) → TreeRelease = λ r. release_view tree r.now in
     let viewed : shown_releases tree all ≡ releases_view tree given = sym (map-map (release_view tree) (λ (r : Bor (Release X)). r.now) all) ∙ ap (releases_view tree) shows in
     let same : IsPermutation (releases_view tree given) (shown_releases tree sorted) = subst (λ rs. IsPermutation rs (shown_releases tree sorted)) viewed (IsPermutation-map view all sorted moved) in
     record {
       same = same;
-      rises = rises_where_apart release_cmp release_cmp_total (shown_releases tree sorted) (sorted_map view (λ a b. is_lt (release_cmp a b)) sorted up)
-          (IsDistinct-IsPermutation (eq_by_cmp release_cmp) (eq_by_cmp_equiv release_cmp_total).symm (releases_view tree given) (shown_releases tree sorted) same apart);
+      rises = increasing_where_distinct release_cmp release_cmp_total (shown_releases tree sorted) (sorted_map view (λ a b. is_lt (release_cmp a b)) sorted up)
+          (IsDistinct-IsPermutation (eq_by_cmp release_cmp) (eq_by_cmp_equiv release_cmp_total).symm (releases_view tree given) (shown_releases tree sorted) same distinct);
     }

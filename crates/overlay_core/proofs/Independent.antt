@@ -105,11 +105,11 @@ enabled_like p st st' (Lose n) a x first en = (
 )
 
 pub stays_enabled : (p : Plan) (st : State) (e f : Event) → AreIndependent e f → is_enabled p st e ≡ true → (is_enabled p (step p st f) e ≡ true) × (outcome p (step p st f) e ≡ outcome p st e)
-stays_enabled p st e f apart en = enabled_like p st (step p st f) e (alive_else p st f (event_node e) apart.elsewhere) (node_else p st f (event_node e) apart.elsewhere) (λ m k pending. first_else p st f (event_node e) m apart.elsewhere (apart.keeps_sender m k) pending) en
+stays_enabled p st e f independent en = enabled_like p st (step p st f) e (alive_else p st f (event_node e) independent.elsewhere) (node_else p st f (event_node e) independent.elsewhere) (λ m k pending. first_else p st f (event_node e) m independent.elsewhere (independent.keeps_sender m k) pending) en
 
 pub stays_through : (p : Plan) (st : State) (e : Event) (fs : List Event) → AllByRecursion (AreIndependent e) fs → is_enabled p st e ≡ true → (is_enabled p (run p st fs) e ≡ true) × (outcome p (run p st fs) e ≡ outcome p st e)
-stays_through p st e [] apart en = (en, refl)
-stays_through p st e (f ∷ fs) apart en =
-    let one = stays_enabled p st e f apart.0 en in
-    let rest = stays_through p (step p st f) e fs apart.1 one.0 in
+stays_through p st e [] independent en = (en, refl)
+stays_through p st e (f ∷ fs) independent en =
+    let one = stays_enabled p st e f independent.0 en in
+    let rest = stays_through p (step p st f) e fs independent.1 one.0 in
     (rest.0, rest.1 ∙ one.1)

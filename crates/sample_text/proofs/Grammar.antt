@@ -163,8 +163,7 @@ module _ (t : Nodes) (is : IsTopology t) where
     all_samples (inl quiet) = other (quiet_no_stack line quiet.0) (ap (λ x. x.lines) quiet.1)
     all_samples (inr (inl h)) = other (daemon_no_stack line h.name h.word h.is) (ap (λ x. x.lines) h.after)
     all_samples (inr (inr h)) =
-        let xs = later.samples in
-        (
+        let xs = later.samples in (
           h.sample ∷ xs.0,
           append_one s.lines h.sample xs.0 ∙ ap (λ x. x.lines ++ xs.0) h.after ∙ xs.1,
           subst (λ b. AreSamplesOf (cond b (line ∷ filter stack rest) (filter stack rest)) (h.sample ∷ xs.0)) (sym (sample_is_stack line h.sample h.comment h.is)) (h.is, xs.2),

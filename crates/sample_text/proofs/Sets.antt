@@ -113,18 +113,18 @@ any_more (set ∷ sets) (suc n) ranks r there = or_more (has set r) (in_any r se
 pub all_ranks_grow : (sets : List Ranks) (n : ℕ) (ranks : Ranks) → IsSubset (all_ranks sets) (all_ranks (add_at sets n ranks))
 all_ranks_grow sets n ranks r there = has-all_ranks (add_at sets n ranks) r ∙ any_more sets n ranks r (sym (has-all_ranks sets r) ∙ there)
 
--- of sets that are apart a rank is in one alone
+-- of disjoint sets a rank is in one alone
 pub not_in_both : (ranks others : Ranks) (r : ℕ) → are_disjoint ranks others ≡ true → Has r ranks → Has r others → ⊥
 unfolding are_disjoint
-not_in_both ranks others r apart one other =
-    true≢false (sym ((λ i. one i && other i)) ∙ sym (has-those (has others) ranks r) ∙ ap (λ s. has s r) (none_from_size (those (has others) ranks) (eqb-true _ _ apart)) ∙ has-none r)
+not_in_both ranks others r disjoint one other =
+    true≢false (sym ((λ i. one i && other i)) ∙ sym (has-those (has others) ranks r) ∙ ap (λ s. has s r) (none_from_size (those (has others) ranks) (eqb-true _ _ disjoint)) ∙ has-none r)
 
 -- ranks that are placed nowhere are placed once more
 pub once_more : (sets : List Ranks) (n : ℕ) (ranks : Ranks) → ArePlacedOnce sets → are_disjoint ranks (all_ranks sets) ≡ true → ArePlacedOnce (add_at sets n ranks)
-once_more sets n ranks once apart m k r at_m at_k = by (there_before sets n m ranks r at_m) (there_before sets n k ranks r at_k)
+once_more sets n ranks once disjoint m k r at_m at_k = by (there_before sets n m ranks r at_m) (there_before sets n k ranks r at_k)
   where
     clash : (j : ℕ) → Has r (get_or sets j none) → Has r ranks → ⊥
-    clash j old new = not_in_both ranks (all_ranks sets) r apart new (has-all_ranks sets r ∙ in_one sets j r old)
+    clash j old new = not_in_both ranks (all_ranks sets) r disjoint new (has-all_ranks sets r ∙ in_one sets j r old)
 
     by : Has r (get_or sets m none) ⊎ ((m ≡ n) × Has r ranks) → Has r (get_or sets k none) ⊎ ((k ≡ n) × Has r ranks) → m ≡ k
     by (inl a) (inl b) = once m k r a b

@@ -27,11 +27,11 @@ module _ (t : Nodes) (s : Sampled) (number : ℕ) (name word : List ℕ) where
     module _ (ranks : Ranks) (read : ranks_on number word ≡ Ok ranks) where
       pub daemon_twice : are_disjoint ranks (all_ranks s.placed) ≡ false → with_daemon t s number name word ≡ Err (Bad number PlacedTwice)
       unfolding with_daemon
-      daemon_twice apart = rw (named, read, apart, with_daemon) refl
+      daemon_twice disjoint = rw (named, read, disjoint, with_daemon) refl
 
       pub daemon_good : are_disjoint ranks (all_ranks s.placed) ≡ true → with_daemon t s number name word ≡ Ok (record s { placed = add_at s.placed n ranks })
       unfolding with_daemon
-      daemon_good apart = rw (named, read, apart, with_daemon) refl
+      daemon_good disjoint = rw (named, read, disjoint, with_daemon) refl
 
 -- a line `stack TIME RANKS PATH`
 module _ (s : Sampled) (number : ℕ) (time_word word text : List ℕ) where

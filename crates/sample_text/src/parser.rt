@@ -6,8 +6,8 @@ ghost use Rattle.text_lines.specs.Parsing.{IsValueOf, IsErrorOf};
 ghost use Rattle.sample_text.specs.Steps.{daemon_on, ranks_on, time_on, are_disjoint, add_at};
 ghost use Rattle.sample_text.specs.Whole.{nones, lacks_rank};
 
-use crate::words::{Line, read_line};
 use crate::paths::Paths;
+use crate::words::{Line, read_line};
 use rank_set::{RANK_LIMIT, RankSet, RanksError, read_ranks};
 use stat_plan::{LINE_LIMIT, Samples, StackLine, TIME_LIMIT, Topology};
 use std::alloc::{AllocError, Global};
@@ -136,12 +136,12 @@ impl<'t> Parser<'t> {
         ensures ok { OnOk result (
             with_daemon (parser_nodes self.old) (parser_view self.old) line_number name.now word.now
             ≡ Ok (parser_view self.new)
-        ) }
+            ) }
         ensures nodes { parser_nodes self.new ≡ parser_nodes self.old }
         ensures consistent { OnOk result (IsConsistent self.new) }
         ensures err { IsErrorOf result (
             with_daemon (parser_nodes self.old) (parser_view self.old) line_number name.now word.now
-        ) }
+            ) }
     {
         let n = daemon_on(self.topology, line_number, name)?;
         let ranks = ranks_on(*self.placed.allocator(), line_number, word)?;
@@ -155,11 +155,17 @@ impl<'t> Parser<'t> {
     }
 
     // A line `stack TIME RANKS PATH`.
-    fn stack(&mut self, line_number: u64, time: &[u8], word: &[u8], text: &str) -> Result<(), TextError>
+    fn stack(
+        &mut self,
+        line_number: u64,
+        time: &[u8],
+        word: &[u8],
+        text: &str,
+    ) -> Result<(), TextError>
         requires { IsConsistent self.old }
         ensures ok { OnOk result (
             with_stack (parser_view self.old) line_number time.now word.now text.now ≡ Ok (parser_view self.new)
-        ) }
+            ) }
         ensures nodes { parser_nodes self.new ≡ parser_nodes self.old }
         ensures consistent { OnOk result (IsConsistent self.new) }
         ensures err { IsErrorOf result (with_stack (parser_view self.old) line_number time.now word.now text.now) }

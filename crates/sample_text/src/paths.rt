@@ -56,7 +56,7 @@ impl Paths {
         ensures holds { OnOk result (HoldsPaths self.new) }
         ensures old_paths { OnOk result (
             (n : ℕ) → n < length self.old.paths.items → path_at self.new n ≡ path_at self.old n
-        ) }
+            ) }
         ensures none_lost { OnOk result (length self.old.paths.items ≤ length self.new.paths.items) }
         ensures at_most_one_new { OnOk result (length self.new.paths.items ≤ length self.old.paths.items + 1) }
         ensures err { IsErrorOf result (path_on line_number text.now) }

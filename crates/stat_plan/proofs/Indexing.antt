@@ -45,9 +45,9 @@ rank_nodes_more placed old new k own once is inside before ranks others n r belo
     let own_is : own ≡ get_or placed k none = is ∙ get_or_default placed k own none inside in
     elim (cases_lt n k) [
       | (inl earlier) ↦
-          let apart : has own r ≡ false = false_from_ne_true (has own r) (λ also. let same = once n k r there (sym (ap (λ s. has s r) own_is) ∙ also) in omega (arith, same, earlier)) in
+          let distinct : has own r ≡ false = false_from_ne_true (has own r) (λ also. let same = once n k r there (sym (ap (λ s. has s r) own_is) ∙ also) in omega (arith, same, earlier)) in
           let was = before n r earlier there in
-          (was.0, others r apart ∙ was.1)
+          (was.0, others r distinct ∙ was.1)
       | (inr last) ↦
           let same : n ≡ k = omega (arith, below, last) in
           let here : Has r own = ap (λ s. has s r) own_is ∙ ap (λ m. has (get_or placed m none) r) (sym same) ∙ there in

@@ -24,16 +24,16 @@ not_equal Equal lt = absurd lt
 not_equal Greater lt = absurd lt
 
 -- a key below all of some entries is at none of them
-apart : (x : Path) (es : List (Path × Marks)) → T (below_all path_cmp x es) → AllByRecursion (λ y. is_path x y ≡ false) (map (λ e. e.0) es)
-apart x [] below = tt
-apart x (e ∷ es) below =
-    (not_equal (path_cmp x e.0) (first (is_lt (path_cmp x e.0)) (below_all path_cmp x es) below), apart x es (second (is_lt (path_cmp x e.0)) (below_all path_cmp x es) below))
+distinct : (x : Path) (es : List (Path × Marks)) → T (below_all path_cmp x es) → AllByRecursion (λ y. is_path x y ≡ false) (map (λ e. e.0) es)
+distinct x [] below = tt
+distinct x (e ∷ es) below =
+    (not_equal (path_cmp x e.0) (first (is_lt (path_cmp x e.0)) (below_all path_cmp x es) below), distinct x es (second (is_lt (path_cmp x e.0)) (below_all path_cmp x es) below))
 
 -- the keys of entries in order are all different
 keys_differ : (es : List (Path × Marks)) → T (finmap.is_sorted path_cmp es) → IsDistinct is_path (map (λ e. e.0) es)
 unfolding IsDistinct
 keys_differ [] up = tt
-keys_differ (e ∷ es) up = (apart e.0 es (first (below_all path_cmp e.0 es) (finmap.is_sorted path_cmp es) up), keys_differ es (second (below_all path_cmp e.0 es) (finmap.is_sorted path_cmp es) up))
+keys_differ (e ∷ es) up = (distinct e.0 es (first (below_all path_cmp e.0 es) (finmap.is_sorted path_cmp es) up), keys_differ es (second (below_all path_cmp e.0 es) (finmap.is_sorted path_cmp es) up))
 
 -- the prefixes of a tree, in order
 abbrev pub prefixes_in : Tree → List Path

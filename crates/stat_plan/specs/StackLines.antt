@@ -13,6 +13,6 @@ line_of paths line = record { time = line.time; ranks = line.ranks; path = slice
 abbrev pub lines_of : List Path → List StackLine → List SampleLine
 lines_of paths lines = map (line_of paths) lines
 
--- each line's path has a number that stands for a path
+-- the number of each line's path is that of a path
 abbrev pub PathIndicesInRange : List Path → List StackLine → Type 0
 PathIndicesInRange paths lines = AllByRecursion (λ line. line.path < length paths) lines

@@ -4,7 +4,7 @@
 //! [`Script`] is the streams of a job and the nodes that are to be lost. Each type has an invariant (`specs/Invariants.antt`).
 //! A [`Plan`] is made of the three, and refuses waves with too many prefixes.
 //!
-//! The words of the overlay's machine that several crates need stand apart, in the module `machine` and in `specs/Machine/`.
+//! The words of the overlay's machine that several crates need are kept apart, in the module `machine` and in `specs/Machine/`.
 #![tactic(auto)]
 
 mod ancestors;

@@ -53,7 +53,7 @@ abbrev pub is_open : Wave → Bool
 is_open (Open cov sent timer) = true
 is_open Closed = false
 
--- the coverage, and what was sent of it; none of a wave that is closed
+-- the coverage, and what was sent of it; empty for a closed wave
 abbrev pub cov_of : Wave → Ranks
 cov_of (Open cov sent timer) = cov
 cov_of Closed = none
