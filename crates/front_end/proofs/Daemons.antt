@@ -1,5 +1,5 @@
 -- The daemons of a stream.
-use Rattle.std.proofs.Common.{◌≡◌, ℕ, ◌<◌, ◌==◌, List, [], ◌∷◌, Option, Some, None, refl, sym, ap}
+use Rattle.std.proofs.Common.{◌≡◌, ℕ, ◌<◌, ◌==◌, List, [], ◌∷◌, Option, Some, None, sym, ap}
 use Rattle.std.specs.List.{AllByRecursion}
 use Rattle.stat_plan.specs.Invariants.{IsPlan, IsDaemon}
 use Rattle.stat_plan.specs.Plans.{Plan, Stream, daemons, nodes, nodes_of, stream_of}

@@ -26,7 +26,7 @@ as_lost t faults line_number (Some n) =
 
 -- the node that a line loses, where earlier lines lose others
 unfoldable pub lost_node : Nodes → List Fault → ℕ → List ℕ → Result ℕ TextError
-lost_node t faults line_number name = 
+lost_node t faults line_number name =
     if nat_le FAULT_LIMIT (length faults) then Err (Over line_number Faults FAULT_LIMIT)
     else as_lost t faults line_number (number_of name t.names)
 

@@ -1,8 +1,8 @@
 //! Reads scripts: lines that define the streams of a job, as `stream 0 wait-for-all waves 1 samples 4 on all`, and lines that
 //! lose its nodes, as `lose a:0 after 3 keep 1`.
 //!
-//! A text means its streams, ascending by number, and its losses, ascending by node, or for its first error:
-//! `script_of` says which, and [`read`] gives exactly that.
+//! `script_of` says what a text means: its streams, ascending by number, and its losses, ascending by node, or its first
+//! error. [`read`] gives exactly that.
 #![tactic(auto)]
 
 ghost use Rattle.std.specs.Prelude.{IfOk};

@@ -85,7 +85,7 @@ fn is_stream_end(five: &FiveWords<'_>) -> bool
     ensures { result ≡ (
         bytes_eq five.now.first.now (codes "waves") && (bytes_eq five.now.third.now (codes "samples")
         && (bytes_eq five.now.fifth.now (codes "on") && are_names (words five.now.rest.now)))
-    ) }
+        ) }
 {
     is_word(five.first, b"waves")
         && (is_word(five.third, b"samples") && (is_word(five.fifth, b"on") && are_names(five.rest)))
@@ -95,7 +95,7 @@ fn is_stream_end(five: &FiveWords<'_>) -> bool
 fn is_lose_end(five: &FiveWords<'_>) -> bool
     ensures { result ≡ (
         bytes_eq five.now.second.now (codes "after") && bytes_eq five.now.fourth.now (codes "keep")
-    ) }
+        ) }
 {
     is_word(five.second, b"after") && is_word(five.fourth, b"keep")
 }

@@ -47,11 +47,10 @@ module _ {P S C : Type 0} (context : P → C) (view : P → S) (step : C → S �
   taken_parsed [] old line_number new same = (parsed_none (step (context old)) (view old) line_number ∙ ap (λ p. Ok (view p)) same, ap context (sym same))
   taken_parsed (line ∷ rest) old line_number new h =
       let here = h.1 in
-      let later = taken_parsed rest h.0 (suc line_number) new h.2 in
-      (
+      let later = taken_parsed rest h.0 (suc line_number) new h.2 in (
         parsed_good (step (context old)) (view old) line_number line rest (view h.0) here.0
-        ∙ ap (λ c. parsed_lines (step c) (view h.0) (suc line_number) rest) (sym here.1)
-        ∙ later.0,
+            ∙ ap (λ c. parsed_lines (step c) (view h.0) (suc line_number) rest) (sym here.1)
+            ∙ later.0,
         later.1 ∙ here.1,
       )
 

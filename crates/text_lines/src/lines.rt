@@ -56,7 +56,7 @@ fn trimmed(line: &[u8]) -> &[u8]
 pub fn next_line(text: &[u8]) -> Option<(&[u8], &[u8])>
     ensures lines { MatchOption result (lines text.now ≡ []) (
         λ next. lines text.now ≡ next.0.now ∷ lines next.1.now
-    ) }
+        ) }
     ensures shorter { IfSome result (λ next. length next.1.now < length text.now) }
 {
     if text.is_empty() {
@@ -82,7 +82,7 @@ pub fn after_blanks(line: &[u8]) -> &[u8]
 pub fn next_word(line: &[u8]) -> Option<(&[u8], &[u8])>
     ensures words { MatchOption result (words line.now ≡ []) (
         λ next. words line.now ≡ next.0.now ∷ words next.1.now
-    ) }
+        ) }
     ensures rest { IfSome result (λ next. next.1.now ≡ after_word line.now) }
     ensures shorter { IfSome result (λ next. length next.1.now < length line.now) }
 {

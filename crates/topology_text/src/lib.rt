@@ -1,7 +1,7 @@
 //! Reads topologies: statements as `fe:0 => a:0 b:0 ;`, each a parent and its children.
 //!
-//! A text means the names of its nodes in order of first appearance and each node's parent, or for its first error:
-//! `topology_of` says which, and [`read`] gives exactly that.
+//! `topology_of` says what a text means: the names of its nodes in order of first appearance and each node's parent, or
+//! its first error. [`read`] gives exactly that.
 #![tactic(auto)]
 
 ghost use Rattle.std.specs.Prelude.{◌≡◌, IfOk, [], ◌∷◌};
@@ -28,8 +28,8 @@ use tokens::{skipped, token_at, token_len};
 fn read_tokens(text: &[u8], parser: &mut Parser) -> Result<u64, TextError>
     ensures ok { IfOk result (
         λ end. with_pieces (parser_view parser.old) (pieces 1 0 text.now)
-            ≡ with_pieces (parser_view parser.new) ((end, End) ∷ [])
-    ) }
+        ≡ with_pieces (parser_view parser.new) ((end, End) ∷ [])
+        ) }
     ensures err { IsErrorOf result (with_pieces (parser_view parser.old) (pieces 1 0 text.now)) }
 {
     let (mut rest, mut line_number) = skipped(text, 1);

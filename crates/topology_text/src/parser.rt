@@ -99,7 +99,7 @@ impl Parser {
     pub fn take(&mut self, line_number: u64, token: &Token<'_>) -> Result<(), TextError>
         ensures ok { OnOk result (
             with_piece (parser_view self.old) line_number (token_view token.now) ≡ Ok (parser_view self.new)
-        ) }
+            ) }
         ensures err { IsErrorOf result (with_piece (parser_view self.old) line_number (token_view token.now)) }
     {
         match token {
@@ -116,7 +116,7 @@ impl Parser {
     fn take_arrow(&mut self, line_number: u64) -> Result<(), TextError>
         ensures ok { OnOk result (
             take_arrow (parser_view self.old) line_number self.old.state ≡ Ok (parser_view self.new)
-        ) }
+            ) }
         ensures err { IfErr result (λ e. take_arrow (parser_view self.old) line_number self.old.state ≡ Err e) }
     {
         match self.state {
@@ -134,7 +134,7 @@ impl Parser {
     fn take_semicolon(&mut self, line_number: u64) -> Result<(), TextError>
         ensures ok { OnOk result (
             take_semicolon (parser_view self.old) line_number self.old.state ≡ Ok (parser_view self.new)
-        ) }
+            ) }
         ensures err { IfErr result (λ e. take_semicolon (parser_view self.old) line_number self.old.state ≡ Err e) }
     {
         match self.state {
@@ -152,7 +152,7 @@ impl Parser {
     fn take_name(&mut self, line_number: u64, number: u32) -> Result<(), TextError>
         ensures ok { OnOk result (
             take_name (parser_view self.old) line_number self.old.state number ≡ Ok (parser_view self.new)
-        ) }
+            ) }
         ensures err { IfErr result (λ e. take_name (parser_view self.old) line_number self.old.state number ≡ Err e) }
     {
         match self.state {
@@ -181,7 +181,7 @@ impl Parser {
     fn add_child(&mut self, line_number: u64, parent: u32, number: u32) -> Result<(), TextError>
         ensures ok { OnOk result (
             add_child (parser_view self.old) line_number parent number ≡ Ok (parser_view self.new)
-        ) }
+            ) }
         ensures err { IfErr result (λ e. add_child (parser_view self.old) line_number parent number ≡ Err e) }
     {
         if is_child(&self.nodes, number) {
@@ -196,7 +196,7 @@ impl Parser {
     fn take_end(&self, line_number: u64) -> Result<(), TextError>
         ensures ok { OnOk result (
             take_end (parser_view self.now) line_number self.now.state ≡ Ok (parser_view self.now)
-        ) }
+            ) }
         ensures outside { OnOk result ((parser_view self.now).state ≡ Outside) }
         ensures err { IfErr result (λ e. take_end (parser_view self.now) line_number self.now.state ≡ Err e) }
     {
@@ -213,11 +213,11 @@ impl Parser {
         requires { ForOk (take_end (parser_view self) line_number self.state) ParserInvariant }
         ensures ok { IfOk result (
             λ t. nodes_of (and_then (take_end (parser_view self) line_number self.state) whole) ≡ Ok t
-        ) }
+            ) }
         ensures topology { IfOk result (λ t. IsTopology t) }
         ensures err { IsErrorOf result (
             nodes_of (and_then (take_end (parser_view self) line_number self.state) whole)
-        ) }
+            ) }
     {
         self.take_end(line_number)?;
         let parents = parents_of(*self.nodes.allocator(), &self.nodes)?;

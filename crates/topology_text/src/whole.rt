@@ -38,7 +38,7 @@ fn next_root(parents: &[Option<u32>], from: u32) -> Option<u32>
     requires { length parents.now < 2 ^ 31 }
     ensures root { MatchOption result (roots_from from (drop from parents.now) ≡ []) (
         λ n. roots_from from (drop from parents.now) ≡ n ∷ roots_from (n + 1) (drop (n + 1) parents.now)
-    ) }
+        ) }
     ensures within { IfSome result (λ n. n < length parents.now) }
 {
     for node in from..parents.len() as u32 {

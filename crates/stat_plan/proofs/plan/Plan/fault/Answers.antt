@@ -1,4 +1,4 @@
-use Rattle.std.proofs.Common.{◌≡◌, ◌==◌, sym, ap, ◌∙◌, eq-eqb, get_or, arith}
+use Rattle.std.proofs.Common.{◌==◌, sym, ap, ◌∙◌, eq-eqb, get_or, arith}
 use Rattle.std.specs.Prelude.{find}
 use Rattle.std.proofs.lemmas.List.{drop_all}
 use Rattle.stat_plan.specs.Plans.{Plan, fault}
