@@ -18,7 +18,7 @@ use Rattle.sample_text.specs.Steps.{add_at, with_line}
 use Rattle.sample_text.specs.Whole.{nothing_parsed, lacks_rank, whole, samples_of_text}
 use Rattle.sample_text.proofs.LineViews.{AddsRanks, Changes, changes, test_inv}
 use Rattle.text_lines.proofs.Errors.{then_inv}
-use Rattle.sample_text.proofs.Sets.{there_before, length-add_at, length-nones, nones_none, or_first, or_second}
+use Rattle.sample_text.proofs.Sets.{there_before, length-add_at, length-empty_sets, empty_sets_empty, or_first, or_second}
 
 -- a set that gets more ranks has those it had, and those that it gets
 there_after : (sets : List Ranks) (n m : ℕ) (ranks : Ranks) (r : ℕ) → Has r (get_or sets m none) → Has r (get_or (add_at sets n ranks) m none)
@@ -192,10 +192,10 @@ module _ (t : Nodes) (is : IsTopology t) where
       let a = then_inv (parsed_lines (with_line t) (nothing_parsed t) 1 (lines text)) (whole t) u h in
       let b = test_inv (not (lacks_rank t.parents 0 a.0.placed)) _ (Ok a.0) u a.2 in
       let same : a.0 ≡ u = (let h = b.1 in cc) in
-      let w = written (lines text) (nothing_parsed t) a.0 1 (length-nones (length t.parents)) a.1 in
+      let w = written (lines text) (nothing_parsed t) a.0 1 (length-empty_sets (length t.parents)) a.1 in
       subst (IsWritten t text) same (record {
         placed = λ n r lt. (
-          λ there. elim (w.placed_to n r lt there) [ (inl old) ↦ absurd (true≢false (sym old ∙ ap (λ x. has x r) (nones_none (length t.parents) n) ∙ has-none r)) | (inr p) ↦ p ],
+          λ there. elim (w.placed_to n r lt there) [ (inl old) ↦ absurd (true≢false (sym old ∙ ap (λ x. has x r) (empty_sets_empty (length t.parents) n) ∙ has-none r)) | (inr p) ↦ p ],
           λ p. w.placed_from n r lt (inr p),
         );
         samples = (let xs = w.samples in subst (AreSamplesOf (filter stack (lines text))) xs.1 xs.2);

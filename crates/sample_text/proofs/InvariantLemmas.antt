@@ -27,7 +27,7 @@ use Rattle.sample_text.specs.Whole.{nothing_parsed, lacks_rank}
 use Rattle.text_lines.specs.Parsing.{and_then, some_or, parsed_lines}
 use Rattle.stat_plan.specs.Daemons.{if_daemon, daemon_named}
 use Rattle.sample_text.specs.Invariants.{ParserInvariant}
-use Rattle.sample_text.proofs.Sets.{length-add_at, other_set, all_ranks_grow, once_more, length-nones, nones_none}
+use Rattle.sample_text.proofs.Sets.{length-add_at, other_set, all_ranks_grow, once_more, length-empty_sets, empty_sets_empty}
 use Rattle.sample_text.proofs.SomeRank.{not_none}
 
 -- what holds of a result where it is not an error
@@ -163,9 +163,9 @@ lines_holds t s number (line ∷ rest) h =
 -- it holds before the first line
 pub nothing_holds : (t : Nodes) → ParserInvariant t (nothing_parsed t)
 nothing_holds t = record {
-  paired = length-nones (length t.parents);
-  nowhere_else = λ n lt other. nones_none (length t.parents) n;
-  once = λ m n r at_m at_n. absurd (true≢false (sym at_m ∙ ap (λ s. has s r) (nones_none (length t.parents) m) ∙ has-none r));
+  paired = length-empty_sets (length t.parents);
+  nowhere_else = λ n lt other. empty_sets_empty (length t.parents) n;
+  once = λ m n r at_m at_n. absurd (true≢false (sym at_m ∙ ap (λ s. has s r) (empty_sets_empty (length t.parents) m) ∙ has-none r));
   lines = tt;
   within_limit = omega arith;
 }

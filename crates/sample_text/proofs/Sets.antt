@@ -6,7 +6,7 @@ use Rattle.rank_set.specs.Ranks.{Ranks, none, has, Has, IsSubset, union, those, 
 use Rattle.stat_plan.specs.Invariants.{ArePlacedOnce}
 use Rattle.stat_plan.specs.Samples.{ranks_with, all_ranks}
 use Rattle.sample_text.specs.Steps.{are_disjoint, add_at}
-use Rattle.sample_text.specs.Whole.{nones}
+use Rattle.sample_text.specs.Whole.{empty_sets}
 
 or_false : (a : Bool) → a ≡ (a || false)
 or_false true = refl
@@ -133,16 +133,16 @@ once_more sets n ranks once disjoint m k r at_m at_k = by (there_before sets n m
     by (inr a) (inr b) = a.0 ∙ sym b.0
 
 -- so many sets without a rank
-pub one_more : (n : ℕ) → nones n ++ none ∷ [] ≡ nones (n + 1)
-one_more n = let e : suc n ≡ n + 1 = omega arith in ap nones e
+pub one_more : (n : ℕ) → empty_sets n ++ none ∷ [] ≡ empty_sets (n + 1)
+one_more n = let e : suc n ≡ n + 1 = omega arith in ap empty_sets e
 
 length-append_one : (sets : List Ranks) (set : Ranks) → length (sets ++ set ∷ []) ≡ suc (length sets)
 length-append_one [] set = refl
 length-append_one (x ∷ sets) set = ap suc (length-append_one sets set)
 
-pub length-nones : (n : ℕ) → length (nones n) ≡ n
-length-nones zero = refl
-length-nones (suc n) = length-append_one (nones n) none ∙ ap suc (length-nones n)
+pub length-empty_sets : (n : ℕ) → length (empty_sets n) ≡ n
+length-empty_sets zero = refl
+length-empty_sets (suc n) = length-append_one (empty_sets n) none ∙ ap suc (length-empty_sets n)
 
 append_none : (sets : List Ranks) (m : ℕ) → ((k : ℕ) → get_or sets k none ≡ none) → get_or (sets ++ none ∷ []) m none ≡ none
 append_none [] zero all = refl
@@ -151,13 +151,13 @@ append_none (set ∷ sets) zero all = all zero
 append_none (set ∷ sets) (suc m) all = append_none sets m (λ k. all (suc k))
 
 -- they have no rank
-pub nones_none : (n m : ℕ) → get_or (nones n) m none ≡ none
-nones_none zero m = refl
-nones_none (suc n) m = append_none (nones n) m (nones_none n)
+pub empty_sets_empty : (n m : ℕ) → get_or (empty_sets n) m none ≡ none
+empty_sets_empty zero m = refl
+empty_sets_empty (suc n) m = append_none (empty_sets n) m (empty_sets_empty n)
 
 any_none : (sets : List Ranks) (r : ℕ) → ((k : ℕ) → get_or sets k none ≡ none) → in_any r sets ≡ false
 any_none [] r all = refl
 any_none (set ∷ sets) r all = ap (λ b. b || in_any r sets) (ap (λ s. has s r) (all zero) ∙ has-none r) ∙ any_none sets r (λ k. all (suc k))
 
-pub all_ranks-nones : (n : ℕ) → none ≡ all_ranks (nones n)
-all_ranks-nones n = same_ranks none (all_ranks (nones n)) (λ r. has-none r ∙ sym (any_none (nones n) r (nones_none n)) ∙ sym (has-all_ranks (nones n) r))
+pub all_ranks-empty_sets : (n : ℕ) → none ≡ all_ranks (empty_sets n)
+all_ranks-empty_sets n = same_ranks none (all_ranks (empty_sets n)) (λ r. has-none r ∙ sym (any_none (empty_sets n) r (empty_sets_empty n)) ∙ sym (has-all_ranks (empty_sets n) r))

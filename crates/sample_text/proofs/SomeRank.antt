@@ -15,40 +15,40 @@ use Rattle.sample_text.specs.Steps.{ranks_or_error, ranks_on}
 use Rattle.sample_text.proofs.Sets.{or_first, or_second}
 
 -- a range doesn't go backward
-abbrev Rises : Result (ℕ × ℕ) RanksError → Type 0
-Rises (Err e) = Unit {0}
-Rises (Ok range) = range.0 ≤ range.1
+abbrev Increasing : Result (ℕ × ℕ) RanksError → Type 0
+Increasing (Err e) = Unit {0}
+Increasing (Ok range) = range.0 ≤ range.1
 
-ends_rise : (place : ℕ) (text : List ℕ) (range : ℕ × ℕ) → range.0 ≤ range.1 → Rises (ends_at place text range)
+ends_rise : (place : ℕ) (text : List ℕ) (range : ℕ × ℕ) → range.0 ≤ range.1 → Increasing (ends_at place text range)
 ends_rise place [] range le = le
 ends_rise place (b ∷ rest) range le = tt
 
 not_below : (a b : ℕ) → nat_lt a b ≡ false → b ≤ a
 not_below a b e = grind (arith, nat_tests)
 
-second_rises : (first place : ℕ) (text : List ℕ) (r : Result ℕ RanksError) → Rises (second_at first place text r)
-second_rises first place text (Err e) = tt
-second_rises first place text (Ok second) = by (nat_lt second first) refl
+second_increasing : (first place : ℕ) (text : List ℕ) (r : Result ℕ RanksError) → Increasing (second_at first place text r)
+second_increasing first place text (Err e) = tt
+second_increasing first place text (Ok second) = by (nat_lt second first) refl
   where
-    by : (t : Bool) → nat_lt second first ≡ t → Rises (cond t (Err (Backward place)) (ends_at (place + digits_len text) (drop (digits_len text) text) (first, second)))
+    by : (t : Bool) → nat_lt second first ≡ t → Increasing (cond t (Err (Backward place)) (ends_at (place + digits_len text) (drop (digits_len text) text) (first, second)))
     by true e = tt
     by false e = ends_rise (place + digits_len text) (drop (digits_len text) text) (first, second) (not_below second first e)
 
-after_rises : (first place : ℕ) (text : List ℕ) → Rises (after_first first place text)
-after_rises first place [] = let e : first ≤ first = omega arith in e
-after_rises first place (b ∷ rest) = by (nat_eq b 45)
+after_increasing : (first place : ℕ) (text : List ℕ) → Increasing (after_first first place text)
+after_increasing first place [] = let e : first ≤ first = omega arith in e
+after_increasing first place (b ∷ rest) = by (nat_eq b 45)
   where
-    by : (t : Bool) → Rises (cond t (second_at first (place + 1) rest (number_at (place + 1) rest)) (Err (BadNumber place)))
-    by true = second_rises first (place + 1) rest (number_at (place + 1) rest)
+    by : (t : Bool) → Increasing (cond t (second_at first (place + 1) rest (number_at (place + 1) rest)) (Err (BadNumber place)))
+    by true = second_increasing first (place + 1) rest (number_at (place + 1) rest)
     by false = tt
 
-item_rises : (place : ℕ) (text : List ℕ) → Rises (item_at place text)
+item_increasing : (place : ℕ) (text : List ℕ) → Increasing (item_at place text)
 unfolding item_at
-item_rises place text = by (number_at place text)
+item_increasing place text = by (number_at place text)
   where
-    by : (r : Result ℕ RanksError) → Rises (item_from place text r)
+    by : (r : Result ℕ RanksError) → Increasing (item_from place text r)
     by (Err e) = tt
-    by (Ok first) = after_rises first (place + digits_len text) (drop (digits_len text) text)
+    by (Ok first) = after_increasing first (place + digits_len text) (drop (digits_len text) text)
 
 -- a rank that is read
 abbrev Keeps : ℕ → Result Ranks RanksError → Type 0
@@ -77,9 +77,9 @@ starts : (a b : ℕ) → a ≤ b → (not (nat_lt a a) && not (nat_lt b a)) ≡ 
 starts a b le = grind (arith, nat_tests)
 
 item_some : (place : ℕ) (ranks : Ranks) (item : List ℕ) (rest : List (List ℕ)) → HasSome (ranks_at place ranks (item ∷ rest))
-item_some place ranks item rest = by (item_at place item) refl (item_rises place item)
+item_some place ranks item rest = by (item_at place item) refl (item_increasing place item)
   where
-    by : (r : Result (ℕ × ℕ) RanksError) → item_at place item ≡ r → Rises r → HasSome (ranks_at place ranks (item ∷ rest))
+    by : (r : Result (ℕ × ℕ) RanksError) → item_at place item ≡ r → Increasing r → HasSome (ranks_at place ranks (item ∷ rest))
     by (Err e) is le = subst HasSome (sym (item_bad_ranks place ranks item rest e is)) tt
     by (Ok range) is le = subst HasSome (sym (item_good_ranks place ranks item rest range is))
         (some_of range.0 _ (keeps range.0 rest (place + length item + 1) (union ranks (ranks_between range.0 range.1))

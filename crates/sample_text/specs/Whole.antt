@@ -12,13 +12,13 @@ use Rattle.text_lines.specs.Parsing.{and_then, parsed_lines}
 use Rattle.sample_text.specs.Steps.{if_holds, with_line}
 
 -- so many sets without a rank
-abbrev pub nones : ℕ → List Ranks
-nones zero = []
-nones (suc n) = nones n ++ none ∷ []
+abbrev pub empty_sets : ℕ → List Ranks
+empty_sets zero = []
+empty_sets (suc n) = empty_sets n ++ none ∷ []
 
 -- before the first line
 abbrev pub nothing_parsed : Nodes → Sampled
-nothing_parsed t = sampled (nones (length t.parents)) []
+nothing_parsed t = sampled (empty_sets (length t.parents)) []
 
 -- whether a daemon has no rank, where these are the ranks of the nodes from n on
 abbrev pub lacks_rank : List (Option ℕ) → ℕ → List Ranks → Bool

@@ -4,7 +4,7 @@ ghost use Rattle.std.specs.Prelude.{◌≡◌, ◌≢◌, ◌<◌, length, IfOk,
 ghost use Rattle.rank_set.specs.Ranks.{none};
 ghost use Rattle.text_lines.specs.Parsing.{IsValueOf, IsErrorOf};
 ghost use Rattle.sample_text.specs.Steps.{daemon_on, ranks_on, time_on, are_disjoint, add_at};
-ghost use Rattle.sample_text.specs.Whole.{nones, lacks_rank};
+ghost use Rattle.sample_text.specs.Whole.{empty_sets, lacks_rank};
 
 use crate::paths::Paths;
 use crate::words::{Line, read_line};
@@ -24,9 +24,9 @@ pub struct Parser<'t> {
     lines: Vec<StackLine>,
 }
 
-// So many sets without a rank.
-fn nones(alloc: Global, count: u32) -> Result<Vec<RankSet>, AllocError>
-    ensures { IfOk result (λ sets. sets.items ≡ nones count) }
+// `count` empty sets.
+fn empty_sets(alloc: Global, count: u32) -> Result<Vec<RankSet>, AllocError>
+    ensures { IfOk result (λ sets. sets.items ≡ empty_sets count) }
 {
     let mut sets = Vec::new(alloc);
     for _ in 0..count {
@@ -123,7 +123,7 @@ impl<'t> Parser<'t> {
     {
         Ok(Parser {
             topology,
-            placed: nones(alloc, topology.nodes())?,
+            placed: empty_sets(alloc, topology.nodes())?,
             all: RankSet::new(alloc),
             paths: Paths::new(alloc),
             lines: Vec::new(alloc),

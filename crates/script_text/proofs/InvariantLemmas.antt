@@ -27,8 +27,8 @@ use Rattle.script_text.specs.Numbers.{in_range, number_from}
 use Rattle.script_text.specs.Streams.{new_number, stream_number, mode_of, daemon_of, with_named, all_daemons, daemons_of, stream_of, with_stream}
 use Rattle.script_text.specs.Losses.{as_lost, lost_node, fault_of, with_fault}
 use Rattle.script_text.specs.Whole.{with_stream_line, with_lose_line, with_words, with_line}
-use Rattle.script_text.proofs.NodeLists.{number_all, number_some, number_rises, passed_rise, passed_all, passed_some}
-use Rattle.script_text.proofs.Placing.{all_placed, length_placed, placed_rises}
+use Rattle.script_text.proofs.NodeLists.{number_all, number_some, number_increasing, passed_rise, passed_all, passed_some}
+use Rattle.script_text.proofs.Placing.{all_placed, length_placed, placed_increasing}
 use Rattle.script_text.proofs.SomeDaemon.{some_daemon}
 
 -- a step after another
@@ -86,7 +86,7 @@ module _ (t : Nodes) (is : IsTopology t) (line : ℕ) where
   daemon_holds name = daemon_by name (daemon_named name t) refl
 
   one_daemon : (n : ℕ) (daemons : List ℕ) → IsDaemon t n → AllByRecursion (IsDaemon t) daemons → IsStrictlyIncreasing daemons → AreDaemons t (with_number n daemons)
-  one_daemon n daemons here all rise = record { all = number_all n (IsDaemon t) daemons here all; rise = number_rises n daemons rise; some = number_some n daemons }
+  one_daemon n daemons here all rise = record { all = number_all n (IsDaemon t) daemons here all; rise = number_increasing n daemons rise; some = number_some n daemons }
 
   named_holds : (names : List (List ℕ)) (daemons : List ℕ) → AreDaemons t daemons → IfOk (with_named t line daemons names) (AreDaemons t)
   unfolding with_named
@@ -189,7 +189,7 @@ module _ (t : Nodes) (is : IsTopology t) where
     stream_more : (x : Stream) → IsNewStream t c.streams x → ParserInvariant t (scripted (with_stream x c.streams) c.faults)
     stream_more x new = record {
       streams = all_placed (λ (y : Stream). y.number) x IsStream c.streams new.is h.streams;
-      streams_rise = placed_rises (λ (y : Stream). y.number) x c.streams new.new h.streams_rise;
+      streams_rise = placed_increasing (λ (y : Stream). y.number) x c.streams new.new h.streams_rise;
       fault_ranges = h.fault_ranges;
       faults_limit = h.faults_limit;
       faults_rise = h.faults_rise;
@@ -203,7 +203,7 @@ module _ (t : Nodes) (is : IsTopology t) where
       streams_rise = h.streams_rise;
       fault_ranges = all_placed (λ (g : Fault). g.node) f IsFault c.faults new.ranges h.fault_ranges;
       faults_limit = (let long = length_placed (λ (g : Fault). g.node) f c.faults in let limit = new.limit in omega arith);
-      faults_rise = placed_rises (λ (g : Fault). g.node) f c.faults new.new h.faults_rise;
+      faults_rise = placed_increasing (λ (g : Fault). g.node) f c.faults new.new h.faults_rise;
       daemons = h.daemons;
       faults = all_placed (λ (g : Fault). g.node) f (λ g. (g.node < length t.parents) × (g.node ≢ root_of t.parents)) c.faults (new.node, new.other) h.faults;
     }

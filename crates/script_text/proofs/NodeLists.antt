@@ -42,17 +42,17 @@ module _ (x : ℕ) where
       by false false (inl e) further = inr (inl e)
       by false false (inr h) further = elim (further h) [ (inl e) ↦ inl e | (inr i) ↦ inr (inr i) ]
 
-  pub number_rises : (ys : List ℕ) → IsStrictlyIncreasing ys → IsStrictlyIncreasing (with_number x ys)
-  number_rises [] rises = (λ n h. absurd h, tt)
-  number_rises (y ∷ ys) rises = by (nat_lt x y) refl (nat_eq x y) refl (number_rises ys rises.1)
+  pub number_increasing : (ys : List ℕ) → IsStrictlyIncreasing ys → IsStrictlyIncreasing (with_number x ys)
+  number_increasing [] increasing = (λ n h. absurd h, tt)
+  number_increasing (y ∷ ys) increasing = by (nat_lt x y) refl (nat_eq x y) refl (number_increasing ys increasing.1)
     where
       by : (a : Bool) → nat_lt x y ≡ a → (b : Bool) → nat_eq x y ≡ b → IsStrictlyIncreasing (with_number x ys) → IsStrictlyIncreasing (cond a (x ∷ y ∷ ys) (cond b (y ∷ ys) (y ∷ with_number x ys)))
-      by true e b f h = (λ n i. elim i [ (inl same) ↦ (let lt = ltb-true x y e in omega arith) | (inr later) ↦ (let lt = ltb-true x y e in let more = rises.0 n later in omega arith) ], rises)
-      by false e true f h = rises
+      by true e b f h = (λ n i. elim i [ (inl same) ↦ (let lt = ltb-true x y e in omega arith) | (inr later) ↦ (let lt = ltb-true x y e in let more = increasing.0 n later in omega arith) ], increasing)
+      by false e true f h = increasing
       by false e false f h = (
         λ n i. elim (in_number ys n i) [
           | (inl same) ↦ (let le = ltb-false x y e in let other = eqb-false x y f in omega arith)
-          | (inr later) ↦ rises.0 n later
+          | (inr later) ↦ increasing.0 n later
         ],
         h,
       )
@@ -78,11 +78,11 @@ in_before [] x y h = absurd h
 in_before (z ∷ xs) x y (inl e) = inl e
 in_before (z ∷ xs) x y (inr h) = inr (in_before xs x y h)
 
-last_rises : (xs : List ℕ) (x : ℕ) → IsStrictlyIncreasing xs → ((y : ℕ) → In y xs → y < x) → IsStrictlyIncreasing (xs ++ x ∷ [])
-last_rises [] x rises below = (λ n h. absurd h, tt)
-last_rises (z ∷ xs) x rises below = (
-  λ n h. elim (in_last xs x n h) [ (inl i) ↦ rises.0 n i | (inr e) ↦ (let lt = below z (inl refl) in omega arith) ],
-  last_rises xs x rises.1 (λ y h. below y (inr h)),
+last_increasing : (xs : List ℕ) (x : ℕ) → IsStrictlyIncreasing xs → ((y : ℕ) → In y xs → y < x) → IsStrictlyIncreasing (xs ++ x ∷ [])
+last_increasing [] x increasing below = (λ n h. absurd h, tt)
+last_increasing (z ∷ xs) x increasing below = (
+  λ n h. elim (in_last xs x n h) [ (inl i) ↦ increasing.0 n i | (inr e) ↦ (let lt = below z (inl refl) in omega arith) ],
+  last_increasing xs x increasing.1 (λ y h. below y (inr h)),
 )
 
 -- the numbers up to n that pass a test
@@ -114,7 +114,7 @@ module _ (p : ℕ → Bool) where
   passed_rise (suc n) = by (p n) refl (passed_rise n)
     where
       by : (b : Bool) → p n ≡ b → IsStrictlyIncreasing (filter p (up_to n)) → IsStrictlyIncreasing (filter p (up_to (suc n)))
-      by true e h = subst IsStrictlyIncreasing (sym (one_up n e)) (last_rises (filter p (up_to n)) n h (λ y i. (passed n y i).0))
+      by true e h = subst IsStrictlyIncreasing (sym (one_up n e)) (last_increasing (filter p (up_to n)) n h (λ y i. (passed n y i).0))
       by false e h = subst IsStrictlyIncreasing (sym (none_up n e)) h
 
   pub passed_all : (P : ℕ → Type 0) (n : ℕ) → ((y : ℕ) → y < n → p y ≡ true → P y) → AllByRecursion P (filter p (up_to n))

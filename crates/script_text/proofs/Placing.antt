@@ -52,19 +52,19 @@ module _ {X : Type 0} (number : X → ℕ) (x : X) where
   or_false false b e = (refl, e)
 
   -- it ascends again, where no item has this number yet
-  pub placed_rises : (xs : List X) → list_any (λ y. nat_eq (number y) (number x)) xs ≡ false → IsStrictlyIncreasing (map number xs) → IsStrictlyIncreasing (map number (with_item number x xs))
-  placed_rises [] new rises = (λ n h. absurd h, tt)
-  placed_rises (y ∷ ys) new rises = by (nat_lt (number x) (number y)) refl (placed_rises ys others.1 rises.1)
+  pub placed_increasing : (xs : List X) → list_any (λ y. nat_eq (number y) (number x)) xs ≡ false → IsStrictlyIncreasing (map number xs) → IsStrictlyIncreasing (map number (with_item number x xs))
+  placed_increasing [] new increasing = (λ n h. absurd h, tt)
+  placed_increasing (y ∷ ys) new increasing = by (nat_lt (number x) (number y)) refl (placed_increasing ys others.1 increasing.1)
     where
       others : (nat_eq (number y) (number x) ≡ false) × (list_any (λ z. nat_eq (number z) (number x)) ys ≡ false)
       others = or_false _ _ new
 
       by : (b : Bool) → nat_lt (number x) (number y) ≡ b → IsStrictlyIncreasing (map number (with_item number x ys)) → IsStrictlyIncreasing (map number (cond b (x ∷ y ∷ ys) (y ∷ with_item number x ys)))
-      by true e h = (λ n i. elim i [ (inl same) ↦ (let lt = ltb-true (number x) (number y) e in omega arith) | (inr later) ↦ (let lt = ltb-true (number x) (number y) e in let more = rises.0 n later in omega arith) ], rises)
+      by true e h = (λ n i. elim i [ (inl same) ↦ (let lt = ltb-true (number x) (number y) e in omega arith) | (inr later) ↦ (let lt = ltb-true (number x) (number y) e in let more = increasing.0 n later in omega arith) ], increasing)
       by false e h = (
         λ n i. elim (in_placed ys n i) [
           | (inl same) ↦ (let le = ltb-false (number x) (number y) e in let other = eqb-false (number y) (number x) others.0 in omega arith)
-          | (inr later) ↦ rises.0 n later
+          | (inr later) ↦ increasing.0 n later
         ],
         h,
       )
