@@ -193,7 +193,7 @@ others_names : (names : List (List ℕ)) (ps : List Piece) → piece_names (map 
 others_names [] ps = refl
 others_names (name ∷ names) ps = ap (λ t. name ∷ t) (others_names names ps)
 
-statements_names : (statements : List Statement) → piece_names (written statements) ≡ names_in statements
+pub statements_names : (statements : List Statement) → piece_names (written statements) ≡ names_in statements
 statements_names [] = refl
 statements_names (s ∷ statements) =
     ap (λ t. s.parent ∷ s.child ∷ t) (others_names s.others (Semicolon ∷ written statements) ∙ ap (λ t. s.others ++ t) (statements_names statements))
@@ -214,7 +214,7 @@ module _ (parent child : List ℕ) where
       by (inr k) more = inr (more k)
   others_from begun (name ∷ names) ps (inr h) = inr (others_from begun names ps (inr h))
 
-  links_to : (statements : List Statement) → Links None (written statements) parent child → IsLink statements parent child
+  pub links_to : (statements : List Statement) → Links None (written statements) parent child → IsLink statements parent child
   links_to [] h = absurd h
   links_to (s ∷ statements) (inl h) = (s, inl refl, h.0, inl h.1)
   links_to (s ∷ statements) (inr h) = by (others_to s.parent s.others (written statements) h) (links_to statements)
@@ -227,7 +227,7 @@ module _ (parent child : List ℕ) where
   first_link s statements e (inl here) = inl (e, here)
   first_link s statements e (inr h) = inr (others_from s.parent s.others (written statements) (inl (e, h)))
 
-  links_from : (statements : List Statement) → IsLink statements parent child → Links None (written statements) parent child
+  pub links_from : (statements : List Statement) → IsLink statements parent child → Links None (written statements) parent child
   links_from [] h = absurd h.1
   links_from (s ∷ statements) h = by h.1 (links_from statements)
     where

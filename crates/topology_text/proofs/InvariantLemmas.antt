@@ -47,7 +47,7 @@ nodes_of : (s : Parsed) → ParserInvariant s → HasNodes s
 nodes_of s h = record { paired = h.paired; named = h.named; parents = h.parents }
 
 -- a list of which one element is changed
-length-at_node : (n : ℕ) (xs : List Node) (f : Node → Node) → length (at_node xs n f) ≡ length xs
+pub length-at_node : (n : ℕ) (xs : List Node) (f : Node → Node) → length (at_node xs n f) ≡ length xs
 length-at_node n [] f = refl
 length-at_node zero (x ∷ xs) f = refl
 length-at_node (suc n) (x ∷ xs) f = ap suc (length-at_node n xs f)

@@ -1,4 +1,5 @@
-pub mod Bytes
+pub mod Acceptance
+mod Bytes
 pub mod Numbers
 pub mod Nodes
 pub mod NameBytes
@@ -9,3 +10,4 @@ pub mod WholeFile
 pub mod InvariantLemmas
 pub mod Grammar
 pub mod Links
+pub mod Repeats

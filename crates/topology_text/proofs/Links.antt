@@ -47,7 +47,7 @@ current names (AfterArrow p) = Some (name_of names p)
 current names (AfterChild p) = Some (name_of names p)
 
 -- one name more, and then the others
-with_one : (known : List (List ℕ)) (name : List ℕ) (names : List (List ℕ)) → with_names known (name ∷ names) ≡ with_names (with_names known (name ∷ [])) names
+pub with_one : (known : List (List ℕ)) (name : List ℕ) (names : List (List ℕ)) → with_names known (name ∷ names) ≡ with_names (with_names known (name ∷ [])) names
 unfolding with_names
 with_one known name names = by (number_of name known)
   where
@@ -63,7 +63,7 @@ new_name : (known : List (List ℕ)) (name : List ℕ) → number_of name known 
 unfolding with_names
 new_name known name e = ap (λ o. elim o as (λ _. List (List ℕ)) [ (Some n) ↦ with_names known [] | None ↦ with_names (known ++ name ∷ []) [] ]) e
 
-no_more : (known : List (List ℕ)) → with_names known [] ≡ known
+pub no_more : (known : List (List ℕ)) → with_names known [] ≡ known
 unfolding with_names
 no_more known = refl
 
@@ -78,22 +78,34 @@ no_parent_more [] line (suc c) = refl
 no_parent_more (x ∷ nodes) line zero = refl
 no_parent_more (x ∷ nodes) line (suc c) = no_parent_more nodes line c
 
+still_parent : (nodes : List Node) (line k : ℕ) → is_parent (slice_get nodes k) ≡ true → is_parent (slice_get (nodes ++ record { line = line; parent = None; is_parent = false } ∷ []) k) ≡ true
+still_parent [] line k e = cc
+still_parent (x ∷ nodes) line zero e = e
+still_parent (x ∷ nodes) line (suc k) e = still_parent nodes line k e
+
+still_child : (nodes : List Node) (line k : ℕ) → is_child (slice_get nodes k) ≡ true → is_child (slice_get (nodes ++ record { line = line; parent = None; is_parent = false } ∷ []) k) ≡ true
+still_child [] line k e = cc
+still_child (x ∷ nodes) line zero e = e
+still_child (x ∷ nodes) line (suc k) e = still_child nodes line k e
+
 -- a name that appears
-record Appears (s : Parsed) (name : List ℕ) (t : Parsed) : Type 0 where
-  number : ℕ
-  is : number_of name t.names ≡ Some number
-  names : t.names ≡ with_names s.names (name ∷ [])
-  stay : (k : ℕ) → k < length s.names → name_of t.names k ≡ name_of s.names k
-  longer : length s.names ≤ length t.names
-  parents : (c : ℕ) → parent_of (parents_of t.nodes) c ≡ parent_of (parents_of s.nodes) c
-  state : t.state ≡ s.state
-  paired : length s.names ≡ length s.nodes → length t.names ≡ length t.nodes
+pub record Appears (s : Parsed) (name : List ℕ) (t : Parsed) : Type 0 where
+  pub number : ℕ
+  pub is : number_of name t.names ≡ Some number
+  pub names : t.names ≡ with_names s.names (name ∷ [])
+  pub stay : (k : ℕ) → k < length s.names → name_of t.names k ≡ name_of s.names k
+  pub longer : length s.names ≤ length t.names
+  pub parents : (c : ℕ) → parent_of (parents_of t.nodes) c ≡ parent_of (parents_of s.nodes) c
+  pub begun : (k : ℕ) → is_parent (slice_get s.nodes k) ≡ true → is_parent (slice_get t.nodes k) ≡ true
+  pub held : (k : ℕ) → is_child (slice_get s.nodes k) ≡ true → is_child (slice_get t.nodes k) ≡ true
+  pub state : t.state ≡ s.state
+  pub paired : length s.names ≡ length s.nodes → length t.names ≡ length t.nodes
 
 module _ (s t : Parsed) (line : ℕ) (name : List ℕ) where
   either : (n m : ℕ) → (n < m) ⊎ (m ≤ n)
   either n m = search rules
 
-  known_appears : (n : ℕ) → number_of name s.names ≡ Some n → Appears s name s
+  pub known_appears : (n : ℕ) → number_of name s.names ≡ Some n → Appears s name s
   known_appears n e = record {
     number = n;
     is = e;
@@ -101,11 +113,13 @@ module _ (s t : Parsed) (line : ℕ) (name : List ℕ) where
     stay = λ k lt. refl;
     longer = omega arith;
     parents = λ c. refl;
+    begun = λ k e. e;
+    held = λ k e. e;
     state = refl;
     paired = λ h. h;
   }
 
-  new_appears : number_of name s.names ≡ None → Appears s name (record s { names = s.names ++ name ∷ []; nodes = s.nodes ++ record { line = line; parent = None; is_parent = false } ∷ [] })
+  pub new_appears : number_of name s.names ≡ None → Appears s name (record s { names = s.names ++ name ∷ []; nodes = s.nodes ++ record { line = line; parent = None; is_parent = false } ∷ [] })
   new_appears e = record {
     number = length s.names;
     is = number_of_last name s.names e;
@@ -113,6 +127,8 @@ module _ (s t : Parsed) (line : ℕ) (name : List ℕ) where
     stay = λ k lt. name_before s.names name k lt;
     longer = (let len = length-append s.names (name ∷ []) in omega arith);
     parents = λ c. no_parent_more s.nodes line c;
+    begun = λ k e. still_parent s.nodes line k e;
+    held = λ k e. still_child s.nodes line k e;
     state = refl;
     paired = λ h. (let a = length-append s.names (name ∷ []) in let b = length-append s.nodes (record { line = line; parent = None; is_parent = false } ∷ []) in omega arith);
   }
@@ -121,7 +137,7 @@ module _ (s t : Parsed) (line : ℕ) (name : List ℕ) where
   by_room e (inl few) h = subst (Appears s name) (ok_inj _ t (sym (appear_new s line name e few) ∙ h)) (new_appears e)
   by_room e (inr many) h = let clash = sym (appear_over s line name e many) ∙ h in cc
 
-  appears : (o : Option ℕ) → number_of name s.names ≡ o → appear s line name ≡ Ok t → Appears s name t
+  pub appears : (o : Option ℕ) → number_of name s.names ≡ o → appear s line name ≡ Ok t → Appears s name t
   appears (Some n) e h = subst (Appears s name) (ok_inj s t (sym (appear_known s line n name e) ∙ h)) (known_appears n e)
   appears None e h = by_room e (either (length s.names) 512) h
 
@@ -159,7 +175,7 @@ same_or_other (suc c) zero = inr (λ e. absurd (omega arith))
 same_or_other (suc c) (suc k) = elim (same_or_other c k) [ (inl e) ↦ inl (ap suc e) | (inr n) ↦ inr (λ e. n (omega arith)) ]
 
 module _ (u : Parsed) (distinct : IsDistinct bytes_eq u.names) where
-  same_number : (i j : ℕ) → i < length u.names → j < length u.names → name_of u.names i ≡ name_of u.names j → i ≡ j
+  pub same_number : (i j : ℕ) → i < length u.names → j < length u.names → name_of u.names i ≡ name_of u.names j → i ≡ j
   same_number i j a b e =
       let h = sym (number_of_name u.names distinct (name_of u.names j) i a e) ∙ number_of_name u.names distinct (name_of u.names j) j b refl in
       cc

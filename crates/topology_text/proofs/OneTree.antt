@@ -28,14 +28,14 @@ one_root (Some p ∷ ps) m zero e lt h = cc
 one_root (Some p ∷ ps) m (suc n) e lt h = ap suc (one_root ps (suc m) n e (omega arith) h)
 
 -- parents below a bound
-parent_below : (count : ℕ) (nodes : List Node) → AllByRecursion (λ x. IsBelow count x.parent) nodes → (n m : ℕ) → parent_of (parents_of nodes) n ≡ Some m → (n < length nodes) × (m < count)
+pub parent_below : (count : ℕ) (nodes : List Node) → AllByRecursion (λ x. IsBelow count x.parent) nodes → (n m : ℕ) → parent_of (parents_of nodes) n ≡ Some m → (n < length nodes) × (m < count)
 parent_below count [] all n m e = cc
 parent_below count (x ∷ nodes) all zero m e = (omega arith, subst (IsBelow count) e all.0)
 parent_below count (x ∷ nodes) all (suc n) m e = let h = parent_below count nodes all.1 n m e in let lt = h.0 in (omega arith, h.1)
 
 -- ancestors by one link
 module _ (ps : List (Option ℕ)) (fuel n : ℕ) where
-  climb_by : (o : Option ℕ) → parent_of ps n ≡ o → climb ps (suc fuel) n ≡ elim o as (λ _. List ℕ) [ None ↦ [] | (Some p) ↦ p ∷ climb ps fuel p ]
+  pub climb_by : (o : Option ℕ) → parent_of ps n ≡ o → climb ps (suc fuel) n ≡ elim o as (λ _. List ℕ) [ None ↦ [] | (Some p) ↦ p ∷ climb ps fuel p ]
   climb_by o e = ap (λ o. elim o as (λ _. List ℕ) [ None ↦ [] | (Some p) ↦ p ∷ climb ps fuel p ]) e
 
 within_more : (ps : List (Option ℕ)) (links n p : ℕ) → parent_of ps n ≡ Some p → is_within ps (suc links) n ≡ true → is_within ps links p ≡ true

@@ -2,7 +2,9 @@
 use Rattle.std.specs.Prelude.{◌≡◌, ◌↔◌, ◌<◌, ℕ, List, [], ◌∷◌, ◌++◌, length, map, None, Some}
 use Rattle.stat_plan.specs.Names.{name_of, number_of}
 use Rattle.stat_plan.specs.NodeSets.{In}
-use Rattle.stat_plan.specs.Topologies.{Nodes}
+use Rattle.std.specs.List.{IsDistinct}
+use Rattle.std.specs.Str.{bytes_eq}
+use Rattle.stat_plan.specs.Topologies.{Nodes, IsTopology}
 use Rattle.stat_plan.specs.Trees.{parent_of}
 use Rattle.topology_text.specs.Tokens.{Piece, Arrow, Semicolon, Name, End, pieces}
 
@@ -43,3 +45,20 @@ pub record IsWritten (text : List ℕ) (t : Nodes) : Type 0 where
   pub names : t.names ≡ with_names [] (names_in statements)
   pub links : (p c : ℕ) → p < length t.names → c < length t.names →
       (parent_of t.parents c ≡ Some p) ↔ IsLink statements (name_of t.names p) (name_of t.names c)
+
+-- the names that begin statements, in order
+abbrev pub parents_in : List Statement → List (List ℕ)
+parents_in statements = map (λ s. s.parent) statements
+
+-- the names of children in statements, in order
+abbrev pub children_in : List Statement → List (List ℕ)
+children_in [] = []
+children_in (s ∷ statements) = s.child ∷ s.others ++ children_in statements
+
+-- A text is written as statements, of which no two begin with one name, and no name stands twice among all children. What
+-- it says is a job's tree.
+pub record IsAcceptable (text : List ℕ) (t : Nodes) : Type 0 where
+  pub form : IsWritten text t
+  pub one_statement : IsDistinct bytes_eq (parents_in form.statements)
+  pub one_parent : IsDistinct bytes_eq (children_in form.statements)
+  pub topology : IsTopology t

@@ -1,5 +1,5 @@
 -- Texts, and what they mean.
-use Rattle.std.specs.Prelude.{◌≡◌, refl, ℕ, List, [], ◌∷◌, ◌++◌, None, Some, Ok, Err, Result, codes}
+use Rattle.std.specs.Prelude.{◌≡◌, refl, ℕ, List, [], ◌∷◌, ◌++◌, map, None, Some, Ok, Err, Result, codes}
 use Rattle.text_lines.specs.declared.text_error.TextError.TheVariants.{Bad}
 use Rattle.text_lines.specs.declared.text_error.Reason.TheVariants.{SecondLine, NoArrow, NoChild, SecondParent, NoSemicolon, NoRoot, TwoRoots, Unreached}
 use Rattle.topology_text.specs.Tokens.{pieces, Arrow, Semicolon, Name, End, NoToken}
@@ -8,6 +8,7 @@ use Rattle.text_lines.specs.declared.text_error.TextError.{TextError}
 use Rattle.stat_plan.specs.Names.{number_of}
 use Rattle.stat_plan.specs.Topologies.{topology}
 use Rattle.topology_text.specs.Statements.{Parsed, nothing_parsed, appear, add_parent, add_child, with_pieces}
+use Rattle.topology_text.specs.Grammar.{Statement, written, names_in, parents_in, children_in}
 use Rattle.topology_text.specs.Whole.{whole, nodes_of, whole_error, first_beyond, is_within}
 
 -- what a text is parsed as
@@ -60,3 +61,23 @@ no_semicolon = refl
 no_semicolon_at_end : parsed (line (codes "fe:0 => a:0")) ≡ Err (Bad 2 NoSemicolon)
 unfolding pieces with_pieces first_beyond is_within whole_error number_of appear add_parent add_child
 no_semicolon_at_end = refl
+
+-- two statements, as they are written
+abbrev two : List Statement
+two =
+    record { parent = codes "c:0"; child = codes "n:0"; others = codes "n:1" ∷ [] }
+    ∷ record { parent = codes "fe:0"; child = codes "c:0"; others = [] }
+    ∷ []
+
+two_written : map (λ p. p.1) (pieces 1 0 (line (codes "c:0 => n:0") ++ line (codes " n:1 ; # two lines") ++ codes "fe:0=>c:0;")) ≡ written two
+unfolding pieces
+two_written = refl
+
+two_names : names_in two ≡ codes "c:0" ∷ codes "n:0" ∷ codes "n:1" ∷ codes "fe:0" ∷ codes "c:0" ∷ []
+two_names = refl
+
+two_parents : parents_in two ≡ codes "c:0" ∷ codes "fe:0" ∷ []
+two_parents = refl
+
+two_children : children_in two ≡ codes "n:0" ∷ codes "n:1" ∷ codes "c:0" ∷ []
+two_children = refl

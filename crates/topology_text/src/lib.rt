@@ -4,12 +4,13 @@
 //! its first error. [`read`] gives exactly that.
 #![tactic(auto)]
 
-ghost use Rattle.std.specs.Prelude.{◌≡◌, IfOk, [], ◌∷◌};
+ghost use Rattle.std.specs.Prelude.{◌≡◌, IfOk, [], ◌∷◌, Ok};
 ghost use Rattle.topology_text.specs.Tokens.{pieces, End};
 ghost use Rattle.topology_text.specs.ParserViews.{parser_view};
 ghost use Rattle.topology_text.specs.Statements.{with_pieces};
-ghost use Rattle.topology_text.specs.Grammar.{IsWritten};
+ghost use Rattle.topology_text.specs.Grammar.{IsAcceptable};
 ghost use Rattle.topology_text.specs.Whole.{topology_of};
+ghost use Rattle.stat_plan.specs.Topologies.{Nodes};
 ghost use Rattle.text_lines.specs.Parsing.{IsValueOf, IsErrorOf};
 
 mod parser;
@@ -45,12 +46,14 @@ fn read_tokens(text: &[u8], parser: &mut Parser) -> Result<u64, TextError>
 }
 
 /// Reads a topology. The bytes of comments may be any; elsewhere the text is refused by its first error, read from the
-/// front token by token, and then by those of the whole text. A text that is accepted is written as statements: its names
-/// are numbered in order of first appearance, and its links are those of the statements: `IsWritten`.
+/// front token by token, and then by those of the whole text. Exactly those texts are accepted that are written as the
+/// statements of a job's tree, with at most one statement for each parent, and each child once: `IsAcceptable`. The names
+/// are numbered in order of first appearance, and the links are those of the statements: `IsWritten`.
 pub fn read(alloc: Global, text: &[u8]) -> Result<Topology, TextError>
     ensures ok { IsValueOf result (topology_of text.now) }
-    ensures written { IfOk result (λ t. IsWritten text.now t) }
+    ensures written { IfOk result (λ t. IsAcceptable text.now t) }
     ensures err { IsErrorOf result (topology_of text.now) }
+    ensures accepted { (t : Nodes) → IsAcceptable text.now t → topology_of text.now ≡ Ok t }
 {
     let mut parser = Parser::new(alloc);
     let end = read_tokens(text, &mut parser)?;

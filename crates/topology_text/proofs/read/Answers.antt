@@ -4,10 +4,11 @@ use Rattle.text_lines.specs.declared.text_error.TextError.{TextError}
 use Rattle.text_lines.specs.Parsing.{IsValueOf, IsErrorOf}
 use Rattle.text_lines.specs.declared.text_error.TextError.TheVariants.{OutOfMemory}
 use Rattle.text_lines.proofs.Errors.{handed_on}
-use Rattle.topology_text.specs.Grammar.{IsWritten}
+use Rattle.topology_text.specs.Grammar.{IsAcceptable}
 use Rattle.topology_text.specs.ParserViews.{parser_view}
 use Rattle.topology_text.specs.Whole.{topology_of}
-use Rattle.topology_text.proofs.Grammar.{is_written}
+use Rattle.topology_text.proofs.Repeats.{is_acceptable}
+use Rattle.topology_text.proofs.Acceptance.{acceptable}
 use Rattle.topology_text.proofs.InvariantLemmas.{holds_at_end}
 use Rattle.topology_text.proofs.WholeFile.{topology_at_end, topology_bad}
 use Rattle.topology_text.proofs.read.Goals as goal
@@ -30,11 +31,17 @@ distinct_value (Err e) parsed P is topology has = tt
 
 pub returns-clause-written : goal.returns-clause-written
 returns-clause-written c =
-    distinct_value c.finish.result (topology_of c.args.text.now) (IsWritten c.args.text.now)
+    distinct_value c.finish.result (topology_of c.args.text.now) (IsAcceptable c.args.text.now)
     (subst (IsValueOf c.finish.result) (sym (topology_at_end c.args.text.now (parser_view c.new-parser.result) (parser_view c.read_tokens.new.parser) c.in_ok-end.end c.new-parser.ensures c.in_ok-end.ensures.ok)) c.finish.ensures.ok)
     c.finish.ensures.topology
-    (λ n is topology. is_written c.args.text.now n is topology.distinct)
+    (is_acceptable c.args.text.now)
 
 pub returns-clause-err : goal.returns-clause-err
 returns-clause-err c =
     subst (IsErrorOf c.finish.result) (sym (topology_at_end c.args.text.now (parser_view c.new-parser.result) (parser_view c.read_tokens.new.parser) c.in_ok-end.end c.new-parser.ensures c.in_ok-end.ensures.ok)) c.finish.ensures.err
+
+pub returns-clause-accepted : goal.returns-clause-accepted
+returns-clause-accepted c = acceptable c.args.text.now
+
+pub returns-in_err-end-clause-accepted : goal.returns-in_err-end-clause-accepted
+returns-in_err-end-clause-accepted c = acceptable c.args.text.now
