@@ -55,8 +55,8 @@ abbrev pub children_in : List Statement → List (List ℕ)
 children_in [] = []
 children_in (s ∷ statements) = s.child ∷ s.others ++ children_in statements
 
--- A text is written as statements, of which no two begin with one name, and no name stands twice among all children. What
--- it says is a job's tree.
+-- A text is written as statements, of which no two begin with one name, and no name stands twice among all children.
+-- What it says is a job's tree.
 pub record IsAcceptable (text : List ℕ) (t : Nodes) : Type 0 where
   pub form : IsWritten text t
   pub one_statement : IsDistinct bytes_eq (parents_in form.statements)

@@ -46,9 +46,10 @@ fn read_tokens(text: &[u8], parser: &mut Parser) -> Result<u64, TextError>
 }
 
 /// Reads a topology. The bytes of comments may be any; elsewhere the text is refused by its first error, read from the
-/// front token by token, and then by those of the whole text. Exactly those texts are accepted that are written as the
-/// statements of a job's tree, with at most one statement for each parent, and each child once: `IsAcceptable`. The names
-/// are numbered in order of first appearance, and the links are those of the statements: `IsWritten`.
+/// front token by token, and then by those of the whole text. While memory lasts, exactly those texts are accepted that
+/// are written as the statements of a job's tree, with at most one statement for each parent, and each child once:
+/// `IsAcceptable`. The names are numbered in order of first appearance, and the links are those of the statements:
+/// `IsWritten`.
 pub fn read(alloc: Global, text: &[u8]) -> Result<Topology, TextError>
     ensures ok { IsValueOf result (topology_of text.now) }
     ensures written { IfOk result (λ t. IsAcceptable text.now t) }
