@@ -37,15 +37,15 @@ backward_later : ranks_text (codes "10,8,20-18") ≡ Err (Backward 8)
 unfolding ranks_at items item_at union ranks_between with_rank
 backward_later = refl
 
-over : ranks_text (codes "16384x") ≡ Err (OverLimit 0)
+over : ranks_text (codes "1048576x") ≡ Err (OverLimit 0)
 unfolding ranks_at items item_at
 over = refl
 
-over_then_dash : ranks_text (codes "16384-") ≡ Err (OverLimit 0)
+over_then_dash : ranks_text (codes "1048576-") ≡ Err (OverLimit 0)
 unfolding ranks_at items item_at
 over_then_dash = refl
 
-over_second : ranks_text (codes "5-20000") ≡ Err (OverLimit 2)
+over_second : ranks_text (codes "5-2000000") ≡ Err (OverLimit 2)
 unfolding ranks_at items item_at
 over_second = refl
 

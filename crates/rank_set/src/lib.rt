@@ -24,7 +24,7 @@ use text::{write_number, write_runs};
 use words::Words;
 
 /// The most words that a set spans.
-pub const WORD_LIMIT: u32 = 256;
+pub const WORD_LIMIT: u32 = 16_384;
 
 /// Ranks are below this.
 pub const RANK_LIMIT: u32 = 64 * WORD_LIMIT;

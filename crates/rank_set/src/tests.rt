@@ -58,25 +58,25 @@ const PAIRS: [Pair; 9] = [
         common: "0:[]",
     },
     Pair {
-        left: "0,16383",
-        right: "16383",
-        union: "2:[0,16383]",
+        left: "0,1048575",
+        right: "1048575",
+        union: "2:[0,1048575]",
         difference: "1:[0]",
-        common: "1:[16383]",
+        common: "1:[1048575]",
     },
     Pair {
-        left: "16383",
-        right: "16383",
-        union: "1:[16383]",
+        left: "1048575",
+        right: "1048575",
+        union: "1:[1048575]",
         difference: "0:[]",
-        common: "1:[16383]",
+        common: "1:[1048575]",
     },
     Pair {
-        left: "0-16383",
-        right: "64-16319",
-        union: "16384:[0-16383]",
-        difference: "128:[0-63,16320-16383]",
-        common: "16256:[64-16319]",
+        left: "0-1048575",
+        right: "64-1048511",
+        union: "1048576:[0-1048575]",
+        difference: "128:[0-63,1048512-1048575]",
+        common: "1048448:[64-1048511]",
     },
 ];
 
@@ -156,17 +156,17 @@ fn writes_a_few_ranks(rt: HostRuntime) -> Result<(), Fail> {
 #[test]
 fn has_the_ranks_that_were_inserted(rt: HostRuntime) -> Result<(), Fail> {
     let mut set = RankSet::new(rt.alloc());
-    for r in [16_383, 128, 63, 64, 127] {
+    for r in [1_048_575, 128, 63, 64, 127] {
         set.insert(r)?;
     }
     assert_eq!(rt; set.insert(RANK_LIMIT), Err(RankError::OverLimit));
-    for r in [63, 64, 127, 128, 16_383] {
+    for r in [63, 64, 127, 128, 1_048_575] {
         assert!(rt; set.contains(r));
     }
-    for r in [0, 62, 65, 126, 129, 16_382, RANK_LIMIT, u32::MAX] {
+    for r in [0, 62, 65, 126, 129, 1_048_574, RANK_LIMIT, u32::MAX] {
         assert!(rt; !set.contains(r));
     }
-    assert_text(&rt, rt.alloc(), &set, "5:[63-64,127-128,16383]")
+    assert_text(&rt, rt.alloc(), &set, "5:[63-64,127-128,1048575]")
 }
 
 #[test]
@@ -181,13 +181,13 @@ fn inserts_runs(rt: HostRuntime) -> Result<(), Fail> {
 
 #[test]
 fn gives_the_next_run(rt: HostRuntime) -> Result<(), Fail> {
-    let set = read_ranks(rt.alloc(), b"3-5,63-64,16383")?;
+    let set = read_ranks(rt.alloc(), b"3-5,63-64,1048575")?;
     for (from, first, last) in [
         (0, 3, 5),
         (4, 4, 5),
         (6, 63, 64),
         (64, 64, 64),
-        (65, 16_383, 16_383),
+        (65, 1_048_575, 1_048_575),
     ] {
         assert_eq!(rt; set.next_run(from), Some(Run { first, last }));
     }
@@ -206,10 +206,11 @@ fn keeps_its_words(rt: HostRuntime) -> Result<(), Fail> {
     Ok(())
 }
 
-const TEXTS: [(&str, &str); 5] = [
+const TEXTS: [(&str, &str); 6] = [
     ("7,0-2,1", "4:[0-2,7]"),
     ("0", "1:[0]"),
-    ("16383", "1:[16383]"),
+    ("16384", "1:[16384]"),
+    ("1048575", "1:[1048575]"),
     ("000000000000000000000000000005-0000000006", "2:[5-6]"),
     ("9-9,8-9", "2:[8-9]"),
 ];
@@ -235,9 +236,9 @@ const REFUSALS: [(&str, RanksError); 15] = [
     ("3-1", RanksError::Backward(2)),
     ("5-3x", RanksError::Backward(2)),
     ("10,8,20-18", RanksError::Backward(8)),
-    ("16384", RanksError::OverLimit(0)),
-    ("16384x", RanksError::OverLimit(0)),
-    ("16384-", RanksError::OverLimit(0)),
+    ("1048576", RanksError::OverLimit(0)),
+    ("1048576x", RanksError::OverLimit(0)),
+    ("1048576-", RanksError::OverLimit(0)),
     ("0-99999999999999999999999999", RanksError::OverLimit(2)),
 ];
 

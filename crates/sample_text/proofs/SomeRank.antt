@@ -19,9 +19,9 @@ abbrev Increasing : Result (ℕ × ℕ) RanksError → Type 0
 Increasing (Err e) = Unit {0}
 Increasing (Ok range) = range.0 ≤ range.1
 
-ends_rise : (place : ℕ) (text : List ℕ) (range : ℕ × ℕ) → range.0 ≤ range.1 → Increasing (ends_at place text range)
-ends_rise place [] range le = le
-ends_rise place (b ∷ rest) range le = tt
+ends_increase : (place : ℕ) (text : List ℕ) (range : ℕ × ℕ) → range.0 ≤ range.1 → Increasing (ends_at place text range)
+ends_increase place [] range le = le
+ends_increase place (b ∷ rest) range le = tt
 
 not_below : (a b : ℕ) → nat_lt a b ≡ false → b ≤ a
 not_below a b e = grind (arith, nat_tests)
@@ -32,7 +32,7 @@ second_increasing first place text (Ok second) = by (nat_lt second first) refl
   where
     by : (t : Bool) → nat_lt second first ≡ t → Increasing (cond t (Err (Backward place)) (ends_at (place + digits_len text) (drop (digits_len text) text) (first, second)))
     by true e = tt
-    by false e = ends_rise (place + digits_len text) (drop (digits_len text) text) (first, second) (not_below second first e)
+    by false e = ends_increase (place + digits_len text) (drop (digits_len text) text) (first, second) (not_below second first e)
 
 after_increasing : (first place : ℕ) (text : List ℕ) → Increasing (after_first first place text)
 after_increasing first place [] = let e : first ≤ first = omega arith in e

@@ -67,7 +67,7 @@ bad_ranks : parsed (codes "daemon a:0 1-") ≡ Err (Bad 1 BadRanks)
 unfolding pieces words number_of items item_at ranks_at is_utf8 chars read_line daemon_on daemon_named ranks_on with_daemon parsed_lines lib.Utf8.encode
 bad_ranks = refl
 
-over_ranks : parsed (codes "daemon a:0 16384") ≡ Err (Over 1 Ranks 16384)
+over_ranks : parsed (codes "daemon a:0 1048576") ≡ Err (Over 1 Ranks 1048576)
 unfolding pieces words number_of items item_at ranks_at is_utf8 chars read_line daemon_on daemon_named ranks_on with_daemon parsed_lines lib.Utf8.encode
 over_ranks = refl
 

@@ -17,7 +17,7 @@ const ACCEPTED: [&str; 9] = [
     "daemon a:0 0\r\ndaemon b:0 1\r\nstack 0 0 m\r",
     " \tdaemon\t a:0  0 \t\n\tdaemon b:0 1\t",
     "\n#daemon a:0 0\n \t \r\n# stack\ndaemon a:0 0\n\r\ndaemon b:0 1\n",
-    "daemon a:0 0,0,0-1,1\ndaemon a:0 2\ndaemon b:0 3\ndaemon a:0 16383\n",
+    "daemon a:0 0,0,0-1,1\ndaemon a:0 2\ndaemon b:0 3\ndaemon a:0 1048575\n",
     "daemon a:0 0\ndaemon b:0 1\nstack 65535 1 m\nstack 65535 1 m\nstack 65535 1 n",
     "daemon a:0 0\ndaemon b:0 1\nstack 0 0-1 a  ; b  ",
     "daemon a:0 00\ndaemon b:0 01\nstack 0 1 \t m n;# ;\u{e9}\u{a0}",
@@ -120,13 +120,13 @@ fn refuses_texts_at_the_first_fault(rt: HostRuntime) -> Result<(), Fail> {
 
 // A text with a rank past the last, and the line of it.
 const TOO_MANY_RANKS: [(&str, u64); 4] = [
-    ("daemon a:0 16384", 1),
+    ("daemon a:0 1048576", 1),
     (
         "daemon a:0 0-999999999999999999999999999999999999999999999999999999999999999999999999999999999999999999999999999999999999999999999999999999999999999999999999999999999999999999999999999999999999999999999999999999999999999999999999999999999999999999999999999999999999999999999999999999999999999999999999999999999999",
         1,
     ),
-    ("\ndaemon a:0 16384x", 2),
-    ("daemon a:0 0\nstack 0 16384 ;", 2),
+    ("\ndaemon a:0 1048576x", 2),
+    ("daemon a:0 0\nstack 0 1048576 ;", 2),
 ];
 
 #[test]
@@ -138,7 +138,7 @@ fn refuses_ranks_past_the_last(rt: HostRuntime) -> Result<(), Fail> {
             Some(TextError::Over {
                 line,
                 what: Quantity::Ranks,
-                limit: 16_384
+                limit: 1_048_576
             }),
             "{text:?}"
         );

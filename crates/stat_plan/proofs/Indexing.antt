@@ -1,5 +1,6 @@
 -- Lines indexed at the nodes of their ranks.
 use Rattle.std.proofs.Common.{◌≡◌, ◌≢◌, ◌⊎◌, ℕ, suc, zero, ◌+◌, ◌<◌, ◌≤◌, true, false, ◌==◌, List, [], ◌∷◌, get_or, set, length, refl, sym, ap, subst, ◌∙◌, arith, eqb-true, inl, inr, Vec, Global}
+use Rattle.rank_set.specs.declared.TheConstants.{RANK_LIMIT}
 use Rattle.std.proofs.lemmas.Bool.{true≢false, cases_Bool, or_cases, eqb-false, cases_lt, false_from_ne_true}
 use Rattle.std.proofs.lemmas.List.{length-set, get_or-set_same, get_or-set_other, get_or_default, get_or-map, map-set, length-map}
 use Rattle.rank_set.specs.Ranks.{Ranks, none, has, Has, union, has-union, has-none}
@@ -37,10 +38,10 @@ rank_node_is placed rank_to_node r are there =
 
 -- the nodes of one set more
 pub rank_nodes_more : (placed : List Ranks) (old new : List ℕ) (k : ℕ) (own : Ranks) → ArePlacedOnce placed → own ≡ get_or placed k own → k < length placed
-    → ((n r : ℕ) → n < k → Has r (get_or placed n none) → (r < 16384) × (get_or old r 0 ≡ n))
-    → ((r : ℕ) → Has r own → (r < 16384) × (get_or new r 0 ≡ k))
+    → ((n r : ℕ) → n < k → Has r (get_or placed n none) → (r < RANK_LIMIT) × (get_or old r 0 ≡ n))
+    → ((r : ℕ) → Has r own → (r < RANK_LIMIT) × (get_or new r 0 ≡ k))
     → ((r : ℕ) → has own r ≡ false → get_or new r 0 ≡ get_or old r 0)
-    → (n r : ℕ) → n < k + 1 → Has r (get_or placed n none) → (r < 16384) × (get_or new r 0 ≡ n)
+    → (n r : ℕ) → n < k + 1 → Has r (get_or placed n none) → (r < RANK_LIMIT) × (get_or new r 0 ≡ n)
 rank_nodes_more placed old new k own once is inside before ranks others n r below there =
     let own_is : own ≡ get_or placed k none = is ∙ get_or_default placed k own none inside in
     elim (cases_lt n k) [
@@ -62,7 +63,7 @@ past (D ∷ Ds) zero le = absurd (omega arith)
 past (D ∷ Ds) (suc n) le = past Ds n (omega arith)
 
 -- all nodes are indexed
-pub rank_to_node_all : (placed : List Ranks) (rank_to_node : List ℕ) → length rank_to_node ≡ 16384 → ((n r : ℕ) → n < length placed → Has r (get_or placed n none) → (r < 16384) × (get_or rank_to_node r 0 ≡ n)) → AreRankNodes placed rank_to_node
+pub rank_to_node_all : (placed : List Ranks) (rank_to_node : List ℕ) → length rank_to_node ≡ RANK_LIMIT → ((n r : ℕ) → n < length placed → Has r (get_or placed n none) → (r < RANK_LIMIT) × (get_or rank_to_node r 0 ≡ n)) → AreRankNodes placed rank_to_node
 rank_to_node_all placed rank_to_node all each = record {
   all = all;
   each = λ n r there. elim (cases_lt n (length placed)) [

@@ -1,5 +1,6 @@
 -- Tables by node number.
 use Rattle.std.specs.Prelude.{ℕ, ◌≡◌, ◌⊎◌, ◌↔◌, ◌<◌, ◌≤◌, cond, List, [], map, slice_get, slice_index_or, Vec, length, Option, Some}
+use Rattle.rank_set.specs.declared.TheConstants.{RANK_LIMIT}
 use Rattle.rank_set.specs.Ranks.{Ranks, none, union, Has}
 use Rattle.stat_plan.specs.NodeSets.{In, member}
 use Rattle.stat_plan.specs.Samples.{SampleLine}
@@ -60,8 +61,8 @@ pub record GainRanks (old new : List Ranks) (at : List ℕ) (more : Ranks) : Typ
 
 -- each placed rank has its node's number
 pub record AreRankNodes (placed : List Ranks) (rank_to_node : List ℕ) : Type 0 where
-  pub all : length rank_to_node ≡ 16384
-  pub each : (n r : ℕ) → Has r (slice_index_or placed n none) → (r < 16384) × (slice_index_or rank_to_node r 0 ≡ n)
+  pub all : length rank_to_node ≡ RANK_LIMIT
+  pub each : (n r : ℕ) → Has r (slice_index_or placed n none) → (r < RANK_LIMIT) × (slice_index_or rank_to_node r 0 ≡ n)
 
 -- rows of a table took note of a number, where its line has a rank of the row's node
 pub record IndexesLine (placed : List Ranks) (ranks : Ranks) (number : ℕ) (old new : List (List ℕ)) : Type 0 where

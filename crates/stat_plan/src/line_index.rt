@@ -1,6 +1,7 @@
 //! Which lines of samples have a rank of which node.
 
 ghost use Rattle.std.specs.Prelude.{◌≡◌, ◌⊎◌, ◌<◌, ◌≤◌, ◌+◌, ◌^◌, ℕ, false, IfOk, OnOk, [], length, map, slice_index_or};
+ghost use Rattle.rank_set.specs.declared.TheConstants.{RANK_LIMIT};
 ghost use Rattle.rank_set.specs.Ranks.{Ranks, none, has, Has};
 ghost use Rattle.stat_plan.specs.NodeSets.{In};
 ghost use Rattle.stat_plan.specs.declared.samples.TheConstants.{LINE_LIMIT};
@@ -16,9 +17,9 @@ use std::alloc::{AllocError, Global};
 
 // Indexes the node of each of its ranks.
 fn assign(rank_to_node: &mut [u32], ranks: &RankSet, node: u32)
-    requires { length rank_to_node.old ≡ 16384 }
-    ensures length { length rank_to_node.new ≡ 16384 }
-    ensures ranks { (r : ℕ) → Has r ranks.now → (r < 16384) × (slice_index_or rank_to_node.new r 0 ≡ node) }
+    requires { length rank_to_node.old ≡ RANK_LIMIT }
+    ensures length { length rank_to_node.new ≡ RANK_LIMIT }
+    ensures ranks { (r : ℕ) → Has r ranks.now → (r < RANK_LIMIT) × (slice_index_or rank_to_node.new r 0 ≡ node) }
     ensures others { (r : ℕ) → has ranks.now r ≡ false
         → slice_index_or rank_to_node.new r 0 ≡ slice_index_or rank_to_node.old r 0 }
 {
@@ -33,7 +34,7 @@ fn assign(rank_to_node: &mut [u32], ranks: &RankSet, node: u32)
 
 // Indexes the node of each placed rank.
 fn assign_all(rank_to_node: &mut [u32], placed: &[RankSet])
-    requires length { length rank_to_node.old ≡ 16384 }
+    requires length { length rank_to_node.old ≡ RANK_LIMIT }
     requires within_limit { length placed.now < 2 ^ 32 }
     requires once { ArePlacedOnce placed.now }
     ensures { AreRankNodes placed.now rank_to_node.new }
@@ -62,7 +63,7 @@ fn after_run(ranks: &RankSet, r: u32) -> u32
     requires { Has r ranks.now }
     ensures advances { r < result }
     ensures within { (q : ℕ) → r ≤ q → q < result → Has q ranks.now }
-    ensures below_limit { result ≤ 16384 }
+    ensures below_limit { result ≤ RANK_LIMIT }
 {
     match ranks.next_run(r) {
         Some(run) => run.last + 1,
@@ -83,7 +84,7 @@ fn index_run(
     requires same_length { length table.old ≡ length placed.now }
     requires placed { (r : ℕ) → first ≤ r → r ≤ last → Has r (all_ranks placed.now) }
     requires not_empty { first ≤ last }
-    requires below_limit { last < 16384 }
+    requires below_limit { last < RANK_LIMIT }
     ensures { OnOk result
         (IndexesRun placed.now first last (last + 1) number (rows_view table.old) (rows_view table.new)) }
 {

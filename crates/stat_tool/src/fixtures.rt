@@ -98,14 +98,14 @@ end
     // the greatest rank
     Worked {
         topology: ONE_TOP,
-        samples: "daemon a:0 16383\n",
+        samples: "daemon a:0 1048575\n",
         script: ALL_SCR,
         report: "stream 0 wave 0 release 1 final
-covered 1:[16383]
+covered 1:[1048575]
 tree
-1:[16383] - /
+1:[1048575] - /
 classes
-class 1:[16383] paths 0
+class 1:[1048575] paths 0
 end
 ",
     },

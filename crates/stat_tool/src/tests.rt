@@ -77,12 +77,12 @@ const BAD_SCRIPT: [(&[u8], u64, Reason); 8] = [
 
 // Lines that pass a limit: of samples, and of a script.
 const LONG_SAMPLES: [(&[u8], u64, Quantity, u64); 2] = [
-    (b"daemon a:0 16384", 1, Quantity::Ranks, 16_384),
+    (b"daemon a:0 1048576", 1, Quantity::Ranks, 1_048_576),
     (
-        b"daemon a:0 0\nstack 0 16384 main",
+        b"daemon a:0 0\nstack 0 1048576 main",
         2,
         Quantity::Ranks,
-        16_384,
+        1_048_576,
     ),
 ];
 
