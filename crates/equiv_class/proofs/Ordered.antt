@@ -22,7 +22,7 @@ in_order-those t s = refl
 -- a later member is above the first
 pub first_below : (s : Ranks) (x : ℕ) (xs : List ℕ) → in_order s ≡ x ∷ xs → (y : ℕ) → list_any (eq_by_cmp nat_cmp y) xs ≡ true → x < y
 first_below s x xs is y one =
-    let up : is_strictly_increasing (x ∷ xs) ≡ true = subst (λ zs. is_strictly_increasing zs ≡ true) is (from_T _ s.rises) in
+    let up : is_strictly_increasing (x ∷ xs) ≡ true = subst (λ zs. is_strictly_increasing zs ≡ true) is (from_T _ s.increasing) in
     member xs (and_parts (list_all (λ z. nat_lt x z) xs) (is_strictly_increasing xs) up).0 one
   where
     member : (ys : List ℕ) → list_all (λ z. nat_lt x z) ys ≡ true → list_any (eq_by_cmp nat_cmp y) ys ≡ true → x < y

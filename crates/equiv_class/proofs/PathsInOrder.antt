@@ -62,13 +62,13 @@ any-paths_of P r p =
     let m : finmap.FinMap path_cmp (Unit {0}) = finmap.from_entries {R = path_cmp} (marked_paths P r) in
     ap (list_any (is_path p)) (keys-marked_paths P r) ∙ sym (finmap.contains_key-keys m p) ∙ ap is_some (finmap.get-from_entries path_cmp_total (marked_paths P r) p) ∙ find_paths P r p
 
-rising : (x y : Path) → path_cmp x y ≡ Less → (zs : List Path) → AllByRecursion (λ z. path_cmp y z ≡ Less) zs → AllByRecursion (λ z. path_cmp x z ≡ Less) zs
-rising x y lt [] h = tt
-rising x y lt (z ∷ zs) h = (path_cmp_total.trans x y z lt h.0, rising x y lt zs h.1)
+increasing : (x y : Path) → path_cmp x y ≡ Less → (zs : List Path) → AllByRecursion (λ z. path_cmp y z ≡ Less) zs → AllByRecursion (λ z. path_cmp x z ≡ Less) zs
+increasing x y lt [] h = tt
+increasing x y lt (z ∷ zs) h = (path_cmp_total.trans x y z lt h.0, increasing x y lt zs h.1)
 
 all_later : (es : List (Path × Unit {0})) (e : Path × Unit {0}) → T (finmap.is_sorted path_cmp (e ∷ es)) → AllByRecursion (λ y. path_cmp e.0 y ≡ Less) (map (λ x. x.0) es)
 all_later [] e up = tt
-all_later (f ∷ es) e up = let lt = less _ (first _ _ (first _ _ up)) in (lt, rising e.0 f.0 lt (map (λ x. x.0) es) (all_later es f (second _ _ up)))
+all_later (f ∷ es) e up = let lt = less _ (first _ _ (first _ _ up)) in (lt, increasing e.0 f.0 lt (map (λ x. x.0) es) (all_later es f (second _ _ up)))
 
 keys_sorted : (es : List (Path × Unit {0})) → T (finmap.is_sorted path_cmp es) → IsStrictlySortedBy path_cmp (map (λ e. e.0) es)
 unfolding IsStrictlySortedBy

@@ -23,7 +23,7 @@ use Rattle.overlay_core.specs.Runs.{after}
 use Rattle.overlay_core.specs.TreeReleases.{AreNumberedInOrder, TreeRelease, bare_release, bare_releases}
 use Rattle.overlay_core.specs.Whole.{HasOneRelease}
 use Rattle.overlay_core.proofs.Ended.{waits_for_all}
-use Rattle.overlay_core.proofs.Lists.{up_to_rises}
+use Rattle.overlay_core.proofs.Lists.{up_to_increases}
 use Rattle.overlay_core.proofs.NamedLosses.{names_none, none_is_lost}
 use Rattle.overlay_core.proofs.PlanFacts.{plan_facts}
 use Rattle.overlay_core.proofs.Releases.{legal_log}
@@ -31,7 +31,7 @@ use Rattle.front_end.specs.Report.{AllStreamsWait, AreReleasesOf, IsDirect, IsRe
 use Rattle.front_end.proofs.Numbered.{first_number, rest_numbered}
 use Rattle.front_end.proofs.Orders.{in_permutation, one_order, release_cmp_total}
 
--- ---- the waves of a plan rise
+-- ---- the waves of a plan increase
 
 -- one wave is of an earlier stream than the other, or an earlier one of the same stream
 abbrev Precedes : ℕ × ℕ → ℕ × ℕ → Type 0
@@ -64,10 +64,10 @@ stream_of_wave (x ∷ xs) v i = elim (in_append v (map (λ w. (x.number, w)) (up
   | inr j ↦ inr (stream_of_wave xs v j)
 ]
 
-waves_rise : (xs : List Stream) → IsStrictlyIncreasing (map (λ x. x.number) xs) → WavesRise (waves_of xs)
-waves_rise [] up = tt
-waves_rise (x ∷ xs) up =
-    waves_append (map (λ w. (x.number, w)) (up_to x.waves)) (waves_of xs) (stream_waves x.number (up_to x.waves) (up_to_rises x.waves)) (waves_rise xs up.1)
+waves_increase : (xs : List Stream) → IsStrictlyIncreasing (map (λ x. x.number) xs) → WavesRise (waves_of xs)
+waves_increase [] up = tt
+waves_increase (x ∷ xs) up =
+    waves_append (map (λ w. (x.number, w)) (up_to x.waves)) (waves_of xs) (stream_waves x.number (up_to x.waves) (up_to_increases x.waves)) (waves_increase xs up.1)
     (λ v u i j.
     let from = in_from_map (λ (w : ℕ). (x.number, w)) (up_to x.waves) v i in
     subst (λ (a : ℕ × ℕ). Precedes a u) (sym from.1.1) (inl (up.0 u.0 (stream_of_wave xs u j))))
@@ -87,15 +87,15 @@ all_by : {X : Type 0} (P : X → Type 0) (xs : List X) → ((x : X) → In x xs 
 all_by P [] each = tt
 all_by P (x ∷ xs) each = (each x (inl refl), all_by P xs (λ y i. each y (inr i)))
 
-direct_rise : (p : Plan) (vs : List (ℕ × ℕ)) → WavesRise vs → IsStrictlySortedBy release_cmp (map (direct_release p) vs)
+direct_increase : (p : Plan) (vs : List (ℕ × ℕ)) → WavesRise vs → IsStrictlySortedBy release_cmp (map (direct_release p) vs)
 unfolding IsStrictlySortedBy
-direct_rise p [] up = tt
-direct_rise p (v ∷ vs) up = (
+direct_increase p [] up = tt
+direct_increase p (v ∷ vs) up = (
   all_by (λ r. release_cmp (direct_release p v) r ≡ Less) (map (direct_release p) vs)
       (λ r i.
       let from = in_from_map (direct_release p) vs r i in
       subst (λ (x : TreeRelease). release_cmp (direct_release p v) x ≡ Less) (sym from.1.1) (before_is_less p v from.0 (up.0 from.0 from.1.0))),
-  direct_rise p vs up.1,
+  direct_increase p vs up.1,
 )
 
 -- ---- each release is the direct one of its wave
@@ -160,8 +160,8 @@ module _ (p : Plan) (journal : List Event) (releases : List TreeRelease) (plan :
   -- so the report is that of the direct releases
   pub direct_where_all_wait : (text : List ℕ) → IsReport p releases [] text → IsReport p (direct_releases p) [] text
   direct_where_all_wait text report =
-      let rises = direct_rise p (waves_of p.streams) (waves_rise p.streams plan.script.streams_rise) in
-      let same : report.ordered ≡ direct_releases p = one_order release_cmp release_cmp_total report.ordered (direct_releases p) report.in_order.rises rises
+      let increasing = direct_increase p (waves_of p.streams) (waves_increase p.streams plan.script.streams_increase) in
+      let same : report.ordered ≡ direct_releases p = one_order release_cmp release_cmp_total report.ordered (direct_releases p) report.in_order.increasing increasing
       (λ r i.
       let direct = is_direct r (in_permutation releases report.ordered report.in_order.same r i) in
       subst (λ (x : TreeRelease). In x (direct_releases p)) (sym direct.1) (in_map (direct_release p) (r.stream, r.wave) (waves_of p.streams) direct.0))
@@ -171,6 +171,6 @@ module _ (p : Plan) (journal : List Event) (releases : List TreeRelease) (plan :
       (subst (λ (x : TreeRelease). In x releases) (sym from.1.1) (has_direct from.0.0 from.0.1 from.1.0))) in
       record {
         ordered = direct_releases p;
-        in_order = record { same = IsPermutation-refl (direct_releases p); rises = rises };
+        in_order = record { same = IsPermutation-refl (direct_releases p); increasing = increasing };
         is = report.is ∙ ap (report_text p []) same;
       }

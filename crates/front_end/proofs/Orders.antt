@@ -19,7 +19,7 @@ use Rattle.stat_plan.specs.Plans.{Plan}
 use Rattle.stat_plan.proofs.FirstOver.{all_in}
 use Rattle.overlay_core.specs.TreeReleases.{TreeRelease, release_view, releases_view}
 use Rattle.overlay_core.specs.declared.release.Release.{Release}
-use Rattle.front_end.specs.Report.{AreDistinct, IsInOrder, IsReport, release_cmp, report_text}
+use Rattle.front_end.specs.Report.{AreDistinct, IsSortedCopy, IsReport, release_cmp, report_text}
 use Rattle.front_end.specs.Shown.{shown_releases}
 
 in_at : {X : Type 0} (xs : List X) (k : ℕ) (d : X) → k < length xs → In (get_or xs k d) xs
@@ -40,7 +40,7 @@ module _ {X : Type 0} (R : X → X → Ordering) (total : IsTotalOrder R) where
   not_both : (x y : X) → R x y ≡ Less → R y x ≡ Less → ⊥
   not_both x y below above = let e : Less ≡ Greater = sym below ∙ total.antisymm x y ∙ ap ordering_reverse above in cc
 
-  -- two rising lists of the same elements are the same list
+  -- two increasing lists of the same elements are the same list
   pub one_order : (xs ys : List X) → IsStrictlySortedBy R xs → IsStrictlySortedBy R ys → ((x : X) → In x xs → In x ys) → ((x : X) → In x ys → In x xs) → xs ≡ ys
   unfolding IsStrictlySortedBy
   one_order [] [] up up' there back = λ i. []
@@ -70,7 +70,7 @@ module _ {X : Type 0} (R : X → X → Ordering) (total : IsTotalOrder R) where
   less_from Equal not_less distinct = absurd (true≢false distinct)
   less_from Greater not_less distinct = absurd (true≢false not_less)
 
-  -- a list that does not fall and has no ties rises
+  -- a list that does not fall and has no ties increases
   increasing_where_distinct : (xs : List X) → IsSortedBy (λ x y. is_lt (R x y)) xs → IsDistinct (eq_by_cmp R) xs → IsStrictlySortedBy R xs
   unfolding IsStrictlySortedBy
   increasing_where_distinct [] up distinct = tt
@@ -86,7 +86,7 @@ pub reports_same : (p : Plan) (given : List TreeRelease) (lost text other : List
 reports_same p given lost text other one two =
     let same : IsPermutation one.ordered two.ordered = IsPermutation-trans one.ordered given two.ordered (IsPermutation-sym given one.ordered one.in_order.same) two.in_order.same in
     let ordered : one.ordered ≡ two.ordered =
-    one_order release_cmp release_cmp_total one.ordered two.ordered one.in_order.rises two.in_order.rises (in_permutation two.ordered one.ordered (IsPermutation-sym one.ordered two.ordered same)) (in_permutation one.ordered two.ordered same) in
+    one_order release_cmp release_cmp_total one.ordered two.ordered one.in_order.increasing two.in_order.increasing (in_permutation two.ordered one.ordered (IsPermutation-sym one.ordered two.ordered same)) (in_permutation one.ordered two.ordered same) in
     one.is ∙ ap (report_text p lost) ordered ∙ sym two.is
 
 -- a list that is sorted by what f gives is sorted where f gave it
@@ -100,13 +100,13 @@ sorted_map f lt (x ∷ xs) up k d low high =
 
 -- what references show is in order where what they refer to is distinct, and a sort by stream, wave and number moved them
 pub in_order_from_sort : {X : Type 0} (tree : X → Tree) (given : List (Release X)) (all sorted : List (Bor (Release X))) → AreDistinct (releases_view tree given) → map (λ r. r.now) all ≡ given → IsPermutation all sorted
-    → IsSortedBy (λ (a b : Bor (Release X)). is_lt (release_cmp (release_view tree a.now) (release_view tree b.now))) sorted → IsInOrder (releases_view tree given) (shown_releases tree sorted)
+    → IsSortedBy (λ (a b : Bor (Release X)). is_lt (release_cmp (release_view tree a.now) (release_view tree b.now))) sorted → IsSortedCopy (releases_view tree given) (shown_releases tree sorted)
 in_order_from_sort {X} tree given all sorted distinct shows moved up =
     let view : Bor (Release X) → TreeRelease = λ r. release_view tree r.now in
     let viewed : shown_releases tree all ≡ releases_view tree given = sym (map-map (release_view tree) (λ (r : Bor (Release X)). r.now) all) ∙ ap (releases_view tree) shows in
     let same : IsPermutation (releases_view tree given) (shown_releases tree sorted) = subst (λ rs. IsPermutation rs (shown_releases tree sorted)) viewed (IsPermutation-map view all sorted moved) in
     record {
       same = same;
-      rises = increasing_where_distinct release_cmp release_cmp_total (shown_releases tree sorted) (sorted_map view (λ a b. is_lt (release_cmp a b)) sorted up)
+      increasing = increasing_where_distinct release_cmp release_cmp_total (shown_releases tree sorted) (sorted_map view (λ a b. is_lt (release_cmp a b)) sorted up)
           (IsDistinct-IsPermutation (eq_by_cmp release_cmp) (eq_by_cmp_equiv release_cmp_total).symm (releases_view tree given) (shown_releases tree sorted) same distinct);
     }

@@ -26,10 +26,10 @@ release_cmp a b = ordering_then (ordering_then (nat_cmp a.stream b.stream) (nat_
 abbrev pub AreDistinct : List TreeRelease → Type 0
 AreDistinct releases = IsDistinct (eq_by_cmp release_cmp) releases
 
--- the given releases in the order in which they are printed: the stream, the wave and the number rise
-pub record IsInOrder (given ordered : List TreeRelease) : Type 0 where
+-- the given releases in the order in which they are printed: the stream, the wave and the number increase
+pub record IsSortedCopy (given ordered : List TreeRelease) : Type 0 where
   pub same : IsPermutation given ordered
-  pub rises : IsStrictlySortedBy release_cmp ordered
+  pub increasing : IsStrictlySortedBy release_cmp ordered
 
 -- a fault happened after this many events of its node, or the node had fewer events
 abbrev pub fate_text : Bool → Fault → List ℕ
@@ -47,7 +47,7 @@ report_text p lost ordered = flat_map (release_text p) ordered ++ flat_map (faul
 -- the text is the report of these releases of a plan, where these nodes were lost
 pub record IsReport (p : Plan) (given : List TreeRelease) (lost text : List ℕ) : Type 0 where
   pub ordered : List TreeRelease
-  pub in_order : IsInOrder given ordered
+  pub in_order : IsSortedCopy given ordered
   pub is : text ≡ report_text p lost ordered
 
 -- a release's tree and classes are those of the wave's samples, merged directly over exactly the ranks that it covers

@@ -11,7 +11,7 @@ ghost use Rattle.stat_plan.specs.Plans.{Plan};
 ghost use Rattle.stat_desk.specs.declared.event.Event.{Event};
 ghost use Rattle.overlay_core.specs.TreeReleases.{AreNumberedInOrder, TreeRelease};
 ghost use Rattle.front_end.specs.ReleaseText.{classes_in};
-ghost use Rattle.front_end.specs.Report.{AllStreamsWait, AreDistinct, AreReleasesOf, IsInOrder, IsReport};
+ghost use Rattle.front_end.specs.Report.{AllStreamsWait, AreDistinct, AreReleasesOf, IsSortedCopy, IsReport};
 ghost use Rattle.front_end.specs.Report.{direct_releases, release_cmp};
 
 /// A law: there is one report, byte for byte, of the same releases of a plan where the same nodes were lost.
@@ -25,9 +25,9 @@ pub fn numbered_releases_are_distinct()
     ensures { (releases : List TreeRelease) → AreNumberedInOrder [] releases → AreDistinct releases }
 {}
 
-/// A law: releases whose stream, wave and number rise are printed as they stand.
+/// A law: releases whose stream, wave and number increase are printed as they stand.
 pub fn ordered_releases_are_in_order()
-    ensures { (releases : List TreeRelease) → IsStrictlySortedBy release_cmp releases → IsInOrder releases releases }
+    ensures { (releases : List TreeRelease) → IsStrictlySortedBy release_cmp releases → IsSortedCopy releases releases }
 {}
 
 /// A law: the classes depend on the tree alone, not on the samples without an empty path that it was built from.

@@ -4,7 +4,7 @@ ghost use Rattle.std.specs.List.{flat_map};
 ghost use Rattle.stat_plan.specs.Plans.{nodes};
 ghost use Rattle.overlay_core.specs.TreeReleases.{releases_view};
 ghost use Rattle.front_end.specs.ReleaseText.{release_text};
-ghost use Rattle.front_end.specs.Report.{AreDistinct, IsInOrder, IsReport, fate_text, fault_line};
+ghost use Rattle.front_end.specs.Report.{AreDistinct, IsSortedCopy, IsReport, fate_text, fault_line};
 ghost use Rattle.front_end.specs.Shown.{shown_releases};
 
 use crate::release_text::{write_numbered, write_release};
@@ -39,7 +39,7 @@ pub fn in_order<'a, T: PrefixTree>(
 ) -> Result<Vec<&'a Release<T>>, AllocError>
     requires distinct { AreDistinct (releases_view T.tree releases.now) }
     ensures { IfOk result
-        (λ ordered. IsInOrder (releases_view T.tree releases.now) (shown_releases T.tree ordered.items)) }
+        (λ ordered. IsSortedCopy (releases_view T.tree releases.now) (shown_releases T.tree ordered.items)) }
 {
     let mut ordered = references(alloc, releases)?;
     ordered.sort_unstable_by_key(|release| (release.stream, release.wave, release.number));

@@ -129,11 +129,11 @@ stream_good y (inr i) = absurd i
 script : IsScript (scripted_of lost_late)
 script = record {
   some = some_of _ _;
-  streams = (record { number = omega arith; mode = tt; waves_some = omega arith; waves_few = omega arith; samples_some = omega arith; samples_few = omega arith; daemons_some = some_of _ _; daemons_rise = (stream_good, ((λ y i. absurd i), tt)) }, tt);
-  streams_rise = ((λ y i. absurd i), tt);
+  streams = (record { number = omega arith; mode = tt; waves_some = omega arith; waves_few = omega arith; samples_some = omega arith; samples_few = omega arith; daemons_some = some_of _ _; daemons_increase = (stream_good, ((λ y i. absurd i), tt)) }, tt);
+  streams_increase = ((λ y i. absurd i), tt);
   faults = (record { after = omega arith; keep = omega arith }, tt);
   faults_limit = omega arith;
-  faults_rise = ((λ y i. absurd i), tt);
+  faults_increase = ((λ y i. absurd i), tt);
 }
 
 fits : ScriptFits (nodes_of lost_late) (scripted_of lost_late)

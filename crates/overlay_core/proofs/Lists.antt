@@ -92,9 +92,9 @@ nil-no x (y ∷ ys) h e = cc
 pub eqb_self : (x : ℕ) → (x == x) ≡ true
 eqb_self x = eq-eqb x x refl
 
-pub with_number_rises : (x : ℕ) (ys : List ℕ) → IsStrictlyIncreasing ys → IsStrictlyIncreasing (with_number x ys)
-with_number_rises x [] h = (λ y i. absurd i, tt)
-with_number_rises x (z ∷ zs) h = go (with_number_rises x zs h.1) (nat_lt x z) (x == z) refl refl
+pub with_number_increases : (x : ℕ) (ys : List ℕ) → IsStrictlyIncreasing ys → IsStrictlyIncreasing (with_number x ys)
+with_number_increases x [] h = (λ y i. absurd i, tt)
+with_number_increases x (z ∷ zs) h = go (with_number_increases x zs h.1) (nat_lt x z) (x == z) refl refl
   where
     go : IsStrictlyIncreasing (with_number x zs) → (a b : Bool) → nat_lt x z ≡ a → (x == z) ≡ b → IsStrictlyIncreasing (cond a (x ∷ z ∷ zs) (cond b (z ∷ zs) (z ∷ with_number x zs)))
     go ih true b ea eb = let lt : x < z = ltb-true x z ea in (λ y i. elim i [ inl e ↦ subst (λ t. x < t) (sym e) lt | inr j ↦ lt_trans lt (h.0 y j) ], h)
@@ -105,9 +105,9 @@ with_number_rises x (z ∷ zs) h = go (with_number_rises x zs h.1) (nat_lt x z) 
         let lt : z < x = omega arith in
         (λ y i. elim (in_with_number y x zs i) [ inl e ↦ subst (λ t. z < t) (sym e) lt | inr j ↦ h.0 y j ], ih)
 
-pub without_rises : (x : ℕ) (ys : List ℕ) → IsStrictlyIncreasing ys → IsStrictlyIncreasing (without_number x ys)
-without_rises x [] h = tt
-without_rises x (z ∷ zs) h = go (without_rises x zs h.1) (x == z)
+pub without_increases : (x : ℕ) (ys : List ℕ) → IsStrictlyIncreasing ys → IsStrictlyIncreasing (without_number x ys)
+without_increases x [] h = tt
+without_increases x (z ∷ zs) h = go (without_increases x zs h.1) (x == z)
   where
     go : IsStrictlyIncreasing (without_number x zs) → (b : Bool) → IsStrictlyIncreasing (cond b (without_number x zs) (z ∷ without_number x zs))
     go ih true = ih
@@ -122,25 +122,25 @@ filter_from {X} test (z ∷ zs) x i = go (filter_from test zs x) (test z) refl i
     go ih true e (inr k) = let r = ih k in (inr r.0, r.1)
     go ih false e k = let r = ih k in (inr r.0, r.1)
 
-pub filter_rises : (test : ℕ → Bool) (ys : List ℕ) → IsStrictlyIncreasing ys → IsStrictlyIncreasing (filter test ys)
-filter_rises test [] h = tt
-filter_rises test (z ∷ zs) h = go (filter_rises test zs h.1) (test z)
+pub filter_increases : (test : ℕ → Bool) (ys : List ℕ) → IsStrictlyIncreasing ys → IsStrictlyIncreasing (filter test ys)
+filter_increases test [] h = tt
+filter_increases test (z ∷ zs) h = go (filter_increases test zs h.1) (test z)
   where
     go : IsStrictlyIncreasing (filter test zs) → (b : Bool) → IsStrictlyIncreasing (cond b (z ∷ filter test zs) (filter test zs))
     go ih true = (λ y i. h.0 y (filter_from test zs y i).0, ih)
     go ih false = ih
 
-append_rises : (xs : List ℕ) (y : ℕ) → IsStrictlyIncreasing xs → ((x : ℕ) → In x xs → x < y) → IsStrictlyIncreasing (xs ++ y ∷ [])
-append_rises [] y h f = (λ z i. absurd i, tt)
-append_rises (x ∷ xs) y h f = (λ z i. elim (in_append z xs (y ∷ []) i) [ inl j ↦ h.0 z j | inr j ↦ elim j [ inl e ↦ subst (λ a. x < a) (sym e) (f x (inl refl)) | inr k ↦ absurd k ] ], append_rises xs y h.1 (λ z i. f z (inr i)))
+append_increases : (xs : List ℕ) (y : ℕ) → IsStrictlyIncreasing xs → ((x : ℕ) → In x xs → x < y) → IsStrictlyIncreasing (xs ++ y ∷ [])
+append_increases [] y h f = (λ z i. absurd i, tt)
+append_increases (x ∷ xs) y h f = (λ z i. elim (in_append z xs (y ∷ []) i) [ inl j ↦ h.0 z j | inr j ↦ elim j [ inl e ↦ subst (λ a. x < a) (sym e) (f x (inl refl)) | inr k ↦ absurd k ] ], append_increases xs y h.1 (λ z i. f z (inr i)))
 
 pub up_to_below : (n x : ℕ) → In x (up_to n) → x < n
 up_to_below zero x i = absurd i
 up_to_below (suc n) x i = elim (in_append x (up_to n) (n ∷ []) i) [ inl j ↦ (let k = up_to_below n x j in omega arith) | inr j ↦ elim j [ inl e ↦ omega arith | inr k ↦ absurd k ] ]
 
-pub up_to_rises : (n : ℕ) → IsStrictlyIncreasing (up_to n)
-up_to_rises zero = tt
-up_to_rises (suc n) = append_rises (up_to n) n (up_to_rises n) (λ x i. up_to_below n x i)
+pub up_to_increases : (n : ℕ) → IsStrictlyIncreasing (up_to n)
+up_to_increases zero = tt
+up_to_increases (suc n) = append_increases (up_to n) n (up_to_increases n) (λ x i. up_to_below n x i)
 
 pub list_all_in : {X : Type 0} (test : X → Bool) (xs : List X) (x : X) → list_all test xs ≡ true → In x xs → test x ≡ true
 list_all_in test [] x e i = absurd i

@@ -147,7 +147,7 @@ lose_sound p st n plan h up doom = record {
     related = (h.kin a).related;
     parent = (h.kin a).parent;
     children = (h.kin a).children;
-    children_rise = (h.kin a).children_rise;
+    children_increase = (h.kin a).children_increase;
   };
   links = lose_links p st n h up;
   losses = lose_losses p st n h up;

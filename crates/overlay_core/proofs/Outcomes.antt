@@ -10,7 +10,7 @@ use Rattle.stat_plan.specs.Machine.Waves.{Wave, Open, Closed, Book, covering, gr
 use Rattle.overlay_core.specs.Machine.{next_sample, is_empty_open, is_wave}
 use Rattle.overlay_core.proofs.PlanFacts.{HasPlanFacts}
 use Rattle.overlay_core.specs.LinkInvariant.{AreRelated, ComesWhole, KinIsSound, PacketIsSound, SendIsSound, WaveIsSound, BookIsSound, IsUnion}
-use Rattle.overlay_core.proofs.Lists.{in_map_filter, in_member, in_from_member, in_with_number, with_number_old, with_number_new, in_without, in_union, union_left, union_right, with_number_rises, without_rises, filter_from, no_rank, empty_true}
+use Rattle.overlay_core.proofs.Lists.{in_map_filter, in_member, in_from_member, in_with_number, with_number_old, with_number_new, in_without, in_union, union_left, union_right, with_number_increases, without_increases, filter_from, no_rank, empty_true}
 use Rattle.overlay_core.proofs.Acts.{IsSubsetOf, each_wave_set, KinFits, WorkIsSound, act_sound, act_each_sound, dones_sound, to_parent_sound}
 
 pub nearest_in : (xs lost : List ℕ) (m : ℕ) → nearest xs lost ≡ Some m → In m xs
@@ -172,7 +172,7 @@ attach_sound p alive n x m hk hb u = record {
     related = hk.related;
     parent = hk.parent;
     children = λ c i. elim (in_with_number c m x.kin.children i) [ inl e ↦ subst (λ a. IsUnder p a n) (sym e) u | inr j ↦ hk.children c j ];
-    children_rise = with_number_rises m x.kin.children hk.children_rise;
+    children_increase = with_number_increases m x.kin.children hk.children_increase;
   };
   kept = λ a i. i;
   new = λ a i. inl i;
@@ -204,7 +204,7 @@ down_parent p alive n x m hk dead rel = record {
   related = lost_more (λ a. AreRelated p n a) m x.kin.lost rel hk.related;
   parent = refl;
   children = hk.children;
-  children_rise = hk.children_rise;
+  children_increase = hk.children_increase;
 }
 
 down_child : (p : Plan) (alive : ℕ → Bool) (n : ℕ) (x : Node) (m : ℕ) → KinIsSound p alive n x.kin → alive m ≡ false → AreRelated p n m → is_parent x.kin.parent m ≡ false → KinIsSound p alive n (without_child x.kin m)
@@ -213,7 +213,7 @@ down_child p alive n x m hk dead rel np = record {
   related = lost_more (λ a. AreRelated p n a) m x.kin.lost rel hk.related;
   parent = hk.parent ∙ sym (nearest_same (ancestors p n) x.kin.lost m (subst (λ o. is_parent o m ≡ false) hk.parent np));
   children = λ c i. hk.children c (in_without c m x.kin.children i);
-  children_rise = without_rises m x.kin.children hk.children_rise;
+  children_increase = without_increases m x.kin.children hk.children_increase;
 }
 
 related_back : (p : Plan) (n m : ℕ) → AreRelated p n m → AreRelated p m n

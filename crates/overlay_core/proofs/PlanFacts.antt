@@ -216,11 +216,11 @@ all_in P (y ∷ ys) x h (inl e) = subst P (sym e) h.0
 all_in P (y ∷ ys) x h (inr i) = all_in P ys x h.1 i
 
 -- an ascending list of numbers from a to below n has at most n - a of them
-rise_length : (xs : List ℕ) (a n : ℕ) → IsStrictlyIncreasing xs → a ≤ n → ((x : ℕ) → In x xs → (a ≤ x) × (x < n)) → length xs + a ≤ n
-rise_length [] a n rise le bound = omega arith
-rise_length (x ∷ xs) a n rise le bound =
+increasing_length : (xs : List ℕ) (a n : ℕ) → IsStrictlyIncreasing xs → a ≤ n → ((x : ℕ) → In x xs → (a ≤ x) × (x < n)) → length xs + a ≤ n
+increasing_length [] a n increasing le bound = omega arith
+increasing_length (x ∷ xs) a n increasing le bound =
     let b = bound x (inl refl) in
-    let ih : length xs + suc x ≤ n = rise_length xs (suc x) n rise.1 (omega arith) (λ y i. (let k : x < y = rise.0 y i in omega arith, (bound y (inr i)).1)) in
+    let ih : length xs + suc x ≤ n = increasing_length xs (suc x) n increasing.1 (omega arith) (λ y i. (let k : x < y = increasing.0 y i in omega arith, (bound y (inr i)).1)) in
     omega arith
 
 -- a node that no fault names has none
@@ -280,9 +280,9 @@ listed : (p : Plan) (d s : ℕ) → IsPlan p → In d (daemons p s) → IsDaemon
 unfolding daemons
 listed p d s plan = of_stream p s (λ x. AllByRecursion (IsDaemon (nodes_of p)) x.daemons) (λ o. In d (elim o [ None ↦ [] | Some x ↦ x.daemons ]) → IsDaemon (nodes_of p) d) plan.script_fits.daemons (λ i. absurd i) (λ x all i. all_in (IsDaemon (nodes_of p)) x.daemons d all i)
 
-rising : (p : Plan) (s : ℕ) → IsPlan p → IsStrictlyIncreasing (daemons p s)
+increasing : (p : Plan) (s : ℕ) → IsPlan p → IsStrictlyIncreasing (daemons p s)
 unfolding daemons
-rising p s plan = of_stream p s IsStream (λ o. IsStrictlyIncreasing (elim o [ None ↦ [] | Some x ↦ x.daemons ])) plan.script.streams tt (λ x good. good.daemons_rise)
+increasing p s plan = of_stream p s IsStream (λ o. IsStrictlyIncreasing (elim o [ None ↦ [] | Some x ↦ x.daemons ])) plan.script.streams tt (λ x good. good.daemons_increase)
 
 timeout_some : (m : Mode) (t : ℕ) → IsMode m → m ≡ TimeOut t → 1 ≤ t
 timeout_some WaitForAll t h e = absurd (cc)
@@ -316,7 +316,7 @@ plan_facts p plan =
       rest = rest p tree;
       depth = λ n. le_of_lt (tree.grounded n);
       shallow = tree.shallow;
-      few_daemons = λ s. let k = rise_length (daemons p s) 0 (nodes p) (rising p s plan) zero-le (λ d i. (zero-le, (listed p d s plan i).0)) in omega arith;
+      few_daemons = λ s. let k = increasing_length (daemons p s) 0 (nodes p) (increasing p s plan) zero-le (λ d i. (zero-le, (listed p d s plan i).0)) in omega arith;
       all_under = λ n lt. under_front p (length (ancestors p n)) n tree (le_refl _) lt;
       daemon_leaf = λ d s a i u. let r = above_nodes p (length (ancestors p a)) a d tree (le_refl _) u in no_child p.parents d r.child (listed p d s plan i).1 r.parent;
       stream_daemon = some_daemon p plan.script.streams;

@@ -16,7 +16,7 @@ use Rattle.overlay_core.specs.Bound.{bound, longest}
 use Rattle.stat_plan.specs.declared.machine.Timer.TheVariants.{Off}
 use Rattle.stat_desk.specs.declared.event.Event.{Event}
 use Rattle.stat_desk.specs.declared.event.Event.TheVariants.{Sample, Recv, Tick, Lose}
-use Rattle.overlay_core.proofs.Lists.{in_from_member, without_rises, in_without, up_to_below}
+use Rattle.overlay_core.proofs.Lists.{in_from_member, without_increases, in_without, up_to_below}
 use Rattle.overlay_core.proofs.Totals.{total, total_append, total_le, total_bound, total_at, length_up_to, length_filter_le, length_below}
 use Rattle.overlay_core.proofs.Outcomes.{next_is_empty, next_is_named, growing_sound}
 use Rattle.overlay_core.proofs.ParentLinks.{in_filter, in_list_any, test_from_within}
@@ -215,12 +215,12 @@ few_children p n xs plan h f = elim (length_below xs 0 (nodes p) h (λ x i. (zer
 
 received_decreases : (p : Plan) (alive : ℕ → Bool) (n : ℕ) (x : Node) (m : ℕ) (q : Packet) → HasPlanFacts p → KinIsSound p alive n x.kin → BookIsSound p n x.book → PacketIsSound p alive m n q → Decreases p n x (packet_weight p q) (received p n x m q)
 received_decreases p alive n x m (Up s w set) plan hk hb hq =
-    up_decreases p n x s w set hq.3 (few_children p n x.kin.children plan hk.children_rise hk.children) (hb s w) (growing_sound p m n s set (x.book s w) plan hq.0 hq.1 (hb s w))
-received_decreases p alive n x m (Done s w) plan hk hb hq = done_decreases p n x s w hq.2 (few_children p n x.kin.children plan hk.children_rise hk.children)
+    up_decreases p n x s w set hq.3 (few_children p n x.kin.children plan hk.children_increase hk.children) (hb s w) (growing_sound p m n s set (x.book s w) plan hq.0 hq.1 (hb s w))
+received_decreases p alive n x m (Done s w) plan hk hb hq = done_decreases p n x s w hq.2 (few_children p n x.kin.children plan hk.children_increase hk.children)
 received_decreases p alive n x m Attach plan hk hb hq = attach_decreases p n x m
 received_decreases p alive n x m Down plan hk hb hq =
-    down_decreases p alive n x m hk (few_children p n x.kin.children plan hk.children_rise hk.children)
-    (few_children p n (without_child x.kin m).children plan (without_rises m x.kin.children hk.children_rise) (λ c i. hk.children c (in_without c m x.kin.children i)))
+    down_decreases p alive n x m hk (few_children p n x.kin.children plan hk.children_increase hk.children)
+    (few_children p n (without_child x.kin m).children plan (without_increases m x.kin.children hk.children_increase) (λ c i. hk.children c (in_without c m x.kin.children i)))
 
 pub sender_below : (p : Plan) (alive : ℕ → Bool) (m n : ℕ) (q : Packet) → HasPlanFacts p → PacketIsSound p alive m n q → m < nodes p
 sender_below p alive m n (Up s w set) plan h = (plan.under_nodes m n h.0).0
@@ -251,7 +251,7 @@ step_decreases p st (Sample n s w) plan h below e =
     let i = next_is_named p (st.node n) s w t.1 in
     let hk = h.base.kin n in
     let a = commit_decreases p st n 0 (sampled p n (st.node n) s w) (below n up) up
-    (sampled_decreases p n (st.node n) s w plan i hd (few_children p n (st.node n).kin.children plan hk.children_rise hk.children) (next_is_empty p (st.node n) s w t.1) (h.base.books n s w) (h.settled n up s w (served p n s w hd i))) in
+    (sampled_decreases p n (st.node n) s w plan i hd (few_children p n (st.node n).kin.children plan hk.children_increase hk.children) (next_is_empty p (st.node n) s w t.1) (h.base.books n s w) (h.settled n up s w (served p n s w hd i))) in
     omega arith
 step_decreases p st (Recv n m) plan h below e =
     let t = and_parts _ _ e in
@@ -261,7 +261,7 @@ step_decreases p st (Tick n) plan h below e =
     let t = and_parts _ _ e in
     let up = (active_parts p st n t.0).0 in
     let hk = h.base.kin n in
-    let a = commit_decreases p st n 0 (after_tick p n (st.node n)) (below n up) up (tick_decreases p n (st.node n) (few_children p n (st.node n).kin.children plan hk.children_rise hk.children) (h.settled n up) t.1) in
+    let a = commit_decreases p st n 0 (after_tick p n (st.node n)) (below n up) up (tick_decreases p n (st.node n) (few_children p n (st.node n).kin.children plan hk.children_increase hk.children) (h.settled n up) t.1) in
     omega arith
 step_decreases p st (Lose n) plan h below e = let up = (and_parts _ _ e).0 in lose_weight p st n (below n up) up
 

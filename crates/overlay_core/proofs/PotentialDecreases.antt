@@ -23,7 +23,7 @@ use Rattle.stat_plan.specs.declared.machine.Timer.TheVariants.{Off, Running, Fir
 use Rattle.stat_plan.specs.declared.machine.Act.{Act}
 use Rattle.stat_plan.specs.declared.machine.Act.TheVariants.{Hold, Arm, Send, Partial, Final}
 use Rattle.overlay_core.proofs.Lists.{test_from_same, same_from_members, union_left, in_member, in_from_member, with_number_old, with_number_new, subset_from_test, test_from_subset, filter_from, no_rank, empty_true, none_from_subset}
-use Rattle.overlay_core.proofs.Totals.{total, total_append, total_drop, total_rise, length_filter_le, length_filter_less, length_filter_drop}
+use Rattle.overlay_core.proofs.Totals.{total, total_append, total_drop, total_increase, length_filter_le, length_filter_less, length_filter_drop}
 use Rattle.overlay_core.proofs.Acts.{IsSubsetOf, each_wave_set, send_grown}
 use Rattle.overlay_core.proofs.Outcomes.{nearest_in, waves_at_named}
 use Rattle.overlay_core.proofs.ParentLinks.{set_wave_here, test_from_within, list_any_in}
@@ -399,8 +399,8 @@ down_decreases p alive n x m hk few few' =
     let kin' : Kin = with_parent p n x.kin m in
     let b : Book = λ s w. unsent (x.book s w) in
     let k0 : Effects = record { book = b; sends = to_parent kin'.parent Attach; releases = [] } in
-    let rise : book_weight p n b ≤ book_weight p n x.book + wave_count p * (tick_cap p + 1) =
-    total_rise (λ v. wave_weight p n v.0 (b v.0 v.1)) (λ v. wave_weight p n v.0 (x.book v.0 v.1)) (tick_cap p + 1) (waves_of p.streams) (λ v i. unsent_decreases p n v.0 (x.book v.0 v.1)) in
+    let growth : book_weight p n b ≤ book_weight p n x.book + wave_count p * (tick_cap p + 1) =
+    total_increase (λ v. wave_weight p n v.0 (b v.0 v.1)) (λ v. wave_weight p n v.0 (x.book v.0 v.1)) (tick_cap p + 1) (waves_of p.streams) (λ v i. unsent_decreases p n v.0 (x.book v.0 v.1)) in
     let at : sends_weight p (to_parent kin'.parent Attach) ≤ 1 + wave_count p = attach_weight p kin'.parent in
     let a : work_weight p n (act_each p n kin' (waves_at p n) k0) ≤ work_weight p n k0 = act_each_decreases p n kin' (waves_at p n) k0 (waves_at_named p n) few in
     let cost : parent_cost p ≡ 1 + wave_count p + wave_count p * (tick_cap p + 1) = refl in

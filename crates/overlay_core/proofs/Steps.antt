@@ -11,7 +11,7 @@ use Rattle.overlay_core.proofs.PlanFacts.{HasPlanFacts}
 use Rattle.overlay_core.specs.LinkInvariant.{AreRelated, LinkIsSound, EndsAtDown, LinkInvariant}
 use Rattle.stat_desk.specs.declared.event.Event.{Event}
 use Rattle.stat_desk.specs.declared.event.Event.TheVariants.{Sample, Recv, Tick, Lose}
-use Rattle.overlay_core.proofs.Lists.{filter_rises, up_to_rises, in_from_member, in_map_filter, no_rank}
+use Rattle.overlay_core.proofs.Lists.{filter_increases, up_to_increases, in_from_member, in_map_filter, no_rank}
 use Rattle.overlay_core.proofs.Outcomes.{next_is_named, sampled_sound, tick_sound, received_sound, next_is_empty, heard_in, nearest_in}
 use Rattle.overlay_core.proofs.Commits.{IsReady, LossIsHeard, commit_sound}
 use Rattle.overlay_core.proofs.Losses.{lose_sound}
@@ -161,7 +161,7 @@ pub start_sound : (p : Plan) → HasPlanFacts p → LinkInvariant p (start p)
 unfolding start
 start_sound p plan = record {
   front = lt-ltb (front p) (nodes p) plan.front_below;
-  kin = λ n. record { lost = λ m i. absurd i; related = λ m i. absurd i; parent = refl; children = children_under p n; children_rise = filter_rises _ (up_to (nodes p)) (up_to_rises (nodes p)) };
+  kin = λ n. record { lost = λ m i. absurd i; related = λ m i. absurd i; parent = refl; children = children_under p n; children_increase = filter_increases _ (up_to (nodes p)) (up_to_increases (nodes p)) };
   links = λ m n. record { into_lost = λ e. refl; packets = λ q i. absurd i; down_last = tt };
   losses = λ n m. record {
     named = λ u d r. let k : nat_lt m (nodes p) ≡ true = lt-ltb m (nodes p) (below n m r) in absurd (cc);

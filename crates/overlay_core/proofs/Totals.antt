@@ -27,10 +27,10 @@ total_drop f g c x (y ∷ ys) h (inr i) d =
     let a : f y ≤ g y = h y (inl refl) in
     let ih : total f ys + c ≤ total g ys = total_drop f g c x ys (λ z j. h z (inr j)) i d in omega arith
 
--- where each rises by c at most
-pub total_rise : {X : Type 0} (f g : X → ℕ) (c : ℕ) (xs : List X) → ((y : X) → In y xs → f y ≤ g y + c) → total f xs ≤ total g xs + length xs * c
-total_rise f g c [] h = zero-le
-total_rise f g c (x ∷ xs) h = let a : f x ≤ g x + c = h x (inl refl) in let ih : total f xs ≤ total g xs + length xs * c = total_rise f g c xs (λ y i. h y (inr i)) in omega arith
+-- where each increases by c at most
+pub total_increase : {X : Type 0} (f g : X → ℕ) (c : ℕ) (xs : List X) → ((y : X) → In y xs → f y ≤ g y + c) → total f xs ≤ total g xs + length xs * c
+total_increase f g c [] h = zero-le
+total_increase f g c (x ∷ xs) h = let a : f x ≤ g x + c = h x (inl refl) in let ih : total f xs ≤ total g xs + length xs * c = total_increase f g c xs (λ y i. h y (inr i)) in omega arith
 
 pub total_bound : {X : Type 0} (f : X → ℕ) (c : ℕ) (xs : List X) → ((y : X) → In y xs → f y ≤ c) → total f xs ≤ length xs * c
 total_bound f c [] h = zero-le

@@ -37,7 +37,7 @@ pub record KinIsSound (p : Plan) (alive : ℕ → Bool) (n : ℕ) (kin : Kin) : 
   pub related : (m : ℕ) → In m kin.lost → AreRelated p n m
   pub parent : kin.parent ≡ nearest (ancestors p n) kin.lost
   pub children : (c : ℕ) → In c kin.children → IsUnder p c n
-  pub children_rise : IsStrictlyIncreasing kin.children
+  pub children_increase : IsStrictlyIncreasing kin.children
 
 -- the front end lives
 abbrev pub FrontIsAlive : Plan → State → Type 0

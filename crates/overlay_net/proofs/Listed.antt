@@ -13,7 +13,7 @@ use Rattle.stat_plan.specs.NodeSets.{In, IsStrictlyIncreasing}
 use Rattle.stat_plan.specs.Plans.{up_to}
 use Rattle.stat_plan.proofs.FirstOver.{all_in}
 use Rattle.stat_plan.proofs.InLists.{in_filter, in_from_filter}
-use Rattle.overlay_core.proofs.Lists.{filter_rises, up_to_rises, up_to_below}
+use Rattle.overlay_core.proofs.Lists.{filter_increases, up_to_increases, up_to_below}
 use Rattle.overlay_core.proofs.Whole.{in_up_to}
 use Rattle.stat_desk.specs.declared.event.Event.{Event}
 use Rattle.overlay_net.specs.Inboxes.{Waiting, is_waiting, senders_of}
@@ -48,18 +48,18 @@ none_from_test (x ∷ xs) h = absurd (true≢false h)
 -- ---- ascending lists
 
 -- ascending lists of the same numbers are the same
-pub same_rising : (xs ys : List ℕ) → IsStrictlyIncreasing xs → IsStrictlyIncreasing ys → ((n : ℕ) → In n xs → In n ys) → ((n : ℕ) → In n ys → In n xs) → xs ≡ ys
-same_rising [] [] h k f g = refl
-same_rising [] (y ∷ ys) h k f g = absurd (g y (inl refl))
-same_rising (x ∷ xs) [] h k f g = absurd (f x (inl refl))
-same_rising (x ∷ xs) (y ∷ ys) h k f g =
+pub same_increasing : (xs ys : List ℕ) → IsStrictlyIncreasing xs → IsStrictlyIncreasing ys → ((n : ℕ) → In n xs → In n ys) → ((n : ℕ) → In n ys → In n xs) → xs ≡ ys
+same_increasing [] [] h k f g = refl
+same_increasing [] (y ∷ ys) h k f g = absurd (g y (inl refl))
+same_increasing (x ∷ xs) [] h k f g = absurd (f x (inl refl))
+same_increasing (x ∷ xs) (y ∷ ys) h k f g =
     let e : x ≡ y = elim (f x (inl refl)) [
       | inl e ↦ e
       | inr i ↦ elim (g y (inl refl)) [ inl e ↦ sym e | inr j ↦ absurd (let a : y < x = k.0 x i in let b : x < y = h.0 y j in omega arith) ]
     ] in
     ap (λ z. z ∷ xs) e
     ∙ ap (λ zs. y ∷ zs)
-    (same_rising xs ys h.1 k.1
+    (same_increasing xs ys h.1 k.1
     (λ n i. elim (f n (inr i)) [ inl a ↦ absurd (let b : x < n = h.0 n i in omega arith) | inr j ↦ j ])
     (λ n i. elim (g n (inr i)) [ inl a ↦ absurd (let b : y < n = k.0 n i in omega arith) | inr j ↦ j ]))
 
@@ -68,10 +68,10 @@ less_from_order : (x y : ℕ) → nat_cmp x y ≡ Less → x < y
 less_from_order x y h = grind (arith, nat_tests)
 
 -- std's word for an ascending list
-pub rising_from_sorted : (xs : List ℕ) → IsStrictlySortedBy nat_cmp xs → IsStrictlyIncreasing xs
+pub increasing_from_sorted : (xs : List ℕ) → IsStrictlySortedBy nat_cmp xs → IsStrictlyIncreasing xs
 unfolding IsStrictlySortedBy
-rising_from_sorted [] h = tt
-rising_from_sorted (x ∷ xs) h = (λ y i. less_from_order x y (all_in (λ y. nat_cmp x y ≡ Less) xs y h.0 i), rising_from_sorted xs h.1)
+increasing_from_sorted [] h = tt
+increasing_from_sorted (x ∷ xs) h = (λ y i. less_from_order x y (all_in (λ y. nat_cmp x y ≡ Less) xs y h.0 i), increasing_from_sorted xs h.1)
 
 -- what is listed is in the list
 pub in_from_listed : (ready : List ℕ) (n : ℕ) → is_listed ready n ≡ true → In n ready
@@ -121,8 +121,8 @@ filter_mapped {X} {Y} test f (x ∷ xs) = ap (λ (ys : List Y). cond (test (f x)
 
 -- the numbers below n that pass a test, if they are those of an ascending list
 pub filter_up_to : (test : ℕ → Bool) (n : ℕ) (xs : List ℕ) → IsStrictlyIncreasing xs → ((m : ℕ) → In m xs → (m < n) × (test m ≡ true)) → ((m : ℕ) → m < n → test m ≡ true → In m xs) → filter test (up_to n) ≡ xs
-filter_up_to test n xs rise each all =
-    same_rising (filter test (up_to n)) xs (filter_rises test (up_to n) (up_to_rises n)) rise
+filter_up_to test n xs increasing each all =
+    same_increasing (filter test (up_to n)) xs (filter_increases test (up_to n) (up_to_increases n)) increasing
     (λ m i. let r = in_from_filter test m (up_to n) i in all m (up_to_below n m r.0) r.1)
     (λ m i. let r = each m i in in_filter test m (up_to n) (in_up_to n m r.0) r.1)
 
@@ -137,9 +137,9 @@ flat_kept g (x ∷ xs) = ap (λ (es : List Event). g x ++ es) (flat_kept g xs) �
 
 -- the lists of an ascending list of exactly those that have one, put together
 pub flat_ready : (g : ℕ → List Event) (n : ℕ) (ready : List ℕ) → IsStrictlyIncreasing ready → ((m : ℕ) → In m ready → m < n) → ((m : ℕ) → m < n → is_listed ready m ≡ has_some (g m)) → flat_map g (up_to n) ≡ flat_map g ready
-flat_ready g n ready rise below just =
+flat_ready g n ready increasing below just =
     flat_kept g (up_to n)
     ∙ ap (flat_map g)
-    (filter_up_to (λ m. has_some (g m)) n ready rise
+    (filter_up_to (λ m. has_some (g m)) n ready increasing
     (λ m i. (below m i, sym (just m (below m i)) ∙ listed_from_in ready m i))
     (λ m lt h. in_from_listed ready m (just m lt ∙ h)))

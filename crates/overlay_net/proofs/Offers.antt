@@ -30,7 +30,7 @@ use Rattle.overlay_net.specs.Inboxes.{Waiting, HaveSent, is_waiting, queue_of, s
 use Rattle.overlay_net.specs.Nets.{inbox_at, node_at, node_events, sample_of, state_with, tick_of}
 use Rattle.overlay_net.specs.Events.{AreParts, AreReady, IsNth, has_some, is_listed, sample_at}
 use Rattle.overlay_net.specs.declared.events.Nth.{Nth}
-use Rattle.overlay_net.proofs.Listed.{get_before, get_past, nth_past, filter_mapped, filter_none, filter_same, filter_up_to, flat_ready, listed_from_in, listed_waits, none_from_test, rising_from_sorted, sender_listed}
+use Rattle.overlay_net.proofs.Listed.{get_before, get_past, nth_past, filter_mapped, filter_none, filter_same, filter_up_to, flat_ready, listed_from_in, listed_waits, none_from_test, increasing_from_sorted, sender_listed}
 
 -- ---- the daemons of a stream of the plan
 
@@ -52,7 +52,7 @@ found_by_number (y ∷ ys) x h (inr i) = go (found_by_number ys x h.1 i) (y.numb
 -- a stream of the plan is the one of its number
 stream_is : (p : Plan) (x : Stream) → IsPlan p → In x p.streams → stream_of p x.number ≡ Some x
 unfolding stream_of
-stream_is p x plan i = found_by_number p.streams x plan.script.streams_rise i
+stream_is p x plan i = found_by_number p.streams x plan.script.streams_increase i
 
 -- the daemons of a found stream
 daemons_found : (p : Plan) (s : ℕ) (x : Stream) → stream_of p s ≡ Some x → daemons p s ≡ x.daemons
@@ -236,7 +236,7 @@ stream_samples p st x box s plan i h =
     ∙ go (member x.number s.daemons)
   where
     named : (v : ℕ × ℕ) → next_sample p (node_of x) s.number ≡ Some v → v.1 < s.waves
-    named v e = up_to_below s.waves v.1 (own_wave p.streams s v.1 plan.script.streams_rise i (next_is_named p (node_of x) s.number v.1 (ap (λ (o : Option (ℕ × ℕ)). is_wave o v.1) e ∙ eqb_self v.1)))
+    named v e = up_to_below s.waves v.1 (own_wave p.streams s v.1 plan.script.streams_increase i (next_is_named p (node_of x) s.number v.1 (ap (λ (o : Option (ℕ × ℕ)). is_wave o v.1) e ∙ eqb_self v.1)))
 
     by : (o : Option (ℕ × ℕ)) → next_sample p (node_of x) s.number ≡ o → map (λ w. Sample x.number s.number w) (filter (λ w. is_wave o w) (up_to s.waves)) ≡ (elim o as (λ _. List Event) [ None ↦ [] | (Some v) ↦ Sample x.number s.number v.1 ∷ [] ])
     by None e = ap (map (λ w. Sample x.number s.number w)) (filter_none (λ w. false) (up_to s.waves) (λ w j. refl))
@@ -342,7 +342,7 @@ node_in_state p xs inboxes releases x no_faults parts at lt = record {
   node = node_there p xs x.number x at;
   links = λ m. pending_is (inbox_at inboxes x.number) m (parts.sent x.number);
   stays = stays_is p (state_with p xs inboxes releases) x.number no_faults;
-  increasing = rising_from_sorted (senders_of (inbox_at inboxes x.number)) (parts.increasing x.number);
+  increasing = increasing_from_sorted (senders_of (inbox_at inboxes x.number)) (parts.increasing x.number);
   senders = λ m w. parts.senders m x.number w;
 }
 
@@ -472,9 +472,9 @@ none_is_ready p xs inboxes releases ready plan no_faults parts listed = (
 
 -- where the nodes with an event are listed in order, the events that may come next are theirs, node by node
 pub all_ready : (p : Plan) (xs : List NodeView) (inboxes : List Waiting) (releases : List TreeRelease) (ready : List ℕ) → IsPlan p → p.faults ≡ [] → AreParts p xs inboxes → AreReady p xs inboxes ready → IsStrictlyIncreasing ready → enabled_events p (state_with p xs inboxes releases) ≡ flat_map (events_at p xs inboxes) ready
-all_ready p xs inboxes releases ready plan no_faults parts listed rise =
+all_ready p xs inboxes releases ready plan no_faults parts listed increasing =
     all_offers p xs inboxes releases plan no_faults parts
-    ∙ flat_ready (events_at p xs inboxes) (nodes p) ready rise (λ m i. listed.below m (listed_from_in ready m i)) (λ m lt. ready_at p xs inboxes ready m parts listed lt)
+    ∙ flat_ready (events_at p xs inboxes) (nodes p) ready increasing (λ m i. listed.below m (listed_from_in ready m i)) (λ m lt. ready_at p xs inboxes ready m parts listed lt)
 
 -- the events of a node that was read
 pub events_read : (p : Plan) (xs : List NodeView) (inboxes : List Waiting) (n : ℕ) (x : NodeView) (box : Waiting) → slice_get xs n ≡ Some x → box ≡ inbox_at inboxes n → events_at p xs inboxes n ≡ node_events p x box

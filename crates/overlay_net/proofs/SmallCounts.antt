@@ -73,11 +73,11 @@ journal_counts p journal n = let a = run_raises p (start p) journal n in let b =
 
 -- ascending numbers of a range are no more than it has
 ascending_within_limit : (xs : List ℕ) (low high : ℕ) → low ≤ high → IsStrictlyIncreasing xs → ((x : ℕ) → In x xs → (low ≤ x) × (x < high)) → low + length xs ≤ high
-ascending_within_limit [] low high le rise within = omega arith
-ascending_within_limit (x ∷ xs) low high le rise within =
+ascending_within_limit [] low high le increasing within = omega arith
+ascending_within_limit (x ∷ xs) low high le increasing within =
     let here : (low ≤ x) × (x < high) = within x (inl refl) in
     let most : suc x ≤ high = here.1 in
-    let rest : suc x + length xs ≤ high = ascending_within_limit xs (suc x) high most rise.1 (λ y i. (rise.0 y i, (within y (inr i)).1)) in
+    let rest : suc x + length xs ≤ high = ascending_within_limit xs (suc x) high most increasing.1 (λ y i. (increasing.0 y i, (within y (inr i)).1)) in
     let least : low ≤ x = here.0 in
     omega arith
 
@@ -89,9 +89,9 @@ numbers_below (x ∷ xs) all n (inr i) = numbers_below xs all.1 n i
 
 -- there are at most 8 streams
 streams_within_limit : (xs : List Stream) → AllByRecursion IsStream xs → IsStrictlyIncreasing (map (λ (x : Stream). x.number) xs) → length xs ≤ 8
-streams_within_limit xs all rise =
+streams_within_limit xs all increasing =
     let some : 0 ≤ 8 = omega arith in
-    let a : 0 + length (map (λ (x : Stream). x.number) xs) ≤ 8 = ascending_within_limit (map (λ (x : Stream). x.number) xs) 0 8 some rise (λ n i. (omega arith, numbers_below xs all n i)) in
+    let a : 0 + length (map (λ (x : Stream). x.number) xs) ≤ 8 = ascending_within_limit (map (λ (x : Stream). x.number) xs) 0 8 some increasing (λ n i. (omega arith, numbers_below xs all n i)) in
     let b : length (map (λ (x : Stream). x.number) xs) ≡ length xs = length-map xs (λ (x : Stream). x.number) in
     omega arith
 
@@ -143,7 +143,7 @@ pub small_bound : (p : Plan) → IsPlan p → bound p < 2 ^ 62
 small_bound p plan =
     let a : nodes p ≤ NODE_LIMIT = plan.topology.few in
     let b : length (waves_of p.streams) ≤ 16 * length p.streams = waves_within_limit p.streams plan.script.streams in
-    let c : length p.streams ≤ 8 = streams_within_limit p.streams plan.script.streams plan.script.streams_rise in
+    let c : length p.streams ≤ 8 = streams_within_limit p.streams plan.script.streams plan.script.streams_increase in
     let m : length (waves_of p.streams) ≤ 128 = omega arith in
     let d = small_bound_of (nodes p) (length (waves_of p.streams)) (longest p.streams) a m (longest_within_limit p.streams plan.script.streams) in
     let g = greatest_bound in

@@ -6,7 +6,7 @@ use Rattle.stat_plan.specs.Invariants.{IsPlan}
 use Rattle.stat_plan.specs.Machine.Waves.{Wave}
 use Rattle.stat_plan.proofs.InLists.{in_at}
 use Rattle.stat_plan.specs.Plans.{Plan, Stream, serves, up_to, waves_of, waves_at}
-use Rattle.overlay_core.proofs.Lists.{in_append, filter_from, up_to_rises, eqb_self}
+use Rattle.overlay_core.proofs.Lists.{in_append, filter_from, up_to_increases, eqb_self}
 use Rattle.overlay_node.specs.Acting.{AreDistinct}
 use Rattle.overlay_node.specs.NodeViews.{EntryView, book_of, given_of, is_entry_of, keys_of, wave_of}
 
@@ -37,7 +37,7 @@ once_map s (w ∷ ws) h = (λ i. (let lt : w < w = h.0 w (wave_is_of s ws (s, w)
 once_of : (xs : List Stream) → IsStrictlyIncreasing (map (λ x. x.number) xs) → AreDistinct (waves_of xs)
 once_of [] h = tt
 once_of (x ∷ xs) h =
-    once_append (map (λ w. (x.number, w)) (up_to x.waves)) (waves_of xs) (once_map x.number (up_to x.waves) (up_to_rises x.waves)) (once_of xs h.1)
+    once_append (map (λ w. (x.number, w)) (up_to x.waves)) (waves_of xs) (once_map x.number (up_to x.waves) (up_to_increases x.waves)) (once_of xs h.1)
     (λ v i j. (let lt : x.number < v.0 = h.0 v.0 (stream_of_wave xs v j) in let e : v.0 ≡ x.number = (wave_is_of x.number (up_to x.waves) v i).0 in omega arith))
 
 -- the keys that pass a test are distinct too
@@ -51,7 +51,7 @@ once_filter test (v ∷ vs) h = go (once_filter test vs h.1) (test v)
 
 -- the waves of a plan are distinct
 pub waves_distinct : (p : Plan) → IsPlan p → AreDistinct (waves_of p.streams)
-waves_distinct p h = once_of p.streams h.script.streams_rise
+waves_distinct p h = once_of p.streams h.script.streams_increase
 
 -- the waves of the streams that a node serves are distinct
 pub waves_at_distinct : (p : Plan) (n : ℕ) → IsPlan p → AreDistinct (waves_at p n)

@@ -52,7 +52,7 @@ lists_below (y ∷ ys) (x ∷ xs) hx hy h = elim (h x (inl refl)) [
 
 -- a subset has fewer ranks, or is the same set
 pub size_below : (s t : Ranks) → IsSubset s t → (suc (size s) ≤ size t) ⊎ (s ≡ t)
-size_below s t h = elim (lists_below (in_order t) (in_order s) (ascending _ (from_T _ s.rises)) (ascending _ (from_T _ t.rises)) (λ x i. any_in x (in_order t) (sym (has-in_order t x) ∙ h x (has-in_order s x ∙ in_any x (in_order s) i)))) [
+size_below s t h = elim (lists_below (in_order t) (in_order s) (ascending _ (from_T _ s.increasing)) (ascending _ (from_T _ t.increasing)) (λ x i. any_in x (in_order t) (sym (has-in_order t x) ∙ h x (has-in_order s x ∙ in_any x (in_order s) i)))) [
   | inl lt ↦ inl lt
   | inr same ↦ inr (same_list s t same)
 ]

@@ -11,7 +11,7 @@ use Rattle.call_path.specs.Path.{Path, path_cmp, path_cmp_total, path_cmp_exact}
 use Rattle.prefix_tree.specs.Tree.{Marks}
 use Rattle.prefix_tree.specs.Joined.{path_rows, below_frame}
 use Rattle.prefix_tree.specs.declared.owned.TreeRow.{TreeRow}
-use Rattle.prefix_tree.specs.Owned.{by_order, next_place, place_of, entry_of, entries_view, below_in, IsInOrder}
+use Rattle.prefix_tree.specs.Owned.{by_order, next_place, place_of, entry_of, entries_view, below_in, HasIncreasingPaths}
 
 -- one more element that shows the same
 pub map_push_more : {A B : Type 0} (f : A → B) (done xs : List A) (i : ℕ) (x y : A) → i < length xs → y ≡ get_or xs i y → f x ≡ f y → map f done ≡ map f (take i xs) → map f (done ++ x ∷ []) ≡ map f (take (i + 1) xs)
@@ -117,7 +117,7 @@ path_rows_last C (f ∷ g ∷ p) zero e = absurd (omega arith)
 path_rows_last C (f ∷ g ∷ p) (suc k) e = drop-map (below_frame f) k (path_rows C (g ∷ p)) ∙ ap (map (below_frame f)) (path_rows_last C (g ∷ p) k (omega arith))
 
 -- the marks at the place of a path
-module _ (p : Path) (rows : List TreeRow) (up : IsInOrder rows) where
+module _ (p : Path) (rows : List TreeRow) (up : HasIncreasingPaths rows) where
   -- those of its row, where it has one
   pub present_marks : (i : ℕ) → place_of p (entries_view rows) ≡ Ok i → (row : TreeRow) → i < length rows → row ≡ get_or rows i row → finmap.get (below_in rows) p ≡ Some (row.label, row.ends)
   present_marks i at row lt is =

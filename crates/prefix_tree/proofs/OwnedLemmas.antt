@@ -17,19 +17,19 @@ use Rattle.prefix_tree.specs.declared.owned.TreeRow.{TreeRow}
 use Rattle.prefix_tree.specs.Pairs.{Pairs, pairs_at}
 use Rattle.prefix_tree.specs.Tree.{Tree, Marks, IsTree, IsLawful, tree_of, merged, covered, added, count_below, pairs_of, rows_of, frame_of}
 use Rattle.prefix_tree.specs.Joined.{Below, insert_rows, path_rows}
-use Rattle.prefix_tree.specs.Owned.{entry_of, entries_view, IsInOrder, below_in, tree_in, AreTreeRows}
+use Rattle.prefix_tree.specs.Owned.{entry_of, entries_view, HasIncreasingPaths, below_in, tree_in, AreTreeRows}
 use Rattle.prefix_tree.proofs.TreeLemmas.{IsTree-tree_of, tree_merged, tree_covered, tree_added, get-tree_of, coverage-tree_of, no_row, some_member}
 
 -- the rows are the entries of their map
-pub entries_below : (rows : List TreeRow) → IsInOrder rows → finmap.entries (below_in rows) ≡ entries_view rows
+pub entries_below : (rows : List TreeRow) → HasIncreasingPaths rows → finmap.entries (below_in rows) ≡ entries_view rows
 entries_below rows up = finmap.entries-from_sorted path_cmp (entries_view rows) up
 
 -- a tree has as many rows below the root as there are
-pub count_rows : (C : Ranks) (rows : List TreeRow) → IsInOrder rows → count_below (tree_in C rows) ≡ length rows
+pub count_rows : (C : Ranks) (rows : List TreeRow) → HasIncreasingPaths rows → count_below (tree_in C rows) ≡ length rows
 count_rows C rows up = finmap.len-entries (below_in rows) ∙ ap length (entries_below rows up) ∙ length-map rows entry_of
 
 -- rows that make a tree of any pairs are a tree's
-pub tree_rows : (C : Ranks) (rows : List TreeRow) (P : Pairs) (D : Ranks) → IsInOrder rows → tree_in C rows ≡ tree_of P D → length rows ≤ 2048 → All (λ e. IsGoodPath e.0) (entries_view rows) → AreTreeRows C rows
+pub tree_rows : (C : Ranks) (rows : List TreeRow) (P : Pairs) (D : Ranks) → HasIncreasingPaths rows → tree_in C rows ≡ tree_of P D → length rows ≤ 2048 → All (λ e. IsGoodPath e.0) (entries_view rows) → AreTreeRows C rows
 tree_rows C rows P D up is few good = record { in_order = up; tree = subst IsTree (sym is) (IsTree-tree_of P D); few = few; good = good }
 
 -- rows united with those of another tree make the merged tree
@@ -63,7 +63,7 @@ pub lies_in : (C A : Ranks) → is_subset C A ≡ true → (q : ℕ) → has C q
 lies_in C A within q one = subset_has C A within q one
 
 -- rows put to rows of good paths, of good paths themselves
-pub good_rows : (rows all : List TreeRow) (es : List (Path × Marks)) → IsInOrder rows → IsInOrder all → All (λ e. IsGoodPath e.0) (entries_view rows) → All (λ e. IsGoodPath e.0) es → below_in all ≡ insert_rows (below_in rows) es → All (λ e. IsGoodPath e.0) (entries_view all)
+pub good_rows : (rows all : List TreeRow) (es : List (Path × Marks)) → HasIncreasingPaths rows → HasIncreasingPaths all → All (λ e. IsGoodPath e.0) (entries_view rows) → All (λ e. IsGoodPath e.0) es → below_in all ≡ insert_rows (below_in rows) es → All (λ e. IsGoodPath e.0) (entries_view all)
 good_rows rows all es up up_all good more is =
     let old = subst (All (λ e. IsGoodPath e.0)) (sym (entries_below rows up)) good in
     let new = put_rows_good (below_in rows) es old more in
@@ -85,7 +85,7 @@ pub record MakesTree (C : Ranks) (rows : List TreeRow) (t : Tree) : Type 0 where
   pub size : count_below t ≡ length rows
   pub tree : length rows ≤ 2048 → AreTreeRows C rows
 
-makes_tree : (C : Ranks) (rows : List TreeRow) (P : Pairs) (D : Ranks) → IsInOrder rows → All (λ e. IsGoodPath e.0) (entries_view rows) → tree_in C rows ≡ tree_of P D → MakesTree C rows (tree_of P D)
+makes_tree : (C : Ranks) (rows : List TreeRow) (P : Pairs) (D : Ranks) → HasIncreasingPaths rows → All (λ e. IsGoodPath e.0) (entries_view rows) → tree_in C rows ≡ tree_of P D → MakesTree C rows (tree_of P D)
 makes_tree C rows P D up good is = record {
   is = is;
   size = ap count_below (sym is) ∙ count_rows C rows up;
@@ -93,14 +93,14 @@ makes_tree C rows P D up good is = record {
 }
 
 -- rows united with those of a path are rows of the tree with that path
-pub makes_added : (A C : Ranks) (p : Path) (rows all : List TreeRow) (self : Tree) → tree_in A rows ≡ self → AreTreeRows A rows → C ≢ none → is_subset C self.coverage ≡ true → IsGoodPath p → IsInOrder all → below_in all ≡ insert_rows (below_in rows) (path_rows C p) → MakesTree A all (added self C p)
+pub makes_added : (A C : Ranks) (p : Path) (rows all : List TreeRow) (self : Tree) → tree_in A rows ≡ self → AreTreeRows A rows → C ≢ none → is_subset C self.coverage ≡ true → IsGoodPath p → HasIncreasingPaths all → below_in all ≡ insert_rows (below_in rows) (path_rows C p) → MakesTree A all (added self C p)
 makes_added A C p rows all self seen mine other within good up is =
     let some = some_member C other in
     let new = added_rows A C p rows all mine some.0 some.1 (lies_in C A (ap (λ (t : Tree). is_subset C t.coverage) seen ∙ within)) is in
     makes_tree A all (pairs_of self ++ pairs_at (in_order C) p) self.coverage up (good_rows rows all (path_rows C p) mine.in_order up mine.good (path_rows_good C some.0 some.1 p good) is) (new ∙ ap (λ t. added t C p) seen)
 
 -- rows united with those of another tree are rows of the merged tree
-pub makes_merged : (A B : Ranks) (rows others all : List TreeRow) (self other : Tree) → tree_in A rows ≡ self → tree_in B others ≡ other → AreTreeRows A rows → AreTreeRows B others → IsInOrder all → below_in all ≡ insert_rows (below_in rows) (entries_view others) → MakesTree (union A B) all (merged self other)
+pub makes_merged : (A B : Ranks) (rows others all : List TreeRow) (self other : Tree) → tree_in A rows ≡ self → tree_in B others ≡ other → AreTreeRows A rows → AreTreeRows B others → HasIncreasingPaths all → below_in all ≡ insert_rows (below_in rows) (entries_view others) → MakesTree (union A B) all (merged self other)
 makes_merged A B rows others all self other seen seen_other mine theirs up is =
     makes_tree (union A B) all (pairs_of self ++ pairs_of other) (union self.coverage other.coverage) up (good_rows rows all (entries_view others) mine.in_order up mine.good theirs.good is)
     (merged_rows A B rows others all mine theirs is ∙ (λ i. merged (seen i) (seen_other i)))
@@ -111,7 +111,7 @@ makes_covered A C rows self seen mine =
     makes_tree (union A C) rows (pairs_of self) (union self.coverage C) mine.in_order mine.good (covered_rows A C rows mine ∙ ap (λ t. covered t C) seen)
 
 -- rows after changes that were made to them
-module _ (rows all changes : List TreeRow) (others : List (Path × Marks)) (up : IsInOrder rows) (apart : AreDistinct others) (are : entries_view changes ≡ map (changed (below_in rows)) others) where
+module _ (rows all changes : List TreeRow) (others : List (Path × Marks)) (up : HasIncreasingPaths rows) (apart : AreDistinct others) (are : entries_view changes ≡ map (changed (below_in rows)) others) where
   -- how many there are
   pub puts_count : length (inserted (entries_view rows) (entries_view changes)) ≡ length rows + new_among (below_in rows) others
   puts_count =
@@ -125,14 +125,14 @@ module _ (rows all changes : List TreeRow) (others : List (Path × Marks)) (up :
 
   module _ (is : entries_view all ≡ inserted (entries_view rows) (entries_view changes)) where
     -- they are in order
-    pub puts_in_order : IsInOrder all
+    pub puts_in_order : HasIncreasingPaths all
     puts_in_order = subst (λ es. T (finmap.is_sorted path_cmp es)) (sym (is ∙ ap (inserted (entries_view rows)) are)) (puts_sorted (entries_view rows) (map (changed (below_in rows)) others) up)
 
     -- and united with the others
     pub puts_are_united : below_in all ≡ insert_rows (below_in rows) others
     puts_are_united = ap (λ es. finmap.from_sorted {R = path_cmp} es) (is ∙ ap (inserted (entries_view rows)) are) ∙ puts_united (entries_view rows) others up apart
 
-count_united : (rows : List TreeRow) (others : List (Path × Marks)) (t : Tree) (C : Ranks) → IsInOrder rows → AreDistinct others → record { coverage = C; below = insert_rows (below_in rows) others } ≡ t → count_below t ≡ length rows + new_among (below_in rows) others
+count_united : (rows : List TreeRow) (others : List (Path × Marks)) (t : Tree) (C : Ranks) → HasIncreasingPaths rows → AreDistinct others → record { coverage = C; below = insert_rows (below_in rows) others } ≡ t → count_below t ≡ length rows + new_among (below_in rows) others
 count_united rows others t C up apart is =
     ap count_below (sym is) ∙ len-insert_rows others (below_in rows) apart
     ∙ ap (λ n. n + new_among (below_in rows) others) (finmap.len-entries (below_in rows) ∙ ap length (entries_below rows up) ∙ length-map rows entry_of)
@@ -156,11 +156,11 @@ pub from_equal_ranks : (A B : Ranks) (rows : List TreeRow) (t : Tree) → B ≡ 
 from_equal_ranks A B rows t e h = subst (λ C. MakesTree C rows t) (sym e) h
 
 -- the rows that a reader sees: the root, and the rows in order
-pub rows_of-owned : (C : Ranks) (rows : List TreeRow) → IsInOrder rows → rows_of (tree_in C rows) ≡ ([], (C, none)) ∷ entries_view rows
+pub rows_of-owned : (C : Ranks) (rows : List TreeRow) → HasIncreasingPaths rows → rows_of (tree_in C rows) ≡ ([], (C, none)) ∷ entries_view rows
 rows_of-owned C rows up = ap (λ es. ([], (C, none)) ∷ es) (entries_below rows up)
 
 -- one more than there are below the root
-pub length-rows_of : (C : Ranks) (rows : List TreeRow) → IsInOrder rows → length (rows_of (tree_in C rows)) ≡ suc (length rows)
+pub length-rows_of : (C : Ranks) (rows : List TreeRow) → HasIncreasingPaths rows → length (rows_of (tree_in C rows)) ≡ suc (length rows)
 length-rows_of C rows up = ap length (rows_of-owned C rows up) ∙ ap suc (length-map rows entry_of)
 
 -- the last frame of a path
@@ -176,7 +176,7 @@ slice_get_after x xs zero some = absurd (some refl)
 slice_get_after x xs (suc i) some = let e : i ≡ suc i - 1 = omega arith in ap (slice_get xs) e
 
 -- a row past the root is one of the vector's
-pub row_below : (C : Ranks) (rows : List TreeRow) (i : ℕ) → IsInOrder rows → (i ≡ 0 → ⊥) → slice_get (rows_of (tree_in C rows)) i ≡ slice_get (entries_view rows) (i - 1)
+pub row_below : (C : Ranks) (rows : List TreeRow) (i : ℕ) → HasIncreasingPaths rows → (i ≡ 0 → ⊥) → slice_get (rows_of (tree_in C rows)) i ≡ slice_get (entries_view rows) (i - 1)
 row_below C rows i up some = ap (λ es. slice_get es i) (rows_of-owned C rows up) ∙ slice_get_after ([], (C, none)) (entries_view rows) i some
 
 -- a row that is read is that entry

@@ -6,18 +6,18 @@ use Rattle.std.proofs.lemmas.List.{length-map}
 use Rattle.std.proofs.lemmas.List.Edits.{length-insert}
 use Rattle.call_path.specs.Path.{path_cmp}
 use Rattle.prefix_tree.specs.declared.owned.TreeRow.{TreeRow}
-use Rattle.prefix_tree.specs.Owned.{place_of, entry_of, entries_view, IsInOrder}
+use Rattle.prefix_tree.specs.Owned.{place_of, entry_of, entries_view, HasIncreasingPaths}
 use Rattle.prefix_tree.specs.Changes.{inserted}
 use Rattle.prefix_tree.proofs.Edits.{put_sorted, put_present, put_absent}
 use Rattle.prefix_tree.proofs.ChangeLemmas.{puts_longer}
 
 -- after a row is put, what is left to put makes the same rows
 pub record PutsOn (rows new left rest : List TreeRow) (capacity : ℕ) : Type 0 where
-  pub in_order : IsInOrder new
+  pub in_order : HasIncreasingPaths new
   pub room : length (inserted (entries_view new) (entries_view rest)) ≤ capacity
   pub put : inserted (entries_view new) (entries_view rest) ≡ inserted (entries_view rows) (entries_view left)
 
-module _ (rows shown left rest : List TreeRow) (row : TreeRow) (capacity i : ℕ) (up : IsInOrder rows) (is : shown ≡ rows) (first : left ≡ row ∷ rest) (room : length (inserted (entries_view rows) (entries_view left)) ≤ capacity) where
+module _ (rows shown left rest : List TreeRow) (row : TreeRow) (capacity i : ℕ) (up : HasIncreasingPaths rows) (is : shown ≡ rows) (first : left ≡ row ∷ rest) (room : length (inserted (entries_view rows) (entries_view left)) ≤ capacity) where
   puts_on : (new : List TreeRow) → entries_view new ≡ finmap.put path_cmp row.path (row.label, row.ends) (entries_view rows) → PutsOn rows new left rest capacity
   puts_on new put =
       let same : inserted (entries_view new) (entries_view rest) ≡ inserted (entries_view rows) (entries_view left) = ap (λ es. inserted es (entries_view rest)) put ∙ ap (λ rs. inserted (entries_view rows) (entries_view rs)) (sym first) in

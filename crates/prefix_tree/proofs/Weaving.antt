@@ -10,7 +10,7 @@ use Rattle.std.proofs.Math.Seq.{take-append_seam, drop-append_seam}
 use Rattle.call_path.specs.Path.{Path, path_cmp, path_cmp_total, path_cmp_exact}
 use Rattle.prefix_tree.specs.Tree.{Marks}
 use Rattle.prefix_tree.specs.declared.owned.TreeRow.{TreeRow}
-use Rattle.prefix_tree.specs.Owned.{by_order, next_place, place_of, entry_of, entries_view, IsInOrder}
+use Rattle.prefix_tree.specs.Owned.{by_order, next_place, place_of, entry_of, entries_view, HasIncreasingPaths}
 use Rattle.prefix_tree.specs.Changes.{inserted}
 use Rattle.prefix_tree.proofs.Rows.{both, first, second, less, turned}
 
@@ -198,18 +198,18 @@ same_ends rows others row new set_aside same_new same_set_aside e f h = subst (�
 
 -- after the last of some rows is woven in, what is left to weave makes the same rows
 pub record WeavesOn (rows left others new rest set_aside : List TreeRow) : Type 0 where
-  pub in_order : IsInOrder new
-  pub rising : IsInOrder rest
+  pub in_order : HasIncreasingPaths new
+  pub increasing : HasIncreasingPaths rest
   pub room : length set_aside + (length new + length rest) ≤ length others + (length rows + length left)
   pub woven : inserted (entries_view new) (entries_view rest) ++ entries_view (reverse set_aside) ≡ inserted (entries_view rows) (entries_view left) ++ entries_view (reverse others)
 
-pub weaves_on : (rows left others new rest set_aside new_set_aside : List TreeRow) (row : TreeRow) → IsInOrder rows → IsInOrder left → left ≡ rest ++ row ∷ [] → GoesBetween rows others row new set_aside → new_set_aside ≡ set_aside ++ row ∷ [] → WeavesOn rows left others new rest new_set_aside
-weaves_on rows left others new rest set_aside new_set_aside row up rising last h more =
+pub weaves_on : (rows left others new rest set_aside new_set_aside : List TreeRow) (row : TreeRow) → HasIncreasingPaths rows → HasIncreasingPaths left → left ≡ rest ++ row ∷ [] → GoesBetween rows others row new set_aside → new_set_aside ≡ set_aside ++ row ∷ [] → WeavesOn rows left others new rest new_set_aside
+weaves_on rows left others new rest set_aside new_set_aside row up increasing last h more =
     let es = entries_view rows in
     let cs = entries_view rest in
     let c = entry_of row in
     let all : entries_view left ≡ cs ++ c ∷ [] = ap entries_view last ∙ map-append entry_of rest (row ∷ []) in
-    let parts = sorted_last cs c (subst (λ xs. T (finmap.is_sorted path_cmp xs)) all rising) in
+    let parts = sorted_last cs c (subst (λ xs. T (finmap.is_sorted path_cmp xs)) all increasing) in
     let front : entries_view new ≡ take h.from es = ap entries_view h.front ∙ sym (take-map entry_of h.from rows) in
     let back : entries_view (reverse new_set_aside) ≡ c ∷ (drop h.to es ++ entries_view (reverse others)) =
     ap (λ r. entries_view (reverse r)) more ∙ ap entries_view (reverse-append set_aside (row ∷ []))
@@ -222,7 +222,7 @@ weaves_on rows left others new rest set_aside new_set_aside row up rising last h
     let one_more = ap length more ∙ length-append set_aside (row ∷ []) in
     record {
       in_order = subst (λ xs. T (finmap.is_sorted path_cmp xs)) (sym front) (sorted_take h.from es up);
-      rising = parts.0;
+      increasing = parts.0;
       room = let o = h.order in let i = h.inside in omega (arith, o, i, fewer, one_less, moved, one_more);
       woven =
           (λ k. inserted (front k) cs ++ back k)

@@ -19,9 +19,9 @@ entry_of row = (row.path, (row.label, row.ends))
 abbrev pub entries_view : List TreeRow → List (Path × Marks)
 entries_view rows = map entry_of rows
 
--- the paths rise
-abbrev pub IsInOrder : List TreeRow → Type 0
-IsInOrder rows = T (finmap.is_sorted path_cmp (entries_view rows))
+-- the paths increase
+abbrev pub HasIncreasingPaths : List TreeRow → Type 0
+HasIncreasingPaths rows = T (finmap.is_sorted path_cmp (entries_view rows))
 
 -- the rows as a map
 abbrev pub below_in : List TreeRow → Below
@@ -33,7 +33,7 @@ tree_in C rows = record { coverage = C; below = below_in rows }
 
 -- the rows are in order, they are the rows of a tree, they are few, and their paths are good
 pub record AreTreeRows (C : Ranks) (rows : List TreeRow) : Type 0 where
-  pub in_order : IsInOrder rows
+  pub in_order : HasIncreasingPaths rows
   pub tree : IsTree (tree_in C rows)
   pub few : length rows ≤ 2048
   pub good : All (λ e. IsGoodPath e.0) (entries_view rows)

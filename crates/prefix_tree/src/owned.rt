@@ -5,7 +5,7 @@ ghost use Rattle.rank_set.specs.Ranks.{none, union};
 ghost use Rattle.call_path.specs.Good.{IsGoodPath};
 ghost use Rattle.prefix_tree.specs.Joined.{path_rows};
 ghost use Rattle.prefix_tree.specs.Shown.{Shows, IsGoodRow};
-ghost use Rattle.prefix_tree.specs.Owned.{IsInOrder, entries_view, below_in, place_of};
+ghost use Rattle.prefix_tree.specs.Owned.{HasIncreasingPaths, entries_view, below_in, place_of};
 ghost use Rattle.prefix_tree.specs.Changes.{changed, is_new, new_among, inserted};
 
 use crate::{PREFIX_LIMIT, PrefixTree, Row, TreeError};
@@ -148,7 +148,7 @@ fn next_probe(low: usize, high: usize, hint: usize) -> usize
 // double, and a binary search as soon as the row lies between two probes. The cost grows with the logarithm of how far
 // the hint was off.
 fn find_row(rows: &[TreeRow], path: &CallPath, hint: usize) -> Result<usize, usize>
-    requires { IsInOrder rows.now }
+    requires { HasIncreasingPaths rows.now }
     ensures index { result ≡ place_of path.now (entries_view rows.now) }
     ensures found { IfOk result (λ at. at < length rows.now) }
     ensures absent { IfErr result (λ at. at ≤ length rows.now) }
@@ -206,7 +206,7 @@ fn united_marks(
     label: &RankSet,
     ends: &RankSet,
 ) -> Result<(RankSet, RankSet, bool), AllocError>
-    requires { IsInOrder rows.now }
+    requires { HasIncreasingPaths rows.now }
     ensures marks { IfOk result
         (λ m. (path.now, (m.0, m.1)) ≡ changed (below_in rows.now) (path.now, (label.now, ends.now))) }
     ensures new { IfOk result (λ m. m.2 ≡ is_new (below_in rows.now) (path.now, (label.now, ends.now))) }
@@ -242,7 +242,7 @@ impl Changes {
         label: &RankSet,
         ends: &RankSet,
     ) -> Result<(), AllocError>
-        requires in_order { IsInOrder rows.now }
+        requires in_order { HasIncreasingPaths rows.now }
         requires added_within { self.old.added ≤ length self.old.rows.items }
         ensures rows { OnOk result
             (entries_view self.new.rows.items
@@ -262,7 +262,7 @@ impl Changes {
 
 // The changes that merging other rows makes to these.
 fn row_changes(alloc: Global, rows: &[TreeRow], others: &[TreeRow]) -> Result<Changes, AllocError>
-    requires { IsInOrder rows.now }
+    requires { HasIncreasingPaths rows.now }
     ensures rows { IfOk result
         (λ all. entries_view all.rows.items ≡ map (changed (below_in rows.now)) (entries_view others.now)) }
     ensures added { IfOk result (λ all. all.added ≡ new_among (below_in rows.now) (entries_view others.now)) }
@@ -286,7 +286,7 @@ fn path_changes(
     path: &CallPath,
     no_ranks: &RankSet,
 ) -> Result<Changes, AllocError>
-    requires in_order { IsInOrder rows.now }
+    requires in_order { HasIncreasingPaths rows.now }
     requires no_ranks { no_ranks.now ≡ none }
     ensures rows { IfOk result
         (λ all. entries_view all.rows.items ≡ map (changed (below_in rows.now)) (path_rows ranks.now path.now)) }
@@ -315,7 +315,7 @@ fn has_room(rows: &[TreeRow], added: usize) -> bool
 
 // Inserts each row at its place, for which there is capacity.
 fn insert_rows(rows: &mut Vec<TreeRow>, changes: Vec<TreeRow>)
-    requires in_order { IsInOrder rows.old.items }
+    requires in_order { HasIncreasingPaths rows.old.items }
     requires capacity { length (inserted (entries_view rows.old.items) (entries_view changes.items))
         ≤ vec_capacity rows.old }
     ensures { entries_view rows.new.items ≡ inserted (entries_view rows.old.items) (entries_view changes.items) }
@@ -355,8 +355,8 @@ fn move_tail(rows: &mut Vec<TreeRow>, start: usize, tail: &mut Vec<TreeRow>)
 // Inserts sorted rows in one pass, for which there is capacity: the rows behind each are set aside, from the last
 // on, and come back at the end. On failure the rows are unchanged.
 fn merge_rows(rows: &mut Vec<TreeRow>, mut changes: Vec<TreeRow>) -> Result<(), AllocError>
-    requires in_order { IsInOrder rows.old.items }
-    requires rising { IsInOrder changes.items }
+    requires in_order { HasIncreasingPaths rows.old.items }
+    requires increasing { HasIncreasingPaths changes.items }
     requires capacity { length (inserted (entries_view rows.old.items) (entries_view changes.items))
         ≤ vec_capacity rows.old }
     ensures ok { OnOk result
@@ -381,8 +381,8 @@ fn merge_rows(rows: &mut Vec<TreeRow>, mut changes: Vec<TreeRow>) -> Result<(), 
 
 // Puts each of the changes in its place: one new row by itself, several in one pass. On failure the rows are unchanged.
 fn apply_changes(rows: &mut Vec<TreeRow>, changes: Changes) -> Result<(), AllocError>
-    requires in_order { IsInOrder rows.old.items }
-    requires rising { IsInOrder changes.rows.items }
+    requires in_order { HasIncreasingPaths rows.old.items }
+    requires increasing { HasIncreasingPaths changes.rows.items }
     requires added { length (inserted (entries_view rows.old.items) (entries_view changes.rows.items))
         ≤ length rows.old.items + changes.added }
     ensures ok { OnOk result

@@ -10,9 +10,9 @@ use Rattle.std.proofs.lemmas.Nat.{ones_le_self}
 use Rattle.std.proofs.lemmas.Nat.Bits.{bit_at-suc, bit_at_lowest, bit_at-zero, bit_at-trailing_zeros}
 use Rattle.std.proofs.lemmas.List.Elements.{filter-append}
 use Rattle.std.proofs.lemmas.List.Sums.{sum_by-cons}
-use Rattle.rank_set.specs.Ranks.{in_order, size, set_of, in_order-rising}
+use Rattle.rank_set.specs.Ranks.{in_order, size, set_of, in_order-increasing}
 use Rattle.rank_set.specs.Words.{is_bit, word_at, bit_in, ranks_in, AreWords, word_of_first, offset_of}
-use Rattle.rank_set.proofs.Ordered.{in_order-those, range_rises}
+use Rattle.rank_set.proofs.Ordered.{in_order-those, range_increases}
 use Rattle.rank_set.proofs.WordSets.{word_at-below, word_at-from}
 
 -- the members of a set of words, in order
@@ -20,7 +20,7 @@ pub members : (o : ℕ) (ws : List ℕ) → in_order (ranks_in o ws) ≡ filter 
 unfolding ranks_in
 members o ws =
     let n : ℕ = 64 * (o + length ws) in
-    in_order-those (bit_in o ws) (set_of (range_with_len 0 n)) ∙ ap (filter (bit_in o ws)) (in_order-rising (range_with_len 0 n) (range_rises 0 n))
+    in_order-those (bit_in o ws) (set_of (range_with_len 0 n)) ∙ ap (filter (bit_in o ws)) (in_order-increasing (range_with_len 0 n) (range_increases 0 n))
 
 -- how many members a set of words has
 pub count_members : (o : ℕ) (ws : List ℕ) → size (ranks_in o ws) ≡ length (filter (bit_in o ws) (range_with_len 0 (64 * (o + length ws))))

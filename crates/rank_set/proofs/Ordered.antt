@@ -13,10 +13,10 @@ range_above : (x a n : ℕ) → x < a → list_all (λ y. nat_lt x y) (range_wit
 range_above x a zero lt = refl
 range_above x a (suc n) lt = and_from (nat_lt x a) (list_all (λ y. nat_lt x y) (range_with_len (a + 1) n)) (lt-ltb x a lt) (range_above x (a + 1) n (omega arith))
 
--- a range rises
-pub range_rises : (a n : ℕ) → is_strictly_increasing (range_with_len a n) ≡ true
-range_rises a zero = refl
-range_rises a (suc n) = and_from (list_all (λ y. nat_lt a y) (range_with_len (a + 1) n)) (is_strictly_increasing (range_with_len (a + 1) n)) (range_above a (a + 1) n (omega arith)) (range_rises (a + 1) n)
+-- a range is increasing
+pub range_increases : (a n : ℕ) → is_strictly_increasing (range_with_len a n) ≡ true
+range_increases a zero = refl
+range_increases a (suc n) = and_from (list_all (λ y. nat_lt a y) (range_with_len (a + 1) n)) (is_strictly_increasing (range_with_len (a + 1) n)) (range_above a (a + 1) n (omega arith)) (range_increases (a + 1) n)
 
 -- the members that pass a test, in order, are those of the members in order that pass it
 pub in_order-those : (t : ℕ → Bool) (s : Ranks) → in_order (those t s) ≡ filter t (in_order s)
@@ -33,16 +33,16 @@ all_less x (y ∷ ys) h =
     let a = and_parts (nat_lt x y) (list_all (λ y. nat_lt x y) ys) h in
     (ap (λ b. cond b Less (cond (x == y) Equal Greater)) a.0, all_less x ys a.1)
 
-sorted_from_rising : (xs : List ℕ) → is_strictly_increasing xs ≡ true → IsStrictlySortedBy nat_cmp xs
+sorted_from_increasing : (xs : List ℕ) → is_strictly_increasing xs ≡ true → IsStrictlySortedBy nat_cmp xs
 unfolding IsStrictlySortedBy
-sorted_from_rising [] h = tt
-sorted_from_rising (x ∷ xs) h =
+sorted_from_increasing [] h = tt
+sorted_from_increasing (x ∷ xs) h =
     let a = and_parts (list_all (λ y. nat_lt x y) xs) (is_strictly_increasing xs) h in
-    (all_less x xs a.0, sorted_from_rising xs a.1)
+    (all_less x xs a.0, sorted_from_increasing xs a.1)
 
 -- the members in order are sorted, with no repeats
 pub in_order_sorted : (s : Ranks) → IsStrictlySortedBy nat_cmp (in_order s)
-in_order_sorted s = sorted_from_rising (in_order s) (from_T _ s.rises)
+in_order_sorted s = sorted_from_increasing (in_order s) (from_T _ s.increasing)
 
 itself_any : (r : ℕ) → eq_by_cmp nat_cmp r r ≡ true
 itself_any r = ap is_eq (tied_itself nat_cmp_total r)

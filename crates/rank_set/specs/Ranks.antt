@@ -1,4 +1,4 @@
--- A set of ranks as a value: the list of its members in ascending order, with the proof that it rises. So two sets with the
+-- A set of ranks as a value: the list of its members in ascending order, with the proof that it is increasing. So two sets with the
 -- same members are equal, membership is a test, and a set of known ranks computes. The definitions stand among the lemmas
 -- that they need: `is_strictly_increasing`, `Ranks`, `none`, `has`, `in_order`, `size`, `with_rank`, `set_of`, `union`, `those`, `is_subset`,
 -- and at the end `is_empty`, `Has`, `IsSubset`, `is_same`.
@@ -21,9 +21,9 @@ is_strictly_increasing (x ∷ xs) = list_all (λ y. nat_lt x y) xs && is_strictl
 -- a set of ranks
 pub record Ranks : Type 0 where
   pub list : List ℕ
-  pub rises : T (is_strictly_increasing list)
+  pub increasing : T (is_strictly_increasing list)
 
--- a number in its place of a rising list
+-- a number in its place of an increasing list
 abbrev pub put_rank : ℕ → List ℕ → List ℕ
 put_rank x [] = x ∷ []
 put_rank x (y ∷ ys) = cond (nat_lt x y) (x ∷ y ∷ ys) (cond (x == y) (y ∷ ys) (y ∷ put_rank x ys))
@@ -64,11 +64,11 @@ put_above z x (y ∷ ys) lt h =
     go ih false true = h
     go ih false false = and_from (nat_lt z y) _ (and_parts (nat_lt z y) (list_all (λ y. nat_lt z y) ys) h).0 ih
 
--- a rising list with a number in its place rises
-pub put_rises : (x : ℕ) (ys : List ℕ) → is_strictly_increasing ys ≡ true → is_strictly_increasing (put_rank x ys) ≡ true
-put_rises x [] h = refl
-put_rises x (y ∷ ys) h =
-    go (put_rises x ys (and_parts (list_all (λ z. nat_lt y z) ys) (is_strictly_increasing ys) h).1) (nat_lt x y) (x == y) refl refl
+-- an increasing list with a number in its place is increasing
+pub put_increases : (x : ℕ) (ys : List ℕ) → is_strictly_increasing ys ≡ true → is_strictly_increasing (put_rank x ys) ≡ true
+put_increases x [] h = refl
+put_increases x (y ∷ ys) h =
+    go (put_increases x ys (and_parts (list_all (λ z. nat_lt y z) ys) (is_strictly_increasing ys) h).1) (nat_lt x y) (x == y) refl refl
   where
     go : is_strictly_increasing (put_rank x ys) ≡ true → (a b : Bool) → nat_lt x y ≡ a → (x == y) ≡ b → is_strictly_increasing (cond a (x ∷ y ∷ ys) (cond b (y ∷ ys) (y ∷ put_rank x ys))) ≡ true
     go ih true b ea eb =
@@ -91,10 +91,10 @@ filter_above x test (y ∷ ys) h = go (filter_above x test ys (and_parts (nat_lt
     go ih true = and_from (nat_lt x y) _ (and_parts (nat_lt x y) (list_all (λ y. nat_lt x y) ys) h).0 ih
     go ih false = ih
 
--- what a test lets through of a rising list rises
-pub filter_rises : (test : ℕ → Bool) (ys : List ℕ) → is_strictly_increasing ys ≡ true → is_strictly_increasing (filter test ys) ≡ true
-filter_rises test [] h = refl
-filter_rises test (y ∷ ys) h = go (filter_rises test ys (and_parts (list_all (λ z. nat_lt y z) ys) (is_strictly_increasing ys) h).1) (test y)
+-- what a test lets through of an increasing list is increasing
+pub filter_increases : (test : ℕ → Bool) (ys : List ℕ) → is_strictly_increasing ys ≡ true → is_strictly_increasing (filter test ys) ≡ true
+filter_increases test [] h = refl
+filter_increases test (y ∷ ys) h = go (filter_increases test ys (and_parts (list_all (λ z. nat_lt y z) ys) (is_strictly_increasing ys) h).1) (test y)
   where
     go : is_strictly_increasing (filter test ys) ≡ true → (b : Bool) → is_strictly_increasing (cond b (y ∷ filter test ys) (filter test ys)) ≡ true
     go ih true = and_from (list_all (λ z. nat_lt y z) (filter test ys)) (is_strictly_increasing (filter test ys)) (filter_above y test ys (and_parts (list_all (λ z. nat_lt y z) ys) (is_strictly_increasing ys) h).0) ih
@@ -102,7 +102,7 @@ filter_rises test (y ∷ ys) h = go (filter_rises test ys (and_parts (list_all (
 
 -- the set with no members
 abbrev pub none : Ranks
-none = record { list = []; rises = tt }
+none = record { list = []; increasing = tt }
 
 -- whether r is a member
 unfoldable pub has : Ranks → ℕ → Bool
@@ -118,7 +118,7 @@ size s = length s.list
 
 -- the set with one member more, or the set itself where the rank is a member
 unfoldable pub with_rank : Ranks → ℕ → Ranks
-with_rank s r = record { list = put_rank r s.list; rises = to_T _ (put_rises r s.list (from_T _ s.rises)) }
+with_rank s r = record { list = put_rank r s.list; increasing = to_T _ (put_increases r s.list (from_T _ s.increasing)) }
 
 -- the set of the ranks of a list, in any order
 abbrev pub set_of : List ℕ → Ranks
@@ -136,7 +136,7 @@ union s t = with_all s (in_order t)
 
 -- the members that pass a test
 unfoldable pub those : (ℕ → Bool) → Ranks → Ranks
-those test s = record { list = filter test s.list; rises = to_T _ (filter_rises test s.list (from_T _ s.rises)) }
+those test s = record { list = filter test s.list; increasing = to_T _ (filter_increases test s.list (from_T _ s.increasing)) }
 
 -- whether each member of the first is a member of the second
 abbrev pub is_subset : Ranks → Ranks → Bool
@@ -148,10 +148,10 @@ T_unique false x y = absurd x
 
 -- two sets with the same ascending list are equal
 pub same_list : (s t : Ranks) → in_order s ≡ in_order t → s ≡ t
-same_list s t e = go (in_order t) e t.rises
+same_list s t e = go (in_order t) e t.increasing
   where
-    go : (ys : List ℕ) → in_order s ≡ ys → (h : T (is_strictly_increasing ys)) → s ≡ record { list = ys; rises = h }
-    go ys e = subst (λ zs. (h : T (is_strictly_increasing zs)) → s ≡ record { list = zs; rises = h }) e (λ h. ap (λ k. record { list = s.list; rises = k }) (T_unique _ s.rises h))
+    go : (ys : List ℕ) → in_order s ≡ ys → (h : T (is_strictly_increasing ys)) → s ≡ record { list = ys; increasing = h }
+    go ys e = subst (λ zs. (h : T (is_strictly_increasing zs)) → s ≡ record { list = zs; increasing = h }) e (λ h. ap (λ k. record { list = s.list; increasing = k }) (T_unique _ s.increasing h))
 
 -- how a set is stored as a ghost value: as its list
 abbrev pub coded_ranks : Coded Ranks
@@ -261,19 +261,19 @@ has-those test s r = any-filter_same (eq_by_cmp nat_cmp r) test (test r) (λ k e
 -- two sets with the same members are equal
 pub same_ranks : (s t : Ranks) → ((r : ℕ) → has s r ≡ has t r) → s ≡ t
 unfolding has
-same_ranks s t is = same_list s t (same_members s.list t.list (from_T _ s.rises) (from_T _ t.rises) is)
+same_ranks s t is = same_list s t (same_members s.list t.list (from_T _ s.increasing) (from_T _ t.increasing) is)
 
 below_first : (x : ℕ) (ys : List ℕ) → list_all (λ y. nat_lt x y) ys ≡ true → put_rank x ys ≡ x ∷ ys
 below_first x [] h = refl
 below_first x (y ∷ ys) h = ap (λ b. cond b (x ∷ y ∷ ys) (cond (x == y) (y ∷ ys) (y ∷ put_rank x ys))) (and_parts (nat_lt x y) (list_all (λ z. nat_lt x z) ys) h).0
 
--- a rising list is the ascending list of its set
-pub in_order-rising : (xs : List ℕ) → is_strictly_increasing xs ≡ true → in_order (set_of xs) ≡ xs
+-- an increasing list is the ascending list of its set
+pub in_order-increasing : (xs : List ℕ) → is_strictly_increasing xs ≡ true → in_order (set_of xs) ≡ xs
 unfolding with_rank
-in_order-rising [] h = refl
-in_order-rising (x ∷ xs) h =
+in_order-increasing [] h = refl
+in_order-increasing (x ∷ xs) h =
     let a = and_parts (list_all (λ z. nat_lt x z) xs) (is_strictly_increasing xs) h in
-    ap (put_rank x) (in_order-rising xs a.1) ∙ below_first x xs a.0
+    ap (put_rank x) (in_order-increasing xs a.1) ∙ below_first x xs a.0
 
 tied_present : (b h : Bool) → (b ≡ true → h ≡ true) → (b || h) ≡ h
 tied_present true h is = sym (is refl)

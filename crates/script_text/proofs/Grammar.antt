@@ -169,9 +169,9 @@ module _ (t : Nodes) (is : IsTopology t) where
         streams = λ x there. elim (w.0.to x there) [ (inl old) ↦ absurd old | (inr new) ↦ new ];
         of_stream_lines = w.0.from;
         stream_count = (let n = w.0.count in omega arith);
-        streams_rise = inv.streams_rise;
+        streams_increase = inv.streams_increase;
         losses = λ f there. elim (w.1.to f there) [ (inl old) ↦ absurd old | (inr new) ↦ new ];
         of_lose_lines = w.1.from;
         loss_count = (let n = w.1.count in omega arith);
-        losses_rise = inv.faults_rise;
+        losses_increase = inv.faults_increase;
       })

@@ -27,7 +27,7 @@ use Rattle.script_text.specs.Numbers.{in_range, number_from}
 use Rattle.script_text.specs.Streams.{new_number, stream_number, mode_of, daemon_of, with_named, all_daemons, daemons_of, stream_of, with_stream}
 use Rattle.script_text.specs.Losses.{as_lost, lost_node, fault_of, with_fault}
 use Rattle.script_text.specs.Whole.{with_stream_line, with_lose_line, with_words, with_line}
-use Rattle.script_text.proofs.NodeLists.{number_all, number_some, number_increasing, passed_rise, passed_all, passed_some}
+use Rattle.script_text.proofs.NodeLists.{number_all, number_some, number_increasing, passed_increase, passed_all, passed_some}
 use Rattle.script_text.proofs.Placing.{all_placed, length_placed, placed_increasing}
 use Rattle.script_text.proofs.SomeDaemon.{some_daemon}
 
@@ -73,7 +73,7 @@ mode_holds line DontWait = tt
 -- some daemons, ascending
 record AreDaemons (t : Nodes) (daemons : List ℕ) : Type 0 where
   all : AllByRecursion (IsDaemon t) daemons
-  rise : IsStrictlyIncreasing daemons
+  increasing : IsStrictlyIncreasing daemons
   some : daemons ≢ []
 
 module _ (t : Nodes) (is : IsTopology t) (line : ℕ) where
@@ -86,13 +86,13 @@ module _ (t : Nodes) (is : IsTopology t) (line : ℕ) where
   daemon_holds name = daemon_by name (daemon_named name t) refl
 
   one_daemon : (n : ℕ) (daemons : List ℕ) → IsDaemon t n → AllByRecursion (IsDaemon t) daemons → IsStrictlyIncreasing daemons → AreDaemons t (with_number n daemons)
-  one_daemon n daemons here all rise = record { all = number_all n (IsDaemon t) daemons here all; rise = number_increasing n daemons rise; some = number_some n daemons }
+  one_daemon n daemons here all increasing = record { all = number_all n (IsDaemon t) daemons here all; increasing = number_increasing n daemons increasing; some = number_some n daemons }
 
   named_holds : (names : List (List ℕ)) (daemons : List ℕ) → AreDaemons t daemons → IfOk (with_named t line daemons names) (AreDaemons t)
   unfolding with_named
   named_holds [] daemons h = h
   named_holds (name ∷ names) daemons h =
-      then_ok (daemon_of t line name) (λ n. with_named t line (with_number n daemons) names) (IsDaemon t) (AreDaemons t) (daemon_holds name) (λ n here. named_holds names (with_number n daemons) (one_daemon n daemons here h.all h.rise))
+      then_ok (daemon_of t line name) (λ n. with_named t line (with_number n daemons) names) (IsDaemon t) (AreDaemons t) (daemon_holds name) (λ n here. named_holds names (with_number n daemons) (one_daemon n daemons here h.all h.increasing))
 
   first_holds : (name : List ℕ) (names : List (List ℕ)) → IfOk (with_named t line [] (name ∷ names)) (AreDaemons t)
   unfolding with_named
@@ -105,7 +105,7 @@ module _ (t : Nodes) (is : IsTopology t) (line : ℕ) where
       let d = some_daemon t.parents is.tree in
       record {
         all = passed_all (is_daemon t.parents) (IsDaemon t) (length t.parents) (λ y lt e. (lt, e));
-        rise = passed_rise (is_daemon t.parents) (length t.parents);
+        increasing = passed_increase (is_daemon t.parents) (length t.parents);
         some = passed_some (is_daemon t.parents) (length t.parents) d.0 d.1 d.2;
       }
 
@@ -133,7 +133,7 @@ module _ (t : Nodes) (is : IsTopology t) (streams : List Stream) (line : ℕ) (w
       then_ok (number_from line 1 16 (Over line Waves 16) w.waves) _ _ (IsNewStream t streams) (number_in_range line 1 16 (Over line Waves 16) w.waves) (λ waves c.
       then_ok (number_from line 1 64 (Bad line BadNumber) w.samples) _ _ (IsNewStream t streams) (number_in_range line 1 64 (Bad line BadNumber) w.samples) (λ samples d.
       then_ok (daemons_of t line w.names) _ (AreDaemons t) (IsNewStream t streams) (daemons_holds t is line w.names) (λ daemons e. record {
-        is = record { number = a.0; mode = b; waves_some = c.0; waves_few = c.1; samples_some = d.0; samples_few = d.1; daemons_some = e.some; daemons_rise = e.rise };
+        is = record { number = a.0; mode = b; waves_some = c.0; waves_few = c.1; samples_some = d.0; samples_few = d.1; daemons_some = e.some; daemons_increase = e.increasing };
         daemons = e.all;
         new = a.1;
       })))))
@@ -182,17 +182,17 @@ module _ (t : Nodes) (is : IsTopology t) (faults : List Fault) (line : ℕ) wher
 
 -- it holds before the first line
 pub nothing_holds : (t : Nodes) → ParserInvariant t (scripted [] [])
-nothing_holds t = record { streams = tt; streams_rise = tt; fault_ranges = tt; faults_limit = zero-le; faults_rise = tt; daemons = tt; faults = tt }
+nothing_holds t = record { streams = tt; streams_increase = tt; fault_ranges = tt; faults_limit = zero-le; faults_increase = tt; daemons = tt; faults = tt }
 
 module _ (t : Nodes) (is : IsTopology t) where
   module _ (c : Scripted) (line : ℕ) (h : ParserInvariant t c) where
     stream_more : (x : Stream) → IsNewStream t c.streams x → ParserInvariant t (scripted (with_stream x c.streams) c.faults)
     stream_more x new = record {
       streams = all_placed (λ (y : Stream). y.number) x IsStream c.streams new.is h.streams;
-      streams_rise = placed_increasing (λ (y : Stream). y.number) x c.streams new.new h.streams_rise;
+      streams_increase = placed_increasing (λ (y : Stream). y.number) x c.streams new.new h.streams_increase;
       fault_ranges = h.fault_ranges;
       faults_limit = h.faults_limit;
-      faults_rise = h.faults_rise;
+      faults_increase = h.faults_increase;
       daemons = all_placed (λ (y : Stream). y.number) x (λ y. AllByRecursion (IsDaemon t) y.daemons) c.streams new.daemons h.daemons;
       faults = h.faults;
     }
@@ -200,10 +200,10 @@ module _ (t : Nodes) (is : IsTopology t) where
     fault_more : (f : Fault) → IsNewFault t c.faults f → ParserInvariant t (scripted c.streams (with_fault f c.faults))
     fault_more f new = record {
       streams = h.streams;
-      streams_rise = h.streams_rise;
+      streams_increase = h.streams_increase;
       fault_ranges = all_placed (λ (g : Fault). g.node) f IsFault c.faults new.ranges h.fault_ranges;
       faults_limit = (let long = length_placed (λ (g : Fault). g.node) f c.faults in let limit = new.limit in omega arith);
-      faults_rise = placed_increasing (λ (g : Fault). g.node) f c.faults new.new h.faults_rise;
+      faults_increase = placed_increasing (λ (g : Fault). g.node) f c.faults new.new h.faults_increase;
       daemons = h.daemons;
       faults = all_placed (λ (g : Fault). g.node) f (λ g. (g.node < length t.parents) × (g.node ≢ root_of t.parents)) c.faults (new.node, new.other) h.faults;
     }
@@ -243,7 +243,7 @@ module _ (t : Nodes) (is : IsTopology t) where
 
 -- a script of a job, where the invariant holds and there is a stream
 pub script_from_invariant : (t : Nodes) (c : Scripted) → ParserInvariant t c → c.streams ≢ [] → IsScript c
-script_from_invariant t c h some = record { some = some; streams = h.streams; streams_rise = h.streams_rise; faults = h.fault_ranges; faults_limit = h.faults_limit; faults_rise = h.faults_rise }
+script_from_invariant t c h some = record { some = some; streams = h.streams; streams_increase = h.streams_increase; faults = h.fault_ranges; faults_limit = h.faults_limit; faults_increase = h.faults_increase }
 
 pub fits_from_invariant : (t : Nodes) (c : Scripted) → ParserInvariant t c → ScriptFits t c
 fits_from_invariant t c h = record { daemons = h.daemons; faults = h.faults }

@@ -109,9 +109,9 @@ module _ (p : ℕ → Bool) where
       by true e h further = elim (in_last (filter p (up_to n)) n y (subst (In y) (one_up n e) h)) [ (inl i) ↦ (let k = further i in let lt = k.0 in (omega arith, k.1)) | (inr same) ↦ (omega arith, ap p same ∙ e) ]
       by false e h further = let k = further (subst (In y) (none_up n e) h) in let lt = k.0 in (omega arith, k.1)
 
-  pub passed_rise : (n : ℕ) → IsStrictlyIncreasing (filter p (up_to n))
-  passed_rise zero = tt
-  passed_rise (suc n) = by (p n) refl (passed_rise n)
+  pub passed_increase : (n : ℕ) → IsStrictlyIncreasing (filter p (up_to n))
+  passed_increase zero = tt
+  passed_increase (suc n) = by (p n) refl (passed_increase n)
     where
       by : (b : Bool) → p n ≡ b → IsStrictlyIncreasing (filter p (up_to n)) → IsStrictlyIncreasing (filter p (up_to (suc n)))
       by true e h = subst IsStrictlyIncreasing (sym (one_up n e)) (last_increasing (filter p (up_to n)) n h (λ y i. (passed n y i).0))

@@ -60,10 +60,10 @@ pub record IsWritten (t : Nodes) (text : List ℕ) (c : Scripted) : Type 0 where
   pub of_stream_lines : (line : List ℕ) → In line (stream_lines (lines text)) →
       (x : Stream) × In x c.streams × IsStreamOf t line x
   pub stream_count : length c.streams ≡ length (stream_lines (lines text))
-  pub streams_rise : IsStrictlyIncreasing (map (λ x. x.number) c.streams)
+  pub streams_increase : IsStrictlyIncreasing (map (λ x. x.number) c.streams)
   pub losses : (f : Fault) → In f c.faults →
       (line : List ℕ) × In line (lose_lines (lines text)) × IsLossOf t line f
   pub of_lose_lines : (line : List ℕ) → In line (lose_lines (lines text)) →
       (f : Fault) × In f c.faults × IsLossOf t line f
   pub loss_count : length c.faults ≡ length (lose_lines (lines text))
-  pub losses_rise : IsStrictlyIncreasing (map (λ f. f.node) c.faults)
+  pub losses_increase : IsStrictlyIncreasing (map (λ f. f.node) c.faults)

@@ -108,7 +108,7 @@ in_numbers [] i d lt = absurd (omega arith)
 in_numbers (x ∷ xs) zero d lt = inl refl
 in_numbers (x ∷ xs) (suc i) d lt = inr (in_numbers xs i d (omega arith))
 
--- streams of rising numbers are found by their numbers
+-- streams of increasing numbers are found by their numbers
 found_by_number : (xs : List Stream) (i : ℕ) (d : Stream) → IsStrictlyIncreasing (map (λ (x : Stream). x.number) xs) → i < length xs → find (λ x. x.number == (get_or xs i d).number) xs ≡ Some (get_or xs i d)
 found_by_number [] i d up lt = absurd (omega arith)
 found_by_number (x ∷ xs) zero d up lt = ap (λ b. cond b (Some x) (find (λ y. y.number == x.number) xs)) (eqb_self x.number)
@@ -123,7 +123,7 @@ found_by_number (x ∷ xs) (suc i) d up lt =
 -- a stream of a job is found by its number
 pub stream_found : (p : Plan) (i : ℕ) (d : Stream) → IsJob p → i < length p.streams → stream_of p (get_or p.streams i d).number ≡ Some (get_or p.streams i d)
 unfolding stream_of
-stream_found p i d job lt = found_by_number p.streams i d job.script.streams_rise lt
+stream_found p i d job lt = found_by_number p.streams i d job.script.streams_increase lt
 
 -- what holds of all holds of each
 pub all_in : {X : Type 0} (P : X → Type 0) (xs : List X) (x : X) → AllByRecursion P xs → In x xs → P x

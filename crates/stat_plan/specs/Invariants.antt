@@ -29,7 +29,7 @@ pub record IsStream (x : Stream) : Type 0 where
   pub samples_some : 1 ≤ x.samples
   pub samples_few : x.samples ≤ 64
   pub daemons_some : x.daemons ≢ []
-  pub daemons_rise : IsStrictlyIncreasing x.daemons
+  pub daemons_increase : IsStrictlyIncreasing x.daemons
 
 -- a time of 0 to 65,535, some ranks that are placed, and a path of good frames
 pub record IsSampleLine (placed : List Ranks) (line : SampleLine) : Type 0 where
@@ -48,7 +48,7 @@ pub record AreSamples (s : Sampled) : Type 0 where
   pub few : length s.lines ≤ LINE_LIMIT
   pub lines : AllByRecursion (IsSampleLine s.placed) s.lines
 
--- the node's number rises from fault to fault
+-- the node's number increases from fault to fault
 abbrev pub fault_nodes : List Fault → List ℕ
 fault_nodes faults = map (λ f. f.node) faults
 
@@ -61,10 +61,10 @@ pub record IsFault (f : Fault) : Type 0 where
 pub record IsScript (c : Scripted) : Type 0 where
   pub some : c.streams ≢ []
   pub streams : AllByRecursion IsStream c.streams
-  pub streams_rise : IsStrictlyIncreasing (map (λ x. x.number) c.streams)
+  pub streams_increase : IsStrictlyIncreasing (map (λ x. x.number) c.streams)
   pub faults : AllByRecursion IsFault c.faults
   pub faults_limit : length c.faults ≤ FAULT_LIMIT
-  pub faults_rise : IsStrictlyIncreasing (fault_nodes c.faults)
+  pub faults_increase : IsStrictlyIncreasing (fault_nodes c.faults)
 
 -- each node has its ranks: some where it is a daemon, and none else
 pub record SamplesFit (t : Nodes) (s : Sampled) : Type 0 where

@@ -5,7 +5,7 @@ use Rattle.std.proofs.lemmas.Map.Iter.{rest_more, rest_all}
 use Rattle.stat_plan.specs.NodeSets.{In}
 use Rattle.stat_plan.specs.Plans.{nodes}
 use Rattle.stat_desk.specs.declared.event.Event.{Event}
-use Rattle.overlay_net.proofs.Listed.{rising_from_sorted}
+use Rattle.overlay_net.proofs.Listed.{increasing_from_sorted}
 use Rattle.overlay_net.proofs.Offers.{all_ready, events_at, events_read, inbox_read, node_read, turn_below, turn_found, turn_past}
 use Rattle.overlay_net.proofs.events.nth_enabled.Goals as goal
 
@@ -40,7 +40,7 @@ returns-in-Found g c releases =
     let at = node_read p c.args.nodes.now c.args.inboxes.now n c.index-nodes-n.result c.requires.parts lt c.index-nodes-n.is in
     let box = inbox_read p c.args.nodes.now c.args.inboxes.now n c.index-inboxes-n.result c.requires.parts lt c.index-inboxes-n.is in
     let own = events_read p c.args.nodes.now c.args.inboxes.now n c.index-nodes-n.result c.index-inboxes-n.result at box in
-    let all = all_ready p c.args.nodes.now c.args.inboxes.now releases c.args.ready.now.keys c.invariant.ensures c.requires.no_faults c.requires.parts c.requires.ready (rising_from_sorted c.args.ready.now.keys c.iter-n-items.ensures.ordered) in
+    let all = all_ready p c.args.nodes.now c.args.inboxes.now releases c.args.ready.now.keys c.invariant.ensures c.requires.no_faults c.requires.parts c.requires.ready (increasing_from_sorted c.args.ready.now.keys c.iter-n-items.ensures.ordered) in
     sym (ap (λ (es : List Event). slice_get es c.args.i) all ∙ sym c.loop-n.invariant.2 ∙ turn_found (events_at p c.args.nodes.now c.args.inboxes.now) c.loop-n.n-iterator c.next.new.self n _ c.loop-n.left c.in-Found.event e own c.in-Found.ensures)
 
 pub loop-n-preserved : goal.loop-n-preserved
@@ -62,5 +62,5 @@ pub returns : goal.returns
 returns g c releases =
     let p = c.args.plan.now in
     let e : c.loop-n.n-iterator ≡ [] = rest_all deref c.loop-n.n-iterator c.next.new.self c.next.result c.in-None.is c.next.ensures.steps in
-    let all = all_ready p c.args.nodes.now c.args.inboxes.now releases c.args.ready.now.keys c.invariant.ensures c.requires.no_faults c.requires.parts c.requires.ready (rising_from_sorted c.args.ready.now.keys c.iter-n-items.ensures.ordered) in
+    let all = all_ready p c.args.nodes.now c.args.inboxes.now releases c.args.ready.now.keys c.invariant.ensures c.requires.no_faults c.requires.parts c.requires.ready (increasing_from_sorted c.args.ready.now.keys c.iter-n-items.ensures.ordered) in
     sym (ap (λ (es : List Event). slice_get es c.args.i) all ∙ sym c.loop-n.invariant.2 ∙ ap (λ ns. slice_get (flat_map (events_at p c.args.nodes.now c.args.inboxes.now) ns) c.loop-n.left) e)

@@ -38,10 +38,10 @@ loop-change-preserved c =
       | in-Ok w ↦ omega (arith, ap vec_capacity w.tail-is, w.move_tail.ensures.tail_capacity)
       | in-Err w ↦ omega (arith, ap vec_capacity w.tail-is, w.move_tail-in-Err.ensures.tail_capacity)
     ] in
-    let woven = weaves_on rows c.loop-change.changes.items tail c.match-find_row.rows.items c.pop.new.self.items c.match-find_row.tail.items c.push_reserved.new.self.items row h.in_order h.rising c.in-Some.ensures.items between c.push_reserved.ensures.items in
+    let woven = weaves_on rows c.loop-change.changes.items tail c.match-find_row.rows.items c.pop.new.self.items c.match-find_row.tail.items c.push_reserved.new.self.items row h.in_order h.increasing c.in-Some.ensures.items between c.push_reserved.ensures.items in
     record {
       in_order = woven.in_order;
-      rising = woven.rising;
+      increasing = woven.increasing;
       room = room ∙ h.room;
       tail_capacity = let left = h.tail_capacity in let moved = woven.room in omega (arith, left, moved, more_room, c.push_reserved.ensures.capacity);
       woven = woven.woven ∙ h.woven;

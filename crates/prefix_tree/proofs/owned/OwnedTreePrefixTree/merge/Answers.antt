@@ -19,8 +19,8 @@ returns-then-not-has_room-clause-full c _ =
     let new = c.in_ok-changes.ensures.added ∙ (λ i. new_among (below_in (c.deref.ensures.value i)) (entries_view (c.deref-2.ensures.value i))) in
     omega (arith, count, new, ap length c.deref-3.ensures.value, leb-false _ _ (sym c.has_room.ensures ∙ c.if-not-has_room.true))
 
-pub apply_changes-requires-clause-rising : goal.apply_changes-requires-clause-rising
-apply_changes-requires-clause-rising c =
+pub apply_changes-requires-clause-increasing : goal.apply_changes-requires-clause-increasing
+apply_changes-requires-clause-increasing c =
     subst (λ es. T (finmap.is_sorted path_cmp es)) (sym (c.in_ok-changes.ensures.rows ∙ (λ i. map (changed (below_in (c.deref.ensures.value i))) (entries_view (c.deref-2.ensures.value i)))))
     (changed_sorted (below_in c.self.inside.rows.items) (entries_view c.other.inside.rows.items) c.other.invariant.tree.in_order)
 
