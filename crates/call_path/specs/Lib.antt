@@ -1,4 +1,5 @@
 pub mod Path
+pub mod Pairs
 pub mod Good
 pub mod Reading
 pub mod Cuts

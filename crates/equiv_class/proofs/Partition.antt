@@ -4,7 +4,7 @@ use Rattle.std.specs.List.{list_any, slice_get}
 use Rattle.std.specs.Ordering.{nat_cmp, eq_by_cmp}
 use Rattle.std.proofs.lemmas.Bool.{and_parts}
 use Rattle.rank_set.specs.Ranks.{Ranks, has, in_order, size, those, has-in_order, has-those}
-use Rattle.prefix_tree.specs.Pairs.{Pairs}
+use Rattle.call_path.specs.Pairs.{Pairs}
 use Rattle.equiv_class.specs.Classes.{HaveOwnPaths, equivalent, classes_of, classes_with, paths_of}
 use Rattle.equiv_class.proofs.Equivalent.{paths-from_equivalent}
 use Rattle.equiv_class.proofs.Blocks.{equivalent_itself, classes_none, fewer_without, next_class}

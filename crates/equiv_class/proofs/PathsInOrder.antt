@@ -7,7 +7,7 @@ use Rattle.std.specs.FinMap.Entries.{by_order}
 use Rattle.std.specs.Ordering.{is_lt, is_eq}
 use Rattle.std.specs.declared.cmp.Ordering.TheVariants.{Less, Equal, Greater}
 use Rattle.call_path.specs.Path.{Path, path_cmp, is_path, path_cmp_total, path_cmp_exact}
-use Rattle.prefix_tree.specs.Pairs.{Pairs, is_pair}
+use Rattle.call_path.specs.Pairs.{Pairs, is_pair}
 use Rattle.prefix_tree.proofs.Rows.{first, second, less}
 use Rattle.equiv_class.specs.Classes.{paths_of, put_path}
 

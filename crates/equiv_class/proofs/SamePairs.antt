@@ -6,7 +6,7 @@ use Rattle.std.specs.Ordering.{nat_cmp, eq_by_cmp}
 use Rattle.std.proofs.lemmas.Bool.{or_right, false_from_ne_true}
 use Rattle.rank_set.specs.Ranks.{Ranks, has, those, in_order, has-in_order, has-those, same_ranks}
 use Rattle.call_path.specs.Path.{Path}
-use Rattle.prefix_tree.specs.Pairs.{HasNoEmptyPath, Pairs, is_pair}
+use Rattle.call_path.specs.Pairs.{HasNoEmptyPath, Pairs, is_pair}
 use Rattle.prefix_tree.specs.Tree.{Tree, pairs_of, tree_of}
 use Rattle.prefix_tree.proofs.PairLemmas.{is_pair-pairs_of}
 use Rattle.prefix_tree.proofs.TreeLemmas.{IsTreeOf-from_equal, coverage-tree_of}

@@ -8,7 +8,7 @@ use Rattle.std.specs.Ordering.{is_lt}
 use Rattle.std.proofs.lemmas.Bool.{true≢false, and_parts, and_from, or_right, eqb-true}
 use Rattle.rank_set.specs.Ranks.{Ranks, has, size, has-none, none_from_size}
 use Rattle.call_path.specs.Path.{Path, path_cmp, is_path, path_cmp_total, path_cmp_exact}
-use Rattle.prefix_tree.specs.Pairs.{is_pair}
+use Rattle.call_path.specs.Pairs.{is_pair}
 use Rattle.prefix_tree.specs.Tree.{Tree, Marks, pairs_of}
 use Rattle.prefix_tree.specs.Joined.{in_rows, ended}
 use Rattle.prefix_tree.proofs.Rows.{in_rows-entries, is_path-exact, is_path-itself, first, second, less, none_from}

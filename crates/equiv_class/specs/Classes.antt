@@ -4,7 +4,7 @@ use Rattle.std.specs.List.{list_any, list_all, filter, AllByRecursion}
 use Rattle.std.specs.Ordering.{is_lt}
 use Rattle.rank_set.specs.Ranks.{Ranks, has, in_order, those}
 use Rattle.call_path.specs.Path.{Path, path_cmp, is_path}
-use Rattle.prefix_tree.specs.Pairs.{Pairs, is_pair}
+use Rattle.call_path.specs.Pairs.{Pairs, is_pair}
 
 -- both are true, or both are false
 abbrev pub same_answer : Bool → Bool → Bool

@@ -2,7 +2,7 @@
 use Rattle.std.specs.Prelude.{◌≡◌, ℕ, List, [], ◌∷◌, ◌++◌, codes, refl}
 use Rattle.rank_set.specs.Ranks.{set_of, has, those, with_rank}
 use Rattle.call_path.specs.Path.{Path}
-use Rattle.prefix_tree.specs.Pairs.{Pairs, pairs_at}
+use Rattle.call_path.specs.Pairs.{Pairs, pairs_at}
 use Rattle.equiv_class.specs.Classes.{classes_of}
 
 -- the path of a frame under main

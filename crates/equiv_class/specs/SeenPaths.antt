@@ -4,7 +4,7 @@ use Rattle.std.specs.List.{list_all, filter}
 use Rattle.std.specs.FinMap as finmap
 use Rattle.rank_set.specs.Ranks.{Ranks, has, is_empty}
 use Rattle.call_path.specs.Path.{Path}
-use Rattle.prefix_tree.specs.Pairs.{Pairs}
+use Rattle.call_path.specs.Pairs.{Pairs}
 use Rattle.prefix_tree.specs.Tree.{Tree, Marks}
 use Rattle.equiv_class.specs.Classes.{same_answer, equivalent, paths_of}
 use Rattle.equiv_class.specs.declared.SeenPath.{SeenPath}

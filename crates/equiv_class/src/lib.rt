@@ -7,7 +7,7 @@ ghost use Rattle.rank_set.specs.Ranks.{Ranks, has, none, those};
 ghost use Rattle.std.specs.List.{list_any};
 ghost use Rattle.std.specs.List.Sorted.{IsStrictlySortedBy};
 ghost use Rattle.call_path.specs.Path.{Path, is_path, path_cmp};
-ghost use Rattle.prefix_tree.specs.Pairs.{HasNoEmptyPath, Pairs, is_pair};
+ghost use Rattle.call_path.specs.Pairs.{HasNoEmptyPath, Pairs, is_pair};
 ghost use Rattle.prefix_tree.specs.Tree.{tree_of, pairs_of};
 ghost use Rattle.equiv_class.specs.Classes.{HaveOwnPaths, equivalent, classes_of, classes_with, paths_of};
 ghost use Rattle.equiv_class.specs.ClassList.{class_view, class_views};

@@ -8,8 +8,8 @@ use Rattle.std.specs.declared.cmp.Ordering.TheVariants.{Less, Greater}
 use Rattle.rank_set.specs.Ranks.{Ranks, none, has, with_rank, union, those, set_of, in_order}
 use Rattle.rank_set.specs.Text.{text_of}
 use Rattle.call_path.specs.Path.{Path, path_cmp, path_cmp_total}
-use Rattle.prefix_tree.specs.Pairs.{Pairs, pairs_at}
-use Rattle.prefix_tree.specs.Tree.{Tree, Marks, prefixes_of, rows_at, tree_of}
+use Rattle.call_path.specs.Pairs.{Pairs, pairs_at, prefixes_of}
+use Rattle.prefix_tree.specs.Tree.{Tree, Marks, rows_at, tree_of}
 use Rattle.equiv_class.specs.Classes.{classes_of}
 use Rattle.stat_plan.specs.Plans.{Plan, stream, daemons, ranks, samples, sample_count, stream_of, stream_ranks}
 use Rattle.stat_plan.specs.declared.script.Fault.{Fault}

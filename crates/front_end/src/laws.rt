@@ -3,7 +3,7 @@
 ghost use Rattle.std.specs.Prelude.{◌≡◌, ℕ, List, []};
 ghost use Rattle.std.specs.List.Sorted.{IsStrictlySortedBy};
 ghost use Rattle.rank_set.specs.Ranks.{Ranks};
-ghost use Rattle.prefix_tree.specs.Pairs.{HasNoEmptyPath, Pairs};
+ghost use Rattle.call_path.specs.Pairs.{HasNoEmptyPath, Pairs};
 ghost use Rattle.prefix_tree.specs.Tree.{Tree, tree_of};
 ghost use Rattle.equiv_class.specs.Classes.{classes_of};
 ghost use Rattle.stat_plan.specs.Invariants.{IsPlan};

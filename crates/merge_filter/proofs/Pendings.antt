@@ -3,7 +3,7 @@ use Rattle.std.proofs.Common.{◌≡◌, ◌≢◌, ℕ, ◌<◌, Bool, true, fa
 use Rattle.std.proofs.lemmas.List.{append-nil}
 use Rattle.rank_set.specs.Ranks.{Ranks, none, has, size, size-none, in_order, is_subset, subset_from, those, has-those, union, has-union, none_from_size}
 use Rattle.call_path.specs.Path.{Path, is_path}
-use Rattle.prefix_tree.specs.Pairs.{Pairs, pairs_at, is_pair}
+use Rattle.call_path.specs.Pairs.{Pairs, pairs_at, is_pair}
 use Rattle.prefix_tree.specs.Tree.{Tree, tree_of, added, count_below}
 use Rattle.prefix_tree.proofs.PairLemmas.{is_pair-append, any-pairs_of_set}
 use Rattle.prefix_tree.proofs.TreeLaws.{added_adds}

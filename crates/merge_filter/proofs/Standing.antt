@@ -2,7 +2,7 @@
 use Rattle.std.proofs.Common.{◌≡◌, ℕ, ◌<◌, inl, inr, [], sym, ap, subst, ◌∙◌, arith}
 use Rattle.std.proofs.lemmas.Bool.{true≢false, or_cases}
 use Rattle.rank_set.specs.Ranks.{Ranks, none, has, Has, IsSubset, has-none, union, has-union}
-use Rattle.prefix_tree.specs.Pairs.{Pairs}
+use Rattle.call_path.specs.Pairs.{Pairs}
 use Rattle.prefix_tree.specs.Tree.{Tree, tree_of, merged, count_below}
 use Rattle.prefix_tree.proofs.TreeLemmas.{coverage-tree_of}
 use Rattle.prefix_tree.proofs.TreeLaws.{merged-tree_of, tree_of-uncovered}

@@ -7,7 +7,7 @@ use Rattle.std.proofs.lemmas.List.{take_more}
 use Rattle.std.proofs.lemmas.Option.{slice_get_within, get_or_from_slice_get}
 use Rattle.rank_set.specs.Ranks.{Ranks, none, has, Has, in_order, size}
 use Rattle.call_path.specs.Path.{Path, is_path, is_prefix}
-use Rattle.prefix_tree.specs.Pairs.{Pairs, pairs_at, is_pair, passes}
+use Rattle.call_path.specs.Pairs.{Pairs, pairs_at, is_pair, passes}
 use Rattle.prefix_tree.specs.Joined.{is_below}
 use Rattle.prefix_tree.specs.Tree.{Tree, tree_of}
 use Rattle.prefix_tree.proofs.PairLemmas.{is_pair-append, any-pairs_of_set, pair_from_passes}

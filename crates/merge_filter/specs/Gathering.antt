@@ -2,7 +2,7 @@
 use Rattle.std.specs.Prelude.{◌≡◌, ℕ, ◌<◌, true, ◌&&◌, ◌||◌, List, [], ◌++◌, length, slice_get, slice_index_or, Some}
 use Rattle.rank_set.specs.Ranks.{Ranks, has, Has, in_order, IsSubset}
 use Rattle.call_path.specs.Path.{Path, is_path}
-use Rattle.prefix_tree.specs.Pairs.{Pairs, pairs_at, is_pair}
+use Rattle.call_path.specs.Pairs.{Pairs, pairs_at, is_pair}
 use Rattle.prefix_tree.specs.Tree.{Tree, tree_of}
 use Rattle.stat_plan.specs.NodeSets.{In}
 use Rattle.stat_plan.specs.Samples.{SampleLine, IsWithinLimit, is_in_wave, samples_of, wave_lines}

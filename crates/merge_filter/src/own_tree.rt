@@ -2,7 +2,7 @@
 
 ghost use Rattle.std.specs.Prelude.{◌≡◌, IfOk, OnOk};
 ghost use Rattle.rank_set.specs.Ranks.{Ranks};
-ghost use Rattle.prefix_tree.specs.Pairs.{Pairs};
+ghost use Rattle.call_path.specs.Pairs.{Pairs};
 ghost use Rattle.prefix_tree.specs.Tree.{tree_of};
 ghost use Rattle.stat_plan.specs.Samples.{IsWithinLimit, samples_of, wave_lines};
 ghost use Rattle.stat_plan.specs.StackLines.{PathIndicesInRange, line_of, lines_of};

@@ -14,7 +14,7 @@ use Rattle.std.proofs.lemmas.List.{length-map}
 use Rattle.rank_set.specs.Ranks.{Ranks, none, has, union, is_subset, subset_has, in_order}
 use Rattle.call_path.specs.Path.{Path, path_cmp, path_cmp_total, path_cmp_exact}
 use Rattle.prefix_tree.specs.declared.owned.TreeRow.{TreeRow}
-use Rattle.prefix_tree.specs.Pairs.{Pairs, pairs_at}
+use Rattle.call_path.specs.Pairs.{Pairs, pairs_at}
 use Rattle.prefix_tree.specs.Tree.{Tree, Marks, IsTree, IsLawful, tree_of, merged, covered, added, count_below, pairs_of, rows_of, frame_of}
 use Rattle.prefix_tree.specs.Joined.{Below, insert_rows, path_rows}
 use Rattle.prefix_tree.specs.Owned.{entry_of, entries_view, HasIncreasingPaths, below_in, tree_in, AreTreeRows}

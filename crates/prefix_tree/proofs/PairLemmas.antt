@@ -11,8 +11,9 @@ use Rattle.std.proofs.lemmas.Bool.{true≢false, or_cases, and_parts, or_left, o
 use Rattle.std.proofs.lemmas.List.Folds.{list_any-append}
 use Rattle.rank_set.specs.Ranks.{Ranks, none, has, in_order, has-in_order, has-none}
 use Rattle.call_path.specs.Path.{Path, path_cmp, is_path, is_prefix}
-use Rattle.prefix_tree.specs.Pairs.{Pairs, pairs_at, is_pair, passes, IsWithin}
-use Rattle.prefix_tree.specs.Tree.{Marks, Tree, pairs_of, prefixes}
+use Rattle.call_path.specs.Pairs.{Pairs, pairs_at, is_pair, passes, prefixes}
+use Rattle.prefix_tree.specs.Pairs.{IsWithin}
+use Rattle.prefix_tree.specs.Tree.{Marks, Tree, pairs_of}
 use Rattle.prefix_tree.specs.Joined.{in_rows, seen, labelled, ended, is_below, path_rows, below_frame, last_marks, AreRowsOf}
 use Rattle.prefix_tree.proofs.Rows.{is_path-exact, is_path-itself, in_rows-entries}
 

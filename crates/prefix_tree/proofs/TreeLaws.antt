@@ -2,7 +2,7 @@
 use Rattle.std.proofs.Common.{◌≡◌, ℕ, Bool, true, false, ◌&&◌, ◌||◌, [], ◌++◌, refl, sym, ap, ◌∙◌}
 use Rattle.rank_set.specs.Ranks.{Ranks, none, has, in_order, union, has-union, union-none, has-none}
 use Rattle.call_path.specs.Path.{Path, is_path}
-use Rattle.prefix_tree.specs.Pairs.{Pairs, pairs_at, is_pair}
+use Rattle.call_path.specs.Pairs.{Pairs, pairs_at, is_pair}
 use Rattle.prefix_tree.specs.Tree.{Tree, tree_of, pairs_of, merged, covered, added, Adds}
 use Rattle.prefix_tree.specs.Joined.{is_below, AreSamePairs}
 use Rattle.prefix_tree.proofs.PairLemmas.{is_pair-append, is_pair-pairs_of, any-pairs_of_set}

@@ -9,8 +9,9 @@ use Rattle.std.specs.FinMap as finmap
 use Rattle.std.proofs.lemmas.Bool.{true≢false, eqb-true, or_left}
 use Rattle.rank_set.specs.Ranks.{Ranks, none, has, in_order, size, union, has-union, has-those, has-in_order, has-none, same_ranks, none_from_size}
 use Rattle.call_path.specs.Path.{Path, path_cmp, is_path, is_prefix, path_cmp_total, path_cmp_exact}
-use Rattle.prefix_tree.specs.Pairs.{Pairs, pairs_at, is_pair, passes, label, ends, IsWithin}
-use Rattle.prefix_tree.specs.Tree.{Marks, Tree, marks_of, row_at, prefixes, prefixes_of, with_row, rows_at, tree_of, pairs_of, IsTree, merged, covered, added, Unites, Covers}
+use Rattle.call_path.specs.Pairs.{Pairs, pairs_at, is_pair, passes, prefixes, prefixes_of}
+use Rattle.prefix_tree.specs.Pairs.{label, ends, IsWithin}
+use Rattle.prefix_tree.specs.Tree.{Marks, Tree, marks_of, row_at, with_row, rows_at, tree_of, pairs_of, IsTree, merged, covered, added, Unites, Covers}
 use Rattle.prefix_tree.specs.Joined.{insert_rows, in_rows, if_some, seen, labelled, ended, is_below, path_rows, AreRowsOf, IsTreeOf, AreSamePairs}
 use Rattle.prefix_tree.proofs.Rows.{labelled_spreads, ended_spreads, is_path-exact, seen-insert_rows, in_rows-entries}
 use Rattle.prefix_tree.proofs.PairLemmas.{passes-append, is_pair-append, pair_from_passes, passes-from_pair, passes_within, is_pair-pairs_of, any-prefixes, any-flat_map, and_false, rows_of_path, pairs_within}

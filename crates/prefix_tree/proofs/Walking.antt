@@ -11,7 +11,7 @@ use Rattle.std.proofs.lemmas.Bool.{true≢false, and_parts, or_cases, or_right}
 use Rattle.std.proofs.lemmas.List.{take-append-drop, length-take-le}
 use Rattle.call_path.specs.Path.{Path, path_cmp, is_path, is_prefix, path_cmp_total}
 use Rattle.rank_set.specs.Ranks.{Ranks, has}
-use Rattle.prefix_tree.specs.Pairs.{Pairs, passes}
+use Rattle.call_path.specs.Pairs.{Pairs, passes}
 use Rattle.prefix_tree.specs.Tree.{Tree, Marks, IsTree, pairs_of}
 use Rattle.prefix_tree.specs.Joined.{in_rows, seen, if_some, labelled, is_below, IsTreeOf}
 use Rattle.prefix_tree.specs.Walk.{Follows}

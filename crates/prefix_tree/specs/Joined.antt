@@ -4,7 +4,7 @@ use Rattle.std.specs.List.{list_any}
 use Rattle.std.specs.FinMap as finmap
 use Rattle.rank_set.specs.Ranks.{Ranks, none, has, union}
 use Rattle.call_path.specs.Path.{Path, path_cmp, is_path}
-use Rattle.prefix_tree.specs.Pairs.{Pairs, is_pair, passes}
+use Rattle.call_path.specs.Pairs.{Pairs, is_pair, passes}
 use Rattle.prefix_tree.specs.Tree.{Marks, Tree}
 
 -- the marks of each prefix below the root

@@ -4,8 +4,8 @@ use Rattle.std.proofs.Common.{sym, ap, ◌∙◌, arith}
 use Rattle.std.specs.FinMap as finmap
 use Rattle.rank_set.specs.Ranks.{Ranks, none, has, with_rank, those, set_of}
 use Rattle.call_path.specs.Path.{Path, path_cmp, path_cmp_total}
-use Rattle.prefix_tree.specs.Pairs.{Pairs, pairs_at}
-use Rattle.prefix_tree.specs.Tree.{Marks, prefixes_of, rows_at, rows_of, tree_of}
+use Rattle.call_path.specs.Pairs.{Pairs, pairs_at, prefixes_of}
+use Rattle.prefix_tree.specs.Tree.{Marks, rows_at, rows_of, tree_of}
 
 -- rows put in order, the last first
 abbrev in_order_of : List (Path × Marks) → List (Path × Marks)

@@ -5,7 +5,8 @@ use Rattle.std.specs.FinMap as finmap
 use Rattle.rank_set.specs.Ranks.{Ranks, none, in_order, size, union}
 use Rattle.call_path.specs.Path.{Path, path_cmp}
 use Rattle.call_path.specs.Good.{IsGoodPath}
-use Rattle.prefix_tree.specs.Pairs.{Pairs, pairs_at, label, ends, IsWithin}
+use Rattle.call_path.specs.Pairs.{Pairs, pairs_at, prefixes_of}
+use Rattle.prefix_tree.specs.Pairs.{label, ends, IsWithin}
 
 -- the ranks that pass a prefix, and those whose path ends there
 abbrev pub Marks : Type 0
@@ -24,15 +25,6 @@ marks_of l e = cond (nat_eq (size l) 0) None (Some (l, e))
 abbrev pub row_at : Pairs → Ranks → Path → Option Marks
 row_at P C [] = None
 row_at P C (f ∷ p) = marks_of (label P C (f ∷ p)) (ends P C (f ∷ p))
-
--- the prefixes of a path, but for the empty one
-abbrev pub prefixes : Path → List Path
-prefixes [] = []
-prefixes (f ∷ p) = (f ∷ []) ∷ map (λ q. f ∷ q) (prefixes p)
-
--- the prefixes of all paths, with repeats
-abbrev pub prefixes_of : Pairs → List Path
-prefixes_of P = flat_map (λ e. prefixes e.1) P
 
 -- a row before others, if there is one
 abbrev pub with_row : Path → Option Marks → List (Path × Marks) → List (Path × Marks)

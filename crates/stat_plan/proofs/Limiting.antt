@@ -4,7 +4,7 @@ use Rattle.std.specs.Prelude.{slice_get, nat_le}
 use Rattle.std.proofs.lemmas.Bool.{true≢false, le-leb, leb-true, false_from_ne_true, or_cases, or_left, or_right, and_parts, and_from}
 use Rattle.rank_set.specs.Ranks.{Ranks, none, has, Has, size, in_order, those, is_subset, subset_from, has-those, has-none, none_from_size}
 use Rattle.call_path.specs.Path.{Path, is_prefix}
-use Rattle.prefix_tree.specs.Pairs.{Pairs, pairs_at, passes}
+use Rattle.call_path.specs.Pairs.{Pairs, pairs_at, passes}
 use Rattle.prefix_tree.specs.Tree.{Tree, tree_of, added, count_below}
 use Rattle.prefix_tree.proofs.PairLemmas.{passes-append, any-pairs_of_set}
 use Rattle.prefix_tree.proofs.TreeLaws.{added-tree_of}

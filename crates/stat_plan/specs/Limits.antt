@@ -2,7 +2,7 @@
 use Rattle.std.specs.Prelude.{ℕ, ◌≡◌, ◌⊎◌, ◌≤◌, ◌<◌, ⊤, Bool, true, not, nat_le, find, map, List, [], slice_get, slice_index_or, Option, Some, None}
 use Rattle.rank_set.specs.Ranks.{Ranks, Has}
 use Rattle.call_path.specs.Path.{Path, is_prefix}
-use Rattle.prefix_tree.specs.Pairs.{Pairs, passes}
+use Rattle.call_path.specs.Pairs.{Pairs, passes}
 use Rattle.prefix_tree.specs.Tree.{Tree, tree_of, count_below}
 use Rattle.stat_plan.specs.NodeSets.{In}
 use Rattle.stat_plan.specs.Samples.{SampleLine, HasNoMore, is_in_wave, samples_of, wave_lines}

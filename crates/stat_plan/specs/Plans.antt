@@ -2,7 +2,7 @@
 use Rattle.std.specs.Prelude.{ℕ, zero, suc, Bool, ◌||◌, ◌==◌, List, [], ◌∷◌, ◌++◌, map, filter, length, slice_index_or, find, Option, Some, None}
 use Rattle.std.specs.List.{list_any}
 use Rattle.rank_set.specs.Ranks.{Ranks, none}
-use Rattle.prefix_tree.specs.Pairs.{Pairs}
+use Rattle.call_path.specs.Pairs.{Pairs}
 use Rattle.stat_plan.specs.NodeSets.{In, member}
 use Rattle.stat_plan.specs.Samples.{SampleLine, samples_of, wave_lines, all_ranks}
 use Rattle.stat_plan.specs.Topologies.{Nodes}

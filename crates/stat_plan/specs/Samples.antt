@@ -3,7 +3,7 @@ use Rattle.std.specs.Prelude.{◌≡◌, ℕ, ◌<◌, ◌≤◌, ◌*◌, ◌+�
 use Rattle.std.specs.List.{flat_map, AllByRecursion}
 use Rattle.rank_set.specs.Ranks.{Ranks, in_order, none, union}
 use Rattle.call_path.specs.Path.{Path}
-use Rattle.prefix_tree.specs.Pairs.{Pairs, pairs_at, passes}
+use Rattle.call_path.specs.Pairs.{Pairs, pairs_at, passes}
 use Rattle.prefix_tree.specs.Tree.{tree_of, count_below}
 
 -- at a time, each of some ranks was seen in a path

@@ -1,7 +1,7 @@
 //! The limit of distinct prefixes in each wave.
 
 ghost use Rattle.std.specs.Prelude.{◌≡◌, ◌<◌, ℕ, IfOk, IfErr, OnOk, length, [], Err, None, Some, find};
-ghost use Rattle.prefix_tree.specs.Pairs.{Pairs};
+ghost use Rattle.call_path.specs.Pairs.{Pairs};
 ghost use Rattle.prefix_tree.specs.Tree.{tree_of};
 ghost use Rattle.prefix_tree.specs.declared.TreeError.TheVariants.{TooManyPrefixes};
 ghost use Rattle.stat_plan.specs.Limits.{IsTooMuch, MarksLine, RefusesAt, first_over, is_over, is_within_limit, stream_waves};

@@ -4,7 +4,7 @@ use Rattle.std.specs.Prelude.{cond}
 use Rattle.std.specs.List.{AllByRecursion}
 use Rattle.std.proofs.lemmas.Bool.{and_parts}
 use Rattle.rank_set.specs.Ranks.{Ranks, none}
-use Rattle.prefix_tree.specs.Pairs.{HasNoEmptyPath}
+use Rattle.call_path.specs.Pairs.{HasNoEmptyPath}
 use Rattle.equiv_class.proofs.SamePairs.{classes_of_tree}
 use Rattle.stat_plan.specs.Invariants.{IsPlan, IsSampleLine}
 use Rattle.stat_plan.specs.NodeSets.{In}

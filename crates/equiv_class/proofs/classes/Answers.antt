@@ -3,7 +3,7 @@ use Rattle.std.specs.Prelude.{IfOk}
 use Rattle.std.specs.declared.alloc.AllocError.{AllocError}
 use Rattle.rank_set.specs.Ranks.{Ranks}
 use Rattle.call_path.specs.Path.{Path}
-use Rattle.prefix_tree.specs.Pairs.{HasNoEmptyPath, Pairs}
+use Rattle.call_path.specs.Pairs.{HasNoEmptyPath, Pairs}
 use Rattle.prefix_tree.specs.Tree.{Tree, pairs_of, tree_of}
 use Rattle.equiv_class.specs.Classes.{classes_of}
 use Rattle.equiv_class.specs.ClassList.{class_views}

@@ -3,7 +3,7 @@ use Rattle.std.specs.List.{slice_get}
 use Rattle.std.proofs.lemmas.List.{append-nil, map-append}
 use Rattle.rank_set.specs.Ranks.{Ranks, in_order, size, those}
 use Rattle.call_path.specs.Path.{Path}
-use Rattle.prefix_tree.specs.Pairs.{Pairs}
+use Rattle.call_path.specs.Pairs.{Pairs}
 use Rattle.equiv_class.specs.Classes.{equivalent, paths_of, classes_of}
 use Rattle.equiv_class.specs.ClassList.{class_view, class_views}
 use Rattle.equiv_class.specs.SeenPaths.{Lists, entries_view, paths_to, same_paths}

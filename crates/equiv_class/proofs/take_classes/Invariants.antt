@@ -1,6 +1,6 @@
 use Rattle.std.proofs.Common.{◌≡◌, ◌++◌}
 use Rattle.rank_set.specs.Ranks.{size}
-use Rattle.prefix_tree.specs.Pairs.{Pairs}
+use Rattle.call_path.specs.Pairs.{Pairs}
 use Rattle.equiv_class.specs.Classes.{classes_of}
 use Rattle.equiv_class.specs.ClassList.{class_views}
 use Rattle.equiv_class.specs.SeenPaths.{Lists, entries_view}

@@ -1,7 +1,7 @@
 use Rattle.std.proofs.Common.{◌≡◌, ◌<◌, ◌≤◌, ◌++◌, sym, ap, subst, ◌∙◌, refl, Err, []}
 use Rattle.std.proofs.lemmas.List.{get_or_default}
 use Rattle.rank_set.specs.Ranks.{has, size, size-none, in_order, those}
-use Rattle.prefix_tree.specs.Pairs.{pairs_at}
+use Rattle.call_path.specs.Pairs.{pairs_at}
 use Rattle.prefix_tree.specs.Tree.{tree_of, added, count_below}
 use Rattle.prefix_tree.specs.declared.TreeError.TheVariants.{TooManyPrefixes}
 use Rattle.stat_plan.specs.StackLines.{line_of}
