@@ -1,3 +1,4 @@
+pub mod PathLemmas
 pub mod Texts
 pub mod Held
 pub mod Errors

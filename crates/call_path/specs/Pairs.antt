@@ -1,5 +1,5 @@
 -- Sets of pairs of a rank and a path that it was seen in, as lists; and the prefixes of paths.
-use Rattle.std.specs.Prelude.{◌≡◌, ℕ, ◌<◌, length, map, nat_eq, Bool, true, ◌&&◌, List, [], ◌∷◌}
+use Rattle.std.specs.Prelude.{◌≡◌, ℕ, ◌<◌, length, map, nat_eq, Bool, true, false, ◌&&◌, List, [], ◌∷◌}
 use Rattle.std.specs.List.{list_any, flat_map}
 use Rattle.call_path.specs.Path.{Path, is_path, is_prefix}
 
@@ -23,6 +23,11 @@ passes P r p = list_any (λ e. nat_eq e.0 r && is_prefix p e.1) P
 -- each pair's path has a frame
 abbrev pub HasNoEmptyPath : Pairs → Type 0
 HasNoEmptyPath P = (r : ℕ) (p : Path) → is_pair P r p ≡ true → 0 < length p
+
+-- whether a path is below the root
+abbrev pub is_below : Path → Bool
+is_below [] = false
+is_below (f ∷ p) = true
 
 -- the prefixes of a path, but for the empty one
 abbrev pub prefixes : Path → List Path

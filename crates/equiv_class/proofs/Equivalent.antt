@@ -5,7 +5,7 @@ use Rattle.std.specs.Cmp.{both_ways}
 use Rattle.std.proofs.lemmas.Bool.{true≢false, and_parts, and_from, or_cases}
 use Rattle.call_path.specs.Path.{Path, is_path}
 use Rattle.call_path.specs.Pairs.{Pairs, is_pair}
-use Rattle.prefix_tree.proofs.Rows.{is_path-exact}
+use Rattle.call_path.proofs.PathLemmas.{is_path-exact}
 use Rattle.equiv_class.specs.Classes.{same_answer, equivalent}
 
 -- equal answers are the same answer

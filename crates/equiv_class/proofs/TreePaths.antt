@@ -6,12 +6,13 @@ use Rattle.std.specs.FinMap as finmap
 use Rattle.std.specs.FinMap.Entries.{below_all}
 use Rattle.std.specs.Ordering.{is_lt}
 use Rattle.std.proofs.lemmas.Bool.{true≢false, and_parts, and_from, or_right, eqb-true}
+use Rattle.call_path.proofs.PathLemmas.{is_path-exact, is_path-itself}
 use Rattle.rank_set.specs.Ranks.{Ranks, has, size, has-none, none_from_size}
 use Rattle.call_path.specs.Path.{Path, path_cmp, is_path, path_cmp_total, path_cmp_exact}
 use Rattle.call_path.specs.Pairs.{is_pair}
 use Rattle.prefix_tree.specs.Tree.{Tree, Marks, pairs_of}
 use Rattle.prefix_tree.specs.Joined.{in_rows, ended}
-use Rattle.prefix_tree.proofs.Rows.{in_rows-entries, is_path-exact, is_path-itself, first, second, less, none_from}
+use Rattle.prefix_tree.proofs.Rows.{in_rows-entries, first, second, less, none_from}
 use Rattle.prefix_tree.proofs.PairLemmas.{is_pair-pairs_of}
 use Rattle.equiv_class.specs.Classes.{equivalent, same_answer, paths_of}
 use Rattle.equiv_class.specs.SeenPaths.{Lists, ends_at, has_ends, paths_to, same_paths, seen_in}

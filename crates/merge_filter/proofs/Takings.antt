@@ -7,11 +7,10 @@ use Rattle.std.proofs.lemmas.List.{take_more}
 use Rattle.std.proofs.lemmas.Option.{slice_get_within, get_or_from_slice_get}
 use Rattle.rank_set.specs.Ranks.{Ranks, none, has, Has, in_order, size}
 use Rattle.call_path.specs.Path.{Path, is_path, is_prefix}
-use Rattle.call_path.specs.Pairs.{Pairs, pairs_at, is_pair, passes}
-use Rattle.prefix_tree.specs.Joined.{is_below}
+use Rattle.call_path.specs.Pairs.{Pairs, pairs_at, is_pair, passes, is_below}
+use Rattle.call_path.proofs.PathLemmas.{is_path-exact, is_path-itself}
 use Rattle.prefix_tree.specs.Tree.{Tree, tree_of}
 use Rattle.prefix_tree.proofs.PairLemmas.{is_pair-append, any-pairs_of_set, pair_from_passes}
-use Rattle.prefix_tree.proofs.Rows.{is_path-exact, is_path-itself}
 use Rattle.prefix_tree.proofs.TreeLaws.{tree_of-same_pairs}
 use Rattle.stat_plan.specs.NodeSets.{In}
 use Rattle.stat_plan.specs.Samples.{SampleLine, IsWithinLimit, is_in_wave, samples_of, wave_lines}

@@ -7,12 +7,14 @@ use Rattle.std.specs.Cmp.{Equal-is}
 use Rattle.std.specs.FinMap as finmap
 use Rattle.std.proofs.lemmas.Bool.{true≢false, and_parts, or_cases, or_left, or_right, and_from}
 use Rattle.std.proofs.lemmas.List.Elements.{All-nil, All-cons, All-head, All-tail}
+use Rattle.call_path.proofs.PathLemmas.{is_path-exact, is_path-itself}
+use Rattle.call_path.specs.Pairs.{is_below}
 use Rattle.rank_set.specs.Ranks.{Ranks, has}
 use Rattle.call_path.specs.Path.{Path, is_path, is_prefix}
 use Rattle.call_path.specs.Good.{is_good_frame, IsGoodPath}
 use Rattle.prefix_tree.specs.Tree.{Marks}
-use Rattle.prefix_tree.specs.Joined.{Below, insert_rows, path_rows, in_rows, seen, is_below}
-use Rattle.prefix_tree.proofs.Rows.{is_path-exact, is_path-itself, seen-insert_rows, in_rows-entries}
+use Rattle.prefix_tree.specs.Joined.{Below, insert_rows, path_rows, in_rows, seen}
+use Rattle.prefix_tree.proofs.Rows.{seen-insert_rows, in_rows-entries}
 use Rattle.prefix_tree.proofs.PairLemmas.{label-path_rows, used-path_rows}
 
 -- a row of any marks

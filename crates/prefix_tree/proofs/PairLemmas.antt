@@ -2,20 +2,19 @@
 use Rattle.std.proofs.Common.{◌≡◌, ℕ, Bool, true, false, ◌&&◌, ◌||◌, List, [], ◌∷◌, ◌++◌, map, refl, sym, ap, ◌∙◌, eqb, inl, inr}
 use Rattle.std.specs.List.{list_any, flat_map}
 use Rattle.std.specs.Ordering.{eq_by_cmp, is_eq, nat_cmp, ordering_then}
-use Rattle.std.specs.declared.cmp.Ordering.{Ordering}
-use Rattle.std.specs.declared.cmp.Ordering.TheVariants.{Less, Equal, Greater}
 use Rattle.std.specs.Cmp.{both_ways, unsigned_tied, Equal-is, tied_itself}
 use Rattle.std.specs.Cmp.Lexicographic.{slice_cmp}
 use Rattle.std.specs.FinMap as finmap
 use Rattle.std.proofs.lemmas.Bool.{true≢false, or_cases, and_parts, or_left, or_right}
 use Rattle.std.proofs.lemmas.List.Folds.{list_any-append}
+use Rattle.call_path.proofs.PathLemmas.{and_false, root_or_below, is_path-cons, is_path-exact, is_path-itself}
 use Rattle.rank_set.specs.Ranks.{Ranks, none, has, in_order, has-in_order, has-none}
-use Rattle.call_path.specs.Path.{Path, path_cmp, is_path, is_prefix}
-use Rattle.call_path.specs.Pairs.{Pairs, pairs_at, is_pair, passes, prefixes}
+use Rattle.call_path.specs.Path.{Path, is_path, is_prefix}
+use Rattle.call_path.specs.Pairs.{Pairs, pairs_at, is_pair, passes, is_below}
 use Rattle.prefix_tree.specs.Pairs.{IsWithin}
 use Rattle.prefix_tree.specs.Tree.{Marks, Tree, pairs_of}
-use Rattle.prefix_tree.specs.Joined.{in_rows, seen, labelled, ended, is_below, path_rows, below_frame, last_marks, AreRowsOf}
-use Rattle.prefix_tree.proofs.Rows.{is_path-exact, is_path-itself, in_rows-entries}
+use Rattle.prefix_tree.specs.Joined.{in_rows, seen, labelled, ended, path_rows, below_frame, last_marks, AreRowsOf}
+use Rattle.prefix_tree.proofs.Rows.{in_rows-entries}
 
 -- a rank passes a prefix in either of two lists of pairs
 pub passes-append : (P Q : Pairs) (r : ℕ) (p : Path) → passes (P ++ Q) r p ≡ (passes P r p || passes Q r p)
@@ -103,49 +102,6 @@ is_pair-pairs_of t r p =
     any-flat_map _ (λ e. pairs_at (in_order e.1.1) e.0) (finmap.entries t.below)
     ∙ any_alike _ (λ e. is_path p e.0 && ended r e.1) (λ e. any-pairs_of_set (is_path p) e.1.1 e.0 r ∙ and_swap (has e.1.1 r) (is_path p e.0)) (finmap.entries t.below)
     ∙ in_rows-entries (ended r) t.below p
-
--- a test and false
-pub and_false : (a : Bool) → (a && false) ≡ false
-and_false true = refl
-and_false false = refl
-
-and_or : (a b c : Bool) → (a && (b || c)) ≡ ((a && b) || (a && c))
-and_or true b c = refl
-and_or false b c = refl
-
--- two orders one after the other tie where both do
-pub then_equal : (o s : Ordering) → is_eq (ordering_then o s) ≡ (is_eq o && is_eq s)
-then_equal Less s = refl
-then_equal Equal s = refl
-then_equal Greater s = refl
-
--- two paths are the same where the first frames and the rests are
-pub is_path-cons : (g f : List ℕ) (q p : Path) → is_path (g ∷ q) (f ∷ p) ≡ (eq_by_cmp (slice_cmp nat_cmp) g f && is_path q p)
-is_path-cons g f q p = then_equal (slice_cmp nat_cmp g f) (path_cmp q p)
-
-root_or_below : (p q : Path) → (is_path q [] || (is_below q && is_prefix q p)) ≡ is_prefix q p
-root_or_below p [] = refl
-root_or_below p (g ∷ q) = refl
-
--- the prefixes of a path
-any-under : (f g : List ℕ) (q : Path) (ps : List Path) → list_any (is_path (g ∷ q)) (map (λ s. f ∷ s) ps) ≡ (eq_by_cmp (slice_cmp nat_cmp) g f && list_any (is_path q) ps)
-any-under f g q [] = sym (and_false _)
-any-under f g q (p ∷ ps) = (λ i. is_path-cons g f q p i || any-under f g q ps i) ∙ sym (and_or (eq_by_cmp (slice_cmp nat_cmp) g f) (is_path q p) (list_any (is_path q) ps))
-
-none-under : (f : List ℕ) (ps : List Path) → list_any (is_path []) (map (λ s. f ∷ s) ps) ≡ false
-none-under f [] = refl
-none-under f (p ∷ ps) = none-under f ps
-
--- a path is among the prefixes below the root where it is one
-pub any-prefixes : (p q : Path) → list_any (is_path q) (prefixes p) ≡ (is_below q && is_prefix q p)
-any-prefixes [] [] = refl
-any-prefixes [] (g ∷ q) = refl
-any-prefixes (f ∷ p) [] = none-under f (prefixes p)
-any-prefixes (f ∷ p) (g ∷ q) =
-    (λ i. is_path-cons g f q [] i || any-under f g q (prefixes p) i)
-    ∙ ap (λ b. (eq_by_cmp (slice_cmp nat_cmp) g f && is_path q []) || (eq_by_cmp (slice_cmp nat_cmp) g f && b)) (any-prefixes p q)
-    ∙ sym (and_or (eq_by_cmp (slice_cmp nat_cmp) g f) (is_path q []) (is_below q && is_prefix q p))
-    ∙ ap (λ b. eq_by_cmp (slice_cmp nat_cmp) g f && b) (root_or_below p q)
 
 -- rows below a frame
 pub in_rows-under : (test : Marks → Bool) (f g : List ℕ) (q : Path) (es : List (Path × Marks)) → in_rows test (map (below_frame f) es) (g ∷ q) ≡ (eq_by_cmp (slice_cmp nat_cmp) g f && in_rows test es q)

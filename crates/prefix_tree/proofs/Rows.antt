@@ -1,13 +1,12 @@
 -- What is seen in rows that are put together.
 use Rattle.std.proofs.Common.{◌≡◌, ℕ, Bool, true, false, cond, ◌&&◌, ◌||◌, List, [], ◌∷◌, Some, None, refl, sym, ap, ◌∙◌, T}
-use Rattle.std.specs.List.{list_any}
-use Rattle.std.specs.Ordering.{eq_by_cmp, is_eq, is_lt, ordering_reverse}
+use Rattle.std.specs.Ordering.{is_eq, is_lt, ordering_reverse}
 use Rattle.std.specs.declared.cmp.Ordering.{Ordering}
 use Rattle.std.specs.declared.cmp.Ordering.TheVariants.{Less, Equal, Greater}
-use Rattle.std.specs.Cmp.{Equal-is, alike_right}
 use Rattle.std.specs.FinMap as finmap
 use Rattle.rank_set.specs.Ranks.{has-union}
-use Rattle.call_path.specs.Path.{Path, path_cmp, is_path, path_cmp_total, path_cmp_exact}
+use Rattle.call_path.specs.Path.{Path, path_cmp, is_path, path_cmp_total}
+use Rattle.call_path.proofs.PathLemmas.{is_path-exact}
 use Rattle.prefix_tree.specs.Tree.{Marks}
 use Rattle.prefix_tree.specs.Joined.{Below, both_marks, put_row, insert_rows, in_rows, if_some, seen, labelled, ended}
 
@@ -22,14 +21,6 @@ labelled_spreads r a b = has-union a.0 b.0 r
 -- whether a rank is in the ends is one
 pub ended_spreads : (r : ℕ) → Spreads (ended r)
 ended_spreads r a b = has-union a.1 b.1 r
-
--- paths that tie are equal
-pub is_path-exact : (p q : Path) → is_path p q ≡ true → p ≡ q
-is_path-exact p q e = path_cmp_exact p q ((Equal-is (path_cmp p q)).0 e)
-
--- a path ties with itself
-pub is_path-itself : (p : Path) → is_path p p ≡ true
-is_path-itself p = ap is_eq (Rattle.std.specs.Cmp.tied_itself path_cmp_total p)
 
 or_false : (a : Bool) → (a || false) ≡ a
 or_false true = refl

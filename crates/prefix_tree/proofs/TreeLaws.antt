@@ -2,9 +2,9 @@
 use Rattle.std.proofs.Common.{◌≡◌, ℕ, Bool, true, false, ◌&&◌, ◌||◌, [], ◌++◌, refl, sym, ap, ◌∙◌}
 use Rattle.rank_set.specs.Ranks.{Ranks, none, has, in_order, union, has-union, union-none, has-none}
 use Rattle.call_path.specs.Path.{Path, is_path}
-use Rattle.call_path.specs.Pairs.{Pairs, pairs_at, is_pair}
+use Rattle.call_path.specs.Pairs.{Pairs, pairs_at, is_pair, is_below}
 use Rattle.prefix_tree.specs.Tree.{Tree, tree_of, pairs_of, merged, covered, added, Adds}
-use Rattle.prefix_tree.specs.Joined.{is_below, AreSamePairs}
+use Rattle.prefix_tree.specs.Joined.{AreSamePairs}
 use Rattle.prefix_tree.proofs.PairLemmas.{is_pair-append, is_pair-pairs_of, any-pairs_of_set}
 use Rattle.std.proofs.lemmas.Bool.{true≢false}
 use Rattle.prefix_tree.proofs.TreeLemmas.{IsTreeOf-tree_of, IsTreeOf-same_pairs, tree_of-is, pairs_of-same, coverage-tree_of}

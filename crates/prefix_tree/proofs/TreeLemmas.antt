@@ -7,14 +7,15 @@ use Rattle.std.specs.Cmp.{both_ways, nat_cmp_total, tied_itself}
 use Rattle.std.specs.Cmp.Lexicographic.{nat_list_cmp_total}
 use Rattle.std.specs.FinMap as finmap
 use Rattle.std.proofs.lemmas.Bool.{true≢false, eqb-true, or_left}
+use Rattle.call_path.proofs.PathLemmas.{is_path-exact, any-prefixes, and_false}
 use Rattle.rank_set.specs.Ranks.{Ranks, none, has, in_order, size, union, has-union, has-those, has-in_order, has-none, same_ranks, none_from_size}
 use Rattle.call_path.specs.Path.{Path, path_cmp, is_path, is_prefix, path_cmp_total, path_cmp_exact}
-use Rattle.call_path.specs.Pairs.{Pairs, pairs_at, is_pair, passes, prefixes, prefixes_of}
+use Rattle.call_path.specs.Pairs.{Pairs, pairs_at, is_pair, passes, prefixes, prefixes_of, is_below}
 use Rattle.prefix_tree.specs.Pairs.{label, ends, IsWithin}
 use Rattle.prefix_tree.specs.Tree.{Marks, Tree, marks_of, row_at, with_row, rows_at, tree_of, pairs_of, IsTree, merged, covered, added, Unites, Covers}
-use Rattle.prefix_tree.specs.Joined.{insert_rows, in_rows, if_some, seen, labelled, ended, is_below, path_rows, AreRowsOf, IsTreeOf, AreSamePairs}
-use Rattle.prefix_tree.proofs.Rows.{labelled_spreads, ended_spreads, is_path-exact, seen-insert_rows, in_rows-entries}
-use Rattle.prefix_tree.proofs.PairLemmas.{passes-append, is_pair-append, pair_from_passes, passes-from_pair, passes_within, is_pair-pairs_of, any-prefixes, any-flat_map, and_false, rows_of_path, pairs_within}
+use Rattle.prefix_tree.specs.Joined.{insert_rows, in_rows, if_some, seen, labelled, ended, path_rows, AreRowsOf, IsTreeOf, AreSamePairs}
+use Rattle.prefix_tree.proofs.Rows.{labelled_spreads, ended_spreads, seen-insert_rows, in_rows-entries}
+use Rattle.prefix_tree.proofs.PairLemmas.{passes-append, is_pair-append, pair_from_passes, passes-from_pair, passes_within, is_pair-pairs_of, any-flat_map, rows_of_path, pairs_within}
 
 -- what both show, where each is within its own ranks
 spread : (b a c x y : Bool) → (x ≡ true → a ≡ true) → (y ≡ true → c ≡ true) → ((b && (a && x)) || (b && (c && y))) ≡ (b && ((a || c) && (x || y)))

@@ -11,9 +11,9 @@ use Rattle.std.proofs.lemmas.Bool.{true≢false, and_parts, or_cases, or_right}
 use Rattle.std.proofs.lemmas.List.{take-append-drop, length-take-le}
 use Rattle.call_path.specs.Path.{Path, path_cmp, is_path, is_prefix, path_cmp_total}
 use Rattle.rank_set.specs.Ranks.{Ranks, has}
-use Rattle.call_path.specs.Pairs.{Pairs, passes}
+use Rattle.call_path.specs.Pairs.{Pairs, passes, is_below}
 use Rattle.prefix_tree.specs.Tree.{Tree, Marks, IsTree, pairs_of}
-use Rattle.prefix_tree.specs.Joined.{in_rows, seen, if_some, labelled, is_below, IsTreeOf}
+use Rattle.prefix_tree.specs.Joined.{in_rows, seen, if_some, labelled, IsTreeOf}
 use Rattle.prefix_tree.specs.Walk.{Follows}
 use Rattle.prefix_tree.proofs.Rows.{in_rows-entries, none_from, first, second, less}
 use Rattle.prefix_tree.proofs.PairLemmas.{pair_from_passes, passes-from_pair}

@@ -4,7 +4,7 @@ use Rattle.std.specs.List.{list_any}
 use Rattle.std.specs.FinMap as finmap
 use Rattle.rank_set.specs.Ranks.{Ranks, none, has, union}
 use Rattle.call_path.specs.Path.{Path, path_cmp, is_path}
-use Rattle.call_path.specs.Pairs.{Pairs, is_pair, passes}
+use Rattle.call_path.specs.Pairs.{Pairs, is_below, is_pair, passes}
 use Rattle.prefix_tree.specs.Tree.{Marks, Tree}
 
 -- the marks of each prefix below the root
@@ -59,11 +59,6 @@ labelled r m = has m.0 r
 -- the rank is in the ends
 abbrev pub ended : ℕ → Marks → Bool
 ended r m = has m.1 r
-
--- whether a path is below the root
-abbrev pub is_below : Path → Bool
-is_below [] = false
-is_below (f ∷ p) = true
 
 -- the rows say of each prefix below the root which ranks of C pass it and which end there
 pub record AreRowsOf (P : Pairs) (C : Ranks) (es : List (Path × Marks)) : Type 0 where

@@ -8,8 +8,8 @@
 ghost use Rattle.std.specs.Prelude.{ℕ, ◌&&◌, ◌≡◌, ◌≢◌, ◌<◌, ◌≤◌, IsTrue, OnOk, OnErr, IfOk, IfSome, slice_get, length, []};
 ghost use Rattle.rank_set.specs.Ranks.{Ranks, none, has, is_subset};
 ghost use Rattle.call_path.specs.Path.{Path};
-ghost use Rattle.prefix_tree.specs.Joined.{IsTreeOf, is_below};
-ghost use Rattle.call_path.specs.Pairs.{Pairs, is_pair};
+ghost use Rattle.prefix_tree.specs.Joined.{IsTreeOf};
+ghost use Rattle.call_path.specs.Pairs.{Pairs, is_pair, is_below};
 ghost use Rattle.prefix_tree.specs.Tree.{Tree, tree_of, merged, covered, added, pairs_of, Unites, count_below, rows_of, IsTree, IsLawful, Covers, Adds};
 ghost use Rattle.std.specs.FinMap as finmap;
 ghost use Rattle.prefix_tree.specs.Shown.{Shows, IsGoodRow};

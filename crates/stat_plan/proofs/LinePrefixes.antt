@@ -6,7 +6,7 @@ use Rattle.rank_set.specs.Ranks.{has, in_order}
 use Rattle.call_path.specs.Path.{Path, is_path, is_prefix}
 use Rattle.call_path.specs.Pairs.{pairs_at, passes, is_pair, HasNoEmptyPath}
 use Rattle.prefix_tree.proofs.PairLemmas.{passes-append, is_pair-append, any-pairs_of_set}
-use Rattle.prefix_tree.proofs.Rows.{is_path-exact}
+use Rattle.call_path.proofs.PathLemmas.{is_path-exact}
 use Rattle.stat_plan.specs.Samples.{SampleLine, samples_of, AreNoDeeper}
 
 -- a line's rank passes a prefix

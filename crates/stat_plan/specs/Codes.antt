@@ -5,6 +5,8 @@ use Rattle.rank_set.specs.Ranks.{Ranks, coded_ranks}
 use Rattle.call_path.specs.Path.{Path}
 use Rattle.stat_plan.specs.Samples.{SampleLine}
 use Rattle.stat_plan.specs.Plans.{Plan, Stream, Sampled}
+use Rattle.stat_plan.specs.declared.script.Grain.{Grain}
+use Rattle.stat_plan.specs.declared.script.Grain.TheVariants.{Line, Function}
 use Rattle.stat_plan.specs.declared.script.Mode.{Mode}
 use Rattle.stat_plan.specs.declared.script.Mode.TheVariants.{WaitForAll, TimeOut, DontWait}
 use Rattle.stat_plan.specs.declared.script.Fault.{Fault}
@@ -28,6 +30,22 @@ same_mode (TimeOut t) = refl
 abbrev pub coded_mode : Coded Mode
 coded_mode = code_by ℕ coded_ℕ mode_number mode_of_number same_mode
 
+-- a grain as a number, and back
+abbrev pub grain_number : Grain → ℕ
+grain_number Line = 0
+grain_number Function = 1
+
+abbrev pub grain_of_number : ℕ → Grain
+grain_of_number zero = Line
+grain_of_number (suc n) = Function
+
+pub same_grain : (g : Grain) → grain_of_number (grain_number g) ≡ g
+same_grain Line = refl
+same_grain Function = refl
+
+abbrev pub coded_grain : Coded Grain
+coded_grain = code_by ℕ coded_ℕ grain_number grain_of_number same_grain
+
 abbrev pub coded_path : Coded Path
 coded_path = coded_list (coded_list coded_ℕ)
 
@@ -41,9 +59,9 @@ coded_sampled =
 
 abbrev pub coded_stream : Coded Stream
 coded_stream =
-    code_by (ℕ × (Mode × (ℕ × (ℕ × List ℕ)))) (coded× coded_ℕ (coded× coded_mode (coded× coded_ℕ (coded× coded_ℕ (coded_list coded_ℕ)))))
-    (λ x. (x.number, (x.mode, (x.waves, (x.samples, x.daemons)))))
-    (λ c. record { number = c.0; mode = c.1.0; waves = c.1.1.0; samples = c.1.1.1.0; daemons = c.1.1.1.1 })
+    code_by (ℕ × (Mode × (ℕ × (ℕ × (Grain × List ℕ))))) (coded× coded_ℕ (coded× coded_mode (coded× coded_ℕ (coded× coded_ℕ (coded× coded_grain (coded_list coded_ℕ))))))
+    (λ x. (x.number, (x.mode, (x.waves, (x.samples, (x.grain, x.daemons))))))
+    (λ c. record { number = c.0; mode = c.1.0; waves = c.1.1.0; samples = c.1.1.1.0; grain = c.1.1.1.1.0; daemons = c.1.1.1.1.1 })
     (λ _. refl)
 
 abbrev pub coded_fault : Coded Fault

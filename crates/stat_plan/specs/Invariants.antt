@@ -7,7 +7,7 @@ use Rattle.stat_plan.specs.NodeSets.{In, IsStrictlyIncreasing}
 use Rattle.stat_plan.specs.Samples.{SampleLine, all_ranks, IsWithinLimit}
 use Rattle.stat_plan.specs.Topologies.{Nodes, IsTopology}
 use Rattle.stat_plan.specs.Trees.{is_daemon, root_of}
-use Rattle.stat_plan.specs.Plans.{Plan, Stream, Sampled, Scripted, nodes_of, sampled_of, scripted_of, waves_of, samples as wave_samples, stream_ranks}
+use Rattle.stat_plan.specs.Plans.{Plan, Stream, Sampled, Scripted, nodes_of, sampled_of, scripted_of, waves_of, samples as wave_samples}
 use Rattle.stat_plan.specs.declared.samples.TheConstants.{LINE_LIMIT}
 use Rattle.stat_plan.specs.declared.script.TheConstants.{FAULT_LIMIT}
 use Rattle.stat_plan.specs.declared.script.Mode.{Mode}
@@ -96,4 +96,4 @@ pub record IsPlan (p : Plan) : Type 0 where
   pub script : IsScript (scripted_of p)
   pub samples_fit : SamplesFit (nodes_of p) (sampled_of p)
   pub script_fits : ScriptFits (nodes_of p) (scripted_of p)
-  pub within : (s w : ℕ) → In (s, w) (waves_of p.streams) → IsWithinLimit (wave_samples p s w) (stream_ranks p s)
+  pub within : (s w : ℕ) → In (s, w) (waves_of p.streams) → IsWithinLimit (wave_samples p s w)

@@ -4,24 +4,35 @@ use Rattle.std.specs.List.{list_any}
 use Rattle.rank_set.specs.Ranks.{Ranks, none}
 use Rattle.call_path.specs.Pairs.{Pairs}
 use Rattle.stat_plan.specs.NodeSets.{In, member}
-use Rattle.stat_plan.specs.Samples.{SampleLine, samples_of, wave_lines, all_ranks}
+use Rattle.stat_plan.specs.Samples.{SampleLine, all_ranks, samples_of, seen_by, wave_lines}
 use Rattle.stat_plan.specs.Topologies.{Nodes}
 use Rattle.stat_plan.specs.Trees as tree
+use Rattle.stat_plan.specs.declared.script.Grain.{Grain}
+use Rattle.stat_plan.specs.declared.script.Grain.TheVariants.{Line}
 use Rattle.stat_plan.specs.declared.script.Mode.{Mode}
 use Rattle.stat_plan.specs.declared.script.Mode.TheVariants.{WaitForAll}
 use Rattle.stat_plan.specs.declared.script.Fault.{Fault}
 
--- a stream: its number, when its nodes pass a wave on, how many waves it has and how many sample times each, and its daemons
+-- a stream: its number, when its nodes pass a wave on, how many waves it has and how many sample times each, how it sees
+-- paths, and its daemons
 pub record Stream : Type 0 where
   pub number : ℕ
   pub mode : Mode
   pub waves : ℕ
   pub samples : ℕ
+  pub grain : Grain
   pub daemons : List ℕ  -- ascending
 
 -- the stream of these parts
-abbrev pub stream : ℕ → Mode → ℕ → ℕ → List ℕ → Stream
-stream number mode waves samples daemons = record { number = number; mode = mode; waves = waves; samples = samples; daemons = daemons }
+abbrev pub stream : ℕ → Mode → ℕ → ℕ → Grain → List ℕ → Stream
+stream number mode waves samples grain daemons = record {
+  number = number;
+  mode = mode;
+  waves = waves;
+  samples = samples;
+  grain = grain;
+  daemons = daemons;
+}
 
 -- what a samples text says: each node's ranks, by node number, and the samples in the order of the text
 pub record Sampled : Type 0 where
@@ -128,6 +139,10 @@ mode p s = elim (stream_of p s) [ None ↦ WaitForAll | (Some x) ↦ x.mode ]
 unfoldable pub sample_count : Plan → ℕ → ℕ
 sample_count p s = elim (stream_of p s) [ None ↦ 0 | (Some x) ↦ x.samples ]
 
+-- how a stream sees paths
+unfoldable pub grain : Plan → ℕ → Grain
+grain p s = elim (stream_of p s) [ None ↦ Line | (Some x) ↦ x.grain ]
+
 -- whether a node serves a stream: one of its daemons is the node or stands under it
 unfoldable pub serves : Plan → ℕ → ℕ → Bool
 serves p n s = list_any (λ d. is_within p d n) (daemons p s)
@@ -161,7 +176,11 @@ waves_at p n = filter (λ v. serves p n v.0) (waves_of p.streams)
 unfoldable pub fault : Plan → ℕ → Option Fault
 fault p n = find (λ f. f.node == n) p.faults
 
--- The samples of a wave: the pairs of the lines at its times. Pairs of ranks that are in no daemon of the stream are among
--- them; they mean nothing, since a wave's trees and classes are over ranks of the stream's daemons.
+-- the lines at the times of a wave, as the stream sees them
+abbrev pub seen_lines : Plan → ℕ → ℕ → List SampleLine
+seen_lines p s w = map (seen_by (grain p s) (stream_ranks p s)) (wave_lines (sample_count p s) w p.lines)
+
+-- the samples of a wave: each rank of the stream with each path that a line at a time of the wave lists it in, by the
+-- stream's grain
 unfoldable pub samples : Plan → ℕ → ℕ → Pairs
-samples p s w = samples_of (wave_lines (sample_count p s) w p.lines)
+samples p s w = samples_of (seen_lines p s w)

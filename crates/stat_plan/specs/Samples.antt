@@ -1,10 +1,13 @@
 -- The samples of a job: which rank was seen in which path, at which time.
-use Rattle.std.specs.Prelude.{◌≡◌, ℕ, ◌<◌, ◌≤◌, ◌*◌, ◌+◌, Bool, true, ◌&&◌, nat_le, nat_lt, List, [], ◌∷◌, filter, length}
+use Rattle.std.specs.Prelude.{ℕ, ◌<◌, ◌≤◌, ◌*◌, ◌+◌, Bool, ◌&&◌, nat_le, nat_lt, List, [], ◌∷◌, filter, length, map}
 use Rattle.std.specs.List.{flat_map, AllByRecursion}
-use Rattle.rank_set.specs.Ranks.{Ranks, in_order, none, union}
-use Rattle.call_path.specs.Path.{Path}
-use Rattle.call_path.specs.Pairs.{Pairs, pairs_at, passes}
-use Rattle.prefix_tree.specs.Tree.{tree_of, count_below}
+use Rattle.std.specs.Set.{distinct_count}
+use Rattle.rank_set.specs.Ranks.{Ranks, has, in_order, none, those, union}
+use Rattle.call_path.specs.Functions.{func}
+use Rattle.call_path.specs.Pairs.{Pairs, pairs_at, prefixes_of}
+use Rattle.call_path.specs.Path.{Path, is_path}
+use Rattle.stat_plan.specs.declared.script.Grain.{Grain}
+use Rattle.stat_plan.specs.declared.script.Grain.TheVariants.{Line, Function}
 
 -- at a time, each of some ranks was seen in a path
 pub record SampleLine : Type 0 where
@@ -24,6 +27,15 @@ is_in_wave k w time = nat_le (w * k) time && nat_lt time (w * k + k)
 abbrev pub wave_lines : ℕ → ℕ → List SampleLine → List SampleLine
 wave_lines k w lines = filter (λ line. is_in_wave k w line.time) lines
 
+-- a path as a stream sees it: with the lines of its frames, or their functions alone
+abbrev pub path_by : Grain → Path → Path
+path_by Line p = p
+path_by Function p = map func p
+
+-- a line of samples as a stream sees it: its ranks that are the stream's, and its path by the stream's grain
+abbrev pub seen_by : Grain → Ranks → SampleLine → SampleLine
+seen_by grain own line = record { time = line.time; ranks = those (has own) line.ranks; path = path_by grain line.path }
+
 -- the ranks of some sets, beside those of a first one
 abbrev pub ranks_with : Ranks → List Ranks → Ranks
 ranks_with ranks [] = ranks
@@ -37,10 +49,10 @@ all_ranks sets = ranks_with none sets
 abbrev pub AreNoDeeper : ℕ → List SampleLine → Type 0
 AreNoDeeper depth lines = AllByRecursion (λ line. (0 < length line.path) × (length line.path ≤ depth)) lines
 
--- whoever passes a prefix in the first pairs passes it in the second
-abbrev pub HasNoMore : Pairs → Pairs → Type 0
-HasNoMore P Q = (r : ℕ) (p : Path) → passes P r p ≡ true → passes Q r p ≡ true
+-- how many distinct prefixes the paths of some samples have, the empty one aside
+abbrev pub prefix_count : Pairs → ℕ
+prefix_count samples = distinct_count is_path (prefixes_of samples)
 
--- the tree of these samples over these ranks has at most 2,048 prefixes besides the root
-abbrev pub IsWithinLimit : Pairs → Ranks → Type 0
-IsWithinLimit samples ranks = count_below (tree_of samples ranks) ≤ 2048
+-- samples have at most 2,048 distinct prefixes
+abbrev pub IsWithinLimit : Pairs → Type 0
+IsWithinLimit samples = prefix_count samples ≤ 2048

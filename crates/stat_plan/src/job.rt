@@ -1,6 +1,7 @@
 //! A job: what its three files say together.
 
-ghost use Rattle.std.specs.Prelude.{◌≡◌, ◌<◌, Some, length, slice_get};
+ghost use Rattle.std.specs.Prelude.{◌≡◌, ◌<◌, Some, length, map, slice_get};
+ghost use Rattle.call_path.specs.Functions.{func};
 ghost use Rattle.stat_plan.specs.Invariants.{IsJob, SamplesFit, ScriptFits};
 ghost use Rattle.stat_plan.specs.Plans.{plan_of, nodes, front, ranks};
 ghost use Rattle.stat_plan.specs.Names.{name_of};
@@ -76,10 +77,11 @@ impl Job {
         self.samples.line(i)
     }
 
-    /// The lines of samples, with the numbers of their paths, and the paths.
+    /// The lines of samples, with the numbers of their paths, the paths and their functions.
     pub fn lines(&self) -> Lines<'_>
         ensures lines { lines_view result ≡ self.now.lines }
         ensures numbered { PathIndicesInRange result.paths.now result.lines.now }
+        ensures functions { result.functions.now ≡ map (map func) result.paths.now }
     {
         self.samples.lines()
     }

@@ -28,6 +28,6 @@ pub use plan::Plan;
 pub use plan_error::PlanError;
 pub use samples::{LINE_LIMIT, Line, Lines, Samples, StackLine, TIME_LIMIT, is_in_wave};
 pub use script::{
-    FAULT_LIMIT, Fault, Mode, SAMPLE_LIMIT, STREAM_LIMIT, Script, StreamDef, TICK_LIMIT, WAVE_LIMIT,
+    FAULT_LIMIT, Fault, Grain, Mode, SAMPLE_LIMIT, STREAM_LIMIT, Script, StreamDef, TICK_LIMIT, WAVE_LIMIT,
 };
 pub use topology::{DEPTH_LIMIT, NODE_LIMIT, Topology};

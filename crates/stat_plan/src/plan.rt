@@ -1,6 +1,7 @@
 //! A plan: what the three files of a job say together, with tables for its look-ups.
 
-ghost use Rattle.std.specs.Prelude.{◌≡◌, ◌<◌, ℕ, IfErr, IfOk, IsSome, None, Some, [], length, slice_index_or};
+ghost use Rattle.std.specs.Prelude.{◌≡◌, ◌<◌, ℕ, IfErr, IfOk, IsSome, None, Some, [], length, map, slice_index_or};
+ghost use Rattle.call_path.specs.Functions.{func};
 ghost use Rattle.rank_set.specs.Ranks.{none};
 ghost use Rattle.stat_plan.specs.Invariants.{IsPlan, SamplesFit, ScriptFits};
 ghost use Rattle.stat_plan.specs.Limits.{RefusesAt, first_over};
@@ -109,12 +110,12 @@ impl Plan {
     {
         let job = Job::new(topology, samples, script);
         job.invariant();
-        let all = job.lines();
-        let numbers = by_path(alloc, all.paths, all.lines)?;
-        match check_limit(alloc, &job, &numbers) {
+        match check_limit(alloc, &job) {
             Ok(()) => {}
             Err(e) => return Err(e),
         }
+        let all = job.lines();
+        let numbers = by_path(alloc, all.paths, all.lines)?;
         let ancestors = ancestors_table(alloc, job.topology())?;
         let line_index = line_index(alloc, &job, &numbers)?;
         let expected = expected_tables(alloc, &job, &ancestors)?;
@@ -262,10 +263,11 @@ impl Plan {
         None
     }
 
-    /// The lines of samples in the order of their text, with the numbers of their paths, and the paths.
+    /// The lines of samples in the order of their text, with the numbers of their paths, the paths and their functions.
     pub fn lines(&self) -> Lines<'_>
         ensures lines { lines_view result ≡ self.now.lines }
         ensures numbered { PathIndicesInRange result.paths.now result.lines.now }
+        ensures functions { result.functions.now ≡ map (map func) result.paths.now }
     {
         self.job.lines()
     }

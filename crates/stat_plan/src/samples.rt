@@ -1,13 +1,16 @@
 //! What a samples text says: where the ranks are, and the paths that they were seen in.
 
-ghost use Rattle.std.specs.Prelude.{◌≡◌, ◌<◌, Some, length, slice_get};
-ghost use Rattle.stat_plan.specs.Samples.{is_in_wave};
+ghost use Rattle.std.specs.Prelude.{◌≡◌, ◌<◌, IfOk, Some, length, map, slice_get};
+ghost use Rattle.call_path.specs.Functions.{func};
+ghost use Rattle.stat_plan.specs.Samples.{is_in_wave, path_by};
 ghost use Rattle.stat_plan.specs.Shown.{lines_view, sample_line_view};
 ghost use Rattle.stat_plan.specs.Invariants.{AreSamples};
 ghost use Rattle.stat_plan.specs.Plans.{sampled};
 
+use crate::script::Grain;
 use call_path::CallPath;
 use rank_set::RankSet;
+use std::alloc::{AllocError, Global};
 use std::marker::Model;
 
 /// The last time that a sample may have.
@@ -38,11 +41,37 @@ pub struct Line<'a> {
     pub path: &'a CallPath,
 }
 
-/// The lines of samples in the order of their text, with the number of each one's path, and the paths by number.
+/// The lines of samples in the order of their text, with the number of each one's path, and by number the paths and their
+/// functions.
 #[derive(Clone, Copy)]
 pub struct Lines<'a> {
     pub lines: &'a [StackLine],
     pub paths: &'a [CallPath],
+    pub functions: &'a [CallPath],
+}
+
+impl<'a> Lines<'a> {
+    /// The paths as a stream of some grain sees them, by number.
+    pub fn paths_by(&self, grain: Grain) -> &'a [CallPath]
+        requires { self.now.functions.now ≡ map (map func) self.now.paths.now }
+        ensures { result.now ≡ map (path_by grain) self.now.paths.now }
+    {
+        match grain {
+            Grain::Line => self.paths,
+            Grain::Function => self.functions,
+        }
+    }
+}
+
+// The functions of some paths.
+fn functions_of(alloc: Global, paths: &[CallPath]) -> Result<Vec<CallPath>, AllocError>
+    ensures { IfOk result (λ all. all.items ≡ map (map func) paths.now) }
+{
+    let mut all = Vec::with_capacity(alloc, paths.len())?;
+    for path in paths {
+        all.push(path.functions()?)?;
+    }
+    Ok(all)
 }
 
 /// Whether a time is one of those of wave `wave`, from 0, where each wave has `samples` sample times.
@@ -58,6 +87,8 @@ pub fn is_in_wave(samples: u8, wave: u8, time: u32) -> bool
 pub struct Samples {
     placed: Vec<RankSet>,
     paths: Vec<CallPath>,
+    // The functions of each path, by its number.
+    functions: Vec<CallPath>,
     lines: Vec<StackLine>,
 }
 
@@ -69,28 +100,37 @@ impl Model for Samples {
 
     ghost coded = { coded_sampled };
 
+    ghost use Rattle.std.specs.Prelude.{◌≡◌, map};
+    ghost use Rattle.call_path.specs.Functions.{func};
     ghost use Rattle.stat_plan.specs.StackLines.{lines_of, PathIndicesInRange};
     ghost use Rattle.stat_plan.specs.Invariants.{AreSamples};
 
     ghost view = { λ a. sampled a.placed.items (lines_of a.paths.items a.lines.items) };
 
-    ghost invariant = { λ a. PathIndicesInRange a.paths.items a.lines.items × AreSamples (sampled a.placed.items (lines_of a.paths.items a.lines.items)) };
+    ghost invariant = { λ a. PathIndicesInRange a.paths.items a.lines.items × AreSamples (sampled a.placed.items (lines_of a.paths.items a.lines.items)) × (a.functions.items ≡ map (map func) a.paths.items) };
 }
 
 impl Samples {
     ghost use Rattle.stat_plan.specs.StackLines.{lines_of, PathIndicesInRange, line_of};
 
-    /// The samples of these ranks by node number, and these lines, whose paths stand by their numbers. It allocates nothing.
-    pub fn new(placed: Vec<RankSet>, paths: Vec<CallPath>, lines: Vec<StackLine>) -> Samples
+    /// The samples of these ranks by node number, and these lines, whose paths stand by their numbers.
+    pub fn new(
+        alloc: Global,
+        placed: Vec<RankSet>,
+        paths: Vec<CallPath>,
+        lines: Vec<StackLine>,
+    ) -> Result<Samples, AllocError>
         requires numbered { PathIndicesInRange paths.items lines.items }
         requires samples { AreSamples (sampled placed.items (lines_of paths.items lines.items)) }
-        ensures { result ≡ sampled placed.items (lines_of paths.items lines.items) }
+        ensures { IfOk result (λ samples. samples ≡ sampled placed.items (lines_of paths.items lines.items)) }
     {
-        Samples {
+        let functions = functions_of(alloc, &paths)?;
+        Ok(Samples {
             placed,
             paths,
+            functions,
             lines,
-        }
+        })
     }
 
     /// The invariant of samples, for the prover. It does nothing.
@@ -121,14 +161,16 @@ impl Samples {
         }
     }
 
-    /// The lines, with the numbers of their paths, and the paths.
+    /// The lines, with the numbers of their paths, the paths and their functions.
     pub fn lines(&self) -> Lines<'_>
         ensures lines { lines_view result ≡ self.now.lines }
         ensures numbered { PathIndicesInRange result.paths.now result.lines.now }
+        ensures functions { result.functions.now ≡ map (map func) result.paths.now }
     {
         Lines {
             lines: self.lines.as_slice(),
             paths: self.paths.as_slice(),
+            functions: self.functions.as_slice(),
         }
     }
 }

@@ -32,6 +32,15 @@ pub enum Mode {
     DontWait,
 }
 
+/// How a stream sees call paths.
+#[derive(Clone, Copy, Debug, PartialEq, Eq)]
+pub enum Grain {
+    /// As they are, with the line that a frame may end with.
+    Line,
+    /// By functions alone: each frame without its line.
+    Function,
+}
+
 /// A node that is to be lost.
 #[derive(Clone, Copy, Debug, PartialEq, Eq, Drop)]
 pub struct Fault {
@@ -50,6 +59,7 @@ pub struct StreamDef {
     mode: Mode,
     waves: u8,
     samples: u8,
+    grain: Grain,
     daemons: Vec<u32>,
 }
 
@@ -59,25 +69,33 @@ impl Model for StreamDef {
 
     ghost Value = { Stream };
 
-    ghost view = { λ a. stream a.number a.mode a.waves a.samples a.daemons.items };
+    ghost view = { λ a. stream a.number a.mode a.waves a.samples a.grain a.daemons.items };
 
-    ghost invariant = { λ a. IsStream (stream a.number a.mode a.waves a.samples a.daemons.items) };
+    ghost invariant = { λ a. IsStream (stream a.number a.mode a.waves a.samples a.grain a.daemons.items) };
 }
 
 impl StreamDef {
     ghost use Rattle.stat_plan.specs.Plans.{stream};
 
-    /// The stream with this number, mode, number of waves, number of sample times of each wave, and daemons in ascending order.
-    /// It allocates nothing.
-    pub fn new(number: u8, mode: Mode, waves: u8, samples: u8, daemons: Vec<u32>) -> StreamDef
-        requires { IsStream (stream number mode waves samples daemons.items) }
-        ensures { result ≡ stream number mode waves samples daemons.items }
+    /// The stream with this number, mode, number of waves, number of sample times of each wave, grain, and daemons in
+    /// ascending order. It allocates nothing.
+    pub fn new(
+        number: u8,
+        mode: Mode,
+        waves: u8,
+        samples: u8,
+        grain: Grain,
+        daemons: Vec<u32>,
+    ) -> StreamDef
+        requires { IsStream (stream number mode waves samples grain daemons.items) }
+        ensures { result ≡ stream number mode waves samples grain daemons.items }
     {
         StreamDef {
             number,
             mode,
             waves,
             samples,
+            grain,
             daemons,
         }
     }
@@ -108,6 +126,13 @@ impl StreamDef {
         ensures { result ≡ self.now.samples }
     {
         self.samples
+    }
+
+    /// How it sees call paths.
+    pub fn grain(&self) -> Grain
+        ensures { result ≡ self.now.grain }
+    {
+        self.grain
     }
 
     /// Its daemons, ascending, at least one.

@@ -1,0 +1,34 @@
+-- Paths in their order, and which of them a wave has. No clause of a public call cites this.
+use Rattle.std.specs.Prelude.{◌≡◌, ◌<◌, ℕ, Bool, false, ◌&&◌, nat_eq, List, [], filter, length, map, slice_index_or}
+use Rattle.std.specs.Borrow.{Bor}
+use Rattle.std.specs.List.{list_any}
+use Rattle.std.specs.List.Sorted.{IsSortedBy}
+use Rattle.std.specs.Ordering.{is_lt}
+use Rattle.rank_set.specs.Ranks.{Ranks, has, in_order}
+use Rattle.call_path.specs.Path.{Path, path_cmp}
+use Rattle.stat_plan.specs.NodeSets.{In}
+use Rattle.stat_plan.specs.Samples.{is_in_wave}
+use Rattle.stat_plan.specs.declared.samples.StackLine.{StackLine}
+
+-- paths with their numbers
+abbrev pub numbered_view : List (Bor Path × ℕ) → List (Path × ℕ)
+numbered_view ordered = map (λ e. (e.0.now, e.1)) ordered
+
+-- these are the paths in their order, each with its number
+pub record AreInOrder (paths : List Path) (ordered : List (Path × ℕ)) : Type 0 where
+  pub numbered : (e : Path × ℕ) → In e ordered → (e.1 < length paths) × (e.0 ≡ slice_index_or paths e.1 [])
+  pub complete : (i : ℕ) → i < length paths → In (slice_index_or paths i [], i) ordered
+  pub in_order : IsSortedBy (λ d e. is_lt (path_cmp d.0 e.0)) ordered
+
+-- those of numbered paths that are seen
+abbrev pub seen_paths : List (Path × ℕ) → List Bool → List Path
+seen_paths ordered seen = map (λ e. e.0) (filter (λ e. slice_index_or seen e.1 false) ordered)
+
+-- whether two sets have a rank in common
+abbrev pub share_rank : Ranks → Ranks → Bool
+share_rank s t = list_any (has t) (in_order s)
+
+-- by path number, which paths the lines at the times of wave w list a rank of C in
+pub record AreSeen (lines : List StackLine) (k w : ℕ) (C : Ranks) (seen : List Bool) : Type 0 where
+  pub each : (i : ℕ) → i < length seen →
+      slice_index_or seen i false ≡ list_any (λ line. nat_eq line.path i && (is_in_wave k w line.time && share_rank line.ranks C)) lines
