@@ -1,7 +1,7 @@
 -- A path that is held as its text and its ends: what is read off it, and what makes one.
 use Rattle.std.proofs.Common.{◌≡◌, ℕ, zero, suc, ◌+◌, ◌<◌, ◌≤◌, ◌^◌, Bool, true, false, List, [], ◌∷◌, ◌++◌, length, take, drop, get_or, refl, sym, ap, subst, ◌∙◌, arith}
-use Rattle.std.proofs.lemmas.List.{append_assoc, length-append, length-take, get_or_at, get_or_read}
-use Rattle.std.proofs.lemmas.List.Elements.{All-take, All-push}
+use Rattle.std.proofs.lemmas.List.{append_assoc, length-append, length-take, length-drop, get_or-take, get_or_at, get_or_read}
+use Rattle.std.proofs.lemmas.List.Elements.{All-take, All-drop, All-push}
 use Rattle.std.proofs.lemmas.Bool.{ne_eqb}
 use Rattle.std.proofs.lemmas.Str.{IsCharBoundary-after_ascii, IsCharBoundary-before_ascii, IsCharBoundary-end, IsCharBoundary-start}
 use Rattle.std.specs.Str.{IsUtf8, IsCharBoundary}
@@ -9,7 +9,7 @@ use Rattle.std.specs.Prelude.{IsTrue, ◌==◌, slice_range}
 use Rattle.call_path.specs.Path.{Path, path_text}
 use Rattle.call_path.specs.Good.{is_good_frame, AreGoodFrames}
 use Rattle.call_path.specs.Cuts.{ends_from, cut_from, start_in, end_in, AreCuts}
-use Rattle.call_path.proofs.Texts.{tail_text, text_at, text_first, text_next, ends_at, length-ends, ends-take, text-take, text_push, ends_push, frame_at, cut_from_ends, text_short}
+use Rattle.call_path.proofs.Texts.{tail_text, text_at, text_first, text_next, ends_at, length-ends, ends-take, text-take, text-drop, text_push, ends_push, frame_at, cut_from_ends, text_short}
 
 -- a text and ends that are a path's show that path
 pub cut_is : (p : Path) (text ends : List ℕ) → text ≡ path_text p → ends ≡ ends_from 0 p → cut_from 0 ends text ≡ p
@@ -147,6 +147,37 @@ module _ (self : Path) (text ends : List ℕ) (view : cut_from 0 ends text ≡ s
       -- and shows them
       pub first_is : cut_from 0 new_ends new_text ≡ take d self
       first_is = cut_is (take d self) new_text new_ends prefix first_ends
+
+-- where a frame begins is told by the ends of the first frames, if it is one of these
+pub start_in-take : (self : Path) (text ends : List ℕ) → cut_from 0 ends text ≡ self → AreCuts (cut_from 0 ends text) text ends → (i d : ℕ) → i < d → (shown : List ℕ) → shown ≡ ends → start_in shown i ≡ start_in (ends_from 0 (take d self)) i
+start_in-take self text ends view h zero d lt shown is = refl
+start_in-take self text ends view h (suc j) d lt shown is =
+    let held = cuts_shown self text ends view h in
+    ap suc (ap (λ es. get_or es j 0) (is ∙ held.places) ∙ sym (get_or-take d (ends_from 0 self) j 0 (omega arith)) ∙ ap (λ es. get_or es j 0) (sym (ends-take 0 d self)))
+
+-- a part of a path, which is its frames from one on, in the text of the first frames
+module _ (p : Path) (from : ℕ) (lt : from < length p) (good : AreGoodFrames p) where
+  whole : AreCuts p (path_text p) (ends_from 0 p)
+  whole = record { joined = refl; places = refl; good = good }
+
+  -- its frames are good
+  pub rest_good : AreGoodFrames (drop from p)
+  rest_good =
+      let e = length-drop from p in
+      let within_limit = good.within_limit in
+      record { within_limit = omega (arith, e, within_limit); good = All-drop (λ f. IsTrue (is_good_frame f)) from p good.good }
+
+  module _ (text : List ℕ) (is : text ≡ path_text p) (start : ℕ) (at : start ≡ start_in (ends_from 0 p) from) where
+    -- the text may be cut where it begins
+    pub rest_boundary : IsUtf8 text → 0 < start → IsCharBoundary text start
+    rest_boundary u pos =
+        let h = stands p (path_text p) (ends_from 0 p) whole from lt in
+        subst (λ t. IsCharBoundary t start) (sym is)
+        (subst (IsCharBoundary (path_text p)) (sym at) (h.from (subst IsUtf8 is u) (omega (arith, at, pos))))
+
+    -- from there on it is its text
+    pub rest_text : drop start text ≡ path_text (drop from p)
+    rest_text = (λ k. drop (at k) (is k)) ∙ sym (text-drop from p lt)
 
 -- the text with one more frame: past a `;`, if there are frames
 abbrev pub longer : Bool → List ℕ → List ℕ → List ℕ

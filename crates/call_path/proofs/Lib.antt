@@ -3,4 +3,5 @@ pub mod Texts
 pub mod Held
 pub mod Errors
 pub mod Orders
+pub mod Shared
 pub mod ReadBack

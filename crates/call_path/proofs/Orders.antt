@@ -14,7 +14,7 @@ use Rattle.std.proofs.lemmas.Bool.{lt-ltb, le-ltb, ne_eqb, eq-eqb, cases_order}
 use Rattle.call_path.specs.Path.{Path, path_cmp, is_prefix}
 
 -- a list from an element on
-from_frame : (p : Path) (i : ℕ) (f : List ℕ) → slice_get p i ≡ Some f → drop i p ≡ f ∷ drop (i + 1) p
+pub from_frame : (p : Path) (i : ℕ) (f : List ℕ) → slice_get p i ≡ Some f → drop i p ≡ f ∷ drop (i + 1) p
 from_frame p i f at = drop_more p i [] (slice_get_within p i f at) ∙ ap (λ g. g ∷ drop (i + 1) p) (get_or_from_slice_get p i f [] at)
 
 -- an order that isn't a tie decides

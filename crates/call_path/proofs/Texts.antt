@@ -1,13 +1,13 @@
 -- A path's text, and the places where its frames end.
 use Rattle.std.proofs.Common.{◌≡◌, ℕ, zero, suc, ◌+◌, ◌-◌, ◌*◌, ◌<◌, ◌≤◌, List, [], ◌∷◌, ◌++◌, length, take, drop, get_or, refl, sym, ap, ◌∙◌, arith}
-use Rattle.std.proofs.lemmas.List.{append-nil, append_assoc, take-append-drop, length-append, take_at, drop_at, take_more}
+use Rattle.std.proofs.lemmas.List.{append-nil, append_assoc, take-append-drop, length-append, length-drop, take_at, drop_at, take_more}
 use Rattle.std.proofs.lemmas.List.Elements.{All-head, All-tail}
 use Rattle.std.proofs.lemmas.Bool.{and_parts, leb-true}
 use Rattle.std.specs.Prelude.{All, IsTrue, ◌&&◌, nat_lt, nat_le, slice_range}
 use Rattle.std.specs.List.{list_all}
 use Rattle.call_path.specs.Path.{Path, path_text}
 use Rattle.call_path.specs.Good.{is_plain, is_good_frame}
-use Rattle.call_path.specs.Cuts.{ends_from, cut_from, end_in}
+use Rattle.call_path.specs.Cuts.{ends_from, cut_from, start_in, end_in}
 
 -- what follows some frames in a text, if these are the frames that follow
 abbrev pub tail_text : Path → List ℕ
@@ -68,6 +68,23 @@ text-take zero p le = refl
 text-take (suc k) p le =
     sym (ap (take (end_in (ends_from 0 p) (suc k))) (text_at p k (omega arith))
     ∙ take_at (path_text (take (suc k) p)) (tail_text (drop (suc k) p)) (end_in (ends_from 0 p) (suc k)) (let e = ends_at 0 p k (omega arith) in omega (arith, e)))
+
+-- what follows some frames in a text is a `;` and the text of the other frames
+tail_some : (p : Path) → 0 < length p → tail_text p ≡ 59 ∷ path_text p
+tail_some [] lt = absurd (omega arith)
+tail_some (f ∷ p) lt = refl
+
+-- the text of the frames from one on
+pub text-drop : (d : ℕ) (p : Path) → d < length p → path_text (drop d p) ≡ drop (start_in (ends_from 0 p) d) (path_text p)
+text-drop zero p lt = refl
+text-drop (suc k) p lt =
+    let prefix = path_text (take (suc k) p) in
+    let rest = path_text (drop (suc k) p) in
+    let some : 0 < length (drop (suc k) p) = omega (arith, length-drop (suc k) p, lt) in
+    let cut : path_text p ≡ (prefix ++ 59 ∷ []) ++ rest =
+    text_at p k (omega arith) ∙ ap (λ t. prefix ++ t) (tail_some (drop (suc k) p) some) ∙ sym (append_assoc prefix (59 ∷ []) rest) in
+    let at : length (prefix ++ 59 ∷ []) ≡ start_in (ends_from 0 p) (suc k) = omega (arith, length-append prefix (59 ∷ []), ends_at 0 p k (omega arith)) in
+    sym (ap (drop (start_in (ends_from 0 p) (suc k))) cut ∙ drop_at (prefix ++ 59 ∷ []) rest (start_in (ends_from 0 p) (suc k)) at)
 
 -- the text of one more frame
 pub text_push : (g : List ℕ) (p : Path) (f : List ℕ) → path_text ((g ∷ p) ++ f ∷ []) ≡ path_text (g ∷ p) ++ 59 ∷ f

@@ -1,5 +1,5 @@
 -- A call path as a value: its frames, root first, each a list of bytes.
-use Rattle.std.specs.Prelude.{ℕ, Bool, true, false, ◌&&◌, List, [], ◌∷◌}
+use Rattle.std.specs.Prelude.{ℕ, suc, Bool, true, false, ◌&&◌, cond, List, [], ◌∷◌}
 use Rattle.std.specs.List.{join_with_byte}
 use Rattle.std.specs.Ordering.{nat_cmp, eq_by_cmp}
 use Rattle.std.specs.declared.cmp.Ordering.{Ordering}
@@ -24,6 +24,12 @@ abbrev pub is_prefix : Path → Path → Bool
 is_prefix [] q = true
 is_prefix (f ∷ p) [] = false
 is_prefix (f ∷ p) (g ∷ q) = eq_by_cmp (slice_cmp nat_cmp) f g && is_prefix p q
+
+-- how many of their first frames two paths share
+abbrev pub shared_len : Path → Path → ℕ
+shared_len [] q = 0
+shared_len (f ∷ p) [] = 0
+shared_len (f ∷ p) (g ∷ q) = cond (eq_by_cmp (slice_cmp nat_cmp) f g) (suc (shared_len p q)) 0
 
 -- the text of a path: its frames joined by `;`
 abbrev pub path_text : Path → List ℕ

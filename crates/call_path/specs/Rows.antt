@@ -2,7 +2,7 @@
 use Rattle.std.specs.Prelude.{◌≡◌, refl, [], ◌∷◌, ◌++◌, false, Ok, Err, codes}
 use Rattle.std.specs.declared.cmp.Ordering.TheVariants.{Less}
 use Rattle.call_path.specs.declared.read.PathError.TheVariants.{EmptyFrame, ControlByte}
-use Rattle.call_path.specs.Path.{path_cmp, is_prefix, path_text}
+use Rattle.call_path.specs.Path.{path_cmp, is_prefix, shared_len, path_text}
 use Rattle.call_path.specs.Reading.{path_of, first_error, frame_error, frames}
 
 -- two frames
@@ -32,6 +32,14 @@ by_frames = refl
 -- a frame that begins alike is another frame
 no_prefix : is_prefix (codes "a" ∷ []) (codes "a!" ∷ codes "b" ∷ []) ≡ false
 no_prefix = refl
+
+-- the first frames of two paths that are the same, and no later ones
+shared : shared_len (codes "a" ∷ codes "b" ∷ codes "d" ∷ []) (codes "a" ∷ codes "c" ∷ codes "d" ∷ []) ≡ 1
+shared = refl
+
+-- all frames of the shorter path
+all_shared : shared_len (codes "a" ∷ []) (codes "a" ∷ codes "b" ∷ []) ≡ 1
+all_shared = refl
 
 -- the frames are joined by `;`
 joined : path_text (codes "main" ∷ codes "a" ∷ []) ≡ codes "main;a"

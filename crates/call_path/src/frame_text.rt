@@ -1,7 +1,7 @@
 //! Frames as one text, with the offset where each ends.
 
-ghost use Rattle.std.specs.Prelude.{◌≡◌, ◌<◌, ◌≤◌, ◌+◌, ◌^◌, ◌++◌, [], ◌∷◌, length, IfOk, OnOk, OnErr, IsTrue, take, slice_get, Some};
-ghost use Rattle.call_path.specs.Path.{path_cmp, is_prefix, path_text};
+ghost use Rattle.std.specs.Prelude.{◌≡◌, ◌<◌, ◌≤◌, ◌+◌, ◌^◌, ◌++◌, [], ◌∷◌, length, IfOk, OnOk, OnErr, IsTrue, take, drop, slice_get, Some};
+ghost use Rattle.call_path.specs.Path.{path_cmp, is_prefix, shared_len, path_text};
 ghost use Rattle.call_path.specs.Good.{is_good_frame, AreGoodFrames};
 ghost use Rattle.call_path.specs.Reading.{frames};
 ghost use Rattle.call_path.specs.Cuts.{ends_from, start_in, end_in};
@@ -119,6 +119,37 @@ impl FrameText {
         ensures good { AreGoodFrames (take depth self.now) }
     {
         &self.text.as_str()[..end_in(&self.ends, depth)]
+    }
+
+    // The text of the first `depth` frames from frame `from` on.
+    fn part_text(&self, from: usize, depth: usize) -> &str
+        requires not_empty { from < depth }
+        requires within { depth ≤ length self.now }
+        ensures text { result.now ≡ path_text (drop from (take depth self.now)) }
+        ensures good { AreGoodFrames (drop from (take depth self.now)) }
+    {
+        &self.prefix_text(depth)[start_in(&self.ends, from)..]
+    }
+
+    /// The number of first frames that are the frames of `other` from `from` on.
+    pub fn common(&self, other: &FrameText, from: usize) -> usize
+        requires { from ≤ length other.now }
+        ensures { result ≡ shared_len self.now (drop from other.now) }
+    {
+        let most = self.len().min(other.len() - from);
+        if most == 0 {
+            return 0;
+        }
+        // Most often all frames are shared, and one test of texts is cheap.
+        if self.prefix_text(most) == other.part_text(from, from + most) {
+            return most;
+        }
+        for i in 0..most {
+            if self.frame(i) != other.frame(from + i) {
+                return i;
+            }
+        }
+        most
     }
 
     /// The first `depth` frames.

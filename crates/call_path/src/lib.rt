@@ -4,8 +4,8 @@
 //! without `;`, so the frames joined by `;` are a text from which the path can be read back.
 #![tactic(auto)]
 
-ghost use Rattle.std.specs.Prelude.{List, ℕ, ◌≡◌, ◌≢◌, ◌<◌, ◌≤◌, ◌++◌, [], ◌∷◌, length, IfOk, IfErr, OnOk, OnErr, Ok, Err, IsTrue, take, slice_get, Some};
-ghost use Rattle.call_path.specs.Path.{Path, path_cmp, is_prefix, path_text};
+ghost use Rattle.std.specs.Prelude.{List, ℕ, ◌≡◌, ◌≢◌, ◌<◌, ◌≤◌, ◌++◌, [], ◌∷◌, length, IfOk, IfErr, OnOk, OnErr, Ok, Err, IsTrue, take, drop, slice_get, Some};
+ghost use Rattle.call_path.specs.Path.{Path, path_cmp, is_prefix, shared_len, path_text};
 ghost use Rattle.call_path.specs.Good.{is_good_frame, AreGoodFrames, IsGoodPath};
 ghost use Rattle.call_path.specs.Reading.{path_of};
 ghost use Rattle.call_path.specs.declared.read.PathError.TheVariants.{OutOfMemory};
@@ -81,6 +81,14 @@ impl CallPath {
         ensures { result ≡ is_prefix self.now other.now }
     {
         self.frames.is_prefix_of(&other.frames)
+    }
+
+    /// The number of first frames that are the frames of `other` from frame `from` on.
+    pub fn common(&self, other: &CallPath, from: usize) -> usize
+        requires { from ≤ length other.now }
+        ensures { result ≡ shared_len self.now (drop from other.now) }
+    {
+        self.frames.common(&other.frames, from)
     }
 
     /// Frame by frame in byte order, a prefix first. This is not the order of the joined texts.
