@@ -41,11 +41,11 @@ root_or_below p [] = refl
 root_or_below p (g ∷ q) = refl
 
 -- the prefixes of a path
-any-under : (f g : List ℕ) (q : Path) (ps : List Path) → list_any (is_path (g ∷ q)) (map (λ s. f ∷ s) ps) ≡ (eq_by_cmp (slice_cmp nat_cmp) g f && list_any (is_path q) ps)
+pub any-under : (f g : List ℕ) (q : Path) (ps : List Path) → list_any (is_path (g ∷ q)) (map (λ s. f ∷ s) ps) ≡ (eq_by_cmp (slice_cmp nat_cmp) g f && list_any (is_path q) ps)
 any-under f g q [] = sym (and_false _)
 any-under f g q (p ∷ ps) = (λ i. is_path-cons g f q p i || any-under f g q ps i) ∙ sym (and_or (eq_by_cmp (slice_cmp nat_cmp) g f) (is_path q p) (list_any (is_path q) ps))
 
-none-under : (f : List ℕ) (ps : List Path) → list_any (is_path []) (map (λ s. f ∷ s) ps) ≡ false
+pub none-under : (f : List ℕ) (ps : List Path) → list_any (is_path []) (map (λ s. f ∷ s) ps) ≡ false
 none-under f [] = refl
 none-under f (p ∷ ps) = none-under f ps
 

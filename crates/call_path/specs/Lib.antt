@@ -4,4 +4,3 @@ pub mod Good
 pub mod Reading
 pub mod Cuts
 pub mod Rows
-pub mod Functions
