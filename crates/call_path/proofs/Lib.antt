@@ -5,3 +5,4 @@ pub mod Errors
 pub mod Orders
 pub mod Shared
 pub mod ReadBack
+pub mod Functions

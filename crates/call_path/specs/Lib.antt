@@ -3,4 +3,5 @@ pub mod Pairs
 pub mod Good
 pub mod Reading
 pub mod Cuts
+pub mod Functions
 pub mod Rows

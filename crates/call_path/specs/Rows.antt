@@ -3,6 +3,7 @@ use Rattle.std.specs.Prelude.{◌≡◌, refl, [], ◌∷◌, ◌++◌, false, O
 use Rattle.std.specs.declared.cmp.Ordering.TheVariants.{Less}
 use Rattle.call_path.specs.declared.read.PathError.TheVariants.{EmptyFrame, ControlByte}
 use Rattle.call_path.specs.Path.{path_cmp, is_prefix, shared_len, path_text}
+use Rattle.call_path.specs.Functions.{func}
 use Rattle.call_path.specs.Reading.{path_of, first_error, frame_error, frames}
 
 -- two frames
@@ -44,3 +45,34 @@ all_shared = refl
 -- the frames are joined by `;`
 joined : path_text (codes "main" ∷ codes "a" ∷ []) ≡ codes "main;a"
 joined = refl
+
+-- a line is cut off, zeros and all
+line : func (codes "f@12") ≡ codes "f"
+line = refl
+
+zeros : func (codes "f@007") ≡ codes "f"
+zeros = refl
+
+-- only the last one
+last_line : func (codes "f@1@2") ≡ codes "f@1"
+last_line = refl
+
+-- a line has 1 to 9 digits and nothing else
+nine_digits : func (codes "poll@123456789") ≡ codes "poll"
+nine_digits = refl
+
+ten_digits : func (codes "f@1234567890") ≡ codes "f@1234567890"
+ten_digits = refl
+
+no_digits : func (codes "f@") ≡ codes "f@"
+no_digits = refl
+
+other_byte : func (codes "f@12x") ≡ codes "f@12x"
+other_byte = refl
+
+no_number : func (codes "poll@plt") ≡ codes "poll@plt"
+no_number = refl
+
+-- and a frame with a line has a function
+no_function : func (codes "@7") ≡ codes "@7"
+no_function = refl

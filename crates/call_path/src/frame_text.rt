@@ -1,12 +1,14 @@
 //! Frames as one text, with the offset where each ends.
 
-ghost use Rattle.std.specs.Prelude.{◌≡◌, ◌<◌, ◌≤◌, ◌+◌, ◌^◌, ◌++◌, [], ◌∷◌, length, IfOk, OnOk, OnErr, IsTrue, take, drop, slice_get, Some};
+ghost use Rattle.std.specs.Prelude.{◌≡◌, ◌<◌, ◌≤◌, ◌+◌, ◌^◌, ◌++◌, [], ◌∷◌, length, IfOk, OnOk, OnErr, IsTrue, map, take, drop, slice_get, Some};
 ghost use Rattle.call_path.specs.Path.{path_cmp, is_prefix, shared_len, path_text};
 ghost use Rattle.call_path.specs.Good.{is_good_frame, AreGoodFrames};
 ghost use Rattle.call_path.specs.Reading.{frames};
 ghost use Rattle.call_path.specs.Cuts.{ends_from, start_in, end_in};
+ghost use Rattle.call_path.specs.Functions.{func};
 
 use crate::FRAME_LIMIT;
+use crate::function_name::function_of;
 use std::alloc::{AllocError, Global};
 use std::cmp::Ordering;
 use std::marker::Model;
@@ -160,6 +162,17 @@ impl FrameText {
         let text = String::from_str(*self.ends.allocator(), self.prefix_text(depth))?;
         let ends = Vec::from_slice(*self.ends.allocator(), &self.ends[..depth])?;
         Ok(FrameText { text, ends })
+    }
+
+    /// The functions of the frames.
+    pub fn functions(&self) -> Result<FrameText, AllocError>
+        ensures { IfOk result (λ all. all ≡ map func self.now) }
+    {
+        let mut all = FrameText::new(*self.ends.allocator());
+        for i in 0..self.len() {
+            all.push(function_of(self.frame(i)))?;
+        }
+        Ok(all)
     }
 
     /// Keeps the first `depth` frames.

@@ -4,8 +4,9 @@
 //! without `;`, so the frames joined by `;` are a text from which the path can be read back.
 #![tactic(auto)]
 
-ghost use Rattle.std.specs.Prelude.{List, ℕ, ◌≡◌, ◌≢◌, ◌<◌, ◌≤◌, ◌++◌, [], ◌∷◌, length, IfOk, IfErr, OnOk, OnErr, Ok, Err, IsTrue, take, drop, slice_get, Some};
+ghost use Rattle.std.specs.Prelude.{List, ℕ, ◌≡◌, ◌≢◌, ◌<◌, ◌≤◌, ◌++◌, [], ◌∷◌, length, IfOk, IfErr, OnOk, OnErr, Ok, Err, IsTrue, true, map, take, drop, slice_get, Some};
 ghost use Rattle.call_path.specs.Path.{Path, path_cmp, is_prefix, shared_len, path_text};
+ghost use Rattle.call_path.specs.Functions.{HasLine, func};
 ghost use Rattle.call_path.specs.Good.{is_good_frame, AreGoodFrames, IsGoodPath};
 ghost use Rattle.call_path.specs.Reading.{path_of};
 ghost use Rattle.call_path.specs.declared.read.PathError.TheVariants.{OutOfMemory};
@@ -17,6 +18,7 @@ use std::cmp::Ordering;
 use std::marker::Model;
 
 mod frame_text;
+mod function_name;
 mod read;
 #[cfg(test)]
 mod tests;
@@ -115,6 +117,17 @@ impl CallPath {
         self.prefix(self.len())
     }
 
+    /// The path of the functions: each frame without its line.
+    ///
+    /// A frame has a line where it ends with `@` and 1 to 9 decimal digits behind at least one
+    /// other byte.
+    pub fn functions(&self) -> Result<CallPath, AllocError>
+        ensures { IfOk result (λ all. all ≡ map func self.now) }
+    {
+        let frames = self.frames.functions()?;
+        Ok(CallPath { frames })
+    }
+
     /// Appends the frames, joined by `;`.
     pub fn write_text(&self, out: &mut Vec<u8>) -> Result<(), AllocError>
         ensures ok { OnOk result (out.new.items ≡ out.old.items ++ path_text self.now) }
@@ -190,4 +203,21 @@ impl PathBuilder {
 pub fn texts_are_read_back()
     ensures read { (p : Path) → IsGoodPath p → path_of (path_text p) ≡ Ok p }
     ensures good { (text : List ℕ) (p : Path) → path_of text ≡ Ok p → IsGoodPath p × (path_text p ≡ text) }
+{}
+
+/// A law of functions: a frame with a line has the function before it, and each other frame is its
+/// own function.
+pub fn functions_are_frames_without_lines()
+    ensures line { (frame function line : List ℕ) → HasLine frame function line → func frame ≡ function }
+    ensures other { (f : List ℕ) → ((function line : List ℕ) → HasLine f function line → ⊥) → func f ≡ f }
+    ensures changed { (frame : List ℕ) → func frame ≢ frame → (line : List ℕ) × HasLine frame (func frame) line }
+{}
+
+/// A law of functions: those of good frames are good, and those of a prefix are a prefix.
+pub fn functions_of_paths_are_paths()
+    ensures frame { (frame : List ℕ) → IsTrue (is_good_frame frame) → IsTrue (is_good_frame (func frame)) }
+    ensures frames { (p : Path) → AreGoodFrames p → AreGoodFrames (map func p) }
+    ensures path { (p : Path) → IsGoodPath p → IsGoodPath (map func p) }
+    ensures len { (p : Path) → length (map func p) ≡ length p }
+    ensures prefix { (p q : Path) → is_prefix p q ≡ true → is_prefix (map func p) (map func q) ≡ true }
 {}
