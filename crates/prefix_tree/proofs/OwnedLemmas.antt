@@ -5,6 +5,7 @@ use Rattle.std.proofs.lemmas.Option.{same_Some, slice_get-map, slice_get_read}
 use Rattle.std.specs.Option.{option_map}
 use Rattle.std.specs.Prelude.{All}
 use Rattle.std.proofs.lemmas.List.Elements.{All-nil}
+use Rattle.rank_set.proofs.SomeMember.{some_member}
 use Rattle.call_path.specs.Good.{IsGoodPath}
 use Rattle.prefix_tree.specs.Changes.{changed, new_among, inserted}
 use Rattle.prefix_tree.proofs.ChangeLemmas.{AreDistinct, apart_from_order, apart_path_rows, puts_sorted, puts_united, len-insert_rows}
@@ -18,7 +19,7 @@ use Rattle.call_path.specs.Pairs.{Pairs, pairs_at}
 use Rattle.prefix_tree.specs.Tree.{Tree, Marks, IsTree, IsLawful, tree_of, merged, covered, added, count_below, pairs_of, rows_of, frame_of}
 use Rattle.prefix_tree.specs.Joined.{Below, insert_rows, path_rows}
 use Rattle.prefix_tree.specs.Owned.{entry_of, entries_view, HasIncreasingPaths, below_in, tree_in, AreTreeRows}
-use Rattle.prefix_tree.proofs.TreeLemmas.{IsTree-tree_of, tree_merged, tree_covered, tree_added, get-tree_of, coverage-tree_of, no_row, some_member}
+use Rattle.prefix_tree.proofs.TreeLemmas.{IsTree-tree_of, tree_merged, tree_covered, tree_added, get-tree_of, coverage-tree_of, no_row}
 
 -- the rows are the entries of their map
 pub entries_below : (rows : List TreeRow) → HasIncreasingPaths rows → finmap.entries (below_in rows) ≡ entries_view rows

@@ -7,6 +7,7 @@ use Rattle.std.specs.Cmp.{both_ways, nat_cmp_total, tied_itself}
 use Rattle.std.specs.Cmp.Lexicographic.{nat_list_cmp_total}
 use Rattle.std.specs.FinMap as finmap
 use Rattle.std.proofs.lemmas.Bool.{true≢false, eqb-true, or_left}
+use Rattle.rank_set.proofs.SomeMember.{first_member}
 use Rattle.call_path.proofs.PathLemmas.{is_path-exact, any-prefixes, and_false}
 use Rattle.rank_set.specs.Ranks.{Ranks, none, has, in_order, size, union, has-union, has-those, has-in_order, has-none, same_ranks, none_from_size}
 use Rattle.call_path.specs.Path.{Path, path_cmp, is_path, is_prefix, path_cmp_total, path_cmp_exact}
@@ -170,14 +171,6 @@ get-tree_of P C p =
 pub coverage-tree_of : (P : Pairs) (C : Ranks) → (tree_of P C).coverage ≡ C
 unfolding tree_of
 coverage-tree_of P C = refl
-
--- a set that is not empty has a member
-first_member : (s : Ranks) → eqb (size s) 0 ≡ false → (r : ℕ) × (has s r ≡ true)
-first_member s e = member (in_order s) refl
-  where
-    member : (xs : List ℕ) → in_order s ≡ xs → (r : ℕ) × (has s r ≡ true)
-    member [] is = absurd (true≢false (sym (ap (λ (xs : List ℕ). eqb (length xs) 0) is) ∙ e))
-    member (k ∷ ks) is = (k, has-in_order s k ∙ ap (λ (xs : List ℕ). list_any (eq_by_cmp nat_cmp k) xs) is ∙ ap (λ b. b || list_any (eq_by_cmp nat_cmp k) ks) (ap is_eq (tied_itself nat_cmp_total k)))
 
 empty_no_member : (s : Ranks) (r : ℕ) → eqb (size s) 0 ≡ true → has s r ≡ false
 empty_no_member s r e = ap (λ x. has x r) (none_from_size s (eqb-true (size s) 0 e)) ∙ has-none r
@@ -357,7 +350,3 @@ covered_covers t C P A within is =
     sym (tree_covered t tree C)
     ∙ tree_of-is (P ++ []) (union A C) (record { coverage = union t.coverage C; below = t.below }) (put_together P [] A C within (λ r p one. absurd (true≢false (sym one))) t whole [] (no_rows C))
     ∙ ap (λ Q. tree_of Q (union A C)) (append-nil P)
-
--- the least member of a set that is not empty
-pub some_member : (s : Ranks) → s ≢ none → (r : ℕ) × (has s r ≡ true)
-some_member s other = first_member s (Rattle.std.proofs.lemmas.Bool.false_from_ne_true _ (λ e. other (none_from_size s (eqb-true (size s) 0 e))))

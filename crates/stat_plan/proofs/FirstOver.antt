@@ -5,9 +5,11 @@ use Rattle.std.specs.List.{AllByRecursion}
 use Rattle.std.proofs.lemmas.Bool.{cases_Bool, cases_lt}
 use Rattle.std.proofs.lemmas.List.{take_more, append_assoc, append-nil}
 use Rattle.stat_plan.specs.NodeSets.{In, IsStrictlyIncreasing}
-use Rattle.stat_plan.specs.Samples.{samples_of, wave_lines}
+use Rattle.stat_plan.specs.Samples.{samples_of, seen_by, wave_lines}
+use Rattle.stat_plan.specs.declared.script.Grain.{Grain}
+use Rattle.stat_plan.specs.declared.script.Grain.TheVariants.{Line}
 use Rattle.stat_plan.specs.Invariants.{IsJob, IsDaemon}
-use Rattle.stat_plan.specs.Plans.{Plan, Stream, nodes, nodes_of, samples, sample_count, daemons, stream_of, stream_ranks, ranks_on, up_to, waves_of}
+use Rattle.stat_plan.specs.Plans.{Plan, Stream, nodes, nodes_of, samples, sample_count, grain, daemons, stream_of, stream_ranks, ranks_on, up_to, waves_of}
 use Rattle.stat_plan.specs.Limits.{RefusesAt, first_over, is_over, is_within_limit, stream_waves, wave_is_within}
 use Rattle.stat_plan.specs.declared.plan_error.PlanError.{PlanError}
 use Rattle.stat_plan.specs.declared.plan_error.PlanError.TheVariants.{TooManyPrefixes, OutOfMemory}
@@ -44,10 +46,10 @@ up_to_split (suc n) w lt = elim (cases_lt w n) [
 ]
 
 -- a wave of a stream that the plan has
-pub wave_value : (p : Plan) (x : Stream) (w : ℕ) → stream_of p x.number ≡ Some x → wave_is_within p (x.number, w) ≡ is_within_limit (samples_of (wave_lines x.samples w p.lines)) (ranks_on p x.daemons)
-unfolding wave_is_within samples sample_count stream_ranks daemons
+pub wave_value : (p : Plan) (x : Stream) (w : ℕ) → stream_of p x.number ≡ Some x → wave_is_within p (x.number, w) ≡ is_within_limit (samples_of (map (seen_by x.grain (ranks_on p x.daemons)) (wave_lines x.samples w p.lines)))
+unfolding wave_is_within samples sample_count grain stream_ranks daemons
 wave_value p x w is =
-    ap (λ (o : Option Stream). is_within_limit (samples_of (wave_lines (elim o as (λ _. ℕ) [ None ↦ 0 | (Some x) ↦ x.samples ]) w p.lines)) (ranks_on p (elim o as (λ _. List ℕ) [ None ↦ [] | (Some x) ↦ x.daemons ]))) is
+    ap (λ (o : Option Stream). is_within_limit (samples_of (map (seen_by (elim o as (λ _. Grain) [ None ↦ Line | (Some x) ↦ x.grain ]) (ranks_on p (elim o as (λ _. List ℕ) [ None ↦ [] | (Some x) ↦ x.daemons ]))) (wave_lines (elim o as (λ _. ℕ) [ None ↦ 0 | (Some x) ↦ x.samples ]) w p.lines)))) is
 
 abbrev wave_of : Stream → ℕ → ℕ × ℕ
 wave_of x w = (x.number, w)

@@ -1,5 +1,3 @@
-pub mod Prefixes
-pub mod LinePrefixes
 pub mod NameNumbers
 pub mod DaemonNames
 pub mod Leaves
@@ -7,7 +5,10 @@ pub mod InLists
 pub mod Expecting
 pub mod Indexing
 pub mod LineIndexing
-pub mod Limiting
 pub mod FirstOver
 pub mod LookupLemmas
 pub mod TableLemmas
+pub mod Counting
+pub mod InOrder
+pub mod SeenPaths
+pub mod WavePrefixes

@@ -10,13 +10,12 @@ use Rattle.std.proofs.lemmas.Bool.{true≢false, cases_lt, leb-true, false_from_
 use Rattle.std.proofs.lemmas.List.{drop_all, take_more, length-append, get_or_append_left, get_or-append-add}
 use Rattle.std.proofs.lemmas.Option.{none-some, slice_get-get_or, slice_get_within, get_or_from_slice_get}
 use Rattle.rank_set.specs.Ranks.{Ranks, none, has, Has, in_order, union, has-union, has-none, has-in_order}
-use Rattle.prefix_tree.proofs.TreeLemmas.{some_member}
+use Rattle.rank_set.proofs.SomeMember.{some_member}
 use Rattle.stat_plan.specs.NodeSets.{In, member}
-use Rattle.stat_plan.specs.Samples.{ranks_with, IsWithinLimit}
+use Rattle.stat_plan.specs.Samples.{ranks_with, prefix_count, IsWithinLimit}
 use Rattle.stat_plan.specs.Invariants.{IsJob, IsPlan, IsDaemon}
-use Rattle.stat_plan.specs.Plans.{Plan, Stream, nodes, nodes_of, ranks, daemons, stream_of, serves, is_within, those_within, ranks_on, expected, stream_ranks, waves_of, samples as wave_samples}
+use Rattle.stat_plan.specs.Plans.{Plan, Stream, nodes, nodes_of, ranks, daemons, stream_of, serves, is_within, those_within, ranks_on, expected, waves_of, samples as wave_samples}
 use Rattle.stat_plan.specs.Limits.{first_over, is_over, wave_is_within}
-use Rattle.prefix_tree.specs.Tree.{tree_of, count_below}
 use Rattle.stat_plan.specs.Tables.{AreExpected, AreAllExpected}
 use Rattle.stat_plan.proofs.InLists.{in_filter, in_from_filter, any_from_in, in_from_any, in_map, in_from_map}
 use Rattle.stat_plan.proofs.FirstOver.{all_in, found_in}
@@ -157,9 +156,9 @@ not_false : (b : Bool) → not b ≡ false → b ≡ true
 not_false true e = refl
 not_false false e = sym e
 
-within_limit : (p : Plan) (s w : ℕ) → is_over p (s, w) ≡ false → IsWithinLimit (wave_samples p s w) (stream_ranks p s)
+within_limit : (p : Plan) (s w : ℕ) → is_over p (s, w) ≡ false → IsWithinLimit (wave_samples p s w)
 unfolding wave_is_within
-within_limit p s w e = leb-true (count_below (tree_of (wave_samples p s w) (stream_ranks p s))) 2048 (not_false (nat_le (count_below (tree_of (wave_samples p s w) (stream_ranks p s))) 2048) e)
+within_limit p s w e = leb-true (prefix_count (wave_samples p s w)) 2048 (not_false (nat_le (prefix_count (wave_samples p s w)) 2048) e)
 
 -- the invariant of a plan, from that of a job and no wave over the limit
 pub plan_from : (p : Plan) → IsJob p → first_over p ≡ None → IsPlan p

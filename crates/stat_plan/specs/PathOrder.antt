@@ -1,5 +1,5 @@
 -- Paths in their order, and which of them a wave has. No clause of a public call cites this.
-use Rattle.std.specs.Prelude.{◌≡◌, ◌<◌, ℕ, Bool, false, ◌&&◌, nat_eq, List, [], filter, length, map, slice_index_or}
+use Rattle.std.specs.Prelude.{◌≡◌, ◌<◌, ℕ, Bool, false, ◌&&◌, nat_eq, List, [], filter, length, map, slice_index_or, Option, None, Some}
 use Rattle.std.specs.Borrow.{Bor}
 use Rattle.std.specs.List.{list_any}
 use Rattle.std.specs.List.Sorted.{IsSortedBy}
@@ -10,19 +10,33 @@ use Rattle.stat_plan.specs.NodeSets.{In}
 use Rattle.stat_plan.specs.Samples.{is_in_wave}
 use Rattle.stat_plan.specs.declared.samples.StackLine.{StackLine}
 
--- paths with their numbers
-abbrev pub numbered_view : List (Bor Path × ℕ) → List (Path × ℕ)
-numbered_view ordered = map (λ e. (e.0.now, e.1)) ordered
+-- the paths of some numbers, each with its number
+abbrev pub numbered : List Path → List ℕ → List (Path × ℕ)
+numbered paths numbers = map (λ i. (slice_index_or paths i [], i)) numbers
+
+-- the paths are in their order
+abbrev pub IsPathOrder : List (Path × ℕ) → Type 0
+IsPathOrder ordered = IsSortedBy (λ d e. is_lt (path_cmp d.0 e.0)) ordered
 
 -- these are the paths in their order, each with its number
 pub record AreInOrder (paths : List Path) (ordered : List (Path × ℕ)) : Type 0 where
   pub numbered : (e : Path × ℕ) → In e ordered → (e.1 < length paths) × (e.0 ≡ slice_index_or paths e.1 [])
   pub complete : (i : ℕ) → i < length paths → In (slice_index_or paths i [], i) ordered
-  pub in_order : IsSortedBy (λ d e. is_lt (path_cmp d.0 e.0)) ordered
+  pub paired : length ordered ≡ length paths
+  pub in_order : IsPathOrder ordered
+
+-- the numbers of some paths in the order of the paths
+abbrev pub IsOrderOf : List Path → List ℕ → Type 0
+IsOrderOf paths numbers = AreInOrder paths (numbered paths numbers)
 
 -- those of numbered paths that are seen
 abbrev pub seen_paths : List (Path × ℕ) → List Bool → List Path
 seen_paths ordered seen = map (λ e. e.0) (filter (λ e. slice_index_or seen e.1 false) ordered)
+
+-- the last of some paths, the empty path before the first
+abbrev pub last_path : Option (Bor Path) → Path
+last_path None = []
+last_path (Some path) = path.now
 
 -- whether two sets have a rank in common
 abbrev pub share_rank : Ranks → Ranks → Bool

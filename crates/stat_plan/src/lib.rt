@@ -15,6 +15,7 @@ mod limit;
 mod line_index;
 mod line_order;
 mod machine;
+mod path_order;
 mod plan;
 mod plan_error;
 mod samples;

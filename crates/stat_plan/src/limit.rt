@@ -4,24 +4,25 @@
 //! shares with the path just before it. So the number of distinct prefixes is the sum of each path's frames, less the frames
 //! that it shares with the path before.
 
-ghost use Rattle.std.specs.Prelude.{◌≡◌, ◌<◌, ℕ, IfOk, IfErr, OnOk, length, map, nat_le, None, Some, find, true};
-ghost use Rattle.std.specs.List.{flat_map};
+ghost use Rattle.std.specs.Prelude.{◌≡◌, ◌<◌, ◌≤◌, ℕ, IfOk, IfErr, OnOk, length, map, nat_le, ◌&&◌, None, Some, find};
+ghost use Rattle.std.specs.List.{AllByRecursion, flat_map};
 ghost use Rattle.std.specs.Set.{distinct_count};
+ghost use Rattle.call_path.specs.Functions.{func};
 ghost use Rattle.call_path.specs.Pairs.{prefixes};
-ghost use Rattle.call_path.specs.Path.{Path, is_path};
+ghost use Rattle.call_path.specs.Path.{is_path, shared_len};
 ghost use Rattle.stat_plan.specs.Limits.{RefusesAt, first_over, is_over, is_within_limit, stream_waves};
 ghost use Rattle.stat_plan.specs.NodeSets.{In};
-ghost use Rattle.stat_plan.specs.PathOrder.{AreInOrder, AreSeen, numbered_view, seen_paths};
+ghost use Rattle.stat_plan.specs.PathOrder.{AreSeen, IsOrderOf, last_path, numbered, seen_paths, share_rank};
 ghost use Rattle.stat_plan.specs.Plans.{nodes, ranks_on, stream_of};
-ghost use Rattle.stat_plan.specs.Samples.{path_by, samples_of, seen_by, wave_lines};
-ghost use Rattle.stat_plan.specs.StackLines.{PathIndicesInRange, lines_of};
-ghost use Rattle.stat_plan.specs.declared.script.Grain.{Grain};
+ghost use Rattle.stat_plan.specs.Samples.{is_in_wave, path_by, samples_of, seen_by, wave_lines};
+ghost use Rattle.stat_plan.specs.Shown.{lines_view};
+ghost use Rattle.stat_plan.specs.StackLines.{PathIndicesInRange};
 
 use crate::job::Job;
 use crate::path_order::in_order;
 use crate::plan_error::PlanError;
-use crate::samples::{StackLine, is_in_wave};
-use crate::script::StreamDef;
+use crate::samples::{Lines, StackLine, is_in_wave};
+use crate::script::{Grain, StreamDef};
 use call_path::CallPath;
 use rank_set::RankSet;
 use std::alloc::{AllocError, Global};
@@ -29,26 +30,194 @@ use std::alloc::{AllocError, Global};
 /// The most distinct prefixes that the samples of a wave may have.
 pub const PREFIX_LIMIT: usize = 2_048;
 
-// Whether those of some paths in order that are seen have at most 2,048 distinct prefixes.
-fn is_within(ordered: &[(&CallPath, usize)], seen: &[bool]) -> bool
-    requires { (paths : List Path) × (AreInOrder paths (numbered_view ordered.now) × (length seen.now ≡ length paths)) }
+// How many first frames a path shares with the last one before it.
+fn shared_with(path: &CallPath, last: Option<&CallPath>) -> usize
+    ensures value { result ≡ shared_len path.now (last_path last.entry) }
+    ensures within { result ≤ length path.now }
+{
+    match last {
+        Some(last) => path.common(last, 0),
+        None => 0,
+    }
+}
+
+// Whether those of some paths that are seen have at most 2,048 distinct prefixes. The paths' order is given.
+fn is_within(paths: &[CallPath], order: &[usize], seen: &[bool]) -> bool
+    requires paths { IsOrderOf paths.now order.now }
+    requires seen { length seen.now ≡ length paths.now }
     ensures { result
-        ≡ nat_le (distinct_count is_path (flat_map prefixes (seen_paths (numbered_view ordered.now) seen.now))) 2048 }
+        ≡ nat_le (distinct_count is_path (flat_map prefixes (seen_paths (numbered paths.now order.now) seen.now))) 2048 }
 {
     let mut count = 0;
     let mut last: Option<&CallPath> = None;
-    for (path, number) in ordered {
+    for number in order {
         if seen[*number] {
-            let shared = match last {
-                Some(before) => path.common(before, 0),
-                None => 0,
-            };
-            count += path.len() - shared;
+            let path = &paths[*number];
+            count += path.len() - shared_with(path, last);
             if count > PREFIX_LIMIT {
                 return false;
             }
-            last = Some(*path);
+            last = Some(path);
         }
     }
     true
+}
+
+// By path number, whether a line at the times of wave `wave` lists one of some ranks in the path.
+fn paths_seen(
+    alloc: Global,
+    lines: &[StackLine],
+    count: usize,
+    samples: u8,
+    wave: u8,
+    ranks: &RankSet,
+) -> Result<Vec<bool>, AllocError>
+    requires { AllByRecursion (λ line. line.path < count) lines.now }
+    ensures length { IfOk result (λ seen. length seen.items ≡ count) }
+    ensures seen { IfOk result (λ seen. AreSeen lines.now samples wave ranks.now seen.items) }
+{
+    let mut seen = vec![in alloc; false; count]?;
+    for line in lines {
+        if lists_rank(line, samples, wave, ranks)? {
+            seen[line.path as usize] = true;
+        }
+    }
+    Ok(seen)
+}
+
+// Whether a line at a time of wave `wave` lists one of some ranks.
+fn lists_rank(
+    line: &StackLine,
+    samples: u8,
+    wave: u8,
+    ranks: &RankSet,
+) -> Result<bool, AllocError>
+    ensures { IfOk result
+        (λ lists. lists ≡ (is_in_wave samples wave line.now.time && share_rank line.now.ranks ranks.now)) }
+{
+    if !is_in_wave(samples, wave, line.time) {
+        return Ok(false);
+    }
+    let mut common = line.ranks.copy()?;
+    common.intersect_with(ranks);
+    Ok(common.count() > 0)
+}
+
+// Whether the samples of a wave of a stream have at most 2,048 distinct prefixes. The stream has these ranks, and sees
+// these paths, whose order is given.
+fn wave_is_within(
+    alloc: Global,
+    all: Lines<'_>,
+    order: &[usize],
+    stream: &StreamDef,
+    wave: u8,
+    ranks: &RankSet,
+) -> Result<bool, AllocError>
+    requires numbered { PathIndicesInRange all.paths.now all.lines.now }
+    requires functions { all.functions.now ≡ map (map func) all.paths.now }
+    requires order { IsOrderOf (map (path_by stream.now.grain) all.paths.now) order.now }
+    ensures { IfOk result (λ within. within
+        ≡ is_within_limit (samples_of (map (seen_by stream.now.grain ranks.now)
+        (wave_lines stream.now.samples wave (lines_view all.entry))))) }
+{
+    let paths = all.paths_by(stream.grain());
+    let seen = paths_seen(alloc, all.lines, paths.len(), stream.samples(), wave, ranks)?;
+    Ok(is_within(paths, order, &seen))
+}
+
+// Whether all paths together have at most 2,048 distinct prefixes. Their order is given.
+fn all_are_within(alloc: Global, paths: &[CallPath], order: &[usize]) -> Result<bool, AllocError>
+    requires { IsOrderOf paths.now order.now }
+    ensures { IfOk result (λ within. within ≡ nat_le (distinct_count is_path (flat_map prefixes paths.now)) 2048) }
+{
+    let seen = vec![in alloc; true; paths.len()]?;
+    Ok(is_within(paths, order, &seen))
+}
+
+// The ranks of some daemons.
+fn ranks_of(alloc: Global, job: &Job, daemons: &[u32]) -> Result<RankSet, AllocError>
+    requires { (d : ℕ) → In d daemons.now → d < nodes job.now }
+    ensures { IfOk result (λ ranks. ranks ≡ ranks_on job.now daemons.now) }
+{
+    job.invariant();
+    let placed = job.placed();
+    let mut ranks = RankSet::new(alloc);
+    for d in daemons {
+        ranks.union_into(&placed[*d as usize])?;
+    }
+    Ok(ranks)
+}
+
+// Tests the waves of a stream. The order of the paths as the stream sees them is given.
+fn check_stream(
+    alloc: Global,
+    job: &Job,
+    all: Lines<'_>,
+    order: &[usize],
+    stream: &StreamDef,
+) -> Result<(), PlanError>
+    requires lines { lines_view all ≡ job.now.lines }
+    requires numbered { PathIndicesInRange all.paths.now all.lines.now }
+    requires functions { all.functions.now ≡ map (map func) all.paths.now }
+    requires order { IsOrderOf (map (path_by stream.now.grain) all.paths.now) order.now }
+    requires stream { stream_of job.now stream.now.number ≡ Some stream.now }
+    requires daemons { (d : ℕ) → In d stream.now.daemons → d < nodes job.now }
+    ensures ok { OnOk result (find (is_over job.now) (stream_waves stream.now) ≡ None) }
+    ensures err { IfErr result (RefusesAt (find (is_over job.now) (stream_waves stream.now))) }
+{
+    let ranks = ranks_of(alloc, job, stream.daemons())?;
+    for wave in 0..stream.waves() {
+        if !wave_is_within(alloc, all, order, stream, wave, &ranks)? {
+            return Err(PlanError::TooManyPrefixes {
+                stream: stream.number(),
+                wave,
+            });
+        }
+    }
+    Ok(())
+}
+
+// Tests all waves, by stream and wave. The order of the paths, and that of their functions, are given.
+fn check_streams(
+    alloc: Global,
+    job: &Job,
+    all: Lines<'_>,
+    by_line: &[usize],
+    by_function: &[usize],
+) -> Result<(), PlanError>
+    requires lines { lines_view all ≡ job.now.lines }
+    requires numbered { PathIndicesInRange all.paths.now all.lines.now }
+    requires functions { all.functions.now ≡ map (map func) all.paths.now }
+    requires by_line { IsOrderOf all.paths.now by_line.now }
+    requires by_function { IsOrderOf all.functions.now by_function.now }
+    ensures ok { OnOk result (first_over job.now ≡ None) }
+    ensures err { IfErr result (RefusesAt (first_over job.now)) }
+{
+    job.invariant();
+    for stream in job.streams() {
+        let order = match stream.grain() {
+            Grain::Line => by_line,
+            Grain::Function => by_function,
+        };
+        match check_stream(alloc, job, all, order, stream) {
+            Ok(()) => {}
+            Err(e) => return Err(e),
+        }
+    }
+    Ok(())
+}
+
+/// Tests all waves, by stream and wave. Where all paths together are within the limit, so is each wave; that is nearly
+/// always so, and no wave is looked at.
+pub fn check_limit(alloc: Global, job: &Job) -> Result<(), PlanError>
+    ensures ok { OnOk result (first_over job.now ≡ None) }
+    ensures err { IfErr result (RefusesAt (first_over job.now)) }
+{
+    let all = job.lines();
+    let by_line = in_order(alloc, all.paths)?;
+    if all_are_within(alloc, all.paths, &by_line)? {
+        return Ok(());
+    }
+    let by_function = in_order(alloc, all.functions)?;
+    check_streams(alloc, job, all, &by_line, &by_function)
 }

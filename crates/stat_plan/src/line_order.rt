@@ -6,6 +6,7 @@ ghost use Rattle.stat_plan.specs.declared.samples.TheConstants.{LINE_LIMIT};
 ghost use Rattle.stat_plan.specs.StackLines.{PathIndicesInRange};
 ghost use Rattle.stat_plan.specs.Tables.{AreLineNumbers};
 
+use crate::path_order::in_order;
 use crate::samples::StackLine;
 use call_path::CallPath;
 use std::alloc::{AllocError, Global};
@@ -14,14 +15,10 @@ use std::alloc::{AllocError, Global};
 pub fn path_places(alloc: Global, paths: &[CallPath]) -> Result<Vec<usize>, AllocError>
     ensures { IfOk result (λ places. length places.items ≡ length paths.now) }
 {
-    let mut ordered = Vec::with_capacity(alloc, paths.len())?;
-    for (number, path) in paths.iter().enumerate() {
-        ordered.push((path, number))?;
-    }
-    ordered.sort_by(|one, other| one.0.cmp(other.0))?;
+    let numbers = in_order(alloc, paths)?;
     let mut places = vec![in alloc; 0; paths.len()]?;
-    for (place, entry) in ordered.iter().enumerate() {
-        places[entry.1] = place;
+    for (place, number) in numbers.iter().enumerate() {
+        places[*number] = place;
     }
     Ok(places)
 }

@@ -3,7 +3,7 @@ use Rattle.std.proofs.lemmas.List.{get_or_default}
 use Rattle.rank_set.specs.Ranks.{in_order}
 use Rattle.call_path.specs.Pairs.{pairs_at}
 use Rattle.prefix_tree.specs.Tree.{tree_of}
-use Rattle.prefix_tree.proofs.TreeLemmas.{some_member}
+use Rattle.rank_set.proofs.SomeMember.{some_member}
 use Rattle.merge_filter.proofs.Pendings.{not_full, room_lies, some_ranks}
 use Rattle.merge_filter.proofs.own_tree.add_pending.Goals as goal
 

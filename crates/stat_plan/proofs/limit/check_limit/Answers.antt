@@ -1,32 +1,8 @@
-use Rattle.std.proofs.Common.{◌≡◌, ◌<◌, ℕ, None, Some, sym, ap, subst, ◌∙◌, length, take, get_or}
-use Rattle.std.specs.Prelude.{find}
-use Rattle.stat_plan.specs.NodeSets.{In}
-use Rattle.stat_plan.specs.Limits.{RefusesAt, is_over, stream_waves}
-use Rattle.stat_plan.specs.Plans.{Stream, nodes, stream_of, waves_of}
-use Rattle.stat_plan.proofs.FirstOver.{none_over_streams, refuses, stream_found, daemons_are_nodes}
+use Rattle.std.proofs.Common.{sym, ◌∙◌}
+use Rattle.stat_plan.proofs.WavePrefixes.{none_over}
 use Rattle.stat_plan.proofs.limit.check_limit.Goals as goal
 
-pub check_stream-requires-clause-stream : goal.check_stream-requires-clause-stream
-check_stream-requires-clause-stream c =
-    let lt : c.loop-stream.stream-index < length c.args.job.now.streams = subst (λ xs. c.loop-stream.stream-index < length xs) c.streams-stream-items.ensures c.loop-stream-test.true in
-    let is = c.stream-item.is ∙ ap (λ xs. get_or xs c.loop-stream.stream-index c.stream-item.result) c.streams-stream-items.ensures in
-    subst (λ (x : Stream). stream_of c.args.job.now x.number ≡ Some x) (sym is) (stream_found c.args.job.now c.loop-stream.stream-index c.stream-item.result c.invariant.ensures lt)
-
-pub check_stream-requires-clause-daemons : goal.check_stream-requires-clause-daemons
-check_stream-requires-clause-daemons c =
-    let lt : c.loop-stream.stream-index < length c.args.job.now.streams = subst (λ xs. c.loop-stream.stream-index < length xs) c.streams-stream-items.ensures c.loop-stream-test.true in
-    let is = c.stream-item.is ∙ ap (λ xs. get_or xs c.loop-stream.stream-index c.stream-item.result) c.streams-stream-items.ensures in
-    subst (λ (x : Stream). (n : ℕ) → In n x.daemons → n < nodes c.args.job.now) (sym is) (daemons_are_nodes c.args.job.now c.loop-stream.stream-index c.stream-item.result c.invariant.ensures lt)
-
-pub returns-in-Err-clause-err : goal.returns-in-Err-clause-err
-returns-in-Err-clause-err c =
-    let lt : c.loop-stream.stream-index < length c.args.job.now.streams = subst (λ xs. c.loop-stream.stream-index < length xs) c.streams-stream-items.ensures c.loop-stream-test.true in
-    let is = c.stream-item.is ∙ ap (λ xs. get_or xs c.loop-stream.stream-index c.stream-item.result) c.streams-stream-items.ensures in
-    refuses c.args.job.now c.loop-stream.stream-index c.stream-item.result c.in-Err.e lt
-    (subst (λ xs. find (is_over c.args.job.now) (waves_of (take c.loop-stream.stream-index xs)) ≡ None) c.streams-stream-items.ensures c.loop-stream.invariant)
-    (subst (λ (x : Stream). RefusesAt (find (is_over c.args.job.now) (stream_waves x)) c.in-Err.e) is c.in-Err.ensures.err)
-
-pub loop-stream-preserved : goal.loop-stream-preserved
-loop-stream-preserved c =
-    none_over_streams c.args.job.now c.streams-stream-items.result.now c.loop-stream.stream-index c.stream-item.result c.loop-stream-test.true c.loop-stream.invariant
-    (subst (λ (x : Stream). find (is_over c.args.job.now) (stream_waves x) ≡ None) c.stream-item.is c.in-Ok.ensures.ok)
+pub returns-then-branch-clause-ok : goal.returns-then-branch-clause-ok
+returns-then-branch-clause-ok c =
+    let all = c.lines-all in
+    none_over c.args.job.now all.result.paths.now all.result.lines.now all.ensures.numbered all.ensures.lines (sym c.in_ok-all_are_within.ensures ∙ c.if-branch.true)

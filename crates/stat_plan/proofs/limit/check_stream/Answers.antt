@@ -4,38 +4,31 @@ use Rattle.stat_plan.specs.NodeSets.{In}
 use Rattle.stat_plan.specs.Limits.{is_over, is_within_limit}
 use Rattle.rank_set.specs.Ranks.{Ranks}
 use Rattle.stat_plan.specs.Plans.{Plan, Stream, up_to, ranks_on}
-use Rattle.stat_plan.specs.Samples.{SampleLine, samples_of, wave_lines}
-use Rattle.stat_plan.proofs.LineIndexing.{length-lines}
+use Rattle.stat_plan.specs.Samples.{SampleLine, samples_of, seen_by, wave_lines}
 use Rattle.stat_plan.proofs.FirstOver.{wave_value, none_over_more, over_found}
 use Rattle.stat_plan.proofs.limit.check_stream.Goals as goal
 
 pub ranks_of-requires : goal.ranks_of-requires
 ranks_of-requires c d there = c.requires.daemons d (subst (In d) c.daemons.ensures there)
 
-pub wave_is_within-requires-clause-numbers : goal.wave_is_within-requires-clause-numbers
-wave_is_within-requires-clause-numbers c i =
-    let long = length-lines c.lines-all.result.paths.now c.lines-all.result.lines.now c.args.job.now.lines c.lines-all.ensures.lines in
-    (λ there. subst (λ k. i < k) (sym long) ((c.requires.numbers i).0 there), λ lt. (c.requires.numbers i).1 (subst (λ k. i < k) long lt))
-
 -- what the test of a wave says
-abbrev tested : (p : Plan) (x : Stream) (w k : ℕ) (lines : List SampleLine) (own : List ℕ) (ranks : Ranks) (b : Bool) → b ≡ is_within_limit (samples_of (wave_lines k w lines)) ranks → k ≡ x.samples → lines ≡ p.lines → ranks ≡ ranks_on p own → own ≡ x.daemons → b ≡ is_within_limit (samples_of (wave_lines x.samples w p.lines)) (ranks_on p x.daemons)
-tested p x w k lines own ranks b is samples all on daemons =
+abbrev tested : (p : Plan) (x : Stream) (w : ℕ) (lines : List SampleLine) (own : List ℕ) (ranks : Ranks) (b : Bool) → b ≡ is_within_limit (samples_of (map (seen_by x.grain ranks) (wave_lines x.samples w lines))) → lines ≡ p.lines → ranks ≡ ranks_on p own → own ≡ x.daemons → b ≡ is_within_limit (samples_of (map (seen_by x.grain (ranks_on p x.daemons)) (wave_lines x.samples w p.lines)))
+tested p x w lines own ranks b is all on daemons =
     is
-    ∙ ap (λ k. is_within_limit (samples_of (wave_lines k w lines)) ranks) samples
-    ∙ ap (λ ls. is_within_limit (samples_of (wave_lines x.samples w ls)) ranks) all
-    ∙ ap (is_within_limit (samples_of (wave_lines x.samples w p.lines))) (on ∙ ap (ranks_on p) daemons)
+    ∙ ap (λ ls. is_within_limit (samples_of (map (seen_by x.grain ranks) (wave_lines x.samples w ls)))) all
+    ∙ ap (λ s. is_within_limit (samples_of (map (seen_by x.grain s) (wave_lines x.samples w p.lines)))) (on ∙ ap (ranks_on p) daemons)
 
 pub returns-then-not-branch-clause-err : goal.returns-then-not-branch-clause-err
 returns-then-not-branch-clause-err c =
     let lt : c.loop-wave.wave < c.args.stream.now.waves = subst (λ k. c.loop-wave.wave < k) c.waves-wave-end.ensures c.loop-wave-test.true in
-    let is = tested c.args.job.now c.args.stream.now c.loop-wave.wave c.samples.result _ c.daemons.result.now c.in_ok-ranks.ranks c.in_ok-wave_is_within.field-0 c.in_ok-wave_is_within.ensures c.samples.ensures c.lines-all.ensures.lines c.in_ok-ranks.ensures c.daemons.ensures in
+    let is = tested c.args.job.now c.args.stream.now c.loop-wave.wave _ c.daemons.result.now c.in_ok-ranks.ranks c.in_ok-wave_is_within.field-0 c.in_ok-wave_is_within.ensures c.requires.lines c.in_ok-ranks.ensures c.daemons.ensures in
     over_found c.args.job.now c.args.stream.now c.loop-wave.wave lt c.loop-wave.invariant
     (wave_value c.args.job.now c.args.stream.now c.loop-wave.wave c.requires.stream ∙ sym is ∙ c.if-not-branch.true)
     ∙ ap (λ n. let v : ℕ × ℕ = (n, c.loop-wave.wave) in Some v) (sym c.number.ensures)
 
 pub loop-wave-preserved : goal.loop-wave-preserved
 loop-wave-preserved c =
-    let is = tested c.args.job.now c.args.stream.now c.loop-wave.wave c.samples.result _ c.daemons.result.now c.in_ok-ranks.ranks c.in_ok-wave_is_within.field-0 c.in_ok-wave_is_within.ensures c.samples.ensures c.lines-all.ensures.lines c.in_ok-ranks.ensures c.daemons.ensures in
+    let is = tested c.args.job.now c.args.stream.now c.loop-wave.wave _ c.daemons.result.now c.in_ok-ranks.ranks c.in_ok-wave_is_within.field-0 c.in_ok-wave_is_within.ensures c.requires.lines c.in_ok-ranks.ensures c.daemons.ensures in
     let next : suc c.loop-wave.wave ≡ c.loop-wave.wave + 1 = omega arith in
     subst (λ k. find (is_over c.args.job.now) (map (λ (w : ℕ). let v : ℕ × ℕ = (c.args.stream.now.number, w) in v) (up_to k)) ≡ None) next
     (none_over_more c.args.job.now c.args.stream.now c.loop-wave.wave c.loop-wave.invariant

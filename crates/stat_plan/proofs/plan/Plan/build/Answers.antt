@@ -4,18 +4,13 @@ use Rattle.stat_plan.proofs.LineIndexing.{length-lines}
 use Rattle.stat_plan.proofs.LookupLemmas.{plan_from}
 use Rattle.stat_plan.proofs.plan.Plan.build.Goals as goal
 
-pub check_limit-requires : goal.check_limit-requires
-check_limit-requires c =
+pub line_index-requires : goal.line_index-requires
+line_index-requires c =
     subst (AreLineNumbers (length c.new-job.result.lines)) (sym c.deref.ensures.value)
     (subst (λ k. AreLineNumbers k c.in_ok-numbers.numbers.items) (length-lines c.lines-all.result.paths.now c.lines-all.result.lines.now c.new-job.result.lines c.lines-all.ensures.lines) c.in_ok-numbers.ensures)
 
-pub line_index-requires : goal.line_index-requires
-line_index-requires c =
-    subst (AreLineNumbers (length c.new-job.result.lines)) (sym c.deref-2.ensures.value)
-    (subst (λ k. AreLineNumbers k c.in_ok-numbers.numbers.items) (length-lines c.lines-all.result.paths.now c.lines-all.result.lines.now c.new-job.result.lines c.lines-all.ensures.lines) c.in_ok-numbers.ensures)
-
 pub expected_tables-requires : goal.expected_tables-requires
-expected_tables-requires c = ap rows_view c.deref-3.ensures.value ∙ c.in_ok-ancestors.ensures ∙ ap ancestors_table c.topology.ensures.parents
+expected_tables-requires c = ap rows_view c.deref-2.ensures.value ∙ c.in_ok-ancestors.ensures ∙ ap ancestors_table c.topology.ensures.parents
 
 pub invariant_of-result : goal.invariant_of-result
 invariant_of-result c = (

@@ -11,12 +11,13 @@ use Rattle.std.specs.declared.cmp.Ordering.{Ordering}
 use Rattle.std.specs.declared.cmp.Ordering.TheVariants.{Less, Equal, Greater}
 use Rattle.std.specs.FinMap as finmap
 use Rattle.std.specs.FinMap.Entries.{below_all}
+use Rattle.rank_set.proofs.SomeMember.{some_member}
 use Rattle.rank_set.specs.Ranks.{Ranks, has, size, has-those, none_from_size, has-none}
 use Rattle.call_path.specs.Path.{Path, path_cmp, is_path, path_cmp_total}
 use Rattle.call_path.specs.Pairs.{Pairs, passes}
 use Rattle.prefix_tree.specs.Pairs.{label, ends}
 use Rattle.prefix_tree.specs.Tree.{Marks, Tree, tree_of, row_at, marks_of, count_below}
-use Rattle.prefix_tree.proofs.TreeLemmas.{get-tree_of, some_member}
+use Rattle.prefix_tree.proofs.TreeLemmas.{get-tree_of}
 use Rattle.prefix_tree.proofs.Rows.{first, second}
 
 not_equal : (o : Ordering) → T (is_lt o) → is_eq o ≡ false
