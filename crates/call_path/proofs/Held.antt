@@ -1,5 +1,5 @@
 -- A path that is held as its text and its ends: what is read off it, and what makes one.
-use Rattle.std.proofs.Common.{◌≡◌, ℕ, zero, suc, ◌+◌, ◌<◌, ◌≤◌, ◌^◌, Bool, true, false, List, [], ◌∷◌, ◌++◌, length, take, drop, get_or, refl, sym, ap, subst, ◌∙◌, arith}
+use Rattle.std.proofs.Common.{◌≡◌, ℕ, zero, suc, ◌+◌, ◌-◌, ◌<◌, ◌≤◌, ◌^◌, Bool, true, false, List, [], ◌∷◌, ◌++◌, length, map, take, drop, get_or, refl, sym, ap, subst, ◌∙◌, arith}
 use Rattle.std.proofs.lemmas.List.{append_assoc, length-append, length-take, length-drop, get_or-take, get_or_at, get_or_read}
 use Rattle.std.proofs.lemmas.List.Elements.{All-take, All-drop, All-push}
 use Rattle.std.proofs.lemmas.Bool.{ne_eqb}
@@ -9,7 +9,7 @@ use Rattle.std.specs.Prelude.{IsTrue, ◌==◌, slice_range}
 use Rattle.call_path.specs.Path.{Path, path_text}
 use Rattle.call_path.specs.Good.{is_good_frame, AreGoodFrames}
 use Rattle.call_path.specs.Cuts.{ends_from, cut_from, start_in, end_in, AreCuts}
-use Rattle.call_path.proofs.Texts.{tail_text, text_at, text_first, text_next, ends_at, length-ends, ends-take, text-take, text-drop, text_push, ends_push, frame_at, cut_from_ends, text_short}
+use Rattle.call_path.proofs.Texts.{tail_text, text_at, text_first, text_next, ends_at, length-ends, ends-take, text-take, text-drop, text_push, ends_push, ends_behind, frame_at, cut_from_ends, text_short}
 
 -- a text and ends that are a path's show that path
 pub cut_is : (p : Path) (text ends : List ℕ) → text ≡ path_text p → ends ≡ ends_from 0 p → cut_from 0 ends text ≡ p
@@ -178,6 +178,21 @@ module _ (p : Path) (from : ℕ) (lt : from < length p) (good : AreGoodFrames p)
     -- from there on it is its text
     pub rest_text : drop start text ≡ path_text (drop from p)
     rest_text = (λ k. drop (at k) (is k)) ∙ sym (text-drop from p lt)
+
+-- the text of the frames from one on, with their ends counted from where it begins, holds these frames
+module _ (self : Path) (text ends : List ℕ) (view : cut_from 0 ends text ≡ self) (h : AreCuts (cut_from 0 ends text) text ends)
+    (d : ℕ) (lt : d < length self) (new_text new_ends : List ℕ) (rest : new_text ≡ path_text (drop d self)) (counted : new_ends ≡ map (λ end. end - start_in ends d) (drop d ends)) where
+  behind_ends : new_ends ≡ ends_from 0 (drop d self)
+  behind_ends =
+      let held = cuts_shown self text ends view h in
+      counted ∙ ap (λ es. map (λ end. end - start_in es d) (drop d es)) held.places ∙ ends_behind self d lt
+
+  pub behind_cuts : AreCuts (cut_from 0 new_ends new_text) new_text new_ends
+  behind_cuts = cuts_of (drop d self) new_text new_ends rest behind_ends (rest_good self d lt (cuts_shown self text ends view h).good)
+
+  -- and shows them
+  pub behind_is : cut_from 0 new_ends new_text ≡ drop d self
+  behind_is = cut_is (drop d self) new_text new_ends rest behind_ends
 
 -- the text with one more frame: past a `;`, if there are frames
 abbrev pub longer : Bool → List ℕ → List ℕ → List ℕ

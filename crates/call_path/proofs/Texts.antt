@@ -1,5 +1,5 @@
 -- A path's text, and the places where its frames end.
-use Rattle.std.proofs.Common.{◌≡◌, ℕ, zero, suc, ◌+◌, ◌-◌, ◌*◌, ◌<◌, ◌≤◌, List, [], ◌∷◌, ◌++◌, length, take, drop, get_or, refl, sym, ap, ◌∙◌, arith}
+use Rattle.std.proofs.Common.{◌≡◌, ℕ, zero, suc, ◌+◌, ◌-◌, ◌*◌, ◌<◌, ◌≤◌, List, [], ◌∷◌, ◌++◌, length, map, take, drop, get_or, refl, sym, ap, ◌∙◌, arith}
 use Rattle.std.proofs.lemmas.List.{append-nil, append_assoc, take-append-drop, length-append, length-drop, take_at, drop_at, take_more}
 use Rattle.std.proofs.lemmas.List.Elements.{All-head, All-tail}
 use Rattle.std.proofs.lemmas.Bool.{and_parts, leb-true}
@@ -61,6 +61,37 @@ pub ends-take : (n d : ℕ) (p : Path) → ends_from n (take d p) ≡ take d (en
 ends-take n zero p = refl
 ends-take n (suc d) [] = refl
 ends-take n (suc d) (f ∷ p) = ap (λ es. (n + length f) ∷ es) (ends-take (suc (n + length f)) d p)
+
+-- where the frames from one on begin, if the first of all begins at a offset
+abbrev begin : ℕ → List ℕ → ℕ → ℕ
+begin n ends zero = n
+begin n ends (suc k) = suc (get_or ends k 0)
+
+-- their ends are those of a path that begins there
+ends-drop : (n d : ℕ) (p : Path) → d < length p → drop d (ends_from n p) ≡ ends_from (begin n (ends_from n p) d) (drop d p)
+ends-drop n zero p lt = refl
+ends-drop n (suc d) [] lt = absurd (omega arith)
+ends-drop n (suc zero) (f ∷ p) lt = refl
+ends-drop n (suc (suc d)) (f ∷ p) lt = ends-drop (suc (n + length f)) (suc d) p (omega arith)
+
+-- the ends of a path that begins elsewhere, counted from there
+ends-shift : (s n : ℕ) (p : Path) → map (λ end. end - s) (ends_from (s + n) p) ≡ ends_from n p
+ends-shift s n [] = refl
+ends-shift s n (f ∷ p) =
+    let here : s + n + length f - s ≡ n + length f = omega arith in
+    let next : suc (s + n + length f) ≡ s + suc (n + length f) = omega arith in
+    (λ k. here k ∷ map (λ end. end - s) (ends_from (next k) p)) ∙ ap (λ es. (n + length f) ∷ es) (ends-shift s (suc (n + length f)) p)
+
+-- the ends of the frames from one on, counted from where it begins
+pub ends_behind : (p : Path) (d : ℕ) → d < length p → map (λ end. end - start_in (ends_from 0 p) d) (drop d (ends_from 0 p)) ≡ ends_from 0 (drop d p)
+ends_behind p d lt =
+    let s = start_in (ends_from 0 p) d in
+    let e : begin 0 (ends_from 0 p) d ≡ s + 0 = begin_start (ends_from 0 p) d in
+    ap (map (λ end. end - s)) (ends-drop 0 d p lt ∙ ap (λ n. ends_from n (drop d p)) e) ∙ ends-shift s 0 (drop d p)
+  where
+    begin_start : (ends : List ℕ) (d : ℕ) → begin 0 ends d ≡ start_in ends d + 0
+    begin_start ends zero = refl
+    begin_start ends (suc k) = omega arith
 
 -- the text of the first frames
 pub text-take : (d : ℕ) (p : Path) → d ≤ length p → path_text (take d p) ≡ take (end_in (ends_from 0 p) d) (path_text p)

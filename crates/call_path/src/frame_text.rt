@@ -1,6 +1,6 @@
 //! Frames as one text, with the offset where each ends.
 
-ghost use Rattle.std.specs.Prelude.{◌≡◌, ◌<◌, ◌≤◌, ◌+◌, ◌^◌, ◌++◌, [], ◌∷◌, length, IfOk, OnOk, OnErr, IsTrue, map, take, drop, slice_get, Some};
+ghost use Rattle.std.specs.Prelude.{◌≡◌, ◌<◌, ◌≤◌, ◌+◌, ◌-◌, ◌^◌, ◌++◌, [], ◌∷◌, length, IfOk, OnOk, OnErr, IsTrue, map, take, drop, slice_get, Some};
 ghost use Rattle.call_path.specs.Path.{path_cmp, is_prefix, shared_len, path_text};
 ghost use Rattle.call_path.specs.Good.{is_good_frame, AreGoodFrames};
 ghost use Rattle.call_path.specs.Reading.{frames};
@@ -164,6 +164,17 @@ impl FrameText {
         Ok(FrameText { text, ends })
     }
 
+    /// The frames behind the first `depth`.
+    pub fn behind(&self, depth: usize) -> Result<FrameText, AllocError>
+        requires { depth < length self.now }
+        ensures { IfOk result (λ rest. rest ≡ drop depth self.now) }
+    {
+        let alloc = *self.ends.allocator();
+        let text = String::from_str(alloc, self.part_text(depth, self.len()))?;
+        let ends = ends_behind(alloc, &self.ends, depth)?;
+        Ok(FrameText { text, ends })
+    }
+
     /// The functions of the frames.
     pub fn functions(&self) -> Result<FrameText, AllocError>
         ensures { IfOk result (λ all. all ≡ map func self.now) }
@@ -223,6 +234,18 @@ fn end_in(ends: &[u32], depth: usize) -> usize
         return 0;
     }
     ends[depth - 1] as usize
+}
+
+// Where the frames behind the first `depth` end, counted from where the first of them begins.
+fn ends_behind(alloc: Global, ends: &[u32], depth: usize) -> Result<Vec<u32>, AllocError>
+    requires { depth ≤ length ends.now }
+    ensures { IfOk result (λ rest. rest.items ≡ map (λ end. end - start_in ends.now depth) (drop depth ends.now)) }
+{
+    let start = start_in(ends, depth);
+    ends[depth..]
+        .iter()
+        .map(|end| (*end as usize).saturating_sub(start) as u32)
+        .collect(alloc)
 }
 
 // Where each frame of a text ends.

@@ -110,6 +110,33 @@ impl CallPath {
         Ok(CallPath { frames })
     }
 
+    /// The path of the frames behind the first `depth`.
+    pub fn behind(&self, depth: usize) -> Result<CallPath, AllocError>
+        requires { depth < length self.now }
+        ensures { IfOk result (λ rest. rest ≡ drop depth self.now) }
+    {
+        let frames = self.frames.behind(depth)?;
+        Ok(CallPath { frames })
+    }
+
+    /// Keeps the first `depth` frames.
+    pub fn cut(&mut self, depth: usize)
+        requires { 0 < depth }
+        ensures { self.new ≡ take depth self.old }
+    {
+        self.frames.cut(depth);
+    }
+
+    /// Appends a frame.
+    pub fn push(&mut self, frame: &str) -> Result<(), AllocError>
+        requires below_limit { length self.old < FRAME_LIMIT }
+        requires good { IsTrue (is_good_frame frame.now) }
+        ensures ok { OnOk result (self.new ≡ self.old ++ frame.now ∷ []) }
+        ensures err { OnErr result (self.new ≡ self.old) }
+    {
+        self.frames.push(frame)
+    }
+
     /// A copy of the path.
     pub fn copy(&self) -> Result<CallPath, AllocError>
         ensures { IfOk result (λ copy. copy ≡ self.now) }
