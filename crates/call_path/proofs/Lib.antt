@@ -4,5 +4,6 @@ pub mod Held
 pub mod Errors
 pub mod Orders
 pub mod Shared
+pub mod TextOrders
 pub mod ReadBack
 pub mod Functions

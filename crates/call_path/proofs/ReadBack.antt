@@ -12,12 +12,12 @@ use Rattle.call_path.specs.Reading.{frames, frame_error, first_error, is_control
 use Rattle.call_path.proofs.Errors.{text-frames, good_text, frames_some}
 
 -- a good frame has bytes, within_limit, and plain
-record GoodParts (f : List ℕ) : Type 0 where
-  some : 0 < length f
-  within_limit : length f ≤ 1023
-  plain : list_all is_plain f ≡ true
+pub record GoodParts (f : List ℕ) : Type 0 where
+  pub some : 0 < length f
+  pub within_limit : length f ≤ 1023
+  pub plain : list_all is_plain f ≡ true
 
-good_parts : (f : List ℕ) → IsTrue (is_good_frame f) → GoodParts f
+pub good_parts : (f : List ℕ) → IsTrue (is_good_frame f) → GoodParts f
 good_parts f h =
     let a = and_parts (nat_lt 0 (length f)) (nat_le (length f) 1023 && list_all is_plain f) h in
     let b = and_parts (nat_le (length f) 1023) (list_all is_plain f) a.1 in
@@ -30,7 +30,7 @@ plain_control b h =
     let d = and_parts (not (nat_eq b 127)) (not (nat_eq b 59)) a.1 in
     or_from (nat_lt b 32) (nat_eq b 127) (le-ltb b 32 (leb-true 32 b a.0)) (not-true (nat_eq b 127) d.0)
 
-plain_mark : (b : ℕ) → is_plain b ≡ true → nat_eq b 59 ≡ false
+pub plain_mark : (b : ℕ) → is_plain b ≡ true → nat_eq b 59 ≡ false
 plain_mark b h =
     let a = and_parts (nat_le 32 b) (not (nat_eq b 127) && not (nat_eq b 59)) h in
     not-true (nat_eq b 59) (and_parts (not (nat_eq b 127)) (not (nat_eq b 59)) a.1).1

@@ -9,6 +9,7 @@ ghost use Rattle.call_path.specs.Functions.{func};
 
 use crate::FRAME_LIMIT;
 use crate::function_name::function_of;
+use crate::text_order::{first_difference, rank_at};
 use std::alloc::{AllocError, Global};
 use std::cmp::Ordering;
 use std::marker::Model;
@@ -76,7 +77,8 @@ impl FrameText {
 
     /// The frames joined by `;`.
     pub fn text(&self) -> &str
-        ensures { result.now ≡ path_text self.now }
+        ensures text { result.now ≡ path_text self.now }
+        ensures good { AreGoodFrames self.now }
     {
         self.text.as_str()
     }
@@ -85,18 +87,10 @@ impl FrameText {
     pub fn cmp(&self, other: &FrameText) -> Ordering
         ensures { result ≡ path_cmp self.now other.now }
     {
-        let shared = self.len().min(other.len());
-        // Most paths that are compared share frames, and one test of whole texts is cheap.
-        if self.prefix_text(shared) != other.prefix_text(shared) {
-            for i in 0..shared {
-                let frame = self.frame(i);
-                let other_frame = other.frame(i);
-                if frame != other_frame {
-                    return frame.cmp(other_frame);
-                }
-            }
-        }
-        self.len().cmp(&other.len())
+        let text = self.text().as_bytes();
+        let other_text = other.text().as_bytes();
+        let offset = first_difference(text, other_text);
+        rank_at(text, offset).cmp(&rank_at(other_text, offset))
     }
 
     /// Whether the other frames begin with these.

@@ -9,6 +9,7 @@ ghost use Rattle.call_path.specs.Path.{Path, path_cmp, is_prefix, shared_len, pa
 ghost use Rattle.call_path.specs.Functions.{HasLine, func};
 ghost use Rattle.call_path.specs.Good.{is_good_frame, AreGoodFrames, IsGoodPath};
 ghost use Rattle.call_path.specs.Reading.{path_of};
+ghost use Rattle.call_path.specs.TextOrder.{text_cmp};
 ghost use Rattle.call_path.specs.declared.read.PathError.TheVariants.{OutOfMemory};
 
 use frame_text::FrameText;
@@ -22,6 +23,7 @@ mod function_name;
 mod read;
 #[cfg(test)]
 mod tests;
+mod text_order;
 
 /// The most frames of a path.
 pub const FRAME_LIMIT: usize = 128;
@@ -230,6 +232,12 @@ impl PathBuilder {
 pub fn texts_are_read_back()
     ensures read { (p : Path) → IsGoodPath p → path_of (path_text p) ≡ Ok p }
     ensures good { (text : List ℕ) (p : Path) → path_of text ≡ Ok p → IsGoodPath p × (path_text p ≡ text) }
+{}
+
+/// A law of order: paths are ordered as their texts are, where the `;` between two frames comes
+/// before each byte of a frame.
+pub fn paths_are_ordered_by_texts()
+    ensures { (p q : Path) → AreGoodFrames p → AreGoodFrames q → path_cmp p q ≡ text_cmp (path_text p) (path_text q) }
 {}
 
 /// A law of functions: a frame with a line has the function before it, and each other frame is its
