@@ -78,13 +78,31 @@ fn assert_text(rt: &impl Abort, alloc: Global, path: &CallPath, want: &str) -> R
 }
 
 // Two texts, the order of their paths, and whether the first is a prefix of the second.
-const PAIRS: [(&str, &str, Ordering, bool); 6] = [
+const PAIRS: [(&str, &str, Ordering, bool); 9] = [
     ("a;b", "a;b", Ordering::Equal, true),
     ("a;b", "a!", Ordering::Less, false),
     ("a", "a!;b", Ordering::Less, false),
     ("a", "a;b", Ordering::Less, true),
     ("a;b", "a", Ordering::Greater, false),
     ("a;b", "a;c;b", Ordering::Less, false),
+    (
+        "0123456789abcdef;b",
+        "0123456789abcdef!",
+        Ordering::Less,
+        false,
+    ),
+    (
+        "0123456789abcdefg;a",
+        "0123456789abcdefg",
+        Ordering::Greater,
+        false,
+    ),
+    (
+        "é;0123456789abcdef",
+        "é;0123456789abcdef;b",
+        Ordering::Less,
+        true,
+    ),
 ];
 
 #[test]
@@ -96,6 +114,65 @@ fn compares_by_frames(rt: HostRuntime) -> Result<(), Fail> {
         assert_eq!(rt; path.is_prefix_of(&other), begins, "{text:?}");
         assert_text(&rt, rt.alloc(), &path, text)?;
     }
+    Ok(())
+}
+
+// Two texts, a frame of the second, and how many first frames the first shares with those from there on.
+const SHARED: [(&str, &str, usize, usize); 7] = [
+    ("a;b", "a;b", 0, 2),
+    ("a;b", "x;a;b;c", 1, 2),
+    ("a;b", "a;bc", 0, 1),
+    ("a;b", "x;a;c", 1, 1),
+    ("a;b", "x;a", 1, 1),
+    ("ab", "a;b", 0, 0),
+    ("a;b", "a;b", 2, 0),
+];
+
+#[test]
+fn counts_shared_frames(rt: HostRuntime) {
+    for (text, other, from, want) in SHARED {
+        let path = CallPath::read(rt.alloc(), text).expect(&rt, "good");
+        let other = CallPath::read(rt.alloc(), other).expect(&rt, "good");
+        assert!(rt; from <= other.len());
+        assert_eq!(rt; path.common(&other, from), want, "{text:?}");
+    }
+}
+
+// A text, and that of the functions.
+const FUNCTIONS: [(&str, &str); 6] = [
+    ("main@12;f@007;g", "main;f;g"),
+    ("é@123456789", "é"),
+    ("f@1@2", "f@1"),
+    ("f@", "f@"),
+    ("@7;f@12x;poll@plt", "@7;f@12x;poll@plt"),
+    ("f@1234567890;a", "f@1234567890;a"),
+];
+
+#[test]
+fn cuts_lines(rt: HostRuntime) -> Result<(), Fail> {
+    for (text, want) in FUNCTIONS {
+        let path = CallPath::read(rt.alloc(), text).expect(&rt, "good");
+        assert_text(&rt, rt.alloc(), &path.functions()?, want)?;
+    }
+    Ok(())
+}
+
+#[test]
+fn gives_the_frames_behind(rt: HostRuntime) -> Result<(), Fail> {
+    let path = CallPath::read(rt.alloc(), "main;é;poll").expect(&rt, "good");
+    assert!(rt; path.len() > 2);
+    assert_text(&rt, rt.alloc(), &path.behind(0)?, "main;é;poll")?;
+    assert_text(&rt, rt.alloc(), &path.behind(2)?, "poll")?;
+    Ok(())
+}
+
+#[test]
+fn cuts_and_appends(rt: HostRuntime) -> Result<(), Fail> {
+    let mut path = CallPath::read(rt.alloc(), "main;a;b").expect(&rt, "good");
+    path.cut(1);
+    assert!(rt; path.len() < FRAME_LIMIT);
+    path.push("read")?;
+    assert_text(&rt, rt.alloc(), &path, "main;read")?;
     Ok(())
 }
 
