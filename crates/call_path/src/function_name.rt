@@ -4,6 +4,7 @@ ghost use Rattle.std.specs.Prelude.{◌≡◌, ◌-◌, ◌<◌, ◌≤◌, fals
 ghost use Rattle.std.specs.List.{list_all};
 ghost use Rattle.std.specs.Char.{is_ascii_digit};
 ghost use Rattle.call_path.specs.Functions.{func};
+ghost use Rattle.call_path.specs.Good.{is_good_frame};
 
 /// The most digits of a line.
 const LINE_DIGITS: usize = 9;
@@ -21,9 +22,11 @@ fn digits_start(frame: &[u8]) -> usize
     start
 }
 
-/// The function of a frame.
+/// The function of a good frame.
 pub fn function_of(frame: &str) -> &str
-    ensures { result.now ≡ func frame.now }
+    requires { IsTrue (is_good_frame frame.now) }
+    ensures function { result.now ≡ func frame.now }
+    ensures good { IsTrue (is_good_frame result.now) }
 {
     let bytes = frame.as_bytes();
     let start = digits_start(bytes);
