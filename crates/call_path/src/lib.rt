@@ -234,6 +234,17 @@ pub fn texts_are_read_back()
     ensures good { (text : List ℕ) (p : Path) → path_of text ≡ Ok p → IsGoodPath p × (path_text p ≡ text) }
 {}
 
+/// A law of shared frames: two paths begin with them and go on with other frames, and a path shares
+/// all its frames with just those that it is a prefix of.
+pub fn shared_frames_are_the_longest_prefix()
+    ensures within { (p q : Path) → (shared_len p q ≤ length p) × (shared_len p q ≤ length q) }
+    ensures same { (p q : Path) → take (shared_len p q) p ≡ take (shared_len p q) q }
+    ensures differ { (p q : Path) → shared_len p q < length p → shared_len p q < length q →
+        slice_get p (shared_len p q) ≢ slice_get q (shared_len p q) }
+    ensures prefix { (p q : Path) → is_prefix p q ≡ true → shared_len p q ≡ length p }
+    ensures all { (p q : Path) → shared_len p q ≡ length p → is_prefix p q ≡ true }
+{}
+
 /// A law of order: paths are ordered as their texts are, where the `;` between two frames comes
 /// before each byte of a frame.
 pub fn paths_are_ordered_by_texts()
