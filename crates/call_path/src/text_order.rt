@@ -1,10 +1,27 @@
 //! The order of paths, read off their texts.
 
-ghost use Rattle.std.specs.Prelude.{◌≡◌, ◌≢◌, ◌<◌, ◌≤◌, length, take, slice_index};
+ghost use Rattle.std.specs.Prelude.{◌≡◌, ◌≢◌, ◌+◌, ◌<◌, ◌≤◌, length, take, drop, slice_index, IsTrue};
 ghost use Rattle.call_path.specs.TextOrder.{rank_at};
 
 // Texts are compared by blocks of this many bytes, and then byte by byte.
 const BLOCK: usize = 16;
+
+// Whether two texts have the same block at an offset.
+fn shares_block(text: &[u8], other: &[u8], offset: usize) -> bool
+    requires left { offset ≤ length text.now }
+    requires right { offset ≤ length other.now }
+    ensures left { IsTrue result → offset + BLOCK ≤ length text.now }
+    ensures right { IsTrue result → offset + BLOCK ≤ length other.now }
+    ensures same { IsTrue result → take BLOCK (drop offset text.now) ≡ take BLOCK (drop offset other.now) }
+{
+    let Some(block) = text[offset..].first_chunk::<BLOCK>() else {
+        return false;
+    };
+    let Some(other_block) = other[offset..].first_chunk::<BLOCK>() else {
+        return false;
+    };
+    block == other_block
+}
 
 // The end of the first blocks that two texts share.
 fn shared_blocks(text: &[u8], other: &[u8]) -> usize
@@ -12,11 +29,8 @@ fn shared_blocks(text: &[u8], other: &[u8]) -> usize
     ensures right { result ≤ length other.now }
     ensures same { take result text.now ≡ take result other.now }
 {
-    let shorter = text.len().min(other.len());
     let mut offset = 0;
-    while shorter - offset >= BLOCK
-        && text[offset..offset + BLOCK] == other[offset..offset + BLOCK]
-    {
+    while shares_block(text, other, offset) {
         offset += BLOCK;
     }
     offset

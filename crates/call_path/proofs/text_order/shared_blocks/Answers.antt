@@ -1,15 +1,14 @@
-use Rattle.std.proofs.Common.{◌≡◌, ◌+◌, ◌-◌, ◌∙◌, ap, sym, arith, take, drop}
-use Rattle.std.specs.Cmp.Lexicographic.{same_text}
+use Rattle.std.proofs.Common.{arith}
 use Rattle.call_path.proofs.TextOrders.{agree_more}
 use Rattle.call_path.proofs.text_order.shared_blocks.Goals as goal
 
 pub loop-offset-preserved : goal.loop-offset-preserved
 loop-offset-preserved c =
-    let offset = c.loop-offset.offset in
-    let e : offset + 16 - offset ≡ 16 = omega arith in
-    let block = same_text (take (offset + 16 - offset) (drop offset c.args.text.now)) (take (offset + 16 - offset) (drop offset c.args.other.now)) (sym (sym c.eq.ensures ∙ c.if-eq.true)) in
+    let block = c.shares_block.ensures in
+    let left = block.left c.loop-offset-test.true in
+    let right = block.right c.loop-offset-test.true in
     record {
       left = omega arith;
       right = omega arith;
-      same = agree_more c.args.text.now c.args.other.now offset 16 c.loop-offset.invariant.same (ap (λ n. take n (drop offset c.args.text.now)) (sym e) ∙ block ∙ ap (λ n. take n (drop offset c.args.other.now)) e);
+      same = agree_more c.args.text.now c.args.other.now c.loop-offset.offset 16 c.loop-offset.invariant.same (block.same c.loop-offset-test.true);
     }
