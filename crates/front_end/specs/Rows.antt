@@ -11,7 +11,8 @@ use Rattle.call_path.specs.Path.{Path, path_cmp, path_cmp_total}
 use Rattle.call_path.specs.Pairs.{Pairs, pairs_at, prefixes_of}
 use Rattle.prefix_tree.specs.Tree.{Tree, Marks, rows_at, tree_of}
 use Rattle.equiv_class.specs.Classes.{classes_of}
-use Rattle.stat_plan.specs.Plans.{Plan, stream, daemons, ranks, samples, sample_count, stream_of, stream_ranks}
+use Rattle.stat_plan.specs.Plans.{Plan, stream, daemons, ranks, samples, sample_count, grain, stream_of, stream_ranks}
+use Rattle.stat_plan.specs.declared.script.Grain.TheVariants.{Line}
 use Rattle.stat_plan.specs.declared.script.Fault.{Fault}
 use Rattle.stat_plan.specs.declared.script.Mode.TheVariants.{WaitForAll}
 use Rattle.overlay_core.specs.TreeReleases.{TreeRelease}
@@ -33,7 +34,7 @@ two_daemons faults = record {
   parents = None ∷ Some 0 ∷ Some 0 ∷ [];
   placed = none ∷ set_of (0 ∷ 1 ∷ []) ∷ set_of (2 ∷ 3 ∷ []) ∷ [];
   lines = [];
-  streams = stream 0 WaitForAll 1 1 (1 ∷ 2 ∷ []) ∷ [];
+  streams = stream 0 WaitForAll 1 1 Line (1 ∷ 2 ∷ []) ∷ [];
   faults = faults;
 }
 
@@ -176,10 +177,10 @@ two_waves = record {
   parents = (two_daemons []).parents;
   placed = (two_daemons []).placed;
   lines = record { time = 0; ranks = set_of (1 ∷ []); path = codes "main" ∷ [] } ∷ record { time = 2; ranks = set_of (3 ∷ []); path = codes "main" ∷ [] } ∷ [];
-  streams = stream 0 WaitForAll 2 1 (1 ∷ 2 ∷ []) ∷ [];
+  streams = stream 0 WaitForAll 2 1 Line (1 ∷ 2 ∷ []) ∷ [];
   faults = [];
 }
 
 one_for_each_wave : direct_releases two_waves ≡ release 0 0 1 Final (tree_of (pairs_at (1 ∷ []) (codes "main" ∷ [])) everyone) [] ∷ release 0 1 1 Final (tree_of [] everyone) [] ∷ []
-unfolding samples sample_count stream_ranks stream_of daemons ranks union with_rank
+unfolding samples sample_count grain stream_ranks stream_of daemons ranks union with_rank those has
 one_for_each_wave = refl

@@ -7,15 +7,12 @@ use Rattle.std.proofs.lemmas.Bool.{or_cases, true≢false}
 use Rattle.rank_set.specs.Ranks.{none, has, with_rank, set_of, is_empty, Has, has-set_of}
 use Rattle.std.specs.Ordering.{nat_cmp, eq_by_cmp}
 use Rattle.std.specs.Cmp.{unsigned_tied}
-use Rattle.std.specs.FinMap.{len-empty}
-use Rattle.call_path.specs.Path.{path_cmp}
-use Rattle.prefix_tree.specs.Tree.{Marks, tree_of, count_below}
 use Rattle.stat_plan.specs.NodeSets.{In}
 use Rattle.stat_plan.specs.Names.{IsName}
 use Rattle.stat_plan.specs.Trees.{parent_of, ancestors, root_of, is_daemon, IsTree}
 use Rattle.stat_plan.specs.Topologies.{IsTopology}
 use Rattle.stat_plan.specs.Samples.{IsWithinLimit}
-use Rattle.stat_plan.specs.Plans.{nodes_of, scripted_of, samples, stream_ranks}
+use Rattle.stat_plan.specs.Plans.{nodes_of, scripted_of, samples}
 use Rattle.stat_plan.specs.Invariants.{IsPlan, IsScript, ArePlacedOnce, ScriptFits}
 use Rattle.overlay_core.specs.Rows.{lost_late}
 
@@ -139,9 +136,9 @@ script = record {
 fits : ScriptFits (nodes_of lost_late) (scripted_of lost_late)
 fits = record { daemons = (((omega arith, refl), ((omega arith, refl), tt)), tt); faults = ((omega arith, omega arith), tt) }
 
-within : (s w : ℕ) → IsWithinLimit (samples lost_late s w) (stream_ranks lost_late s)
-unfolding samples tree_of
-within s w = let none : count_below (tree_of (samples lost_late s w) (stream_ranks lost_late s)) ≡ 0 = len-empty path_cmp Marks in omega arith
+within : (s w : ℕ) → IsWithinLimit (samples lost_late s w)
+unfolding samples
+within s w = zero-le
 
 pub lost_late_is_plan : IsPlan lost_late
 lost_late_is_plan = record {

@@ -5,6 +5,7 @@ use Rattle.stat_plan.specs.Plans.{Plan, stream, ancestors, is_under, is_within, 
 use Rattle.stat_plan.specs.Machine.Kin.{complete}
 use Rattle.stat_plan.specs.Machine.Waves.{Open}
 use Rattle.stat_plan.specs.declared.machine.Timer.TheVariants.{Running}
+use Rattle.stat_plan.specs.declared.script.Grain.TheVariants.{Line}
 use Rattle.stat_plan.specs.declared.script.Mode.{Mode}
 use Rattle.stat_plan.specs.declared.script.Mode.TheVariants.{WaitForAll, TimeOut, DontWait}
 use Rattle.stat_plan.specs.declared.script.Fault.{Fault}
@@ -23,7 +24,7 @@ job names parents placed mode daemons faults = record {
   parents = parents;
   placed = placed;
   lines = [];
-  streams = stream 0 mode 1 1 daemons ∷ [];
+  streams = stream 0 mode 1 1 Line daemons ∷ [];
   faults = faults;
 }
 
