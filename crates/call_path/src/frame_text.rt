@@ -117,7 +117,7 @@ impl FrameText {
         &self.text.as_str()[..end_in(&self.ends, depth)]
     }
 
-    // The text of the first `depth` frames from frame `from` on.
+    // The text of the frames from `from` on, among the first `depth`.
     fn part_text(&self, from: usize, depth: usize) -> &str
         requires not_empty { from < depth }
         requires within { depth ≤ length self.now }
@@ -127,7 +127,7 @@ impl FrameText {
         &self.prefix_text(depth)[start_in(&self.ends, from)..]
     }
 
-    /// The number of first frames that are the frames of `other` from `from` on.
+    /// How many of the first frames are the frames of `other` from `from` on.
     pub fn common(&self, other: &FrameText, from: usize) -> usize
         requires { from ≤ length other.now }
         ensures { result ≡ shared_len self.now (drop from other.now) }
@@ -169,7 +169,7 @@ impl FrameText {
         Ok(FrameText { text, ends })
     }
 
-    /// The functions of the frames.
+    /// The functions of the frames: each without its line.
     pub fn functions(&self) -> Result<FrameText, AllocError>
         ensures { IfOk result (λ all. all ≡ map func self.now) }
     {

@@ -87,7 +87,7 @@ impl CallPath {
         self.frames.is_prefix_of(&other.frames)
     }
 
-    /// The number of first frames that are the frames of `other` from frame `from` on.
+    /// How many of the first frames are the frames of `other` from frame `from` on.
     pub fn common(&self, other: &CallPath, from: usize) -> usize
         requires { from ≤ length other.now }
         ensures { result ≡ shared_len self.now (drop from other.now) }
@@ -95,7 +95,8 @@ impl CallPath {
         self.frames.common(&other.frames, from)
     }
 
-    /// Frame by frame in byte order, a prefix first. This is not the order of the joined texts.
+    /// Frame by frame in byte order, a prefix first. The joined texts are in this order if `;` comes
+    /// before all other bytes.
     pub fn cmp(&self, other: &CallPath) -> Ordering
         ensures { result ≡ path_cmp self.now other.now }
     {
@@ -234,8 +235,8 @@ pub fn texts_are_read_back()
     ensures good { (text : List ℕ) (p : Path) → path_of text ≡ Ok p → IsGoodPath p × (path_text p ≡ text) }
 {}
 
-/// A law of shared frames: two paths begin with them and go on with other frames, and a path shares
-/// all its frames with just those that it is a prefix of.
+/// A law of shared frames: two paths begin with the same frames and then differ, and a path that
+/// shares all its frames with another is a prefix of it.
 pub fn shared_frames_are_the_longest_prefix()
     ensures within { (p q : Path) → (shared_len p q ≤ length p) × (shared_len p q ≤ length q) }
     ensures same { (p q : Path) → take (shared_len p q) p ≡ take (shared_len p q) q }
