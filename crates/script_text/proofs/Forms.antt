@@ -1,27 +1,81 @@
 -- The forms of a line, one way out at a time.
-use Rattle.std.proofs.Common.{◌≡◌, ℕ, ◌<◌, true, false, ◌&&◌, List, [], ◌∷◌, length, Option, None, Some, refl, arith, codes}
+use Rattle.std.proofs.Common.{◌≡◌, ℕ, ◌<◌, true, false, ◌&&◌, List, [], ◌∷◌, length, Option, None, Some, refl, sym, ap, ◌∙◌, arith, codes}
 use Rattle.std.specs.Option.{MatchOption, is_some}
 use Rattle.std.specs.Str.{bytes_eq}
-use Rattle.script_text.specs.Words.{ModeWords, WaitForAll, DontWait, are_names, after_mode, after_time_out, stream_words, lose_words}
+use Rattle.stat_plan.specs.declared.script.Grain.{Grain}
+use Rattle.stat_plan.specs.declared.script.Grain.TheVariants.{Line}
+use Rattle.script_text.specs.Words.{ModeWords, WaitForAll, DontWait, are_names, after_by, after_grain, after_mode, after_samples, after_time_out, grain_of, stream_seen, stream_words, with_grain, lose_words}
+
+-- a stream line from `on` on
+pub no_on : (grain : Grain) (ws : List (List ℕ)) → ws ≡ [] → None ≡ after_grain grain ws
+unfolding after_grain
+no_on grain ws is = rw is refl
+
+module _ (grain : Grain) (ws : List (List ℕ)) (on : List ℕ) (names : List (List ℕ)) (is : ws ≡ on ∷ names) where
+  pub grain_good : (bytes_eq on (codes "on") && are_names names) ≡ true → Some (record { grain = grain; names = names }) ≡ after_grain grain ws
+  unfolding after_grain
+  grain_good good = rw is (rw (good, after_grain) refl)
+
+  pub grain_bad : (bytes_eq on (codes "on") && are_names names) ≡ false → None ≡ after_grain grain ws
+  unfolding after_grain
+  grain_bad bad = rw is (rw (bad, after_grain) refl)
+
+-- a stream line from the word after `by` on
+pub no_grain : (ws : List (List ℕ)) → ws ≡ [] → None ≡ after_by ws
+unfolding after_by
+no_grain ws is = rw is refl
+
+pub other_grain : (ws : List (List ℕ)) (word : List ℕ) (rest : List (List ℕ)) → ws ≡ word ∷ rest → None ≡ grain_of word → None ≡ after_by ws
+unfolding after_by
+other_grain ws word rest is none = ap (with_grain rest) none ∙ sym (ap after_by is)
+
+pub some_grain : (ws : List (List ℕ)) (word : List ℕ) (rest : List (List ℕ)) (grain : Grain) → ws ≡ word ∷ rest → Some grain ≡ grain_of word → after_grain grain rest ≡ after_by ws
+unfolding after_by
+some_grain ws word rest grain is some = ap (with_grain rest) some ∙ sym (ap after_by is)
+
+-- a stream line from the word after K on
+pub no_seen : (ws : List (List ℕ)) → ws ≡ [] → None ≡ after_samples ws
+unfolding after_samples
+no_seen ws is = rw is refl
+
+module _ (ws : List (List ℕ)) (word : List ℕ) (rest : List (List ℕ)) (is : ws ≡ word ∷ rest) where
+  pub says_by : bytes_eq word (codes "by") ≡ true → after_by rest ≡ after_samples ws
+  unfolding after_samples
+  says_by e = rw is (rw (e, after_samples) refl)
+
+  pub says_no_by : bytes_eq word (codes "by") ≡ false → after_grain Line ws ≡ after_samples ws
+  unfolding after_samples
+  says_no_by e = rw is (rw (e, after_samples) refl)
 
 -- a stream line from `waves` on
-module _ (number : List ℕ) (mode : ModeWords) where
-  pub mode_short : (ws : List (List ℕ)) → length ws < 5 → None ≡ after_mode number mode ws
+module _ (number : List ℕ) (mode : ModeWords) (ws : List (List ℕ)) where
+  pub mode_one : ws ≡ [] → None ≡ after_mode number mode ws
   unfolding after_mode
-  mode_short [] few = refl
-  mode_short (a ∷ []) few = refl
-  mode_short (a ∷ b ∷ []) few = refl
-  mode_short (a ∷ b ∷ c ∷ []) few = refl
-  mode_short (a ∷ b ∷ c ∷ d ∷ []) few = refl
-  mode_short (a ∷ b ∷ c ∷ d ∷ e ∷ ws) few = absurd (omega arith)
+  mode_one is = rw is refl
 
-  pub mode_bad : (ws : List (List ℕ)) (a b c d e : List ℕ) (names : List (List ℕ)) → ws ≡ a ∷ b ∷ c ∷ d ∷ e ∷ names → (bytes_eq a (codes "waves") && (bytes_eq c (codes "samples") && (bytes_eq e (codes "on") && are_names names))) ≡ false → None ≡ after_mode number mode ws
-  unfolding after_mode
-  mode_bad ws a b c d e names is bad = rw is (rw (bad, after_mode) refl)
+  module _ (a : List ℕ) (r : List (List ℕ)) (one : ws ≡ a ∷ r) where
+    pub mode_two : r ≡ [] → None ≡ after_mode number mode ws
+    unfolding after_mode
+    mode_two is = rw one (rw is refl)
 
-  pub mode_good : (ws : List (List ℕ)) (a b c d e : List ℕ) (names : List (List ℕ)) → ws ≡ a ∷ b ∷ c ∷ d ∷ e ∷ names → (bytes_eq a (codes "waves") && (bytes_eq c (codes "samples") && (bytes_eq e (codes "on") && are_names names))) ≡ true → Some (record { number = number; mode = mode; waves = b; samples = d; names = names }) ≡ after_mode number mode ws
-  unfolding after_mode
-  mode_good ws a b c d e names is good = rw is (rw (good, after_mode) refl)
+    module _ (b : List ℕ) (s : List (List ℕ)) (two : r ≡ b ∷ s) where
+      pub mode_three : s ≡ [] → None ≡ after_mode number mode ws
+      unfolding after_mode
+      mode_three is = rw one (rw two (rw is refl))
+
+      module _ (c : List ℕ) (t : List (List ℕ)) (three : s ≡ c ∷ t) where
+        pub mode_four : t ≡ [] → None ≡ after_mode number mode ws
+        unfolding after_mode
+        mode_four is = rw one (rw two (rw three (rw is refl)))
+
+        module _ (d : List ℕ) (u : List (List ℕ)) (four : t ≡ d ∷ u) where
+          pub mode_bad : (bytes_eq a (codes "waves") && bytes_eq c (codes "samples")) ≡ false → None ≡ after_mode number mode ws
+          unfolding after_mode
+          mode_bad bad = rw one (rw two (rw three (rw four (rw (bad, after_mode) refl))))
+
+          pub mode_good : (bytes_eq a (codes "waves") && bytes_eq c (codes "samples")) ≡ true → stream_seen number mode b d (after_samples u) ≡ after_mode number mode ws
+          unfolding after_mode
+          mode_good good = rw one (rw two (rw three (rw four (rw (good, after_mode) refl))))
 
 -- a stream line from S on
 pub no_number : (ws : List (List ℕ)) → ws ≡ [] → None ≡ stream_words ws

@@ -168,7 +168,7 @@ module _ (t : Nodes) (is : IsTopology t) (c d : Scripted) (number : ℕ) (line :
       let e = then_inv (number_from number 1 WAVE_LIMIT (Over number Waves WAVE_LIMIT) w.waves) _ x b.2 in
       let f = then_inv (number_from number 1 SAMPLE_LIMIT (Bad number BadNumber) w.samples) _ x e.2 in
       let g = then_inv (daemons_of t number w.names) _ x f.2 in
-      subst (IsStreamOf t line) (ok_inj (stream a.0 b.0 e.0 f.0 g.0) x g.2) (record {
+      subst (IsStreamOf t line) (ok_inj (stream a.0 b.0 e.0 f.0 w.grain g.0) x g.2) (record {
         rest = rest;
         is = first;
         words_of = w;
@@ -177,6 +177,7 @@ module _ (t : Nodes) (is : IsTopology t) (c d : Scripted) (number : ℕ) (line :
         mode = mode_inv number w.mode b.0 b.1;
         waves = number_inv number 1 WAVE_LIMIT (Over number Waves WAVE_LIMIT) w.waves e.0 e.1;
         samples = number_inv number 1 SAMPLE_LIMIT (Bad number BadNumber) w.samples f.0 f.1;
+        grain = refl;
         daemons = daemons_inv t is number w.names g.0 g.1;
       })
 

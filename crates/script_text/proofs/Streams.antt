@@ -100,6 +100,6 @@ module _ (t : Nodes) (streams : List Stream) (line : ℕ) (w : StreamWords) wher
           unfolding stream_of
           stream_bad_daemons e h = rw (a, b, c, d, h, stream_of) refl
 
-          pub stream_good : (daemons : List ℕ) → daemons_of t line w.names ≡ Ok daemons → stream_of t streams line w ≡ Ok (stream number mode waves samples daemons)
+          pub stream_good : (daemons : List ℕ) → daemons_of t line w.names ≡ Ok daemons → stream_of t streams line w ≡ Ok (stream number mode waves samples w.grain daemons)
           unfolding stream_of
           stream_good daemons h = rw (a, b, c, d, h, stream_of) refl

@@ -23,7 +23,7 @@ IsModeOf DontWait m = m ≡ mode.DontWait
 abbrev pub IsNamedDaemon : Nodes → List (List ℕ) → ℕ → Type 0
 IsNamedDaemon t names n = IsDaemon t n × ((first_is (codes "all") names ≡ true) ⊎ In (name_of t.names n) names)
 
--- a stream is that of a line `stream S MODE waves W samples K on NAMES`
+-- a stream is that of a line `stream S MODE waves W samples K on NAMES`, with `by GRAIN` before `on` or without
 pub record IsStreamOf (t : Nodes) (line : List ℕ) (x : Stream) : Type 0 where
   pub rest : List (List ℕ)
   pub is : words line ≡ codes "stream" ∷ rest
@@ -33,6 +33,7 @@ pub record IsStreamOf (t : Nodes) (line : List ℕ) (x : Stream) : Type 0 where
   pub mode : IsModeOf words_of.mode x.mode
   pub waves : number_in words_of.waves ≡ Some x.waves
   pub samples : number_in words_of.samples ≡ Some x.samples
+  pub grain : words_of.grain ≡ x.grain
   pub daemons : (n : ℕ) → In n x.daemons ↔ IsNamedDaemon t words_of.names n
 
 -- a loss is that of a line `lose NAME after E keep K`

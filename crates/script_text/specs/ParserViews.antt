@@ -6,10 +6,11 @@ use Rattle.std.specs.Prelude.{ℕ, List, ◌∷◌}
 use Rattle.script_text.specs.declared.words.FiveWords.{FiveWords}
 use Rattle.script_text.specs.declared.words.ModeText.{ModeText}
 use Rattle.script_text.specs.declared.words.ModeText.TheVariants as text
+use Rattle.script_text.specs.declared.words.SeenLine.{SeenLine}
 use Rattle.script_text.specs.declared.words.StreamLine.{StreamLine}
 use Rattle.script_text.specs.declared.words.LoseLine.{LoseLine}
 use Rattle.script_text.specs.declared.parser.Parser.{Parser}
-use Rattle.script_text.specs.Words.{ModeWords, WaitForAll, TimeOut, DontWait, StreamWords, LoseWords}
+use Rattle.script_text.specs.Words.{ModeWords, WaitForAll, TimeOut, DontWait, Seen, StreamWords, LoseWords}
 
 -- the five first words of a line, and those after them
 abbrev pub five_view : FiveWords → List (List ℕ)
@@ -22,6 +23,10 @@ mode_view text.WaitForAll = WaitForAll
 mode_view (text.TimeOut ticks) = TimeOut ticks.now
 mode_view text.DontWait = DontWait
 
+-- a grain, and the names after it
+abbrev pub seen_view : SeenLine → Seen
+seen_view seen = record { grain = seen.grain; names = words seen.names.now }
+
 -- the words of a stream line
 abbrev pub stream_view : StreamLine → StreamWords
 stream_view w = record {
@@ -29,6 +34,7 @@ stream_view w = record {
   mode = mode_view w.mode;
   waves = w.waves.now;
   samples = w.samples.now;
+  grain = w.grain;
   names = words w.names.now;
 }
 

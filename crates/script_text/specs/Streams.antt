@@ -65,7 +65,7 @@ stream_of t streams line_number w =
     and_then (number_from line_number 1 WAVE_LIMIT (Over line_number Waves WAVE_LIMIT) w.waves) (λ waves.
     and_then (number_from line_number 1 SAMPLE_LIMIT (Bad line_number BadNumber) w.samples) (λ samples.
     and_then (daemons_of t line_number w.names) (λ daemons.
-    Ok (stream number mode waves samples daemons))))))
+    Ok (stream number mode waves samples w.grain daemons))))))
 
 -- streams ascending by number, with one more
 abbrev pub with_stream : Stream → List Stream → List Stream

@@ -158,5 +158,12 @@ pub fn stream_of(
     let bad_number = TextError::bad(line_number, Reason::BadNumber);
     let samples = number_from(line_number, 1, SAMPLE_LIMIT, bad_number, words.samples)?;
     let daemons = daemons_of(alloc, topology, line_number, words.names)?;
-    Ok(StreamDef::new(number as u8, mode, waves as u8, samples as u8, daemons))
+    Ok(StreamDef::new(
+        number as u8,
+        mode,
+        waves as u8,
+        samples as u8,
+        words.grain,
+        daemons,
+    ))
 }

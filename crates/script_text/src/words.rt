@@ -4,9 +4,10 @@
 ghost use Rattle.std.specs.Prelude.{◌≡◌, ◌<◌, ◌∷◌, length, IfNone, IfSome, option_map, codes, ◌&&◌};
 ghost use Rattle.std.specs.Str.{bytes_eq};
 ghost use Rattle.text_lines.specs.Lines.{words};
-ghost use Rattle.script_text.specs.Words.{are_names, after_mode, stream_words, lose_words};
-ghost use Rattle.script_text.specs.ParserViews.{mode_view, five_view, stream_view, lose_view};
+ghost use Rattle.script_text.specs.Words.{are_names, after_by, after_grain, after_mode, after_samples, grain_of, stream_words, lose_words};
+ghost use Rattle.script_text.specs.ParserViews.{mode_view, five_view, seen_view, stream_view, lose_view};
 
+use stat_plan::Grain;
 use text_lines::{is_word, next_word};
 
 /// A stream's mode, as it is written.
@@ -27,6 +28,7 @@ pub struct StreamLine<'t> {
     pub mode: ModeText<'t>,
     pub waves: &'t [u8],
     pub samples: &'t [u8],
+    pub grain: Grain,
     /// All that stands after `on`.
     pub names: &'t [u8],
 }
@@ -80,15 +82,63 @@ fn are_names(line: &[u8]) -> bool
     }
 }
 
-// Whether the fixed words of a stream line stand in their places after the mode, and names after them.
-fn is_stream_end(five: &FiveWords<'_>) -> bool
-    ensures { result ≡ (
-        bytes_eq five.now.first.now (codes "waves") && (bytes_eq five.now.third.now (codes "samples")
-        && (bytes_eq five.now.fifth.now (codes "on") && are_names (words five.now.rest.now)))
-        ) }
+// How a stream sees paths, and all that stands after `on`.
+#[derive(Debug, Clone, Copy)]
+struct SeenLine<'t> {
+    grain: Grain,
+    names: &'t [u8],
+}
+
+// Whether a word is `on`, and names follow it.
+fn is_on(word: &[u8], names: &[u8]) -> bool
+    ensures { result ≡ (bytes_eq word.now (codes "on") && are_names (words names.now)) }
 {
-    is_word(five.first, b"waves")
-        && (is_word(five.third, b"samples") && (is_word(five.fifth, b"on") && are_names(five.rest)))
+    is_word(word, b"on") && are_names(names)
+}
+
+// A stream line from `on` on, where the stream has this grain.
+fn after_grain(grain: Grain, line: &[u8]) -> Option<SeenLine<'_>>
+    ensures { option_map seen_view result ≡ after_grain grain (words line.now) }
+{
+    let (on, names) = next_word(line)?;
+    if !is_on(on, names) {
+        return None;
+    }
+    Some(SeenLine { grain, names })
+}
+
+// A grain as it is written.
+#[tactic(auto, unfolding(crate::specs::Words::grain_of))]
+fn grain_of(word: &[u8]) -> Option<Grain>
+    ensures { result ≡ grain_of word.now }
+{
+    if is_word(word, b"line") {
+        return Some(Grain::Line);
+    }
+    if is_word(word, b"function") {
+        return Some(Grain::Function);
+    }
+    None
+}
+
+// A stream line from the word after `by` on.
+fn after_by(line: &[u8]) -> Option<SeenLine<'_>>
+    ensures { option_map seen_view result ≡ after_by (words line.now) }
+{
+    let (word, rest) = next_word(line)?;
+    let grain = grain_of(word)?;
+    after_grain(grain, rest)
+}
+
+// A stream line from the word after the number of samples on; without `by` the stream is by line.
+fn after_samples(line: &[u8]) -> Option<SeenLine<'_>>
+    ensures { option_map seen_view result ≡ after_samples (words line.now) }
+{
+    let (word, rest) = next_word(line)?;
+    if is_word(word, b"by") {
+        return after_by(rest);
+    }
+    after_grain(Grain::Line, line)
 }
 
 // Whether the fixed words of a lose line stand in their places after the name.
@@ -100,20 +150,32 @@ fn is_lose_end(five: &FiveWords<'_>) -> bool
     is_word(five.second, b"after") && is_word(five.fourth, b"keep")
 }
 
+// Whether these are the fixed words before the number of waves and before that of samples.
+fn are_fixed(waves: &[u8], samples: &[u8]) -> bool
+    ensures { result ≡ (bytes_eq waves.now (codes "waves") && bytes_eq samples.now (codes "samples")) }
+{
+    is_word(waves, b"waves") && is_word(samples, b"samples")
+}
+
 // The words of a stream line, of which these stand after the mode.
 fn after_mode<'t>(number: &'t [u8], mode: ModeText<'t>, line: &'t [u8]) -> Option<StreamLine<'t>>
     ensures { option_map stream_view result ≡ after_mode number.now (mode_view mode.entry) (words line.now) }
 {
-    let five = five_words(line)?;
-    if !is_stream_end(&five) {
+    let (waves_word, rest) = next_word(line)?;
+    let (waves, rest) = next_word(rest)?;
+    let (samples_word, rest) = next_word(rest)?;
+    let (samples, rest) = next_word(rest)?;
+    if !are_fixed(waves_word, samples_word) {
         return None;
     }
+    let seen = after_samples(rest)?;
     Some(StreamLine {
         number,
         mode,
-        waves: five.second,
-        samples: five.fourth,
-        names: five.rest,
+        waves,
+        samples,
+        grain: seen.grain,
+        names: seen.names,
     })
 }
 

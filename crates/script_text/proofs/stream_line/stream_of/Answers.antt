@@ -52,14 +52,13 @@ returns-in_err-daemons-clause-err c =
     (λ memory. stream_bad_daemons t xs c.args.line_number w c.in_ok-number.number c.in_ok-number.ensures.ok c.in_ok-mode.mode c.in_ok-mode.ensures.ok c.in_ok-waves.waves (ap (λ m. number_from c.args.line_number 1 16 m w.waves) (sym c.over-more.ensures) ∙ c.in_ok-waves.ensures.ok) c.in_ok-samples.samples
     (ap (λ m. number_from c.args.line_number 1 64 m w.samples) (sym c.bad-bad_number.ensures) ∙ c.in_ok-samples.ensures.ok) c.in_err-daemons.field-0.0 (c.in_err-daemons.ensures.err memory))
 
-is_good : (c : goal.In_ok-daemons) → stream_of c.args.topology.now c.args.streams.now c.args.line_number (stream_view c.args.words.now) ≡ Ok (stream c.in_ok-number.number c.in_ok-mode.mode c.in_ok-waves.waves c.in_ok-samples.samples c.in_ok-daemons.daemons.items)
-is_good c =
-    let w = stream_view c.args.words.now in
-    stream_good c.args.topology.now c.args.streams.now c.args.line_number w c.in_ok-number.number c.in_ok-number.ensures.ok c.in_ok-mode.mode c.in_ok-mode.ensures.ok c.in_ok-waves.waves (ap (λ m. number_from c.args.line_number 1 16 m w.waves) (sym c.over-more.ensures) ∙ c.in_ok-waves.ensures.ok) c.in_ok-samples.samples
-    (ap (λ m. number_from c.args.line_number 1 64 m w.samples) (sym c.bad-bad_number.ensures) ∙ c.in_ok-samples.ensures.ok) c.in_ok-daemons.daemons.items c.in_ok-daemons.ensures.ok
-
 pub new-requires : goal.new-requires
-new-requires c = (subst (λ r. IfOk r (IsNewStream c.args.topology.now c.args.streams.now)) (is_good c) (stream_holds c.args.topology.now c.requires c.args.streams.now c.args.line_number (stream_view c.args.words.now))).is
+new-requires c =
+    let w = stream_view c.args.words.now in
+    let is_good =
+    stream_good c.args.topology.now c.args.streams.now c.args.line_number w c.in_ok-number.number c.in_ok-number.ensures.ok c.in_ok-mode.mode c.in_ok-mode.ensures.ok c.in_ok-waves.waves (ap (λ m. number_from c.args.line_number 1 16 m w.waves) (sym c.over-more.ensures) ∙ c.in_ok-waves.ensures.ok) c.in_ok-samples.samples
+    (ap (λ m. number_from c.args.line_number 1 64 m w.samples) (sym c.bad-bad_number.ensures) ∙ c.in_ok-samples.ensures.ok) c.in_ok-daemons.daemons.items c.in_ok-daemons.ensures.ok in
+    (subst (λ r. IfOk r (IsNewStream c.args.topology.now c.args.streams.now)) is_good (stream_holds c.args.topology.now c.requires c.args.streams.now c.args.line_number w)).is
 
 pub returns-clause-ok : goal.returns-clause-ok
 returns-clause-ok c =
