@@ -1,16 +1,17 @@
 -- The daemons of a stream, and their ranks.
-use Rattle.std.proofs.Common.{◌≡◌, ℕ, ◌<◌, inl, inr, Bool, true, false, ◌==◌, cond, List, [], ◌∷◌, map, Option, Some, None, refl, sym, ap, subst, ◌∙◌, arith, eq-eqb}
+use Rattle.std.proofs.Common.{◌≡◌, ℕ, ◌<◌, inl, inr, Bool, true, false, ◌==◌, cond, List, [], ◌∷◌, map, Option, Some, None, refl, sym, ap, subst, ◌∙◌, eq-eqb}
 use Rattle.std.specs.Prelude.{find, IsSome}
 use Rattle.std.specs.List.{AllByRecursion}
 use Rattle.std.proofs.lemmas.Bool.{or_left, or_right}
 use Rattle.rank_set.specs.Ranks.{Ranks, none, has, Has, IsSubset, union, has-union}
 use Rattle.stat_plan.specs.Invariants.{IsPlan, IsDaemon}
 use Rattle.stat_plan.specs.NodeSets.{In}
-use Rattle.stat_plan.specs.Samples.{SampleLine, IsWithinLimit, ranks_with, samples_of, wave_lines}
-use Rattle.stat_plan.specs.Plans.{Plan, Stream, daemons, nodes, nodes_of, ranks, sample_count, samples, ranks_on, stream_of, stream_ranks, up_to, waves_of}
+use Rattle.stat_plan.specs.Samples.{ranks_with}
+use Rattle.stat_plan.specs.Plans.{Plan, Stream, daemons, grain, nodes, nodes_of, ranks, sample_count, ranks_on, stream_of, stream_ranks, up_to, waves_of}
+use Rattle.stat_plan.specs.declared.script.Grain.{Grain}
+use Rattle.stat_plan.specs.declared.script.Grain.TheVariants.{Line}
 use Rattle.stat_plan.proofs.FirstOver.{all_in, found_in}
 use Rattle.stat_plan.proofs.InLists.{in_append, in_from_map, in_map}
-use Rattle.stat_plan.proofs.Prefixes.{count-more}
 use Rattle.merge_filter.specs.Contributions.{HasWave}
 
 found : (xs : List Stream) (s w : ℕ) → In (s, w) (waves_of xs) → IsSome (find (λ x. x.number == s) xs)
@@ -36,6 +37,10 @@ stream_some p s w wave = found p.streams s w wave
 pub samples_at : (p : Plan) (s : ℕ) (x : Stream) → stream_of p s ≡ Some x → x.samples ≡ sample_count p s
 unfolding sample_count
 samples_at p s x is = sym (ap (λ (o : Option Stream). elim o as (λ _. ℕ) [ None ↦ 0 | (Some x) ↦ x.samples ]) is)
+
+pub grain_at : (p : Plan) (s : ℕ) (x : Stream) → stream_of p s ≡ Some x → x.grain ≡ grain p s
+unfolding grain
+grain_at p s x is = sym (ap (λ (o : Option Stream). elim o as (λ _. Grain) [ None ↦ Line | (Some x) ↦ x.grain ]) is)
 
 pub daemons_at : (p : Plan) (s : ℕ) (x : Stream) → stream_of p s ≡ Some x → x.daemons ≡ daemons p s
 unfolding daemons
@@ -65,23 +70,6 @@ comes C (E ∷ Ds) D r (inr later) one = comes (union C E) Ds D r later one
 pub daemon_lies : (p : Plan) (s d : ℕ) → In d (daemons p s) → IsSubset (ranks p d) (stream_ranks p s)
 unfolding stream_ranks
 daemon_lies p s d there r one = comes none (map (ranks p) (daemons p s)) (ranks p d) r (in_map (ranks p) d (daemons p s) there) one
-
--- the samples of a wave
-pub samples_is : (p : Plan) (s w k : ℕ) (lines : List SampleLine) → lines ≡ p.lines → k ≡ sample_count p s → samples_of (wave_lines k w lines) ≡ samples p s w
-unfolding samples
-samples_is p s w k lines all count = λ i. samples_of (wave_lines (count i) w (all i))
-
--- a daemon's samples of a wave are few
-pub daemon_within : (p : Plan) (s w d : ℕ) → IsPlan p → HasWave p s w → In d (daemons p s) → IsWithinLimit (samples p s w) (ranks p d)
-daemon_within p s w d plan wave there =
-    let fewer = count-more (samples p s w) (samples p s w) (ranks p d) (stream_ranks p s) (λ r q one. one) (daemon_lies p s d there) in
-    let within = plan.within s w wave in
-    omega (arith, fewer, within)
-
--- the same, of what a program holds
-pub daemon_room : (p : Plan) (s w d k : ℕ) (lines : List SampleLine) (own : Ranks) → IsPlan p → HasWave p s w → In d (daemons p s) → lines ≡ p.lines → k ≡ sample_count p s → own ≡ ranks p d → IsWithinLimit (samples_of (wave_lines k w lines)) own
-daemon_room p s w d k lines own plan wave there all count is =
-    subst (IsWithinLimit (samples_of (wave_lines k w lines))) (sym is) (subst (λ P. IsWithinLimit P (ranks p d)) (sym (samples_is p s w k lines all count)) (daemon_within p s w d plan wave there))
 
 -- the ranks of all daemons of a stream
 pub all_daemons : (p : Plan) (s : ℕ) → ranks_on p (daemons p s) ≡ stream_ranks p s

@@ -1,3 +1,5 @@
+pub mod WaveSamples
+pub mod Prefixes
 pub mod Standing
 pub mod Daemons
 pub mod Pendings

@@ -8,8 +8,8 @@ use Rattle.prefix_tree.proofs.TreeLemmas.{coverage-tree_of}
 use Rattle.prefix_tree.proofs.TreeLaws.{merged-tree_of, tree_of-uncovered}
 use Rattle.stat_plan.specs.Invariants.{IsPlan}
 use Rattle.stat_plan.specs.Plans.{Plan, samples, stream_ranks}
-use Rattle.stat_plan.proofs.Prefixes.{count-more}
 use Rattle.merge_filter.specs.Contributions.{Contrib, HasWave, IsPartialMerge, contrib, cov_of}
+use Rattle.merge_filter.proofs.Prefixes.{rows_within}
 
 -- a tree of some ranks covers them
 pub covers : (t : Tree) (P : Pairs) (C : Ranks) → t ≡ tree_of P C → t.coverage ≡ C
@@ -51,7 +51,7 @@ module _ (p : Plan) (a b : Contrib) (first : IsPartialMerge p a) (second : IsPar
   not_full : IsPlan p → 2048 < count_below (merged a.tree b.tree) → ⊥
   not_full plan full =
       let S : Pairs = samples p a.stream a.wave in
-      let fewer = count-more S S (union (cov_of a) (cov_of b)) (stream_ranks p a.stream) (λ r q there. there) both_lie in
+      let fewer = rows_within S (union (cov_of a) (cov_of b)) in
       let within = plan.within a.stream a.wave first.wave in
       let over : 2048 < count_below (tree_of S (union (cov_of a) (cov_of b))) = subst (λ t. 2048 < count_below t) merged_is full in
       omega (arith, fewer, within, over)

@@ -1,48 +1,26 @@
 -- Lines taken one after another.
-use Rattle.std.proofs.Common.{◌≡◌, ◌⊎◌, inl, inr, ℕ, ◌+◌, ◌<◌, Bool, true, false, ◌&&◌, ◌||◌, List, [], ◌∷◌, ◌++◌, take, get_or, length, Option, None, Some, refl, sym, ap, subst, ◌∙◌, arith, eqb}
+use Rattle.std.proofs.Common.{◌≡◌, ◌⊎◌, inl, inr, ℕ, ◌+◌, ◌<◌, ◌≤◌, true, false, ◌&&◌, List, [], ◌∷◌, ◌++◌, take, get_or, length, Option, None, Some, sym, ap, subst, ◌∙◌, arith}
 use Rattle.std.specs.Prelude.{slice_get}
-use Rattle.std.specs.List.{list_any}
 use Rattle.std.proofs.lemmas.Bool.{true≢false, or_cases, or_left, or_right, and_parts, and_from}
 use Rattle.std.proofs.lemmas.List.{take_more}
 use Rattle.std.proofs.lemmas.Option.{slice_get_within, get_or_from_slice_get}
 use Rattle.rank_set.specs.Ranks.{Ranks, none, has, Has, in_order, size}
-use Rattle.call_path.specs.Path.{Path, is_path, is_prefix}
-use Rattle.call_path.specs.Pairs.{Pairs, pairs_at, is_pair, passes, is_below}
+use Rattle.call_path.specs.Path.{Path, is_path}
+use Rattle.call_path.specs.Pairs.{Pairs, is_pair, is_below}
 use Rattle.call_path.proofs.PathLemmas.{is_path-exact, is_path-itself}
-use Rattle.prefix_tree.specs.Tree.{Tree, tree_of}
-use Rattle.prefix_tree.proofs.PairLemmas.{is_pair-append, any-pairs_of_set, pair_from_passes}
+use Rattle.prefix_tree.specs.Tree.{Tree, tree_of, count_below}
+use Rattle.prefix_tree.proofs.PairLemmas.{pair_from_passes, passes-from_pair}
 use Rattle.prefix_tree.proofs.TreeLaws.{tree_of-same_pairs}
 use Rattle.stat_plan.specs.NodeSets.{In}
-use Rattle.stat_plan.specs.Samples.{SampleLine, IsWithinLimit, is_in_wave, samples_of, wave_lines}
+use Rattle.stat_plan.specs.Samples.{SampleLine, is_in_wave, samples_of, wave_lines}
 use Rattle.stat_plan.specs.Tables.{AreLinesOf}
 use Rattle.stat_plan.proofs.InLists.{in_at, in_append, in_filter, in_from_filter, any_from_in, in_from_any, place_of}
 use Rattle.stat_plan.proofs.LineIndexing.{line_ranks_at}
-use Rattle.stat_plan.proofs.Prefixes.{count-more}
 use Rattle.merge_filter.specs.Gathering.{AreTaken, HasRoomFor, TakesLine, with_pending}
 use Rattle.merge_filter.specs.declared.own_tree.Pending.{Pending}
 use Rattle.merge_filter.proofs.Pendings.{is_pair-pending, nothing_pending}
-
--- a line's rank was seen in this very path
-abbrev line_says : ℕ → Path → SampleLine → Bool
-line_says r p line = has line.ranks r && is_path p line.path
-
--- what the samples of some lines say
-is_pair-samples_of : (lines : List SampleLine) (r : ℕ) (p : Path) → is_pair (samples_of lines) r p ≡ list_any (line_says r p) lines
-is_pair-samples_of [] r p = refl
-is_pair-samples_of (line ∷ lines) r p =
-    is_pair-append (pairs_at (in_order line.ranks) line.path) (samples_of lines) r p
-    ∙ ap (λ b. b || is_pair (samples_of lines) r p) (any-pairs_of_set (is_path p) line.ranks line.path r)
-    ∙ ap (λ b. line_says r p line || b) (is_pair-samples_of lines r p)
-
--- a rank passes each prefix of its path
-passes-from_pair : (P : Pairs) (r : ℕ) (p q : Path) → is_pair P r q ≡ true → is_prefix p q ≡ true → passes P r p ≡ true
-passes-from_pair [] r p q one pre = one
-passes-from_pair (e ∷ P) r p q one pre = elim (or_cases (eqb e.0 r && is_path q e.1) (is_pair P r q) one) [
-  | inl here ↦
-      let parts = and_parts (eqb e.0 r) (is_path q e.1) here in
-      or_left (eqb e.0 r && is_prefix p e.1) (passes P r p) (and_from (eqb e.0 r) (is_prefix p e.1) parts.0 (subst (λ s. is_prefix p s ≡ true) (is_path-exact q e.1 parts.1) pre))
-  | inr there ↦ or_right (eqb e.0 r && is_prefix p e.1) (passes P r p) (passes-from_pair P r p q there pre)
-]
+use Rattle.merge_filter.proofs.Prefixes.{count-more}
+use Rattle.merge_filter.proofs.WaveSamples.{both_ways, is_pair-samples_of, line_says, where_true}
 
 same_line : (lines : List SampleLine) (i j : ℕ) (line other : SampleLine) → slice_get lines i ≡ Some line → j ≡ i → slice_get lines j ≡ Some other → other ≡ line
 same_line lines i j line other at same there = some_inj (sym there ∙ ap (slice_get lines) same ∙ at)
@@ -61,7 +39,7 @@ taken_none lines k w own paths x t is empty = record {
 }
 
 -- there is room for what is still to be added
-pub room_from : (lines : List SampleLine) (k w : ℕ) (own : Ranks) (paths : List Path) (numbers : List ℕ) (x : Pending) (t : Tree) → IsWithinLimit (samples_of (wave_lines k w lines)) own → AreTaken lines k w own paths numbers x t → HasRoomFor t paths x
+pub room_from : (lines : List SampleLine) (k w : ℕ) (own : Ranks) (paths : List Path) (numbers : List ℕ) (x : Pending) (t : Tree) → count_below (tree_of (samples_of (wave_lines k w lines)) own) ≤ 2048 → AreTaken lines k w own paths numbers x t → HasRoomFor t paths x
 room_from lines k w own paths numbers x t within taken =
     let V : Pairs = with_pending taken.pairs paths x in
     let fewer = count-more V (samples_of (wave_lines k w lines)) own own
@@ -135,15 +113,6 @@ module _ (lines : List SampleLine) (k w : ℕ) (own : Ranks) (paths : List Path)
           (subst (λ (l : SampleLine). is_path one.path l.path ≡ true) e (is_path-itself one.path)))
     ];
   }
-
-both_ways : (a b : Bool) → (a ≡ true → b ≡ true) → (b ≡ true → a ≡ true) → a ≡ b
-both_ways true b there back = sym (there refl)
-both_ways false true there back = back refl
-both_ways false false there back = refl
-
-where_true : (h a b : Bool) → (h ≡ true → a ≡ b) → (h && a) ≡ (h && b)
-where_true true a b same = same refl
-where_true false a b same = refl
 
 -- all lines that have one of the ranks are taken
 pub taken_all : (lines : List SampleLine) (k w : ℕ) (own : Ranks) (paths : List Path) (numbers seen : List ℕ) (x : Pending) (t u : Tree) → AreLinesOf lines own numbers → seen ≡ numbers → (taken : AreTaken lines k w own paths seen x t) → u ≡ tree_of (with_pending taken.pairs paths x) own → u ≡ tree_of (samples_of (wave_lines k w lines)) own

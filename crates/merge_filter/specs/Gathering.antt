@@ -1,11 +1,11 @@
 -- How a daemon's own tree is made: line by line, where those of one path that follow each other are added together.
-use Rattle.std.specs.Prelude.{◌≡◌, ℕ, ◌<◌, true, ◌&&◌, ◌||◌, List, [], ◌++◌, length, slice_get, slice_index_or, Some}
+use Rattle.std.specs.Prelude.{◌≡◌, ℕ, ◌<◌, ◌≤◌, true, ◌&&◌, ◌||◌, List, [], ◌++◌, length, slice_get, slice_index_or, Some}
 use Rattle.rank_set.specs.Ranks.{Ranks, has, Has, in_order, IsSubset}
 use Rattle.call_path.specs.Path.{Path, is_path}
 use Rattle.call_path.specs.Pairs.{Pairs, pairs_at, is_pair}
-use Rattle.prefix_tree.specs.Tree.{Tree, tree_of}
+use Rattle.prefix_tree.specs.Tree.{Tree, tree_of, count_below}
 use Rattle.stat_plan.specs.NodeSets.{In}
-use Rattle.stat_plan.specs.Samples.{SampleLine, IsWithinLimit, is_in_wave, samples_of, wave_lines}
+use Rattle.stat_plan.specs.Samples.{SampleLine, is_in_wave, samples_of, wave_lines}
 use Rattle.merge_filter.specs.declared.own_tree.Pending.{Pending}
 
 -- some pairs, and those that are still to be added
@@ -18,7 +18,7 @@ pub record HasRoomFor (t : Tree) (paths : List Path) (x : Pending) : Type 0 wher
   pub pairs : Pairs
   pub is : t ≡ tree_of pairs own
   pub lies : IsSubset x.ranks own
-  pub within : IsWithinLimit (with_pending pairs paths x) own
+  pub within : count_below (tree_of (with_pending pairs paths x) own) ≤ 2048
   pub path : (r : ℕ) → Has r x.ranks → x.path < length paths
 
 -- the tree of P over own, with old still to be added, has become u with new: there are the line's pairs of own ranks more

@@ -5,10 +5,14 @@
 //! the result is a partial merge that covers the ranks of all.
 #![tactic(auto)]
 
-ghost use Rattle.std.specs.Prelude.{◌≡◌, IfOk, IsSome, OnOk, OnErr};
-ghost use Rattle.rank_set.specs.Ranks.{none, union};
+ghost use Rattle.std.specs.Prelude.{◌≡◌, ◌≤◌, IfOk, IsSome, OnOk, OnErr};
+ghost use Rattle.rank_set.specs.Ranks.{Ranks, none, union};
+ghost use Rattle.call_path.specs.Pairs.{Pairs};
+ghost use Rattle.prefix_tree.specs.Pairs.{IsWithin};
+ghost use Rattle.prefix_tree.specs.Tree.{count_below, tree_of};
+ghost use Rattle.stat_plan.specs.Samples.{prefix_count};
 ghost use Rattle.stat_plan.specs.NodeSets.{In};
-ghost use Rattle.stat_plan.specs.Plans.{Plan, daemons, ranks, sample_count, stream_of, stream_ranks};
+ghost use Rattle.stat_plan.specs.Plans.{Plan, daemons, grain, ranks, sample_count, stream_of, stream_ranks};
 ghost use Rattle.merge_filter.specs.Contributions.{HasWave, IsPartialMerge, contrib, cov_of};
 
 mod own_tree;
@@ -18,7 +22,7 @@ mod tests;
 use own_tree::own_tree;
 use prefix_tree::{PrefixTree, TreeError};
 use rank_set::RankSet;
-use stat_plan::Plan;
+use stat_plan::{Grain, Plan};
 use std::alloc::{AllocError, Global};
 use std::marker::Model;
 
@@ -30,6 +34,14 @@ fn sample_count(plan: &Plan, s: u8) -> u8
     plan.known_stream(s).samples()
 }
 
+// How a stream sees paths.
+fn grain_of(plan: &Plan, s: u8) -> Grain
+    requires { IsSome (stream_of plan.now s) }
+    ensures { result ≡ grain plan.now s }
+{
+    plan.known_stream(s).grain()
+}
+
 // The daemons of a stream.
 fn daemons_of(plan: &Plan, s: u8) -> &[u32]
     requires { IsSome (stream_of plan.now s) }
@@ -37,6 +49,13 @@ fn daemons_of(plan: &Plan, s: u8) -> &[u32]
 {
     plan.known_stream(s).daemons()
 }
+
+/// The law of the limit: a tree has at most as many rows below the root as its pairs have distinct prefixes, and exactly as
+/// many where it covers the ranks of all pairs. It does nothing.
+pub fn rows_are_prefixes()
+    ensures within { (P : Pairs) (C : Ranks) → count_below (tree_of P C) ≤ prefix_count P }
+    ensures covered { (P : Pairs) (C : Ranks) → IsWithin P C → count_below (tree_of P C) ≡ prefix_count P }
+{}
 
 /// What is known of a wave: a stream, a wave, and a tree of samples of the wave.
 #[derive(Drop)]
@@ -85,9 +104,10 @@ impl<T: PrefixTree> Contribution<T> {
         plan.invariant();
         let samples = sample_count(plan, s);
         let all = plan.lines();
+        let paths = all.paths_by(grain_of(plan, s));
         let numbers = plan.line_index(d);
         let own = plan.ranks(d);
-        let tree = own_tree(alloc, all.lines, all.paths, numbers, samples, w, own)?;
+        let tree = own_tree(alloc, all.lines, paths, numbers, samples, w, own)?;
         Ok(Contribution::of_tree(s, w, tree))
     }
 

@@ -1,10 +1,10 @@
 //! The tree of a wave's samples of some ranks, by the numbers of the lines that have one of them.
 
-ghost use Rattle.std.specs.Prelude.{◌≡◌, IfOk, OnOk};
+ghost use Rattle.std.specs.Prelude.{◌≡◌, ◌≤◌, IfOk, OnOk};
 ghost use Rattle.rank_set.specs.Ranks.{Ranks};
 ghost use Rattle.call_path.specs.Pairs.{Pairs};
-ghost use Rattle.prefix_tree.specs.Tree.{tree_of};
-ghost use Rattle.stat_plan.specs.Samples.{IsWithinLimit, samples_of, wave_lines};
+ghost use Rattle.prefix_tree.specs.Tree.{count_below, tree_of};
+ghost use Rattle.stat_plan.specs.Samples.{samples_of, wave_lines};
 ghost use Rattle.stat_plan.specs.StackLines.{PathIndicesInRange, line_of, lines_of};
 ghost use Rattle.stat_plan.specs.Tables.{AreLinesOf};
 ghost use Rattle.merge_filter.specs.Gathering.{HasRoomFor, TakesLine, with_pending};
@@ -85,7 +85,8 @@ pub fn own_tree<T: PrefixTree>(
 ) -> Result<T, AllocError>
     requires numbered { PathIndicesInRange paths.now lines.now }
     requires numbers { AreLinesOf (lines_of paths.now lines.now) own.now numbers.now }
-    requires within { IsWithinLimit (samples_of (wave_lines samples wave (lines_of paths.now lines.now))) own.now }
+    requires within { count_below
+        (tree_of (samples_of (wave_lines samples wave (lines_of paths.now lines.now))) own.now) ≤ 2048 }
     ensures { IfOk result
         (λ tree. T.tree tree
         ≡ tree_of (samples_of (wave_lines samples wave (lines_of paths.now lines.now))) own.now) }

@@ -1,0 +1,184 @@
+-- What the samples of a wave are, by the lines that list them.
+use Rattle.std.proofs.Common.{◌≡◌, ℕ, ◌<◌, Bool, true, false, ◌&&◌, ◌||◌, nat_eq, List, [], ◌∷◌, get_or, length, map, refl, sym, ap, subst, ◌∙◌, eqb-true, eq-eqb}
+use Rattle.std.specs.List.{list_any}
+use Rattle.std.proofs.lemmas.Bool.{and_parts, and_from}
+use Rattle.std.proofs.lemmas.List.{get_or-map, length-map}
+use Rattle.rank_set.specs.Ranks.{Ranks, none, has, Has, IsSubset, in_order, those, has-those}
+use Rattle.call_path.specs.Functions.{func}
+use Rattle.call_path.specs.Path.{Path, is_path}
+use Rattle.call_path.specs.Pairs.{pairs_at, is_pair, HasNoEmptyPath, is_below}
+use Rattle.call_path.proofs.PathLemmas.{is_path-exact, is_path-itself}
+use Rattle.prefix_tree.specs.Joined.{AreSamePairs}
+use Rattle.prefix_tree.proofs.PairLemmas.{is_pair-append, any-pairs_of_set}
+use Rattle.stat_plan.specs.Invariants.{IsPlan, IsSampleLine}
+use Rattle.stat_plan.specs.NodeSets.{In}
+use Rattle.stat_plan.specs.OwnLines.{is_listed}
+use Rattle.stat_plan.specs.Plans.{Plan, grain, sample_count, samples, stream_ranks}
+use Rattle.stat_plan.specs.Samples.{SampleLine, is_in_wave, path_by, samples_of, seen_by, wave_lines}
+use Rattle.stat_plan.specs.StackLines.{PathIndicesInRange, line_of, lines_of}
+use Rattle.stat_plan.specs.Tables.{AreLinesOf, IsOwnLine}
+use Rattle.stat_plan.specs.declared.samples.StackLine.{StackLine}
+use Rattle.stat_plan.specs.declared.script.Grain.{Grain}
+use Rattle.stat_plan.specs.declared.script.Grain.TheVariants.{Line, Function}
+use Rattle.stat_plan.proofs.FirstOver.{all_in}
+use Rattle.stat_plan.proofs.InLists.{any_from_in, in_filter, in_from_any, in_from_filter, in_from_map, in_map}
+
+-- a line's rank was seen in this very path
+abbrev pub line_says : ℕ → Path → SampleLine → Bool
+line_says r p line = has line.ranks r && is_path p line.path
+
+-- what the samples of some lines say
+pub is_pair-samples_of : (lines : List SampleLine) (r : ℕ) (p : Path) → is_pair (samples_of lines) r p ≡ list_any (line_says r p) lines
+is_pair-samples_of [] r p = refl
+is_pair-samples_of (line ∷ lines) r p =
+    is_pair-append (pairs_at (in_order line.ranks) line.path) (samples_of lines) r p
+    ∙ ap (λ b. b || is_pair (samples_of lines) r p) (any-pairs_of_set (is_path p) line.ranks line.path r)
+    ∙ ap (λ b. line_says r p line || b) (is_pair-samples_of lines r p)
+
+-- a line with its path by a grain
+abbrev pub by_grain : Grain → SampleLine → SampleLine
+by_grain g line = record { time = line.time; ranks = line.ranks; path = path_by g line.path }
+
+-- lines whose paths have numbers, with the paths by a grain
+pub lines_by_grain : (g : Grain) (paths : List Path) (lines : List StackLine) → PathIndicesInRange paths lines → lines_of (map (path_by g) paths) lines ≡ map (by_grain g) (lines_of paths lines)
+lines_by_grain g paths [] in_range = refl
+lines_by_grain g paths (line ∷ lines) in_range =
+    λ i. record { time = line.time; ranks = line.ranks; path = get_or-map (path_by g) paths line.path [] [] in_range.0 i } ∷ lines_by_grain g paths lines in_range.1 i
+
+-- a line at a time of the wave lists a rank in a path that is q by the grain
+pub record ListsRank (lines : List SampleLine) (k w : ℕ) (g : Grain) (r : ℕ) (q : Path) : Type 0 where
+  pub line : SampleLine
+  pub there : In line lines
+  pub time : is_in_wave k w line.time ≡ true
+  pub rank : Has r line.ranks
+  pub path : is_path q (path_by g line.path) ≡ true
+
+from_listed : (lines : List SampleLine) (r time : ℕ) (p : Path) → is_listed lines r time p ≡ true → (line : SampleLine) × (In line lines × (Has r line.ranks × ((line.time ≡ time) × (line.path ≡ p))))
+from_listed lines r time p e =
+    let found = in_from_any (λ (line : SampleLine). has line.ranks r && (nat_eq line.time time && is_path p line.path)) lines e in
+    let parts = and_parts (has found.0.ranks r) (nat_eq found.0.time time && is_path p found.0.path) found.1.1 in
+    let same = and_parts (nat_eq found.0.time time) (is_path p found.0.path) parts.1 in
+    (found.0, (found.1.0, (parts.0, (eqb-true found.0.time time same.0, sym (is_path-exact p found.0.path same.1)))))
+
+to_listed : (lines : List SampleLine) (line : SampleLine) (r : ℕ) → In line lines → Has r line.ranks → is_listed lines r line.time line.path ≡ true
+to_listed lines line r there rank =
+    any_from_in (λ (other : SampleLine). has other.ranks r && (nat_eq other.time line.time && is_path line.path other.path)) line lines there
+    (and_from (has line.ranks r) (nat_eq line.time line.time && is_path line.path line.path) rank
+    (and_from (nat_eq line.time line.time) (is_path line.path line.path) (eq-eqb line.time line.time refl) (is_path-itself line.path)))
+
+-- lines that list as much
+moved : (ls bs : List SampleLine) (k w : ℕ) (g : Grain) (r : ℕ) (q : Path) → ((time : ℕ) (p : Path) → is_listed ls r time p ≡ is_listed bs r time p) → ListsRank ls k w g r q → ListsRank bs k w g r q
+moved ls bs k w g r q same l =
+    let found = from_listed bs r l.line.time l.line.path (sym (same l.line.time l.line.path) ∙ to_listed ls l.line r l.there l.rank) in
+    record {
+      line = found.0;
+      there = found.1.0;
+      time = ap (is_in_wave k w) found.1.1.1.0 ∙ l.time;
+      rank = found.1.1.0;
+      path = ap (λ p. is_path q (path_by g p)) found.1.1.1.1 ∙ l.path;
+    }
+
+module _ (lines : List SampleLine) (k w : ℕ) (g : Grain) (r : ℕ) (q : Path) where
+  abbrev own_lines : List SampleLine
+  own_lines = wave_lines k w (map (by_grain g) lines)
+
+  own_from : is_pair (samples_of own_lines) r q ≡ true → ListsRank lines k w g r q
+  own_from there =
+      let found = in_from_any (line_says r q) own_lines (sym (is_pair-samples_of own_lines r q) ∙ there) in
+      let kept = in_from_filter (λ (l : SampleLine). is_in_wave k w l.time) found.0 (map (by_grain g) lines) found.1.0 in
+      let from = in_from_map (by_grain g) lines found.0 kept.0 in
+      let parts = and_parts (has found.0.ranks r) (is_path q found.0.path) found.1.1 in
+      record {
+        line = from.0;
+        there = from.1.0;
+        time = ap (λ (l : SampleLine). is_in_wave k w l.time) (sym from.1.1) ∙ kept.1;
+        rank = ap (λ (l : SampleLine). has l.ranks r) (sym from.1.1) ∙ parts.0;
+        path = ap (λ (l : SampleLine). is_path q l.path) (sym from.1.1) ∙ parts.1;
+      }
+
+  own_to : ListsRank lines k w g r q → is_pair (samples_of own_lines) r q ≡ true
+  own_to l =
+      is_pair-samples_of own_lines r q
+      ∙ any_from_in (line_says r q) (by_grain g l.line) own_lines
+      (in_filter (λ (l : SampleLine). is_in_wave k w l.time) (by_grain g l.line) (map (by_grain g) lines) (in_map (by_grain g) l.line lines l.there) l.time)
+      (and_from (has l.line.ranks r) (is_path q (path_by g l.line.path)) l.rank l.path)
+
+  module _ (own : Ranks) where
+    abbrev stream_lines : List SampleLine
+    stream_lines = map (seen_by g own) (wave_lines k w lines)
+
+    pub stream_from : is_pair (samples_of stream_lines) r q ≡ true → ListsRank lines k w g r q
+    stream_from there =
+        let found = in_from_any (line_says r q) stream_lines (sym (is_pair-samples_of stream_lines r q) ∙ there) in
+        let from = in_from_map (seen_by g own) (wave_lines k w lines) found.0 found.1.0 in
+        let kept = in_from_filter (λ (l : SampleLine). is_in_wave k w l.time) from.0 lines from.1.0 in
+        let parts = and_parts (has found.0.ranks r) (is_path q found.0.path) found.1.1 in
+        let rank = and_parts (has from.0.ranks r) (has own r) (sym (has-those (has own) from.0.ranks r) ∙ ap (λ (l : SampleLine). has l.ranks r) (sym from.1.1) ∙ parts.0) in
+        record {
+          line = from.0;
+          there = kept.0;
+          time = kept.1;
+          rank = rank.0;
+          path = ap (λ (l : SampleLine). is_path q l.path) (sym from.1.1) ∙ parts.1;
+        }
+
+    stream_to : Has r own → ListsRank lines k w g r q → is_pair (samples_of stream_lines) r q ≡ true
+    stream_to in_own l =
+        is_pair-samples_of stream_lines r q
+        ∙ any_from_in (line_says r q) (seen_by g own l.line) stream_lines
+        (in_map (seen_by g own) l.line (wave_lines k w lines) (in_filter (λ (l : SampleLine). is_in_wave k w l.time) l.line lines l.there l.time))
+        (and_from (has (those (has own) l.line.ranks) r) (is_path q (path_by g l.line.path))
+        (has-those (has own) l.line.ranks r ∙ and_from (has l.line.ranks r) (has own r) l.rank in_own)
+        l.path)
+
+pub both_ways : (a b : Bool) → (a ≡ true → b ≡ true) → (b ≡ true → a ≡ true) → a ≡ b
+both_ways true b there back = sym (there refl)
+both_ways false true there back = back refl
+both_ways false false there back = refl
+
+pub where_true : (h a b : Bool) → (h ≡ true → a ≡ b) → (h && a) ≡ (h && b)
+where_true true a b same = same refl
+where_true false a b same = refl
+
+-- lines that list of some ranks of the stream what the plan's lines list put the same pairs as the samples of the wave
+pub same_samples : (p : Plan) (s w : ℕ) (own : Ranks) (lines : List SampleLine) → IsSubset own (stream_ranks p s) → ((r time : ℕ) (q : Path) → Has r own → is_listed lines r time q ≡ is_listed p.lines r time q)
+    → AreSamePairs (samples_of (wave_lines (sample_count p s) w (map (by_grain (grain p s)) lines))) (samples p s w) own
+unfolding samples
+same_samples p s w own lines lies same q r =
+    let k = sample_count p s in
+    let g = grain p s in
+    ap (λ b. is_below q && b) (where_true (has own r) _ _ (λ in_own. both_ways _ _
+    (λ there. stream_to p.lines k w g r q (stream_ranks p s) (lies r in_own) (moved lines p.lines k w g r q (λ time p. same r time p in_own) (own_from lines k w g r q there)))
+    (λ there. own_to lines k w g r q (moved p.lines lines k w g r q (λ time p. sym (same r time p in_own)) (stream_from p.lines k w g r q (stream_ranks p s) there)))))
+
+length_by : (g : Grain) (p : Path) → length (path_by g p) ≡ length p
+length_by Line p = refl
+length_by Function p = length-map p func
+
+-- no sample of a wave has an empty path
+pub samples_have_paths : (p : Plan) → IsPlan p → (s w : ℕ) → HasNoEmptyPath (samples p s w)
+unfolding samples
+samples_have_paths p plan s w r q there =
+    let listed = stream_from p.lines (sample_count p s) w (grain p s) r q (stream_ranks p s) there in
+    let good = all_in (IsSampleLine p.placed) p.lines listed.line plan.samples.lines listed.there in
+    subst (λ (p : Path). 0 < length p) (sym (is_path-exact q (path_by (grain p s) listed.line.path) listed.path))
+    (subst (λ n. 0 < n) (sym (length_by (grain p s) listed.line.path)) good.path.some)
+
+-- the numbers of lines that have some ranks don't depend on the paths
+pub own_lines_alike : (ps qs : List Path) (lines : List StackLine) (own : Ranks) (numbers : List ℕ) → AreLinesOf (lines_of ps lines) own numbers → AreLinesOf (lines_of qs lines) own numbers
+own_lines_alike ps qs lines own numbers are = record {
+  own = λ i there. alike ps qs i (are.own i there);
+  all = λ i is. are.all i (alike qs ps i is);
+}
+  where
+    ranks_alike : (ps qs : List Path) (lines : List StackLine) → map (λ (l : SampleLine). l.ranks) (lines_of ps lines) ≡ map (λ (l : SampleLine). l.ranks) (lines_of qs lines)
+    ranks_alike ps qs [] = refl
+    ranks_alike ps qs (line ∷ lines) = ap (λ rs. line.ranks ∷ rs) (ranks_alike ps qs lines)
+
+    alike : (ps qs : List Path) (i : ℕ) → IsOwnLine (lines_of ps lines) own i → IsOwnLine (lines_of qs lines) own i
+    alike ps qs i is = record {
+      line = subst (λ n. i < n) (length-map lines (line_of ps) ∙ sym (length-map lines (line_of qs))) is.line;
+      rank = is.rank;
+      seen = ap (λ rs. has (get_or rs i none) is.rank) (sym (ranks_alike ps qs lines)) ∙ is.seen;
+      placed = is.placed;
+    }
