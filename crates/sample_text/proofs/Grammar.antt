@@ -1,6 +1,6 @@
 -- An accepted text is written as samples.
 use Rattle.std.proofs.Common.{◌≡◌, ◌∙◌, ◌⊎◌, inl, inr, ◌<◌, ℕ, zero, suc, Bool, true, false, cond, ◌||◌, ◌&&◌, not, List, [], ◌∷◌, ◌++◌, length, filter, get_or, Ok, refl, sym, ap, subst, arith, codes}
-use Rattle.std.proofs.lemmas.Bool.{true≢false}
+use Rattle.std.proofs.lemmas.Bool.{true≢false, not-true}
 use Rattle.rank_set.specs.Ranks.{Ranks, none, has, Has, has-none, has-union}
 use Rattle.rank_set.specs.RanksText.{ranks_text}
 use Rattle.text_lines.specs.Lines.{lines, words, says_nothing, is_comment, are_none}
@@ -17,7 +17,7 @@ use Rattle.sample_text.specs.Grammar.{IsDaemonLine, PlacesRank, SomePlacesRank, 
 use Rattle.sample_text.specs.Steps.{add_at, with_line}
 use Rattle.sample_text.specs.Whole.{nothing_parsed, lacks_rank, whole, samples_of_text}
 use Rattle.sample_text.proofs.LineViews.{AddsRanks, Changes, changes, test_inv}
-use Rattle.text_lines.proofs.Errors.{then_inv}
+use Rattle.text_lines.proofs.Errors.{then_inv, ok_inj}
 use Rattle.sample_text.proofs.Sets.{there_before, length-add_at, length-empty_sets, empty_sets_empty, or_first, or_second}
 
 -- a set that gets more ranks has those it had, and those that it gets
@@ -54,7 +54,7 @@ quiet_no_stack line quiet = by (is_comment line) (words line) quiet
 daemon_no_stack : (line name word : List ℕ) → IsDaemonLine line name word → stack line ≡ false
 daemon_no_stack line name word is = (λ i. not (is.0 i) && first_is (codes "stack") (is.1 i))
 
-sample_is_stack : (line : List ℕ) (x : SampleLine) → is_comment line ≡ false → IsSampleOf line x → stack line ≡ true
+pub sample_is_stack : (line : List ℕ) (x : SampleLine) → is_comment line ≡ false → IsSampleOf line x → stack line ≡ true
 sample_is_stack line x comment is = (λ i. not (comment i) && first_is (codes "stack") (is.is i))
 
 -- one line
@@ -120,16 +120,16 @@ module _ (t : Nodes) (is : IsTopology t) (s u : Sampled) (line : List ℕ) (pair
   still_paired (inr (inr h)) = ap (λ x. length x.placed) (sym h.after) ∙ paired
 
 -- lines one after another
-record Written (t : Nodes) (ls : List (List ℕ)) (s u : Sampled) : Type 0 where
-  placed_to : (n r : ℕ) → n < length t.parents → Has r (get_or u.placed n none) → Has r (get_or s.placed n none) ⊎ SomePlacesRank t ls n r
-  placed_from : (n r : ℕ) → n < length t.parents → Has r (get_or s.placed n none) ⊎ SomePlacesRank t ls n r → Has r (get_or u.placed n none)
-  samples : (xs : List SampleLine) × (s.lines ++ xs ≡ u.lines) × AreSamplesOf (filter stack ls) xs
+pub record Written (t : Nodes) (ls : List (List ℕ)) (s u : Sampled) : Type 0 where
+  pub placed_to : (n r : ℕ) → n < length t.parents → Has r (get_or u.placed n none) → Has r (get_or s.placed n none) ⊎ SomePlacesRank t ls n r
+  pub placed_from : (n r : ℕ) → n < length t.parents → Has r (get_or s.placed n none) ⊎ SomePlacesRank t ls n r → Has r (get_or u.placed n none)
+  pub samples : (xs : List SampleLine) × (s.lines ++ xs ≡ u.lines) × AreSamplesOf (filter stack ls) xs
 
-append_none : {X : Type 0} (xs : List X) → xs ++ [] ≡ xs
+pub append_none : {X : Type 0} (xs : List X) → xs ++ [] ≡ xs
 append_none [] = refl
 append_none (x ∷ xs) = ap (λ t. x ∷ t) (append_none xs)
 
-append_one : {X : Type 0} (xs : List X) (x : X) (ys : List X) → xs ++ (x ∷ ys) ≡ (xs ++ x ∷ []) ++ ys
+pub append_one : {X : Type 0} (xs : List X) (x : X) (ys : List X) → xs ++ (x ∷ ys) ≡ (xs ++ x ∷ []) ++ ys
 append_one [] x ys = refl
 append_one (y ∷ xs) x ys = ap (λ t. y ∷ t) (append_one xs x ys)
 
@@ -172,7 +172,7 @@ module _ (t : Nodes) (is : IsTopology t) where
     one_more : Written t (line ∷ rest) s u
     one_more = record { placed_to = all_to; placed_from = all_from; samples = all_samples change }
 
-  written : (ls : List (List ℕ)) (s u : Sampled) (number : ℕ) → length s.placed ≡ length t.parents → parsed_lines (with_line t) s number ls ≡ Ok u → Written t ls s u
+  pub written : (ls : List (List ℕ)) (s u : Sampled) (number : ℕ) → length s.placed ≡ length t.parents → parsed_lines (with_line t) s number ls ≡ Ok u → Written t ls s u
   unfolding parsed_lines
   written [] s u number paired h =
       let same : s ≡ u = cc in
@@ -186,17 +186,22 @@ module _ (t : Nodes) (is : IsTopology t) where
       let change = changes t s a.0 number line a.1 in
       one_more s a.0 u line rest paired change (written rest a.0 u (suc number) (still_paired t is s a.0 line paired change) a.2)
 
-  -- an accepted text is written as its samples
-  pub is_written : (text : List ℕ) (u : Sampled) → samples_of_text t text ≡ Ok u → IsWritten t text u
+  -- lines that are parsed are written as what they say
+  pub is_written : (text : List ℕ) (u : Sampled) → parsed_lines (with_line t) (nothing_parsed t) 1 (lines text) ≡ Ok u → IsWritten t text u
   is_written text u h =
-      let a = then_inv (parsed_lines (with_line t) (nothing_parsed t) 1 (lines text)) (whole t) u h in
-      let b = test_inv (not (lacks_rank t.parents 0 a.0.placed)) _ (Ok a.0) u a.2 in
-      let same : a.0 ≡ u = (let h = b.1 in cc) in
-      let w = written (lines text) (nothing_parsed t) a.0 1 (length-empty_sets (length t.parents)) a.1 in
-      subst (IsWritten t text) same (record {
+      let w = written (lines text) (nothing_parsed t) u 1 (length-empty_sets (length t.parents)) h in
+      record {
         placed = λ n r lt. (
           λ there. elim (w.placed_to n r lt there) [ (inl old) ↦ absurd (true≢false (sym old ∙ ap (λ x. has x r) (empty_sets_empty (length t.parents) n) ∙ has-none r)) | (inr p) ↦ p ],
           λ p. w.placed_from n r lt (inr p),
         );
         samples = (let xs = w.samples in subst (AreSamplesOf (filter stack (lines text))) xs.1 xs.2);
-      })
+      }
+
+-- an accepted text is parsed, and no daemon lacks a rank
+pub accepted_parsed : (t : Nodes) (text : List ℕ) (u : Sampled) → samples_of_text t text ≡ Ok u → (parsed_lines (with_line t) (nothing_parsed t) 1 (lines text) ≡ Ok u) × (lacks_rank t.parents 0 u.placed ≡ false)
+accepted_parsed t text u h =
+    let a = then_inv (parsed_lines (with_line t) (nothing_parsed t) 1 (lines text)) (whole t) u h in
+    let b = test_inv (not (lacks_rank t.parents 0 a.0.placed)) _ (Ok a.0) u a.2 in
+    let same : a.0 ≡ u = ok_inj a.0 u b.1 in
+    (a.1 ∙ ap Ok same, subst (λ (x : Sampled). lacks_rank t.parents 0 x.placed ≡ false) same (not-true _ b.0))

@@ -7,3 +7,4 @@ pub mod InvariantLemmas
 pub mod Lines
 pub mod LineViews
 pub mod Grammar
+pub mod Acceptance

@@ -1,7 +1,9 @@
 -- What a line without an error says, and what becomes of the samples.
-use Rattle.std.proofs.Common.{◌≡◌, ◌∙◌, ◌⊎◌, inl, inr, ℕ, Bool, true, false, cond, ◌||◌, nat_le, nat_lt, List, [], ◌∷◌, ◌++◌, length, Option, None, Some, Result, Ok, Err, refl, sym, ap, subst, codes}
-use Rattle.std.specs.Str.{bytes_eq, is_utf8}
+use Rattle.std.proofs.Common.{◌≡◌, ◌∙◌, ◌⊎◌, inl, inr, ℕ, ◌≤◌, Bool, true, false, cond, ◌||◌, nat_le, nat_lt, List, [], ◌∷◌, ◌++◌, length, Option, None, Some, Result, Ok, Err, refl, sym, ap, subst, codes, arith}
+use Rattle.std.specs.Str.{bytes_eq, IsUtf8, is_utf8}
+use Rattle.std.proofs.lemmas.Bool.Decides.{nat_tests}
 use Rattle.std.proofs.lemmas.Slice.Eq.{bytes_eq-Decides}
+use Rattle.std.proofs.lemmas.Str.{IsUtf8-from_is_utf8}
 use Rattle.rank_set.specs.Ranks.{Ranks, is_subset}
 use Rattle.rank_set.specs.RanksText.{ranks_text}
 use Rattle.rank_set.specs.declared.read.RanksError.{RanksError}
@@ -37,11 +39,17 @@ ranks_inv : (number : ℕ) (word : List ℕ) (ranks : Ranks) → ranks_on number
 unfolding ranks_on
 ranks_inv number word ranks h = ranks_read number (ranks_text word) ranks h
 
-time_read : (number : ℕ) (o : Option ℕ) (time : ℕ) → time_at number o ≡ Ok time → o ≡ Some time
-time_read number None time h = cc
-time_read number (Some x) time h = ap Some (ok_inj x time (test_inv (nat_le x TIME_LIMIT) (Bad number BadTime) (Ok x) time h).1)
+is_at_most : (a b : ℕ) → nat_le a b ≡ true → a ≤ b
+is_at_most a b e = grind (arith, nat_tests)
 
-time_inv : (number : ℕ) (word : List ℕ) (time : ℕ) → time_on number word ≡ Ok time → number_in word ≡ Some time
+time_read : (number : ℕ) (o : Option ℕ) (time : ℕ) → time_at number o ≡ Ok time → (o ≡ Some time) × (time ≤ TIME_LIMIT)
+time_read number None time h = cc
+time_read number (Some x) time h =
+    let t = test_inv (nat_le x TIME_LIMIT) (Bad number BadTime) (Ok x) time h in
+    let same = ok_inj x time t.1 in
+    (ap Some same, subst (λ n. n ≤ TIME_LIMIT) same (is_at_most x TIME_LIMIT t.0))
+
+time_inv : (number : ℕ) (word : List ℕ) (time : ℕ) → time_on number word ≡ Ok time → (number_in word ≡ Some time) × (time ≤ TIME_LIMIT)
 unfolding time_on
 time_inv number word time h = time_read number (number_in word) time h
 
@@ -60,17 +68,17 @@ daemon_inv t number name n h = some_inv (Bad number NotADaemon) (daemon_named na
 -- a line by what it says
 abbrev Fits : List ℕ → LineView → Type 0
 Fits line Nothing = says_nothing line ≡ true
-Fits line (Daemon name word) = IsDaemonLine line name word
-Fits line (Stack time word path) = (is_comment line ≡ false) × (more : List (List ℕ)) × (words line ≡ codes "stack" ∷ time ∷ word ∷ more) × (path ≡ path_in (after_word line))
+Fits line (Daemon name word) = IsUtf8 line × IsDaemonLine line name word
+Fits line (Stack time word path) = IsUtf8 line × (is_comment line ≡ false) × (more : List (List ℕ)) × (words line ≡ codes "stack" ∷ time ∷ word ∷ more) × (path ≡ path_in (after_word line))
 
 same_word : (one other : List ℕ) → bytes_eq one other ≡ true → one ≡ other
 same_word one other e = (bytes_eq-Decides one other).0 e
 
-module _ (number : ℕ) (line : List ℕ) (view : LineView) (comment : is_comment line ≡ false) where
+module _ (number : ℕ) (line : List ℕ) (view : LineView) (comment : is_comment line ≡ false) (utf8 : IsUtf8 line) where
   daemon_fits : (word : List ℕ) (ws : List (List ℕ)) → word ≡ codes "daemon" → words line ≡ word ∷ ws → daemon_words number ws ≡ Ok view → Fits line view
   daemon_fits word [] first is h = cc
   daemon_fits word (name ∷ []) first is h = cc
-  daemon_fits word (name ∷ ranks ∷ []) first is h = subst (Fits line) (ok_inj (Daemon name ranks) view h) (comment, is ∙ ap (λ w. w ∷ name ∷ ranks ∷ []) first)
+  daemon_fits word (name ∷ ranks ∷ []) first is h = subst (Fits line) (ok_inj (Daemon name ranks) view h) (utf8, (comment, is ∙ ap (λ w. w ∷ name ∷ ranks ∷ []) first))
   daemon_fits word (name ∷ ranks ∷ more ∷ ws) first is h = cc
 
   stack_fits : (word : List ℕ) (ws : List (List ℕ)) → word ≡ codes "stack" → words line ≡ word ∷ ws → stack_words number (after_word line) ws ≡ Ok view → Fits line view
@@ -78,7 +86,7 @@ module _ (number : ℕ) (line : List ℕ) (view : LineView) (comment : is_commen
   stack_fits word (time ∷ []) first is h = cc
   stack_fits word (time ∷ ranks ∷ []) first is h = cc
   stack_fits word (time ∷ ranks ∷ path ∷ ws) first is h =
-      subst (Fits line) (ok_inj (Stack time ranks (path_in (after_word line))) view h) (comment, path ∷ ws, is ∙ ap (λ w. w ∷ time ∷ ranks ∷ path ∷ ws) first, refl)
+      subst (Fits line) (ok_inj (Stack time ranks (path_in (after_word line))) view h) (utf8, comment, path ∷ ws, is ∙ ap (λ w. w ∷ time ∷ ranks ∷ path ∷ ws) first, refl)
 
   words_fit : (ws : List (List ℕ)) → words line ≡ ws → directive number line ws ≡ Ok view → Fits line view
   words_fit [] is h = cc
@@ -95,12 +103,12 @@ or_false false b e = refl
 
 line_fits : (number : ℕ) (line : List ℕ) (view : LineView) → read_line number line ≡ Ok view → Fits line view
 unfolding read_line
-line_fits number line view h = by (says_nothing line) refl (is_utf8 line) h
+line_fits number line view h = by (says_nothing line) refl (is_utf8 line) refl h
   where
-    by : (b : Bool) → says_nothing line ≡ b → (c : Bool) → cond b (Ok Nothing) (cond c (directive number line (words line)) (Err (Bad number NotUtf8))) ≡ Ok view → Fits line view
-    by true e c h = subst (Fits line) (ok_inj Nothing view h) e
-    by false e true h = words_fit number line view (or_false (is_comment line) (are_none (words line)) e) (words line) refl h
-    by false e false h = cc
+    by : (b : Bool) → says_nothing line ≡ b → (c : Bool) → is_utf8 line ≡ c → cond b (Ok Nothing) (cond c (directive number line (words line)) (Err (Bad number NotUtf8))) ≡ Ok view → Fits line view
+    by true e c f h = subst (Fits line) (ok_inj Nothing view h) e
+    by false e true f h = words_fit number line view (or_false (is_comment line) (are_none (words line)) e) (IsUtf8-from_is_utf8 line f) (words line) refl h
+    by false e false f h = cc
 
 -- a `daemon` line places ranks on a node
 pub record AddsRanks (t : Nodes) (s : Sampled) (line : List ℕ) (u : Sampled) : Type 0 where
@@ -108,16 +116,21 @@ pub record AddsRanks (t : Nodes) (s : Sampled) (line : List ℕ) (u : Sampled) :
   pub word : List ℕ
   pub node : ℕ
   pub ranks : Ranks
+  pub utf8 : IsUtf8 line
   pub is : IsDaemonLine line name word
   pub named : daemon_named name t ≡ Some node
   pub read : ranks_text word ≡ Ok ranks
+  pub new : are_disjoint ranks (all_ranks s.placed) ≡ true
   pub after : record s { placed = add_at s.placed node ranks } ≡ u
 
 -- a `stack` line adds a sample
 pub record AddsSample (s : Sampled) (line : List ℕ) (u : Sampled) : Type 0 where
   pub sample : SampleLine
+  pub utf8 : IsUtf8 line
   pub comment : is_comment line ≡ false
   pub is : IsSampleOf line sample
+  pub time : sample.time ≤ TIME_LIMIT
+  pub placed : is_subset sample.ranks (all_ranks s.placed) ≡ true
   pub after : record s { lines = s.lines ++ sample ∷ [] } ≡ u
 
 -- what becomes of samples with a line more
@@ -125,7 +138,7 @@ abbrev pub Changes : Nodes → Sampled → List ℕ → Sampled → Type 0
 Changes t s line u = ((says_nothing line ≡ true) × (s ≡ u)) ⊎ (AddsRanks t s line u ⊎ AddsSample s line u)
 
 module _ (t : Nodes) (s u : Sampled) (number : ℕ) (line : List ℕ) where
-  by_daemon : (name word : List ℕ) → IsDaemonLine line name word → with_daemon t s number name word ≡ Ok u → AddsRanks t s line u
+  by_daemon : (name word : List ℕ) → Fits line (Daemon name word) → with_daemon t s number name word ≡ Ok u → AddsRanks t s line u
   unfolding with_daemon
   by_daemon name word is h =
       let a = then_inv (daemon_on t number name) _ u h in
@@ -136,9 +149,11 @@ module _ (t : Nodes) (s u : Sampled) (number : ℕ) (line : List ℕ) where
         word = word;
         node = a.0;
         ranks = b.0;
-        is = is;
+        utf8 = is.0;
+        is = is.1;
         named = daemon_inv t number name a.0 a.1;
         read = ranks_inv number word b.0 b.1;
+        new = c.0;
         after = ok_inj _ u c.1;
       }
 
@@ -150,18 +165,22 @@ module _ (t : Nodes) (s u : Sampled) (number : ℕ) (line : List ℕ) where
       let b = then_inv (ranks_on number word) _ u a.2 in
       let c = test_inv (is_subset b.0 (all_ranks s.placed)) (Bad number Unplaced) _ u b.2 in
       let d = then_inv (path_on number text) _ u c.1 in
+      let time = time_inv number time_word a.0 a.1 in
       record {
         sample = sample a.0 b.0 d.0;
-        comment = is.0;
+        utf8 = is.0;
+        comment = is.1;
         is = record {
           time_word = time_word;
           ranks_word = word;
-          more = is.1;
-          is = is.2;
-          time = time_inv number time_word a.0 a.1;
+          more = is.2;
+          is = is.3;
+          time = time.0;
           ranks = ranks_inv number word b.0 b.1;
-          path = ap path_of (sym is.3) ∙ path_inv number text d.0 d.1;
+          path = ap path_of (sym is.4) ∙ path_inv number text d.0 d.1;
         };
+        time = time.1;
+        placed = c.0;
         after = ok_inj _ u d.2;
       }
 

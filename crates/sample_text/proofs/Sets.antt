@@ -2,7 +2,7 @@
 use Rattle.std.proofs.Common.{◌≡◌, ◌≢◌, ◌∙◌, ℕ, zero, suc, ◌<◌, ◌⊎◌, inl, inr, Bool, true, false, ◌&&◌, ◌||◌, List, [], ◌∷◌, ◌++◌, length, get_or, slice_set, slice_index_or, refl, sym, ap, arith, ◌+◌, eqb-true}
 use Rattle.std.specs.List.{list_any}
 use Rattle.std.proofs.lemmas.Bool.{true≢false}
-use Rattle.rank_set.specs.Ranks.{Ranks, none, has, Has, IsSubset, union, those, has-none, has-union, has-those, same_ranks, none_from_size}
+use Rattle.rank_set.specs.Ranks.{Ranks, none, has, Has, IsSubset, union, those, has-none, has-union, has-those, same_ranks, none_from_size, is_empty}
 use Rattle.stat_plan.specs.Invariants.{ArePlacedOnce}
 use Rattle.stat_plan.specs.Samples.{ranks_with, all_ranks}
 use Rattle.sample_text.specs.Steps.{are_disjoint, add_at}
@@ -100,6 +100,15 @@ in_one [] m r there = absurd (true≢false (sym there ∙ has-none r))
 in_one (set ∷ sets) zero r there = or_first (has set r) (in_any r sets) there
 in_one (set ∷ sets) (suc m) r there = or_second (has set r) (in_any r sets) (in_one sets m r there)
 
+-- a rank of all is one of a set
+pub in_some : (sets : List Ranks) (r : ℕ) → in_any r sets ≡ true → (m : ℕ) × (m < length sets) × Has r (get_or sets m none)
+in_some [] r there = absurd (true≢false (sym there))
+in_some (set ∷ sets) r there = by (either (has set r) (in_any r sets) there) (in_some sets r)
+  where
+    by : Has r set ⊎ (in_any r sets ≡ true) → (in_any r sets ≡ true → (m : ℕ) × (m < length sets) × Has r (get_or sets m none)) → (m : ℕ) × (m < suc (length sets)) × Has r (get_or (set ∷ sets) m none)
+    by (inl here) later = (0, omega arith, here)
+    by (inr rest) later = let l = later rest in let lt = l.1 in (suc l.0, omega arith, l.2)
+
 or_more : (a b c d : Bool) → (a ≡ true → c ≡ true) → (b ≡ true → d ≡ true) → (a || b) ≡ true → (c || d) ≡ true
 or_more true b c d first second e = or_first c d (first refl)
 or_more false b c d first second e = or_second c d (second e)
@@ -118,6 +127,17 @@ pub not_in_both : (ranks others : Ranks) (r : ℕ) → are_disjoint ranks others
 unfolding are_disjoint
 not_in_both ranks others r disjoint one other =
     true≢false (sym ((λ i. one i && other i)) ∙ sym (has-those (has others) ranks r) ∙ ap (λ s. has s r) (none_from_size (those (has others) ranks) (eqb-true _ _ disjoint)) ∙ has-none r)
+
+-- sets are disjoint where no rank is in both
+pub disjoint_from : (ranks others : Ranks) → ((r : ℕ) → Has r ranks → Has r others → ⊥) → are_disjoint ranks others ≡ true
+unfolding are_disjoint
+disjoint_from ranks others apart =
+    ap is_empty (same_ranks (those (has others) ranks) none (λ r. has-those (has others) ranks r ∙ by r (has ranks r) refl (has others r) refl ∙ sym (has-none r)))
+  where
+    by : (r : ℕ) (a : Bool) → has ranks r ≡ a → (b : Bool) → has others r ≡ b → (a && b) ≡ false
+    by r true one true other = absurd (apart r one other)
+    by r true one false other = refl
+    by r false one b other = refl
 
 -- ranks that are placed nowhere are placed once more
 pub once_more : (sets : List Ranks) (n : ℕ) (ranks : Ranks) → ArePlacedOnce sets → are_disjoint ranks (all_ranks sets) ≡ true → ArePlacedOnce (add_at sets n ranks)

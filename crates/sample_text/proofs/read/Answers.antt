@@ -7,8 +7,8 @@ use Rattle.text_lines.specs.declared.text_error.TextError.{TextError}
 use Rattle.text_lines.specs.declared.text_error.TextError.TheVariants.{OutOfMemory}
 use Rattle.text_lines.proofs.Errors.{handed_on, value_has}
 use Rattle.text_lines.proofs.Parsing.{all_parsed, same_context, first_error}
-use Rattle.sample_text.specs.Grammar.{IsWritten}
-use Rattle.sample_text.proofs.Grammar.{is_written}
+use Rattle.sample_text.specs.Grammar.{IsAcceptable}
+use Rattle.sample_text.proofs.Acceptance.{acceptable, is_acceptable}
 use Rattle.sample_text.specs.Invariants.{ParserInvariant}
 use Rattle.sample_text.specs.ParserViews.{parser_view, parser_nodes}
 use Rattle.sample_text.specs.Whole.{nothing_parsed, whole, samples_of_text}
@@ -61,5 +61,14 @@ returns-clause-err c = subst (IsErrorOf c.finish.result) (sym (is_whole c)) (wea
 
 pub returns-clause-written : goal.returns-clause-written
 returns-clause-written c =
-    value_has c.finish.result (samples_of_text c.args.topology.now c.args.text.now) (IsWritten c.args.topology.now c.args.text.now)
-    (subst (IsValueOf c.finish.result) (sym (is_whole c)) c.finish.ensures.ok) (is_written c.args.topology.now c.invariant.ensures c.args.text.now)
+    value_has c.finish.result (samples_of_text c.args.topology.now c.args.text.now) (IsAcceptable c.args.topology.now c.args.text.now)
+    (subst (IsValueOf c.finish.result) (sym (is_whole c)) c.finish.ensures.ok) (is_acceptable c.args.topology.now c.invariant.ensures c.args.text.now)
+
+pub returns-clause-accepted : goal.returns-clause-accepted
+returns-clause-accepted c = acceptable c.args.topology.now c.invariant.ensures c.args.text.now
+
+pub returns-in_err-parser-clause-accepted : goal.returns-in_err-parser-clause-accepted
+returns-in_err-parser-clause-accepted c = acceptable c.args.topology.now c.invariant.ensures c.args.text.now
+
+pub returns-in_err-read_lines-clause-accepted : goal.returns-in_err-read_lines-clause-accepted
+returns-in_err-read_lines-clause-accepted c = acceptable c.args.topology.now c.invariant.ensures c.args.text.now
