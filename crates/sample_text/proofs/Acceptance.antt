@@ -8,7 +8,7 @@ use Rattle.rank_set.specs.Ranks.{Ranks, none, has, Has, is_empty, has-none, same
 use Rattle.rank_set.specs.RanksText.{ranks_text}
 use Rattle.call_path.specs.Path.{Path}
 use Rattle.call_path.specs.Reading.{path_of, frames, first_error, frame_error}
-use Rattle.text_lines.specs.Lines.{lines, words, says_nothing, is_comment, are_none, after_blanks, after_word, number_in}
+use Rattle.text_lines.specs.Lines.{lines, words, is_comment, after_blanks, after_word, number_in}
 use Rattle.text_lines.specs.Directives.{is_line_of}
 use Rattle.text_lines.specs.Parsing.{and_then, parsed_lines, some_or}
 use Rattle.text_lines.specs.declared.text_error.TextError.{TextError}
@@ -31,7 +31,7 @@ use Rattle.sample_text.specs.Steps.{if_holds, daemon_on, ranks_on, ranks_or_erro
 use Rattle.sample_text.specs.Whole.{nothing_parsed, lacks_rank, whole, samples_of_text}
 use Rattle.sample_text.proofs.InvariantLemmas.{holds_after, fits}
 use Rattle.sample_text.proofs.LineViews.{AddsRanks, AddsSample, Changes, changes}
-use Rattle.sample_text.proofs.LineWords.{line_of_nothing, line_of_words}
+use Rattle.sample_text.proofs.LineWords.{line_of_nothing, line_of_words, says_words}
 use Rattle.sample_text.proofs.Lines.{whole_good, samples_good}
 use Rattle.sample_text.proofs.Sets.{has-all_ranks, in_one, in_some, not_in_both, disjoint_from, empty_sets_empty, length-empty_sets}
 use Rattle.sample_text.proofs.Steps.{daemon_good, stack_good, line_good}
@@ -66,10 +66,6 @@ path_word line word time ranks [] path is read = by (after_blanks third) refl
     by : (left : List ℕ) → after_blanks third ≡ left → (first : List ℕ) × (rest : List (List ℕ)) × ([] ≡ first ∷ rest)
     by [] e = absurd (no_path path (ap path_of (sym e) ∙ read))
     by (b ∷ left) e = let h = sym none ∙ word_here third (subst (λ t. 0 < length t) (sym e) (omega arith)) in cc
-
--- a line of words says something
-says_words : (line word : List ℕ) (rest : List (List ℕ)) → is_comment line ≡ false → words line ≡ word ∷ rest → says_nothing line ≡ false
-says_words line word rest comment is = (λ i. comment i || are_none (is i))
 
 -- a line with the words of a good line is read as such
 daemon_read : (line name word : List ℕ) → IsUtf8 line → IsDaemonLine line name word → (number : ℕ) → read_line number line ≡ Ok (Daemon name word)

@@ -1,4 +1,5 @@
 pub mod LineWords
+pub mod UsualLines
 pub mod Sets
 pub mod Steps
 pub mod Texts

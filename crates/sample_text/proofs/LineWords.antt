@@ -1,11 +1,11 @@
 -- The words of a line, and that what is left of a line is UTF-8 as the line is.
-use Rattle.std.proofs.Common.{◌≡◌, ◌∙◌, ℕ, suc, ◌+◌, ◌-◌, ◌<◌, ◌≤◌, Bool, true, false, cond, not, nat_eq, List, [], ◌∷◌, length, drop, get_or, Ok, Err, refl, sym, ap, subst, arith}
+use Rattle.std.proofs.Common.{◌≡◌, ◌∙◌, ℕ, suc, ◌+◌, ◌-◌, ◌<◌, ◌≤◌, Bool, true, false, cond, not, ◌||◌, nat_eq, List, [], ◌∷◌, length, drop, get_or, Ok, Err, refl, sym, ap, subst, arith}
 use Rattle.std.proofs.lemmas.Bool.Decides.{nat_tests}
 use Rattle.std.specs.Str.{IsUtf8, is_utf8, IsCharBoundary}
 use Rattle.std.proofs.lemmas.Str.{IsUtf8-from_is_utf8, is_utf8-from_IsUtf8, IsUtf8-drop, IsCharBoundary-after_ascii, IsCharBoundary-from_drop}
 use Rattle.std.proofs.lemmas.List.{drop-drop, length-drop}
 use Rattle.std.proofs.lemmas.List.Sums.{prefix_len-le-length, prefix_len_stops}
-use Rattle.text_lines.specs.Lines.{words, is_blank, blanks_len, word_len, after_blanks, after_word, says_nothing}
+use Rattle.text_lines.specs.Lines.{words, is_blank, blanks_len, word_len, after_blanks, after_word, says_nothing, is_comment, are_none}
 use Rattle.text_lines.specs.declared.text_error.TextError.TheVariants.{Bad}
 use Rattle.text_lines.specs.declared.text_error.Reason.TheVariants.{NotUtf8, BadDirective}
 use Rattle.text_lines.proofs.Cuts.{past_blanks, no_words, word_here}
@@ -81,6 +81,10 @@ module _ (number : ℕ) (line : List ℕ) where
   pub line_of_words : says_nothing line ≡ false → IsUtf8 line → read_line number line ≡ directive number line (words line)
   unfolding read_line
   line_of_words e good = (λ i. cond (e i) (Ok Nothing) (cond (is_utf8-from_IsUtf8 line good i) (directive number line (words line)) (Err (Bad number NotUtf8))))
+
+-- a line of words says something
+pub says_words : (line word : List ℕ) (rest : List (List ℕ)) → is_comment line ≡ false → words line ≡ word ∷ rest → says_nothing line ≡ false
+says_words line word rest comment is = (λ i. comment i || are_none (is i))
 
 -- the end of a line from one of its bytes on
 IsEnd : List ℕ → List ℕ → Type 0

@@ -1,5 +1,5 @@
 -- Texts and the paths that they are read as, by number.
-use Rattle.std.proofs.Common.{◌≡◌, ◌∙◌, ℕ, zero, suc, ◌<◌, ◌≤◌, false, List, [], ◌∷◌, ◌++◌, length, get_or, Some, None, Ok, refl, sym, ap, arith, String, Global, string_bytes}
+use Rattle.std.proofs.Common.{◌≡◌, ◌∙◌, ℕ, zero, suc, ◌<◌, ◌≤◌, false, List, [], ◌∷◌, ◌++◌, length, get_or, slice_get, Some, None, Ok, refl, sym, ap, arith, String, Global, string_bytes}
 use Rattle.std.specs.List.{list_any, position}
 use Rattle.std.specs.Str.{bytes_eq}
 use Rattle.std.specs.String.{string_eq}
@@ -30,6 +30,13 @@ found name (text ∷ texts) paths i read is =
     let same : name ≡ string_bytes (get_or (text ∷ texts) i text) = (bytes_eq-Decides name (string_bytes (get_or (text ∷ texts) i text))).0 at.1 in
     let h = read_at (text ∷ texts) paths i text read at.0 in
     (ap path_of same ∙ h.0, h.1)
+
+-- the text with a number is read as the path with this number
+pub read_as : (name : List ℕ) (text : String Global) (texts : List (String Global)) (paths : List Path) (i : ℕ) → AreRead texts paths → Some text ≡ slice_get texts i → string_bytes text ≡ name → (path_of name ≡ Ok (get_or paths i [])) × (i < length paths)
+read_as name text [] paths i read is same = absurd (let h = is in cc)
+read_as name text (t ∷ texts) [] i read is same = absurd read
+read_as name text (t ∷ texts) (path ∷ paths) zero read is same = let first : text ≡ t = cc in (ap path_of (sym same ∙ ap string_bytes first) ∙ read.0, omega arith)
+read_as name text (t ∷ texts) (path ∷ paths) (suc i) read is same = let h = read_as name text texts paths i read.1 is same in let less = h.1 in (h.0, omega arith)
 
 -- one text more, and its path
 pub read_more : (texts : List (String Global)) (paths : List Path) (text : String Global) (path : Path) → AreRead texts paths → path_of (string_bytes text) ≡ Ok path → AreRead (texts ++ text ∷ []) (paths ++ path ∷ [])

@@ -1,6 +1,6 @@
 //! The paths of a samples text, each of them once.
 
-ghost use Rattle.std.specs.Prelude.{◌≡◌, ◌≢◌, ◌≤◌, ◌<◌, ◌+◌, ℕ, length, IfOk, IfErr, OnOk, Ok, Err};
+ghost use Rattle.std.specs.Prelude.{◌≡◌, ◌≢◌, ◌≤◌, ◌<◌, ◌+◌, ℕ, true, length, IfOk, IfErr, OnOk, Ok, Err};
 ghost use Rattle.call_path.specs.Reading.{path_of};
 ghost use Rattle.stat_plan.specs.declared.samples.TheConstants.{LINE_LIMIT};
 ghost use Rattle.text_lines.specs.Parsing.{IsValueOf, IsErrorOf};
@@ -16,6 +16,8 @@ use text_lines::{Reason, TextError};
 pub struct Paths {
     texts: IndexSet<String>,
     paths: Vec<CallPath>,
+    // The number that was given last.
+    last: u32,
 }
 
 // The path that a text on a line writes.
@@ -43,11 +45,26 @@ impl Paths {
         Paths {
             texts: IndexSet::new(alloc),
             paths: Vec::new(alloc),
+            last: 0,
+        }
+    }
+
+    // Whether a text is that of the path whose number was given last.
+    fn is_last(&self, text: &str) -> bool
+        requires { HoldsPaths self.now }
+        ensures {
+            result ≡ true →
+            (path_of text.now ≡ Ok (path_at self.now self.now.last)) × (self.now.last < length self.now.paths.items)
+            }
+    {
+        match self.texts.get_index(self.last as usize) {
+            Some(last) => last.as_str() == text,
+            None => false,
         }
     }
 
     /// The number of the path that a text on a line writes. A text that was here before has the number that it had, and is
-    /// not read again.
+    /// not read again. The text of the last call is not looked for either.
     pub fn number(&mut self, line_number: u64, text: &str) -> Result<u32, TextError>
         requires holds { HoldsPaths self.old }
         requires within_limit { length self.old.paths.items < LINE_LIMIT }
@@ -61,15 +78,20 @@ impl Paths {
         ensures at_most_one_new { OnOk result (length self.new.paths.items ≤ length self.old.paths.items + 1) }
         ensures err { IsErrorOf result (path_on line_number text.now) }
     {
-        if let Some(number) = self.texts.get_index_of(text) {
-            return Ok(number as u32);
+        if self.is_last(text) {
+            return Ok(self.last);
         }
-        let number = self.paths.len();
+        if let Some(number) = self.texts.get_index_of(text) {
+            self.last = number as u32;
+            return Ok(self.last);
+        }
+        let number = self.paths.len() as u32;
         let alloc = *self.paths.allocator();
         let path = path_on(alloc, line_number, text)?;
         self.paths.push(path)?;
         let _ = self.texts.insert_full(String::from_str(alloc, text)?)?;
-        Ok(number as u32)
+        self.last = number;
+        Ok(number)
     }
 
     /// The paths by number.

@@ -1,12 +1,12 @@
 //! The words of a line of samples: `daemon NAME RANKS` or `stack TIME RANKS PATH`. They are checked here, before any name,
 //! number or path in them.
 
-ghost use Rattle.std.specs.Prelude.{◌≡◌, IfOk, IfErr, Ok, Err};
+ghost use Rattle.std.specs.Prelude.{◌≡◌, ℕ, IfOk, IfErr, IfSome, Ok, Err};
 ghost use Rattle.text_lines.specs.Lines.{words, after_word};
-ghost use Rattle.sample_text.specs.Words.{daemon_words, stack_words, directive, read_line};
+ghost use Rattle.sample_text.specs.Words.{daemon_words, path_in, stack_words, directive, read_line};
 ghost use Rattle.sample_text.specs.LineViews.{line_view};
 
-use text_lines::{Reason, TextError, after_blanks, is_word, next_word, says_nothing};
+use text_lines::{Reason, TextError, after_blanks, cut_word, is_word, next_word, says_nothing};
 
 /// What a line says.
 #[derive(Debug, Clone, Copy)]
@@ -43,7 +43,16 @@ fn daemon_words(line_number: u64, rest: &[u8]) -> Result<Line<'_>, TextError>
     Ok(Line::Daemon { name, ranks })
 }
 
-// What follows the word `stack` in a line. The line is UTF-8, so the path, which is its end, is not tested again.
+// PATH in a line, which is its end. The line is UTF-8, so the path is not tested again.
+fn path_in<'t>(line: &'t str, end: &[u8]) -> &'t str
+    requires { end.now ≡ path_in (after_word line.now) }
+    ensures { result.now ≡ end.now }
+{
+    let (_, path) = line.split_at(line.len() - end.len());
+    path
+}
+
+// What follows the word `stack` in a line.
 fn stack_words<'t>(line_number: u64, line: &'t str, rest: &'t [u8]) -> Result<Line<'t>, TextError>
     requires { rest.now ≡ after_word line.now }
     ensures ok { IfOk result (λ view. stack_words line_number rest.now (words rest.now) ≡ Ok (line_view view)) }
@@ -59,7 +68,7 @@ fn stack_words<'t>(line_number: u64, line: &'t str, rest: &'t [u8]) -> Result<Li
     if end.is_empty() {
         return Err(TextError::bad(line_number, Reason::BadDirective));
     }
-    let (_, path) = line.split_at(line.len() - end.len());
+    let path = path_in(line, end);
     Ok(Line::Stack { time, ranks, path })
 }
 
@@ -80,16 +89,48 @@ fn directive(line_number: u64, line: &str) -> Result<Line<'_>, TextError>
     }
 }
 
+// A line of samples in its usual form, read in one go: `stack`, TIME and RANKS with one blank behind each, and PATH. None
+// where the line has another form.
+fn usual_line(line: &str) -> Option<Line<'_>>
+    ensures { IfSome result (λ view. (n : ℕ) → read_line n line.now ≡ Ok (line_view view)) }
+{
+    let rest = line.as_bytes().strip_prefix(b"stack ")?;
+    let (time, rest) = cut_word(rest)?;
+    let (ranks, rest) = cut_word(rest)?;
+    let end = after_blanks(rest);
+    if end.is_empty() {
+        return None;
+    }
+    let path = path_in(line, end);
+    Some(Line::Stack { time, ranks, path })
+}
+
+/// What a line of UTF-8 says, or why it is not a line of samples.
+pub fn read_text_line(line_number: u64, line: &str) -> Result<Line<'_>, TextError>
+    ensures ok { IfOk result (λ view. read_line line_number line.now ≡ Ok (line_view view)) }
+    ensures err { IfErr result (λ e. read_line line_number line.now ≡ Err e) }
+{
+    if let Some(usual) = usual_line(line) {
+        return Ok(usual);
+    }
+    if says_nothing(line.as_bytes()) {
+        return Ok(Line::Nothing);
+    }
+    directive(line_number, line)
+}
+
 /// What a line says, or why it is not a line of samples.
 pub fn read_line(line_number: u64, line: &[u8]) -> Result<Line<'_>, TextError>
     ensures ok { IfOk result (λ view. read_line line_number line.now ≡ Ok (line_view view)) }
     ensures err { IfErr result (λ e. read_line line_number line.now ≡ Err e) }
 {
-    if says_nothing(line) {
-        return Ok(Line::Nothing);
-    }
     match str::from_utf8(line) {
-        Ok(line) => directive(line_number, line),
-        Err(_) => Err(TextError::bad(line_number, Reason::NotUtf8)),
+        Ok(line) => read_text_line(line_number, line),
+        Err(_) => {
+            if says_nothing(line) {
+                return Ok(Line::Nothing);
+            }
+            Err(TextError::bad(line_number, Reason::NotUtf8))
+        }
     }
 }

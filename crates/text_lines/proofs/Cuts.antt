@@ -1,9 +1,10 @@
 -- Lines and words from the front of a text.
-use Rattle.std.proofs.Common.{◌≡◌, ℕ, suc, ◌+◌, ◌<◌, ◌≤◌, Bool, true, false, not, cond, nat_eq, List, [], ◌∷◌, ◌++◌, length, drop, take, map, Option, None, Some, refl, sym, ap, ◌∙◌, arith}
+use Rattle.std.proofs.Common.{◌≡◌, ℕ, suc, ◌+◌, ◌<◌, ◌≤◌, Bool, true, false, not, cond, nat_eq, List, [], ◌∷◌, ◌++◌, length, drop, take, map, get_or, drop-cons, Option, None, Some, refl, sym, ap, subst, ◌∙◌, arith}
 use Rattle.std.specs.Option.{unwrap_or}
-use Rattle.std.proofs.lemmas.List.Sums.{prefix_len_is}
+use Rattle.std.proofs.lemmas.List.{length-drop}
+use Rattle.std.proofs.lemmas.List.Sums.{prefix_len_is, prefix_len_stops}
 use Rattle.memchr.specs.Find.{IsFirstByte, is_byte}
-use Rattle.text_lines.specs.Lines.{pieces, before_first, without_return, lines, is_blank, words, line_len, word_len, blanks_len, after_blanks}
+use Rattle.text_lines.specs.Lines.{pieces, before_first, without_return, lines, is_blank, words, line_len, word_len, blanks_len, after_blanks, after_word}
 
 not_true : (b : Bool) → (b ≡ true → ⊥) → not b ≡ true
 not_true true h = absurd (h refl)
@@ -126,3 +127,48 @@ word_some line some = by (after_blanks line) refl some
     by : (t : List ℕ) → after_blanks line ≡ t → 0 < length t → 1 ≤ word_len t
     by [] e h = absurd (omega arith)
     by (b ∷ rest) e h = len b rest (is_blank b) (no_blank line b rest e)
+
+-- a blank in front means nothing
+module _ (b : ℕ) (rest : List ℕ) (is : is_blank b ≡ true) where
+  pub words_past : words (b ∷ rest) ≡ words rest
+  unfolding words
+  words_past = rw (is, words) refl
+
+  pub blanks_past : after_blanks (b ∷ rest) ≡ after_blanks rest
+  blanks_past = (λ i. drop (cond (is i) (1 + blanks_len rest) 0) (b ∷ rest)) ∙ (let n : 1 + blanks_len rest ≡ suc (blanks_len rest) = omega arith in ap (λ k. drop k (b ∷ rest)) n)
+
+-- a line that is cut after the word that it begins with
+module _ (line : List ℕ) (b : ℕ) (rest : List ℕ) (some : 0 < word_len line) (cut : drop (word_len line) line ≡ b ∷ rest) where
+  within : word_len line < length line
+  within = let all = ap length cut in let left = length-drop (word_len line) line in omega arith
+
+  not_false : (t : Bool) → not t ≡ false → t ≡ true
+  not_false true e = refl
+  not_false false e = cc
+
+  ends_at_blank : is_blank b ≡ true
+  ends_at_blank =
+      let here = sym cut ∙ drop-cons line (word_len line) 0 within in
+      let same : get_or line (word_len line) 0 ≡ b = cc in
+      not_false (is_blank b) (ap (λ x. not (is_blank x)) (sym same) ∙ prefix_len_stops (λ b. not (is_blank b)) line 0 within)
+
+  no_blanks : after_blanks line ≡ line
+  no_blanks = by line some
+    where
+      at : (c : ℕ) (text : List ℕ) (t : Bool) → 0 < cond (not t) (1 + word_len text) 0 → drop (cond t (1 + blanks_len text) 0) (c ∷ text) ≡ c ∷ text
+      at c text true lt = absurd (omega arith)
+      at c text false lt = refl
+
+      by : (text : List ℕ) → 0 < word_len text → after_blanks text ≡ text
+      by [] lt = refl
+      by (c ∷ text) lt = at c text (is_blank c) lt
+
+  pub word_cut : words line ≡ take (word_len line) line ∷ words rest
+  word_cut =
+      word_here line (subst (λ t. 0 < length t) (sym no_blanks) (omega (arith, within)))
+      ∙ ap (λ t. take (word_len t) t ∷ words (drop (word_len t) t)) no_blanks
+      ∙ ap (λ t. take (word_len line) line ∷ words t) cut
+      ∙ ap (λ ws. take (word_len line) line ∷ ws) (words_past b rest ends_at_blank)
+
+  pub rest_cut : after_blanks (after_word line) ≡ after_blanks rest
+  rest_cut = ap (λ t. after_blanks (drop (word_len t) t)) no_blanks ∙ ap after_blanks cut ∙ blanks_past b rest ends_at_blank

@@ -4,8 +4,11 @@ use Rattle.sample_text.specs.ParserViews.{AreRead}
 use Rattle.sample_text.proofs.Texts.{found, path_good, read_more, inserted}
 use Rattle.sample_text.proofs.paths.Paths.number.Goals as goal
 
-pub overflow_cast-result : goal.overflow_cast-result
-overflow_cast-result c =
+pub returns-then-is_last-clause-ok : goal.returns-then-is_last-clause-ok
+returns-then-is_last-clause-ok c = path_good c.args.line_number c.args.text.now _ (c.is_last.ensures c.if-is_last.true).0
+
+pub overflow_cast-self : goal.overflow_cast-self
+overflow_cast-self c =
     let lt = (found c.args.text.now c.args.self.now.texts.keys c.args.self.now.paths.items c.in-Some.number c.requires.holds c.in-Some.ensures.index).1 in
     omega (arith, lt, c.requires.within_limit)
 

@@ -1,0 +1,42 @@
+-- A line in its usual form is read as its words.
+use Rattle.std.proofs.Common.{◌≡◌, ◌∙◌, ℕ, ◌<◌, true, List, ◌∷◌, ◌++◌, length, take, drop, Ok, refl, sym, ap, subst, codes}
+use Rattle.std.specs.Str.{bytes_eq, IsUtf8}
+use Rattle.std.proofs.lemmas.List.{take-append-drop}
+use Rattle.std.proofs.lemmas.Slice.Eq.{bytes_eq-Decides}
+use Rattle.text_lines.specs.Lines.{words, word_len, after_blanks, after_word, is_comment}
+use Rattle.text_lines.proofs.Cuts.{word_here, blanks_past}
+use Rattle.sample_text.specs.Words.{Stack, directive, read_line}
+use Rattle.sample_text.proofs.LineWords.{line_of_words, says_words}
+
+-- what is left after two words is decided by what is left after the blanks
+word_after : (one other : List ℕ) → after_blanks one ≡ after_blanks other → after_word one ≡ after_word other
+word_after one other same = ap (λ t. drop (word_len t) t) same
+
+-- a line that begins with `stack` and a blank
+module _ (line bytes first second third : List ℕ) (value : bytes ≡ line) (begins : bytes_eq (take 6 bytes) (codes "stack ") ≡ true) (is : first ≡ drop 6 bytes) where
+  whole : line ≡ codes "stack " ++ first
+  whole = sym value ∙ sym (take-append-drop 6 bytes) ∙ (λ i. (bytes_eq-Decides (take 6 bytes) (codes "stack ")).0 begins i ++ sym is i)
+
+  stack_first : words line ≡ codes "stack" ∷ words first
+  unfolding words
+  stack_first = ap words whole
+
+  after_stack : after_blanks (after_word line) ≡ after_blanks first
+  after_stack = ap (λ t. after_blanks (after_word t)) whole ∙ blanks_past 32 first refl
+
+  module _ (time ranks path : List ℕ) (two : words first ≡ time ∷ words second) (three : words second ≡ ranks ∷ words third) (after_time : after_blanks (after_word first) ≡ after_blanks second) (after_ranks : after_blanks (after_word second) ≡ after_blanks third) (end : path ≡ after_blanks third) where
+    -- the path is what is left after three words
+    pub path_is : path ≡ after_blanks (after_word (after_word (after_word line)))
+    path_is =
+        let one : after_word (after_word line) ≡ after_word first = word_after (after_word line) first after_stack in
+        let both : after_word (after_word (after_word line)) ≡ after_word second = ap after_word one ∙ word_after (after_word first) second after_time in
+        end ∙ sym (ap after_blanks both ∙ after_ranks)
+
+    -- such a line is read as these words
+    pub usual_read : IsUtf8 line → 0 < length path → (n : ℕ) → read_line n line ≡ Ok (Stack time ranks path)
+    usual_read utf8 some n =
+        let fourth = word_here third (subst (λ t. 0 < length t) end some) in
+        let ws = stack_first ∙ ap (λ ws. codes "stack" ∷ ws) (two ∙ ap (λ ws. time ∷ ws) (three ∙ ap (λ ws. ranks ∷ ws) fourth)) in
+        line_of_words n line (says_words line (codes "stack") (words first) (ap is_comment whole) stack_first) utf8
+        ∙ ap (directive n line) ws
+        ∙ ap (λ p. Ok (Stack time ranks p)) (sym path_is)
