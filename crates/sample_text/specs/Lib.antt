@@ -4,5 +4,6 @@ pub mod Whole
 pub mod Invariants
 pub mod LineViews
 pub mod ParserViews
+pub mod Taking
 pub mod Grammar
 pub mod Rows

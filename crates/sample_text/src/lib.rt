@@ -5,11 +5,14 @@
 //! or its first error, and [`read`] gives exactly that.
 #![tactic(auto)]
 
-ghost use Rattle.std.specs.Prelude.{◌≡◌, IfOk, Ok};
+ghost use Rattle.std.specs.Prelude.{◌≡◌, IfOk, IfErr, OnOk, Ok};
 ghost use Rattle.stat_plan.specs.Invariants.{SamplesFit};
 ghost use Rattle.stat_plan.specs.Plans.{Sampled};
-ghost use Rattle.text_lines.specs.Parsing.{IsValueOf, IsErrorOf};
+ghost use Rattle.text_lines.specs.Lines.{lines};
+ghost use Rattle.text_lines.specs.Parsing.{IsValueOf, IsErrorOf, TakesLines, RefusesLines};
 ghost use Rattle.sample_text.specs.Grammar.{IsAcceptable};
+ghost use Rattle.sample_text.specs.ParserViews.{IsConsistent};
+ghost use Rattle.sample_text.specs.Taking.{takes_line, refuses_line};
 ghost use Rattle.sample_text.specs.Whole.{samples_of_text};
 
 mod parser;
@@ -21,7 +24,38 @@ mod words;
 use parser::Parser;
 use stat_plan::{Samples, Topology};
 use std::alloc::Global;
-use text_lines::{TextError, read_lines};
+use text_lines::{TextError, next_text_line, read_lines};
+
+// Takes the lines of a text in UTF-8 into a parser, up to the first that it refuses.
+fn take_text_lines(text: &str, parser: &mut Parser<'_>) -> Result<(), TextError>
+    requires { IsConsistent parser.old }
+    ensures taken { OnOk result (TakesLines takes_line parser.old 1 (lines text.now) parser.new) }
+    ensures ready { OnOk result (IsConsistent parser.new) }
+    ensures refused { IfErr result (λ e. RefusesLines takes_line refuses_line parser.old 1 (lines text.now) e) }
+{
+    let mut line_number = 1;
+    let mut rest = text;
+    while let Some((line, after)) = next_text_line(rest) {
+        parser.take_text(line_number, line)?;
+        line_number += 1;
+        rest = after;
+    }
+    Ok(())
+}
+
+// Takes the lines of a text into a parser, up to the first that it refuses. A text in UTF-8 is tested once, and of another
+// text each line.
+fn take_lines(text: &[u8], parser: &mut Parser<'_>) -> Result<(), TextError>
+    requires { IsConsistent parser.old }
+    ensures taken { OnOk result (TakesLines takes_line parser.old 1 (lines text.now) parser.new) }
+    ensures ready { OnOk result (IsConsistent parser.new) }
+    ensures refused { IfErr result (λ e. RefusesLines takes_line refuses_line parser.old 1 (lines text.now) e) }
+{
+    match str::from_utf8(text) {
+        Ok(text) => take_text_lines(text, parser),
+        Err(_) => read_lines(text, parser),
+    }
+}
 
 /// Reads samples of the nodes of a topology. A text is refused by its first error, read from the front line by line, and
 /// then by line 0 where a daemon has no rank. While memory lasts, exactly those texts are accepted of which each line says
@@ -38,6 +72,6 @@ pub fn read(alloc: Global, text: &[u8], topology: &Topology) -> Result<Samples, 
 {
     topology.invariant();
     let mut parser = Parser::new(alloc, topology)?;
-    read_lines(text, &mut parser)?;
+    take_lines(text, &mut parser)?;
     parser.finish()
 }

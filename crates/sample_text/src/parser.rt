@@ -7,7 +7,7 @@ ghost use Rattle.sample_text.specs.Steps.{daemon_on, ranks_on, time_on, are_disj
 ghost use Rattle.sample_text.specs.Whole.{empty_sets, lacks_rank};
 
 use crate::paths::Paths;
-use crate::words::{Line, read_line};
+use crate::words::{Line, read_line, read_text_line};
 use rank_set::{RANK_LIMIT, RankSet, RanksError, read_ranks};
 use stat_plan::{LINE_LIMIT, Samples, StackLine, TIME_LIMIT, Topology};
 use std::alloc::{AllocError, Global};
@@ -109,7 +109,9 @@ fn lacks_rank(topology: &Topology, placed: &[RankSet]) -> bool
 }
 
 impl<'t> Parser<'t> {
-    ghost use Rattle.sample_text.specs.Steps.{with_daemon, with_stack};
+    ghost use Rattle.sample_text.specs.Steps.{with_daemon, with_stack, with_line_view};
+    ghost use Rattle.sample_text.specs.LineViews.{line_view};
+    ghost use Rattle.sample_text.specs.Taking.{takes_line, refuses_line};
     ghost use Rattle.sample_text.specs.Whole.{nothing_parsed, whole};
     ghost use Rattle.sample_text.specs.Invariants.{ParserInvariant};
     ghost use Rattle.sample_text.specs.ParserViews.{parser_view, parser_nodes, IsConsistent};
@@ -183,6 +185,37 @@ impl<'t> Parser<'t> {
         Ok(())
     }
 
+    // What a line says.
+    fn add(&mut self, line_number: u64, line: Line<'_>) -> Result<(), TextError>
+        requires { IsConsistent self.old }
+        ensures ok { OnOk result (
+            with_line_view (parser_nodes self.old) (parser_view self.old) line_number (line_view line.entry)
+            ≡ Ok (parser_view self.new)
+            ) }
+        ensures nodes { parser_nodes self.new ≡ parser_nodes self.old }
+        ensures consistent { OnOk result (IsConsistent self.new) }
+        ensures err { IsErrorOf result (
+            with_line_view (parser_nodes self.old) (parser_view self.old) line_number (line_view line.entry)
+            ) }
+    {
+        match line {
+            Line::Nothing => Ok(()),
+            Line::Daemon { name, ranks } => self.daemon(line_number, name, ranks),
+            Line::Stack { time, ranks, path } => self.stack(line_number, time, ranks, path),
+        }
+    }
+
+    /// Takes the next line, which is UTF-8.
+    pub fn take_text(&mut self, line_number: u64, line: &str) -> Result<(), TextError>
+        requires { IsConsistent self.old }
+        ensures taken { OnOk result (takes_line self.old line_number line.now self.new) }
+        ensures ready { OnOk result (IsConsistent self.new) }
+        ensures refused { IfErr result (λ e. refuses_line self.old line_number line.now e) }
+    {
+        let line = read_text_line(line_number, line)?;
+        self.add(line_number, line)
+    }
+
     /// The samples, after the check of the whole text.
     pub fn finish(self) -> Result<Samples, TextError>
         requires consistent { IsConsistent self }
@@ -211,10 +244,7 @@ impl LineParser for Parser<'_> {
     ghost refuses = { RefusesBy parser_nodes parser_view with_line };
 
     fn take(&mut self, line_number: u64, line: &[u8]) -> Result<(), TextError> {
-        match read_line(line_number, line)? {
-            Line::Nothing => Ok(()),
-            Line::Daemon { name, ranks } => self.daemon(line_number, name, ranks),
-            Line::Stack { time, ranks, path } => self.stack(line_number, time, ranks, path),
-        }
+        let line = read_line(line_number, line)?;
+        self.add(line_number, line)
     }
 }

@@ -52,10 +52,8 @@ impl Paths {
     // Whether a text is that of the path whose number was given last.
     fn is_last(&self, text: &str) -> bool
         requires { HoldsPaths self.now }
-        ensures {
-            result ≡ true →
-            (path_of text.now ≡ Ok (path_at self.now self.now.last)) × (self.now.last < length self.now.paths.items)
-            }
+        ensures { result ≡ true →
+            (path_of text.now ≡ Ok (path_at self.now self.now.last)) × (self.now.last < length self.now.paths.items) }
     {
         match self.texts.get_index(self.last as usize) {
             Some(last) => last.as_str() == text,

@@ -69,6 +69,41 @@ pub fn next_line(text: &[u8]) -> Option<(&[u8], &[u8])>
     }
 }
 
+// A line of UTF-8 without the carriage return at its end.
+fn trimmed_text(line: &str) -> &str
+    ensures { result.now ≡ without_return line.now }
+{
+    match line.as_bytes().split_last() {
+        Some((last, front)) => {
+            if *last == b'\r' {
+                let (front, _) = line.split_at(front.len());
+                front
+            } else {
+                line
+            }
+        }
+        None => line,
+    }
+}
+
+/// The first line of a text in UTF-8, which is UTF-8 too, and what is left after its end; none where nothing is left.
+pub fn next_text_line(text: &str) -> Option<(&str, &str)>
+    ensures lines { MatchOption result (lines text.now ≡ []) (
+        λ next. lines text.now ≡ next.0.now ∷ lines next.1.now
+        ) }
+    ensures shorter { IfSome result (λ next. length next.1.now < length text.now) }
+{
+    if text.is_empty() {
+        return None;
+    }
+    let (line, after) = text.split_at(line_len(text.as_bytes()));
+    if after.is_empty() {
+        return Some((trimmed_text(line), after));
+    }
+    let (_, rest) = after.split_at(1);
+    Some((trimmed_text(line), rest))
+}
+
 /// What is left of a line after the blanks that it begins with.
 pub fn after_blanks(line: &[u8]) -> &[u8]
     ensures value { result.now ≡ after_blanks line.now }
