@@ -7,7 +7,7 @@ ghost use Rattle.sample_text.specs.Steps.{daemon_on, ranks_on, time_on, are_disj
 ghost use Rattle.sample_text.specs.Whole.{empty_sets, lacks_rank};
 
 use crate::paths::Paths;
-use crate::words::{Line, read_line, read_text_line};
+use crate::words::{Line, read_line, read_other_line};
 use rank_set::{RANK_LIMIT, RankSet, RanksError, read_ranks};
 use stat_plan::{LINE_LIMIT, Samples, StackLine, TIME_LIMIT, Topology};
 use std::alloc::{AllocError, Global};
@@ -109,8 +109,7 @@ fn lacks_rank(topology: &Topology, placed: &[RankSet]) -> bool
 }
 
 impl<'t> Parser<'t> {
-    ghost use Rattle.sample_text.specs.Steps.{with_daemon, with_stack, with_line_view};
-    ghost use Rattle.sample_text.specs.LineViews.{line_view};
+    ghost use Rattle.sample_text.specs.Steps.{with_daemon, with_stack};
     ghost use Rattle.sample_text.specs.Taking.{takes_line, refuses_line};
     ghost use Rattle.sample_text.specs.Whole.{nothing_parsed, whole};
     ghost use Rattle.sample_text.specs.Invariants.{ParserInvariant};
@@ -185,26 +184,6 @@ impl<'t> Parser<'t> {
         Ok(())
     }
 
-    // What a line says.
-    fn add(&mut self, line_number: u64, line: Line<'_>) -> Result<(), TextError>
-        requires { IsConsistent self.old }
-        ensures ok { OnOk result (
-            with_line_view (parser_nodes self.old) (parser_view self.old) line_number (line_view line.entry)
-            ≡ Ok (parser_view self.new)
-            ) }
-        ensures nodes { parser_nodes self.new ≡ parser_nodes self.old }
-        ensures consistent { OnOk result (IsConsistent self.new) }
-        ensures err { IsErrorOf result (
-            with_line_view (parser_nodes self.old) (parser_view self.old) line_number (line_view line.entry)
-            ) }
-    {
-        match line {
-            Line::Nothing => Ok(()),
-            Line::Daemon { name, ranks } => self.daemon(line_number, name, ranks),
-            Line::Stack { time, ranks, path } => self.stack(line_number, time, ranks, path),
-        }
-    }
-
     /// Takes the next line, which is UTF-8.
     pub fn take_text(&mut self, line_number: u64, line: &str) -> Result<(), TextError>
         requires { IsConsistent self.old }
@@ -212,8 +191,11 @@ impl<'t> Parser<'t> {
         ensures ready { OnOk result (IsConsistent self.new) }
         ensures refused { IfErr result (λ e. refuses_line self.old line_number line.now e) }
     {
-        let line = read_text_line(line_number, line)?;
-        self.add(line_number, line)
+        match read_line(line_number, line)? {
+            Line::Nothing => Ok(()),
+            Line::Daemon { name, ranks } => self.daemon(line_number, name, ranks),
+            Line::Stack { time, ranks, path } => self.stack(line_number, time, ranks, path),
+        }
     }
 
     /// The samples, after the check of the whole text.
@@ -244,7 +226,9 @@ impl LineParser for Parser<'_> {
     ghost refuses = { RefusesBy parser_nodes parser_view with_line };
 
     fn take(&mut self, line_number: u64, line: &[u8]) -> Result<(), TextError> {
-        let line = read_line(line_number, line)?;
-        self.add(line_number, line)
+        match str::from_utf8(line) {
+            Ok(line) => self.take_text(line_number, line),
+            Err(_) => read_other_line(line_number, line),
+        }
     }
 }

@@ -1,9 +1,10 @@
 //! The words of a line of samples: `daemon NAME RANKS` or `stack TIME RANKS PATH`. They are checked here, before any name,
 //! number or path in them.
 
-ghost use Rattle.std.specs.Prelude.{◌≡◌, ℕ, IfOk, IfErr, IfSome, Ok, Err};
+ghost use Rattle.std.specs.Prelude.{◌≡◌, ℕ, IfOk, IfErr, OnOk, IfSome, Ok, Err};
 ghost use Rattle.text_lines.specs.Lines.{words, after_word};
-ghost use Rattle.sample_text.specs.Words.{daemon_words, path_in, stack_words, directive, read_line};
+ghost use Rattle.std.specs.Str.{IsUtf8};
+ghost use Rattle.sample_text.specs.Words.{Nothing, daemon_words, path_in, stack_words, directive, read_line};
 ghost use Rattle.sample_text.specs.LineViews.{line_view};
 
 use text_lines::{Reason, TextError, after_blanks, cut_word, is_word, next_word, says_nothing};
@@ -106,7 +107,7 @@ fn usual_line(line: &str) -> Option<Line<'_>>
 }
 
 /// What a line of UTF-8 says, or why it is not a line of samples.
-pub fn read_text_line(line_number: u64, line: &str) -> Result<Line<'_>, TextError>
+pub fn read_line(line_number: u64, line: &str) -> Result<Line<'_>, TextError>
     ensures ok { IfOk result (λ view. read_line line_number line.now ≡ Ok (line_view view)) }
     ensures err { IfErr result (λ e. read_line line_number line.now ≡ Err e) }
 {
@@ -119,18 +120,15 @@ pub fn read_text_line(line_number: u64, line: &str) -> Result<Line<'_>, TextErro
     directive(line_number, line)
 }
 
-/// What a line says, or why it is not a line of samples.
-pub fn read_line(line_number: u64, line: &[u8]) -> Result<Line<'_>, TextError>
-    ensures ok { IfOk result (λ view. read_line line_number line.now ≡ Ok (line_view view)) }
+/// A line that is not UTF-8: it says nothing, or is refused.
+pub fn read_other_line(line_number: u64, line: &[u8]) -> Result<(), TextError>
+    requires { ¬ (IsUtf8 line.now) }
+    ensures ok { OnOk result (read_line line_number line.now ≡ Ok Nothing) }
     ensures err { IfErr result (λ e. read_line line_number line.now ≡ Err e) }
 {
-    match str::from_utf8(line) {
-        Ok(line) => read_text_line(line_number, line),
-        Err(_) => {
-            if says_nothing(line) {
-                return Ok(Line::Nothing);
-            }
-            Err(TextError::bad(line_number, Reason::NotUtf8))
-        }
+    if says_nothing(line) {
+        Ok(())
+    } else {
+        Err(TextError::bad(line_number, Reason::NotUtf8))
     }
 }
