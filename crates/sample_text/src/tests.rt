@@ -33,8 +33,78 @@ fn accepts_samples(rt: HostRuntime) -> Result<(), Fail> {
     Ok(())
 }
 
+// The samples of a text, a line for each: the last digit of its time, its ranks, and the number and the text of its path.
+fn samples_in(alloc: Global, text: &str, job: &Topology) -> Result<Vec<u8>, TextError> {
+    let samples = read(alloc, text.as_bytes(), job)?;
+    let lines = samples.lines();
+    let mut out = Vec::new(alloc);
+    for line in lines.lines {
+        out.push(b'0' + (line.time % 10) as u8)?;
+        out.push(b' ')?;
+        line.ranks.write_text(&mut out)?;
+        out.extend_from_slice(&[b' ', b'0' + (line.path % 10) as u8, b' '])?;
+        if let Some(path) = lines.paths.get(line.path as usize) {
+            path.write_text(&mut out)?;
+        }
+        out.push(b'\n')?;
+    }
+    Ok(out)
+}
+
+// `stack` lines in the usual form and in others, behind lines that place the ranks 0 to 2, and the samples that they give.
+const FORMS: [(&str, &str); 16] = [
+    ("stack 7 0-1 main;a", "7 2:[0-1] 0 main;a\n"),
+    ("stack  7 0-1 main;a", "7 2:[0-1] 0 main;a\n"),
+    ("stack 7  0-1 main;a", "7 2:[0-1] 0 main;a\n"),
+    ("stack 7 0-1  main;a", "7 2:[0-1] 0 main;a\n"),
+    ("stack\t7 0-1 main;a", "7 2:[0-1] 0 main;a\n"),
+    ("stack 7\t0-1 main;a", "7 2:[0-1] 0 main;a\n"),
+    ("stack 7 0-1\tmain;a", "7 2:[0-1] 0 main;a\n"),
+    (" stack 7 0-1 main;a", "7 2:[0-1] 0 main;a\n"),
+    ("\tstack 7 0-1 main;a\r\n", "7 2:[0-1] 0 main;a\n"),
+    ("stack 0007 0-1 main;a\r", "7 2:[0-1] 0 main;a\n"),
+    ("stack 7 0-1 main;a  ", "7 2:[0-1] 0 main;a  \n"),
+    ("stack 7 0-1 main a;b c", "7 2:[0-1] 0 main a;b c\n"),
+    (
+        "stack 7 0-1 \u{e9}\u{a0};\u{20ac}",
+        "7 2:[0-1] 0 \u{e9}\u{a0};\u{20ac}\n",
+    ),
+    ("stack 7 0-1 stack 7 0-1 m", "7 2:[0-1] 0 stack 7 0-1 m\n"),
+    (
+        "stack 0 0 m\nstack 1 1 m\nstack 2 2 n\nstack 3 0 m\nstack 4 1 n\nstack 5 2 n\nstack 6 0 mm",
+        "0 1:[0] 0 m\n1 1:[1] 0 m\n2 1:[2] 1 n\n3 1:[0] 0 m\n4 1:[1] 1 n\n5 1:[2] 1 n\n6 1:[0] 2 mm\n",
+    ),
+    (
+        "stack 0 0 m \nstack 1 1 m\nstack 2 2  m\nstack 3 0 m ",
+        "0 1:[0] 0 m \n1 1:[1] 1 m\n2 1:[2] 1 m\n3 1:[0] 0 m \n",
+    ),
+];
+
+fn assert_samples(
+    rt: &impl Abort,
+    alloc: Global,
+    lines: &str,
+    want: &str,
+    job: &Topology,
+) -> Result<(), Fail> {
+    let mut text = String::from_str(alloc, "daemon a:0 0-1\ndaemon b:0 2\n")?;
+    text.push_str(lines)?;
+    let samples = samples_in(alloc, text.as_str(), job)?;
+    assert_eq!(rt; samples.as_slice(), want.as_bytes(), "{lines:?}");
+    Ok(())
+}
+
+#[test]
+fn reads_lines_in_any_form(rt: HostRuntime) -> Result<(), Fail> {
+    let job = job(rt.alloc())?;
+    for (lines, want) in FORMS {
+        assert_samples(&rt, rt.alloc(), lines, want, &job)?;
+    }
+    Ok(())
+}
+
 // A text, and the line and reason of its first fault.
-const FAULTS: [(&str, u64, Reason); 56] = [
+const FAULTS: [(&str, u64, Reason); 68] = [
     ("", 0, Reason::DaemonWithoutRank),
     ("\r\n \t\n# daemon a:0 0", 0, Reason::DaemonWithoutRank),
     ("daemon a:0 0\n", 0, Reason::DaemonWithoutRank),
@@ -59,6 +129,26 @@ const FAULTS: [(&str, u64, Reason); 56] = [
     ("stack 0", 1, Reason::BadDirective),
     ("stack 0 0", 1, Reason::BadDirective),
     ("stack x x \t \r", 1, Reason::BadDirective),
+    ("stack ", 1, Reason::BadDirective),
+    ("stack  ", 1, Reason::BadDirective),
+    ("stack 0 ", 1, Reason::BadDirective),
+    ("stack 0  ", 1, Reason::BadDirective),
+    ("stack  0 0", 1, Reason::BadDirective),
+    ("stack 0 0 ", 1, Reason::BadDirective),
+    ("stackx", 1, Reason::BadDirective),
+    ("stackx 0 0 m", 1, Reason::BadDirective),
+    ("stac 0 0 m", 1, Reason::BadDirective),
+    ("stack\u{a0}0 0 m", 1, Reason::BadDirective),
+    (
+        "daemon a:0 0\nstack 0 0 m\nstack 1 0",
+        3,
+        Reason::BadDirective,
+    ),
+    (
+        "daemon a:0 0\nstack 0 0 m\nstack 0 1 m",
+        3,
+        Reason::Unplaced,
+    ),
     ("daemon fe:0 0", 1, Reason::NotADaemon),
     ("daemon c:0 x", 1, Reason::NotADaemon),
     ("daemon a:00 0", 1, Reason::NotADaemon),
@@ -149,16 +239,16 @@ fn refuses_ranks_past_the_last(rt: HostRuntime) -> Result<(), Fail> {
 #[test]
 fn takes_any_bytes_in_comments(rt: HostRuntime) -> Result<(), Fail> {
     let job = job(rt.alloc())?;
-    let text = b"#\xff\xfe\n# \xc3\r\ndaemon a:0 0\ndaemon b:0 1\n#\x80";
+    let text = b"#\xff\xfe\n# \xc3\r\ndaemon a:0 0\ndaemon b:0 1\nstack 0 0 m\n#\x80\nstack 0 1 m";
     assert!(rt; read(rt.alloc(), text, &job).is_ok());
     Ok(())
 }
 
-fn assert_not_utf8(rt: &impl Abort, alloc: Global, text: &[u8], job: &Topology) {
+fn assert_not_utf8(rt: &impl Abort, alloc: Global, text: &[u8], line: u64, job: &Topology) {
     assert_eq!(rt;
         read(alloc, text, job).err(),
         Some(TextError::Bad {
-            line: 2,
+            line,
             reason: Reason::NotUtf8
         })
     );
@@ -167,9 +257,23 @@ fn assert_not_utf8(rt: &impl Abort, alloc: Global, text: &[u8], job: &Topology) 
 #[test]
 fn refuses_other_bytes_elsewhere(rt: HostRuntime) -> Result<(), Fail> {
     let job = job(rt.alloc())?;
-    assert_not_utf8(&rt, rt.alloc(), b"#\xff\nx\xff\n", &job);
-    assert_not_utf8(&rt, rt.alloc(), b"\n #\xff", &job);
-    assert_not_utf8(&rt, rt.alloc(), b"daemon a:0 0\nstack 0 0 \xc3;", &job);
+    assert_not_utf8(&rt, rt.alloc(), b"#\xff\nx\xff\n", 2, &job);
+    assert_not_utf8(&rt, rt.alloc(), b"\n #\xff", 2, &job);
+    assert_not_utf8(&rt, rt.alloc(), b"daemon a:0 0\nstack 0 0 \xc3;", 2, &job);
+    assert_not_utf8(
+        &rt,
+        rt.alloc(),
+        b"daemon a:0 0\nstack 0 0 m\nstack 0 0 m\xff",
+        3,
+        &job,
+    );
+    assert_not_utf8(
+        &rt,
+        rt.alloc(),
+        b"daemon a:0 0\nstack 0 0 m\nstack 0 0\xff m",
+        3,
+        &job,
+    );
     Ok(())
 }
 

@@ -98,11 +98,11 @@ fn usual_line(line: &str) -> Option<Line<'_>>
     let rest = line.as_bytes().strip_prefix(b"stack ")?;
     let (time, rest) = cut_word(rest)?;
     let (ranks, rest) = cut_word(rest)?;
-    let end = after_blanks(rest);
-    if end.is_empty() {
+    let text = after_blanks(rest);
+    if text.is_empty() {
         return None;
     }
-    let path = path_in(line, end);
+    let path = path_in(line, text);
     Some(Line::Stack { time, ranks, path })
 }
 

@@ -1,6 +1,8 @@
 //! The ends of lines, blanks and numbers, by texts from outside.
 
-use crate::{after_blanks, next_line, next_word, number_in, says_nothing};
+use crate::{
+    after_blanks, cut_word, next_line, next_text_line, next_word, number_in, says_nothing,
+};
 
 // A text, its first line, and what is left after it.
 const LINES: [(&str, Option<(&str, &str)>); 8] = [
@@ -31,6 +33,23 @@ fn cuts_lines(rt: HostRuntime) {
     }
 }
 
+#[test]
+fn cuts_lines_of_text(rt: HostRuntime) {
+    for (text, want) in LINES {
+        let line = next_text_line(text);
+        assert_eq!(rt;
+            line.map(|parts| parts.0),
+            want.map(|parts| parts.0),
+            "{text:?}"
+        );
+        assert_eq!(rt;
+            line.map(|parts| parts.1),
+            want.map(|parts| parts.1),
+            "{text:?}"
+        );
+    }
+}
+
 // A line, its first word, and what is left after it.
 const WORDS: [(&str, Option<(&str, &str)>); 7] = [
     ("", None),
@@ -46,6 +65,34 @@ const WORDS: [(&str, Option<(&str, &str)>); 7] = [
 fn cuts_words(rt: HostRuntime) {
     for (line, want) in WORDS {
         let word = next_word(line.as_bytes());
+        assert_eq!(rt;
+            word.map(|parts| parts.0),
+            want.map(|parts| parts.0.as_bytes()),
+            "{line:?}"
+        );
+        assert_eq!(rt;
+            word.map(|parts| parts.1),
+            want.map(|parts| parts.1.as_bytes()),
+            "{line:?}"
+        );
+    }
+}
+
+// A line, the word that it begins with, and what is left after the blank behind it.
+const CUTS: [(&str, Option<(&str, &str)>); 7] = [
+    ("", None),
+    (" stack", None),
+    ("\tstack 0", None),
+    ("stack", None),
+    ("stack ", Some(("stack", ""))),
+    ("0  m", Some(("0", " m"))),
+    ("a\r\tb c", Some(("a\r", "b c"))),
+];
+
+#[test]
+fn cuts_the_word_in_front(rt: HostRuntime) {
+    for (line, want) in CUTS {
+        let word = cut_word(line.as_bytes());
         assert_eq!(rt;
             word.map(|parts| parts.0),
             want.map(|parts| parts.0.as_bytes()),
