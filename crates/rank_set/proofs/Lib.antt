@@ -8,3 +8,4 @@ pub mod RunSets
 pub mod Runs
 pub mod NextBits
 pub mod Reading
+pub mod Spanning

@@ -1,16 +1,14 @@
 -- Words that are trimmed at both ends, and words that reach further.
-use Rattle.std.proofs.Common.{◌≡◌, ℕ, ◌+◌, ◌-◌, ◌<◌, ◌≤◌, max, min, List, ◌++◌, length, get_or, map, take, drop, refl, sym, ap, ◌∙◌, inl, inr, arith}
+use Rattle.std.proofs.Common.{◌≡◌, ℕ, ◌+◌, ◌-◌, ◌<◌, ◌≤◌, max, min, List, ◌++◌, length, get_or, take, drop, replicate, length-append, refl, sym, ap, ◌∙◌, inl, inr, arith}
 use Rattle.std.specs.Prelude.{bit_or}
-use Rattle.std.specs.List.{range_with_len}
 use Rattle.std.proofs.lemmas.Bool.{cases_lt}
-use Rattle.std.proofs.lemmas.List.{get_or-take, get_or-drop, length-take, length-drop, take-append-le}
-use Rattle.std.proofs.lemmas.List.FromFn.{length-map-range_with_len}
+use Rattle.std.proofs.lemmas.List.{get_or_past, get_or_append_left, get_or-append_right, get_or-replicate, length-replicate, get_or-take, get_or-drop, length-take, length-drop, take-append-le}
 use Rattle.std.proofs.lemmas.Nat.{le_or_l, le_or_r}
 use Rattle.rank_set.specs.declared.TheConstants.{WORD_LIMIT}
 use Rattle.rank_set.specs.Ranks.{Ranks}
 use Rattle.rank_set.specs.Words.{word_at, ranks_in, AreWords, ExtendsTo}
 use Rattle.rank_set.proofs.Changes.{or_at}
-use Rattle.rank_set.proofs.WordSets.{word_at-below, word_at-from, word_at-beyond, word_at-words, ranks_in-same}
+use Rattle.rank_set.proofs.WordSets.{word_at-below, word_at-from, word_at-beyond, ranks_in-same}
 
 -- the first word
 pub first_word : (o : ℕ) (ws : List ℕ) → word_at o ws o ≡ get_or ws 0 0
@@ -33,17 +31,42 @@ covers_itself o ws low high h some begins stops =
       last = λ _. omega (arith, last_word o ws more, h.last more);
     }
 
+-- zeros before and after words change no word
+pub padded_word : (o : ℕ) (ws : List ℕ) (start m : ℕ) → (0 < length ws → start ≤ o) → (k : ℕ) → word_at start ((replicate (o - start) 0 ++ ws) ++ replicate m 0) k ≡ word_at o ws k
+padded_word o ws start m begins k =
+    let front : List ℕ = replicate (o - start) 0 in
+    let none : ℕ = 0 in
+    let long : length front ≡ o - start = length-replicate (o - start) none in
+    let both : length (front ++ ws) ≡ (o - start) + length ws = omega (arith, length-append front ws) in
+    elim (cases_lt k start) [
+      | inl lt ↦ word_at-below start _ k lt ∙ sym (elim (cases_lt k o) [
+        | inl low ↦ word_at-below o ws k low
+        | inr up ↦ word_at-beyond o ws k (elim (cases_lt 0 (length ws)) [ inl more ↦ absurd (omega (arith, begins more)) | inr none ↦ omega arith ])
+      ])
+      | inr from ↦ word_at-from start _ k from ∙ elim (cases_lt k o) [
+        | inl low ↦ get_or_append_left (front ++ ws) (replicate m 0) 0 (k - start) (omega arith) ∙ get_or_append_left front ws 0 (k - start) (omega arith) ∙ get_or-replicate (o - start) (k - start) 0 0 (omega arith) ∙ sym (word_at-below o ws k low)
+        | inr up ↦ elim (cases_lt k (o + length ws)) [
+          | inl inside ↦
+              let s : start ≤ o = begins (omega arith) in
+              let e : (k - start) - (o - start) ≡ k - o = omega arith in
+              get_or_append_left (front ++ ws) (replicate m 0) 0 (k - start) (omega arith) ∙ get_or-append_right front ws (o - start) (k - start) 0 long (omega arith) ∙ ap (λ i. get_or ws i 0) e ∙ sym (word_at-from o ws k up)
+          | inr past ↦ elim (cases_lt (k - start) (length (front ++ ws))) [
+            | inl inner ↦ get_or_append_left (front ++ ws) (replicate m 0) 0 (k - start) inner ∙ get_or-append_right front ws (o - start) (k - start) 0 long (omega arith) ∙ get_or_past ws ((k - start) - (o - start)) 0 (elim (cases_lt 0 (length ws)) [ inl more ↦ omega (arith, begins more) | inr none ↦ omega arith ])
+                ∙ sym (word_at-beyond o ws k past)
+            | inr outer ↦ get_or-append_right (front ++ ws) (replicate m 0) (length (front ++ ws)) (k - start) 0 refl outer ∙ zeros ((k - start) - length (front ++ ws)) ∙ sym (word_at-beyond o ws k past)
+          ]
+        ]
+      ]
+    ]
+  where
+    zeros : (i : ℕ) → (let none : ℕ = 0 in get_or (replicate m none) i 0 ≡ none)
+    zeros i = let none : ℕ = 0 in elim (cases_lt i m) [ inl lt ↦ get_or-replicate m i 0 0 lt | inr past ↦ get_or_past (replicate m none) i 0 (omega (arith, length-replicate m none)) ]
+
 -- trimmed words, with words before and after them
 pub covers_wider : (o : ℕ) (ws : List ℕ) (low high start stop : ℕ) (xs : List ℕ) → AreWords o ws → low < high → high ≤ WORD_LIMIT → (length ws ≡ 0 → start ≡ low) → (0 < length ws → start ≡ min low o) → stop ≡ max high (o + length ws)
-    → xs ≡ map (word_at o ws) (range_with_len start (stop - start)) → ExtendsTo o ws low high start xs
-covers_wider o ws low high start stop xs h some within_limit alone beside end is =
+    → ((k : ℕ) → word_at start xs k ≡ word_at o ws k) → start + length xs ≡ stop → ExtendsTo o ws low high start xs
+covers_wider o ws low high start stop xs h some within_limit alone beside end same long =
     let begins : start ≤ low = elim (cases_lt 0 (length ws)) [ inl more ↦ let e : start ≡ min low o = beside more in omega arith | inr none ↦ let e : start ≡ low = alone (omega arith) in omega arith ] in
-    let long : start + length xs ≡ stop = omega (arith, ap length is, length-map-range_with_len (word_at o ws) start (stop - start)) in
-    let before : (k : ℕ) → k < start → word_at o ws k ≡ 0 = λ k lt. elim (cases_lt k o) [
-      | inl low ↦ word_at-below o ws k low
-      | inr up ↦ word_at-beyond o ws k (elim (cases_lt 0 (length ws)) [ inl more ↦ let e : start ≡ min low o = beside more in absurd (omega arith) | inr none ↦ omega arith ])
-    ] in
-    let same : (k : ℕ) → word_at start xs k ≡ word_at o ws k = λ k. ap (λ ys. word_at start ys k) is ∙ word_at-words (word_at o ws) start (stop - start) before (λ q le. word_at-beyond o ws q (omega arith)) k in
     let fits : o + length ws ≤ WORD_LIMIT = h.within_limit in
     record {
       within_limit = omega arith;
@@ -58,6 +81,24 @@ covers_wider o ws low high start stop xs h some within_limit alone beside end is
         | inl more ↦ let e : start + length xs - 1 ≡ o + length ws - 1 = omega arith in omega (arith, same (start + length xs - 1), ap (word_at o ws) e, last_word o ws more, h.last more)
         | inr none ↦ let z : o ≡ 0 = h.nothing (omega arith) in absurd (omega arith)
       ];
+    }
+
+-- trimmed words, with zeros after them
+pub covers_longer : (o : ℕ) (ws : List ℕ) (low high : ℕ) (xs : List ℕ) → AreWords o ws → low < high → high ≤ WORD_LIMIT → 0 < length ws → o ≤ low → o + length ws < high → xs ≡ ws ++ replicate (high - o - length ws) 0 → ExtendsTo o ws low high o xs
+covers_longer o ws low high xs h order within_limit some begins short is =
+    let n : ℕ = high - o - length ws in
+    let none : ℕ = 0 in
+    let z : o - o ≡ 0 = omega arith in
+    let same : (k : ℕ) → word_at o xs k ≡ word_at o ws k =
+    λ k. ap (λ ys. word_at o ys k) (is ∙ ap (λ m. (replicate m 0 ++ ws) ++ replicate n 0) (sym z)) ∙ padded_word o ws o n (λ _. omega arith) k in
+    let long : length xs ≡ length ws + n = ap length is ∙ length-append ws (replicate n none) ∙ ap (λ m. length ws + m) (length-replicate n none) in
+    record {
+      within_limit = omega arith;
+      same = same;
+      begins = begins;
+      stops = omega arith;
+      first = λ _. omega (arith, same o, first_word o ws, h.first some);
+      last = λ lt. absurd (omega arith);
     }
 
 -- words that reach far enough are trimmed once bits are set in the first and in the last that is asked for

@@ -283,7 +283,8 @@ tied_present false h is = refl
 pub with_present : (s : Ranks) (r : ℕ) → has s r ≡ true → with_rank s r ≡ s
 with_present s r there = same_ranks _ _ (λ q. has-with_rank s r q ∙ tied_present (eq_by_cmp nat_cmp q r) (has s q) (λ e. ap (has s) (map.nat_cmp-IsAntisymmetric q r ((Equal-is (nat_cmp q r)).0 e)) ∙ there))
 
-all_have : (test : ℕ → Bool) (rs : List ℕ) (r : ℕ) → list_all test rs ≡ true → list_any (eq_by_cmp nat_cmp r) rs ≡ true → test r ≡ true
+-- each member of a list passes a test that all of it pass
+pub all_have : (test : ℕ → Bool) (rs : List ℕ) (r : ℕ) → list_all test rs ≡ true → list_any (eq_by_cmp nat_cmp r) rs ≡ true → test r ≡ true
 all_have test [] r each one = absurd (true≢false (sym one))
 all_have test (k ∷ rs) r each one =
     let parts = and_parts (test k) (list_all test rs) each in
@@ -299,7 +300,8 @@ subset_has s t within r one = all_have (has t) (in_order s) r within (sym (has-i
 itself_any : (r : ℕ) → eq_by_cmp nat_cmp r r ≡ true
 itself_any r = ap is_eq (tied_itself nat_cmp_total r)
 
-all_pass : (test : ℕ → Bool) (rs : List ℕ) → ((r : ℕ) → list_any (eq_by_cmp nat_cmp r) rs ≡ true → test r ≡ true) → list_all test rs ≡ true
+-- all of a list passes a test that each member passes
+pub all_pass : (test : ℕ → Bool) (rs : List ℕ) → ((r : ℕ) → list_any (eq_by_cmp nat_cmp r) rs ≡ true → test r ≡ true) → list_all test rs ≡ true
 all_pass test [] each = refl
 all_pass test (k ∷ rs) each =
     (λ i. each k (ap (λ b. b || list_any (eq_by_cmp nat_cmp k) rs) (itself_any k)) i && list_all test rs)

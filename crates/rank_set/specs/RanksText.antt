@@ -1,6 +1,6 @@
 -- How a text of ranks is read, as `7,0-2,1`: items separated by `,`, each a number or `a-b`. It is read from the left, and the
 -- first error refuses it, with its byte offset.
-use Rattle.std.specs.Prelude.{ℕ, ◌+◌, ◌-◌, ◌*◌, nat_eq, nat_lt, nat_le, cond, List, [], ◌∷◌, length, take, drop, Result, Ok, Err, not}
+use Rattle.std.specs.Prelude.{ℕ, ◌+◌, nat_eq, nat_lt, nat_le, cond, List, [], ◌∷◌, length, take, drop, Result, Ok, Err, not}
 use Rattle.std.specs.List.{prefix_len}
 use Rattle.rank_set.specs.declared.read.RanksError.{RanksError}
 use Rattle.rank_set.specs.declared.read.RanksError.TheVariants.{Empty, BadNumber, Backward, OverLimit}

@@ -7,7 +7,7 @@
 ghost use Rattle.std.specs.Prelude.{◌≡◌, ℕ, ◌<◌, ◌≤◌, ◌↔◌, true, false, OnOk, OnErr, IfOk, IfSome, IfNone, Some, slice_get, not, ◌++◌};
 ghost use Rattle.rank_set.specs.Ranks.{none, has, with_rank, union, those, in_order, is_subset, size};
 ghost use Rattle.rank_set.specs.Runs.{ranks_between, IsRun};
-ghost use Rattle.rank_set.specs.Words.{ranks_in, AreWords, offset_of};
+ghost use Rattle.rank_set.specs.Words.{ranks_in, AreWords, offset_of, spans};
 ghost use Rattle.rank_set.specs.Text.{text_of};
 
 pub mod digits;
@@ -159,6 +159,46 @@ impl RankSet {
             other.offset,
             other.words.as_slice(),
         )
+    }
+
+    /// The ranks of both sets, in one allocation at most.
+    pub fn united(&self, other: &RankSet) -> Result<RankSet, AllocError>
+        ensures { IfOk result (λ all. all ≡ union self.now other.now) }
+    {
+        let (offset, words) = words::united(
+            *self.words.allocator(),
+            self.offset,
+            self.words.as_slice(),
+            other.offset,
+            other.words.as_slice(),
+        )?;
+        Ok(RankSet { offset, words })
+    }
+
+    /// Whether the other set has no rank outside the words (64 ranks each, from 0 on) from that of the least rank to that of the
+    /// greatest: then `unite_within` adds the other's ranks.
+    pub fn spans(&self, other: &RankSet) -> bool
+        ensures { result ≡ spans self.now other.now }
+    {
+        words::spans(
+            self.offset,
+            self.words.as_slice(),
+            other.offset,
+            other.words.as_slice(),
+        )
+    }
+
+    /// Adds the ranks of the other set, which the set spans. It allocates nothing.
+    pub fn unite_within(&mut self, other: &RankSet)
+        requires { spans self.old other.now ≡ true }
+        ensures { self.new ≡ union self.old other.now }
+    {
+        words::or_within(
+            self.words.as_mut_slice(),
+            self.offset,
+            other.offset,
+            other.words.as_slice(),
+        );
     }
 
     /// Keeps the ranks that the other set has, too. It allocates nothing.

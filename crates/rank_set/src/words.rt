@@ -1,10 +1,9 @@
 //! Rank sets as words of 64 bits: functions over the index of the first word among all words, and the words.
 
-ghost use Rattle.std.specs.Prelude.{◌≡◌, ℕ, ◌<◌, ◌≤◌, ◌+◌, ◌-◌, ◌*◌, ◌/◌, ◌↔◌, true, false, OnOk, OnErr, IfOk, IfSome, IfNone, Some, slice_get, not, length, get_or, map, bit_or};
-ghost use Rattle.std.specs.List.{range_with_len};
+ghost use Rattle.std.specs.Prelude.{◌≡◌, ℕ, ◌<◌, ◌≤◌, ◌+◌, ◌-◌, ◌*◌, ◌/◌, ◌↔◌, ◌++◌, true, false, OnOk, OnErr, IfOk, IfSome, IfNone, Some, slice_get, not, length, get_or, replicate, bit_or};
 ghost use Rattle.rank_set.specs.Ranks.{none, has, those, union, in_order, is_subset, size};
 ghost use Rattle.rank_set.specs.Runs.{ranks_between, IsRun};
-ghost use Rattle.rank_set.specs.Words.{word_at, bit_in, ranks_in, AreWords, ExtendsTo, IsNext, offset_of, run_word};
+ghost use Rattle.rank_set.specs.Words.{word_at, bit_in, ranks_in, AreWords, ExtendsTo, IsNext, offset_of, run_word, spans};
 
 use crate::{RANK_LIMIT, Run, WORD_LIMIT};
 use smallvec::SmallVec;
@@ -26,25 +25,61 @@ pub(crate) fn word_of(offset: u32, words: &[u64], k: u32) -> u64
     }
 }
 
-// The words from one index up to another.
-fn words_between(
+// Appends words of 0 up to a length. On failure the words are unchanged.
+fn pad(words: &mut Words, len: usize) -> Result<(), AllocError>
+    requires { length words.old.items ≤ len }
+    ensures ok { OnOk result (words.new.items ≡ words.old.items ++ replicate (len - length words.old.items) 0) }
+    ensures err { OnErr result (words.new.items ≡ words.old.items) }
+{
+    words.resize(len, 0)
+}
+
+// The words from one index up to another, with zeros where no words are stored.
+fn padded(
     alloc: Global,
     offset: u32,
     words: &[u64],
     start: u32,
     stop: u32,
 ) -> Result<Words, AllocError>
-    requires { start ≤ stop }
-    ensures { IfOk result (λ all. all.items ≡ map (word_at offset words.now) (range_with_len start (stop - start))) }
+    requires begins { 0 < length words.now → start ≤ offset }
+    requires stops { offset + length words.now ≤ stop }
+    requires ordered { start ≤ stop }
+    ensures same { IfOk result (λ all. (k : ℕ) → word_at start all.items k ≡ word_at offset words.now k) }
+    ensures len { IfOk result (λ all. start + length all.items ≡ stop) }
 {
     let mut all = Words::with_capacity(alloc, (stop - start) as usize)?;
-    for k in start..stop {
-        all.push(word_of(offset, words, k))?;
-    }
+    pad(&mut all, offset.saturating_sub(start) as usize)?;
+    all.extend_from_slice(words)?;
+    pad(&mut all, (stop - start) as usize)?;
     Ok(all)
 }
 
-// Extends the words to reach from one index up to another. On failure they are unchanged.
+// A copy of the words that reaches from one index up to another at least, and the index of its first word.
+fn reaching(
+    alloc: Global,
+    offset: u32,
+    words: &[u64],
+    low: u32,
+    high: u32,
+) -> Result<(u32, Words), AllocError>
+    requires trimmed { AreWords offset words.now }
+    requires not_empty { low < high }
+    requires within_limit { high ≤ WORD_LIMIT }
+    ensures { IfOk result (λ all. ExtendsTo offset words.now low high all.0 all.1.items) }
+{
+    let start = if words.is_empty() {
+        low
+    } else {
+        low.min(offset)
+    };
+    let stop = high.max(offset + words.len() as u32);
+    let all = padded(alloc, offset, words, start, stop)?;
+    Ok((start, all))
+}
+
+// Extends the words to reach from one index up to another. On failure they are unchanged. At the end they grow with room for
+// more.
 fn extend_to(offset: &mut u32, words: &mut Words, low: u32, high: u32) -> Result<(), AllocError>
     requires trimmed { AreWords offset.old words.old.items }
     requires not_empty { low < high }
@@ -53,19 +88,16 @@ fn extend_to(offset: &mut u32, words: &mut Words, low: u32, high: u32) -> Result
     ensures err_offset { OnErr result (offset.new ≡ offset.old) }
     ensures err_words { OnErr result (words.new.items ≡ words.old.items) }
 {
-    let held = words.as_slice();
-    let end = *offset + held.len() as u32;
-    if *offset <= low && high <= end {
+    if words.is_empty() || low < *offset {
+        let (start, all) = reaching(*words.allocator(), *offset, words.as_slice(), low, high)?;
+        *offset = start;
+        *words = all;
         return Ok(());
     }
-    let start = if held.is_empty() {
-        low
-    } else {
-        low.min(*offset)
-    };
-    let stop = high.max(end);
-    *words = words_between(*words.allocator(), *offset, held, start, stop)?;
-    *offset = start;
+    let len = (high - *offset) as usize;
+    if words.len() < len {
+        pad(words, len)?;
+    }
     Ok(())
 }
 
@@ -104,6 +136,56 @@ fn or_run(words: &mut [u64], offset: u32, first: u32, last: u32)
     for k in first / 64..last / 64 + 1 {
         words[(k - offset) as usize] |= word_of_run(first, last, k);
     }
+}
+
+// The ranks of both, in just the words from the first that is needed to the last.
+pub(crate) fn united(
+    alloc: Global,
+    offset: u32,
+    words: &[u64],
+    other_offset: u32,
+    others: &[u64],
+) -> Result<(u32, Words), AllocError>
+    requires trimmed { AreWords offset words.now }
+    requires trimmed_others { AreWords other_offset others.now }
+    ensures trimmed { IfOk result (λ all. AreWords all.0 all.1.items) }
+    ensures ranks { IfOk result (λ all. ranks_in all.0 all.1.items
+        ≡ union (ranks_in offset words.now) (ranks_in other_offset others.now)) }
+{
+    if others.is_empty() {
+        let all = Words::from_slice(alloc, words)?;
+        return Ok((offset, all));
+    }
+    let end = other_offset + others.len() as u32;
+    let (start, mut all) = reaching(alloc, offset, words, other_offset, end)?;
+    or_words(all.as_mut_slice(), start, other_offset, others);
+    Ok((start, all))
+}
+
+// Whether all of the other ranks lie in the words from the first to the last.
+pub(crate) fn spans(offset: u32, words: &[u64], other_offset: u32, others: &[u64]) -> bool
+    requires trimmed { AreWords offset words.now }
+    requires trimmed_others { AreWords other_offset others.now }
+    ensures { result ≡ spans (ranks_in offset words.now) (ranks_in other_offset others.now) }
+{
+    others.is_empty()
+        || offset <= other_offset
+            && other_offset + others.len() as u32 <= offset + words.len() as u32
+}
+
+// Sets the bits of the other words, which lie within the words.
+pub(crate) fn or_within(words: &mut [u64], offset: u32, other_offset: u32, others: &[u64])
+    requires trimmed { AreWords offset words.old }
+    requires trimmed_others { AreWords other_offset others.now }
+    requires spans { spans (ranks_in offset words.old) (ranks_in other_offset others.now) ≡ true }
+    ensures trimmed { AreWords offset words.new }
+    ensures ranks { ranks_in offset words.new
+        ≡ union (ranks_in offset words.old) (ranks_in other_offset others.now) }
+{
+    if others.is_empty() {
+        return;
+    }
+    or_words(words, offset, other_offset, others);
 }
 
 // Adds the ranks of the other words. On failure the words are unchanged.

@@ -1,0 +1,32 @@
+use Rattle.std.proofs.Common.{◌≡◌, ℕ, ◌<◌, ◌+◌, length, false, eqb, inl, inr, sym, ap, ◌∙◌, subst, arith}
+use Rattle.std.proofs.lemmas.Bool.{eqb-true, eqb-false, cases_lt}
+use Rattle.smallvec.proofs.SmallVecLemmas.{items-with_items}
+use Rattle.rank_set.specs.Ranks.{union}
+use Rattle.rank_set.specs.Words.{word_at, ranks_in, AreWords}
+use Rattle.rank_set.proofs.WordSets.{word_at-below, union_none, no_ranks, ranks_in-union}
+use Rattle.rank_set.proofs.Trimming.{HasBits, covered_bits, first_word, last_word}
+use Rattle.rank_set.proofs.words.united.Goals as goal
+
+pub returns-then-is_empty-clause-ranks : goal.returns-then-is_empty-clause-ranks
+returns-then-is_empty-clause-ranks c =
+    ap (ranks_in c.args.offset) c.in_ok-all.ensures.ok ∙ union_none (ranks_in c.args.offset c.args.words.now)
+    ∙ ap (union (ranks_in c.args.offset c.args.words.now)) (sym (no_ranks c.args.other_offset c.args.others.now (eqb-true _ _ (sym c.if-is_empty.ensures))))
+
+some_words : (n : ℕ) → eqb n 0 ≡ false → 0 < n
+some_words n e = elim (cases_lt 0 n) [ inl lt ↦ lt | inr none ↦ absurd (eqb-false n 0 e (omega arith)) ]
+
+-- the words with the bits of the others
+made : (c : goal.After-all-3-1) → HasBits c.args.offset c.args.words.now (word_at c.args.other_offset c.args.others.now) c.in_ok-start.start c.or_words.new.words
+made c =
+    let some : 0 < length c.args.others.now = some_words (length c.args.others.now) (sym c.if-is_empty.ensures) in
+    covered_bits c.args.offset c.args.words.now c.args.other_offset (c.args.other_offset + length c.args.others.now) c.in_ok-start.start c.in_ok-start.all.items c.as_mut_slice.result.now c.or_words.new.words (word_at c.args.other_offset c.args.others.now)
+    c.in_ok-start.ensures (omega arith) c.as_mut_slice.ensures.value c.or_words.auto.words c.or_words.ensures (word_at-below c.args.other_offset c.args.others.now)
+    (omega (arith, first_word c.args.other_offset c.args.others.now, c.requires.trimmed_others.first some)) (omega (arith, last_word c.args.other_offset c.args.others.now some, c.requires.trimmed_others.last some))
+
+pub returns-clause-trimmed : goal.returns-clause-trimmed
+returns-clause-trimmed c = subst (AreWords c.in_ok-start.start) (sym (items-with_items c.in_ok-start.all c.or_words.new.words (c.or_words.auto.words ∙ ap length c.as_mut_slice.ensures.value))) (made c).words
+
+pub returns-clause-ranks : goal.returns-clause-ranks
+returns-clause-ranks c =
+    ap (ranks_in c.in_ok-start.start) (items-with_items c.in_ok-start.all c.or_words.new.words (c.or_words.auto.words ∙ ap length c.as_mut_slice.ensures.value))
+    ∙ ranks_in-union c.in_ok-start.start c.or_words.new.words c.args.offset c.args.words.now c.args.other_offset c.args.others.now (made c).each
