@@ -95,11 +95,10 @@ module _ (o : ℕ) (ws : List ℕ) (a : ℕ) (xs : List ℕ) (b : ℕ) (ys : Lis
       has-ranks_in o ws r ∙ ap (λ w. is_bit w (r % 64)) (each (r / 64)) ∙ is_bit-or _ _ (r % 64)
       ∙ sym (has-union (ranks_in a xs) (ranks_in b ys) r ∙ (λ i. has-ranks_in a xs r i || has-ranks_in b ys r i)))
 
-  -- what is not in the other, word by word
-  pub ranks_in-difference : ((k : ℕ) → word_at b ys k < 2 ^ 64) → ((k : ℕ) → word_at o ws k ≡ bit_and (word_at a xs k) (bit_not w64 (word_at b ys k))) → ranks_in o ws ≡ those (λ r. not (has (ranks_in b ys) r)) (ranks_in a xs)
-  ranks_in-difference small each = same_ranks _ _ (λ r.
-      has-ranks_in o ws r ∙ ap (λ w. is_bit w (r % 64)) (each (r / 64)) ∙ is_bit-and _ _ (r % 64)
-      ∙ ap (λ x. bit_in a xs r && x) (is_bit-not _ (r % 64) (small (r / 64)) (omega arith))
+  -- what is not in the other, bit by bit
+  pub ranks_in-without : ((k i : ℕ) → i < 64 → is_bit (word_at o ws k) i ≡ (is_bit (word_at a xs k) i && not (is_bit (word_at b ys k) i))) → ranks_in o ws ≡ those (λ r. not (has (ranks_in b ys) r)) (ranks_in a xs)
+  ranks_in-without each = same_ranks _ _ (λ r.
+      has-ranks_in o ws r ∙ each (r / 64) (r % 64) (omega arith)
       ∙ sym (has-those (λ q. not (has (ranks_in b ys) q)) (ranks_in a xs) r ∙ (λ i. has-ranks_in a xs r i && not (has-ranks_in b ys r i))))
 
   -- what both have, word by word

@@ -1,5 +1,5 @@
 -- Sets of ranks as words of 64 bits.
-use Rattle.std.specs.Prelude.{ℕ, suc, ◌+◌, ◌-◌, ◌*◌, ◌/◌, ◌%◌, ◌^◌, ◌<◌, ◌≤◌, ◌≡◌, Bool, not, cond, min, nat_eq, nat_lt, nat_le, ◌&&◌, List, [], ◌∷◌, length, get_or}
+use Rattle.std.specs.Prelude.{ℕ, suc, ◌+◌, ◌-◌, ◌*◌, ◌/◌, ◌%◌, ◌^◌, ◌<◌, ◌≤◌, ◌≡◌, Bool, not, cond, min, nat_eq, nat_lt, nat_le, ◌&&◌, List, [], ◌∷◌, length, get_or, ◌⊎◌}
 use Rattle.std.specs.Int.{bit_at}
 use Rattle.std.specs.List.{range_with_len, list_any, list_all}
 use Rattle.rank_set.specs.declared.TheConstants.{WORD_LIMIT}
@@ -61,3 +61,12 @@ pub record IsNext (o : ℕ) (ws : List ℕ) (gap : Bool) (from p : ℕ) : Type 0
   pub end : p < 64 * (o + length ws)
   pub bit : bit_in o ws p ≡ not gap
   pub before : (q : ℕ) → from ≤ q → q < p → bit_in o ws q ≡ gap
+
+-- Words ws from place i on and words vs from place j on are n words that have the same index among all words. The others of ws
+-- have no counterpart in vs.
+pub record IsOverlap (o : ℕ) (ws : List ℕ) (p : ℕ) (vs : List ℕ) (i j n : ℕ) : Type 0 where
+  pub within : i + n ≤ length ws
+  pub within_others : j + n ≤ length vs
+  pub same : (m : ℕ) → m < n → o + (i + m) ≡ p + (j + m)
+  pub before : (m : ℕ) → m < i → o + m < p
+  pub after : (m : ℕ) → i + n ≤ m → m < length ws → (o + m < p) ⊎ (p + length vs ≤ o + m)

@@ -3,7 +3,7 @@
 ghost use Rattle.std.specs.Prelude.{◌≡◌, ℕ, ◌<◌, ◌≤◌, ◌+◌, ◌-◌, ◌*◌, ◌/◌, ◌↔◌, ◌++◌, true, false, OnOk, OnErr, IfOk, IfSome, IfNone, Some, slice_get, not, length, get_or, replicate, bit_or};
 ghost use Rattle.rank_set.specs.Ranks.{none, has, those, union, in_order, is_subset, size};
 ghost use Rattle.rank_set.specs.Runs.{ranks_between, IsRun};
-ghost use Rattle.rank_set.specs.Words.{word_at, bit_in, ranks_in, AreWords, ExtendsTo, IsNext, offset_of, run_word, spans};
+ghost use Rattle.rank_set.specs.Words.{word_at, bit_in, ranks_in, AreWords, ExtendsTo, IsNext, offset_of, run_word, spans, IsOverlap};
 
 use crate::{RANK_LIMIT, Run, WORD_LIMIT};
 use smallvec::SmallVec;
@@ -237,14 +237,40 @@ pub(crate) fn add_run(
     Ok(())
 }
 
+// Where words overlap with others: the index of the first word in each, and how many words both have.
+#[derive(Clone, Copy)]
+struct Overlap {
+    index: usize,
+    other_index: usize,
+    len: usize,
+}
+
+// Where the words overlap with the others.
+fn common_words(offset: u32, words: &[u64], other_offset: u32, others: &[u64]) -> Overlap
+    ensures { IsOverlap offset words.now other_offset others.now result.index result.other_index result.len }
+{
+    let index = words
+        .len()
+        .min(other_offset.saturating_sub(offset) as usize);
+    let other_index = others
+        .len()
+        .min(offset.saturating_sub(other_offset) as usize);
+    Overlap {
+        index,
+        other_index,
+        len: (words.len() - index).min(others.len() - other_index),
+    }
+}
+
 // Clears the bits that the other words have.
 pub(crate) fn clear_words(words: &mut [u64], offset: u32, other_offset: u32, others: &[u64])
     requires { offset + length words.old ≤ WORD_LIMIT }
     ensures { ranks_in offset words.new
         ≡ those (λ r. not (has (ranks_in other_offset others.now) r)) (ranks_in offset words.old) }
 {
-    for i in 0..words.len() {
-        words[i] &= !word_of(other_offset, others, offset + i as u32);
+    let common = common_words(offset, words, other_offset, others);
+    for i in 0..common.len {
+        words[common.index + i] &= !others[common.other_index + i];
     }
 }
 
@@ -254,8 +280,15 @@ pub(crate) fn intersect_words(words: &mut [u64], offset: u32, other_offset: u32,
     ensures { ranks_in offset words.new
         ≡ those (λ r. has (ranks_in other_offset others.now) r) (ranks_in offset words.old) }
 {
-    for i in 0..words.len() {
-        words[i] &= word_of(other_offset, others, offset + i as u32);
+    let common = common_words(offset, words, other_offset, others);
+    for i in 0..common.index {
+        words[i] = 0;
+    }
+    for i in 0..common.len {
+        words[common.index + i] &= others[common.other_index + i];
+    }
+    for i in common.index + common.len..words.len() {
+        words[i] = 0;
     }
 }
 
@@ -306,11 +339,15 @@ pub(crate) fn trim(offset: &mut u32, words: &mut Words)
 
 // Whether each rank of the first words is one of the second's.
 pub(crate) fn all_are_in(offset: u32, words: &[u64], other_offset: u32, others: &[u64]) -> bool
-    requires { offset + length words.now ≤ WORD_LIMIT }
+    requires { AreWords offset words.now }
     ensures { result ≡ is_subset (ranks_in offset words.now) (ranks_in other_offset others.now) }
 {
-    for k in offset..offset + words.len() as u32 {
-        if word_of(offset, words, k) & !word_of(other_offset, others, k) != 0 {
+    let common = common_words(offset, words, other_offset, others);
+    if common.len < words.len() {
+        return false;
+    }
+    for (i, word) in words.iter().enumerate() {
+        if *word & !others[common.other_index + i] != 0 {
             return false;
         }
     }
