@@ -9,3 +9,4 @@ pub mod Runs
 pub mod NextBits
 pub mod Reading
 pub mod Spanning
+pub mod Places

@@ -1,10 +1,11 @@
 -- Texts, sets and words, and what the definitions say of them. Each row is computed.
-use Rattle.std.specs.Prelude.{◌≡◌, refl, not, [], ◌∷◌, Ok, Err, codes}
+use Rattle.std.specs.Prelude.{◌≡◌, true, false, refl, not, [], ◌∷◌, Ok, Err, codes}
 use Rattle.std.specs.Fmt.{digits}
 use Rattle.rank_set.specs.declared.read.RanksError.TheVariants.{Empty, BadNumber, Backward, OverLimit}
 use Rattle.rank_set.specs.Ranks.{none, has, set_of, union, with_rank, those}
 use Rattle.rank_set.specs.Runs.{ranks_between}
-use Rattle.rank_set.specs.Words.{word_at, ranks_in, offset_of}
+use Rattle.rank_set.specs.Words.{word_at, ranks_in, offset_of, spans}
+use Rattle.rank_set.specs.Places.{place, to_places, from_places}
 use Rattle.rank_set.specs.Text.{text_of}
 use Rattle.rank_set.specs.RanksText.{ranks_text, ranks_at, items, item_at}
 
@@ -102,3 +103,35 @@ two_in_second_word = refl
 second_word : offset_of (set_of (64 ∷ 66 ∷ [])) ≡ 1
 unfolding with_rank
 second_word = refl
+
+-- words that hold the ranks of another set
+
+within_words : spans (set_of (100 ∷ 200 ∷ [])) (set_of (64 ∷ 255 ∷ [])) ≡ true
+unfolding spans with_rank
+within_words = refl
+
+below_words : spans (set_of (100 ∷ 200 ∷ [])) (set_of (63 ∷ 200 ∷ [])) ≡ false
+unfolding spans with_rank
+below_words = refl
+
+past_words : spans (set_of (100 ∷ 200 ∷ [])) (set_of (100 ∷ 256 ∷ [])) ≡ false
+unfolding spans with_rank
+past_words = refl
+
+no_words : spans none (set_of (0 ∷ [])) ≡ false
+unfolding spans with_rank
+no_words = refl
+
+no_ranks : spans none none ≡ true
+unfolding spans
+no_ranks = refl
+
+-- places
+
+second_and_fourth : to_places (set_of (3 ∷ 5 ∷ 6 ∷ 9 ∷ [])) (set_of (5 ∷ 9 ∷ [])) ≡ set_of (1 ∷ 3 ∷ [])
+unfolding to_places place those with_rank
+second_and_fourth = refl
+
+at_second_and_fourth : from_places (set_of (3 ∷ 5 ∷ 6 ∷ 9 ∷ [])) (set_of (1 ∷ 3 ∷ [])) ≡ set_of (5 ∷ 9 ∷ [])
+unfolding from_places place those has with_rank
+at_second_and_fourth = refl

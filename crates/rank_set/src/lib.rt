@@ -5,11 +5,13 @@
 #![tactic(auto)]
 
 ghost use Rattle.std.specs.Prelude.{◌≡◌, ℕ, ◌<◌, ◌≤◌, ◌↔◌, true, false, OnOk, OnErr, IfOk, IfSome, IfNone, Some, slice_get, not, ◌++◌};
-ghost use Rattle.rank_set.specs.Ranks.{none, has, with_rank, union, those, in_order, is_subset, size};
+ghost use Rattle.rank_set.specs.Ranks.{none, has, with_rank, union, those, in_order, is_subset, size, Has, IsSubset};
 ghost use Rattle.rank_set.specs.Runs.{ranks_between, IsRun};
 ghost use Rattle.rank_set.specs.Words.{ranks_in, AreWords, offset_of, spans};
+ghost use Rattle.rank_set.specs.Places.{to_places, from_places};
 ghost use Rattle.rank_set.specs.Text.{text_of};
 
+mod cover;
 pub mod digits;
 mod read;
 #[cfg(test)]
@@ -291,6 +293,47 @@ impl RankSet {
         ensures below_limit { IfSome result (λ run. run.last < RANK_LIMIT) }
     {
         words::next_run(self.offset, self.words.as_slice(), from)
+    }
+
+    /// The places of the ranks in a cover, a set that has them all: the place of a rank is the number of lesser ranks of the
+    /// cover. The cost is that of the words and runs of both sets.
+    pub fn to_places(&self, cover: &RankSet) -> Result<RankSet, AllocError>
+        requires { IsSubset self.now cover.now }
+        ensures places { IfOk result (λ places. places ≡ to_places cover.now self.now) }
+        ensures in_cover { IfOk result (λ places. (p : ℕ) → Has p places → p < size cover.now) }
+        ensures inverse { IfOk result (λ places. from_places cover.now places ≡ self.now) }
+    {
+        let mut places = RankSet::new(*self.words.allocator());
+        let mut from = 0;
+        let mut place = 0;
+        while let Some(run) = cover.next_run(from) {
+            let words = self.words.as_slice();
+            cover::add_moved(self.offset, words, run.first, run.last, place, &mut places)?;
+            place += run.last - run.first + 1;
+            from = run.last + 1;
+        }
+        Ok(places)
+    }
+
+    /// The ranks of a cover whose places are in the set, each place below the cover's count: the way back from `to_places`. The
+    /// cost is that of the words and runs of both sets.
+    pub fn from_places(&self, cover: &RankSet) -> Result<RankSet, AllocError>
+        requires { (p : ℕ) → Has p self.now → p < size cover.now }
+        ensures ranks { IfOk result (λ ranks. ranks ≡ from_places cover.now self.now) }
+        ensures subset { IfOk result (λ ranks. IsSubset ranks cover.now) }
+        ensures inverse { IfOk result (λ ranks. to_places cover.now ranks ≡ self.now) }
+    {
+        let mut ranks = RankSet::new(*self.words.allocator());
+        let mut from = 0;
+        let mut place = 0;
+        while let Some(run) = cover.next_run(from) {
+            let words = self.words.as_slice();
+            let last = place + (run.last - run.first);
+            cover::add_moved(self.offset, words, place, last, run.first, &mut ranks)?;
+            place = last + 1;
+            from = run.last + 1;
+        }
+        Ok(ranks)
     }
 
     /// Appends the set's text, as `4:[0-2,7]`. On failure `out` is unchanged.

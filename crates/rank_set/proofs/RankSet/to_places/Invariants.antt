@@ -1,0 +1,15 @@
+use Rattle.std.proofs.Common.{◌≡◌, ◌≤◌, ◌-◌, nat_lt}
+use Rattle.rank_set.specs.declared.TheConstants.{RANK_LIMIT}
+use Rattle.rank_set.specs.Ranks.{those}
+use Rattle.rank_set.specs.Places.{place, to_places}
+use Rattle.rank_set.proofs.RankSet.to_places.Given as goal
+
+abbrev pub invariant-loop-run : goal.invariant-loop-run
+invariant-loop-run l = record {
+  within : l.from ≤ RANK_LIMIT;
+  place : l.place ≡ place l.cover l.from;
+  made : l.places ≡ those (λ p. nat_lt p l.place) (to_places l.cover l.self);
+}
+
+abbrev pub decreases-loop-run : goal.decreases-loop-run
+decreases-loop-run l = RANK_LIMIT - l.from
