@@ -1,5 +1,5 @@
 -- The places of ranks in a cover, run by run.
-use Rattle.std.proofs.Common.{◌≡◌, ℕ, zero, suc, ◌+◌, ◌-◌, ◌/◌, ◌%◌, ◌<◌, ◌≤◌, nat_lt, max, min, Bool, true, false, not, cond, ◌&&◌, ◌||◌, List, [], ◌∷◌, length, get_or, map, take, refl, sym, ap, ◌∙◌, subst, inl, inr, arith}
+use Rattle.std.proofs.Common.{◌≡◌, ℕ, zero, suc, ◌+◌, ◌-◌, ◌/◌, ◌%◌, ◌<◌, ◌≤◌, nat_lt, max, min, Bool, true, false, cond, ◌&&◌, ◌||◌, List, [], ◌∷◌, length, get_or, map, take, refl, sym, ap, ◌∙◌, subst, inl, inr, arith}
 use Rattle.std.specs.List.{list_any, list_all, filter}
 use Rattle.std.specs.Ordering.{nat_cmp, eq_by_cmp}
 use Rattle.std.specs.Cmp.{unsigned_tied}
@@ -9,7 +9,7 @@ use Rattle.rank_set.specs.Runs.{ranks_between, IsRun}
 use Rattle.rank_set.specs.Places.{place, to_places, from_places, moved}
 use Rattle.rank_set.proofs.Ordered.{in_order-those}
 use Rattle.rank_set.specs.Words.{is_bit, word_at, ranks_in}
-use Rattle.rank_set.proofs.RunSets.{has-ranks_between}
+use Rattle.rank_set.proofs.RunSets.{between_in, between_low, between_high}
 use Rattle.rank_set.proofs.WordSets.{has-ranks_in, word_at-below, word_at-from, word_at-beyond}
 use Rattle.std.proofs.lemmas.List.{get_or-take, length-take}
 
@@ -260,16 +260,6 @@ module _ (cover : Ranks) where
   -- the ranks at places are in the cover
   pub ranks_in_cover : (s : Ranks) → IsSubset (from_places cover s) cover
   ranks_in_cover s = from_within s
-
--- the ranks of a run
-between_in : (low high q : ℕ) → low ≤ q → q ≤ high → has (ranks_between low high) q ≡ true
-between_in low high q a b = has-ranks_between low high q ∙ (λ i. not (le-ltb q low a i) && not (le-ltb high q b i))
-
-between_low : (low high q : ℕ) → q < low → has (ranks_between low high) q ≡ false
-between_low low high q lt = has-ranks_between low high q ∙ ap (λ t. not t && not (nat_lt high q)) (lt-ltb q low lt)
-
-between_high : (low high q : ℕ) → high < q → has (ranks_between low high) q ≡ false
-between_high low high q lt = has-ranks_between low high q ∙ ap (λ t. not (nat_lt q low) && not t) (lt-ltb high q lt) ∙ and_false (not (nat_lt q low))
 
 -- a run of a set that is moved
 module _ (first last target : ℕ) (s : Ranks) where

@@ -1,5 +1,6 @@
 -- Texts of ranks from the front.
 use Rattle.std.proofs.Common.{◌≡◌, ℕ, suc, ◌+◌, ◌-◌, ◌*◌, ◌<◌, ◌≤◌, Bool, true, false, not, cond, nat_eq, min, List, [], ◌∷◌, length, get_or, drop, take, Ok, Err, Result, refl, sym, ap, ◌∙◌, subst, arith, drop-cons}
+use Rattle.std.specs.Char.{is_ascii_digit}
 use Rattle.std.specs.Result.{IsErr, IsErrAnd, IfErr}
 use Rattle.std.proofs.lemmas.Bool.{lt-ltb, le-ltb}
 use Rattle.rank_set.specs.declared.read.RanksError.{RanksError}
@@ -21,6 +22,30 @@ capped_step limit n m d i ds lt here is =
     ∙ ap (λ x. min limit (value_after (10 * n + (x - 48)) (drop (i + 1) ds))) here
     ∙ (let e : i + 1 ≡ suc i = omega arith in ap (λ k. min limit (value_after (10 * n + (get_or ds i 0 - 48)) (drop k ds))) e)
     ∙ sym (ap (λ xs. min limit (value_after n xs)) (drop-cons ds i 0 lt))
+
+-- the digits at the front of a text, one by one
+module _ (text : List ℕ) (i : ℕ) (lt : i < length text) (one : is_ascii_digit (get_or text i 0) ≡ true) where
+  front : drop i text ≡ get_or text i 0 ∷ drop (i + 1) text
+  front = drop-cons text i 0 lt ∙ (let e : suc i ≡ i + 1 = omega arith in ap (λ k. get_or text i 0 ∷ drop k text) e)
+
+  one_digit : digits_len (drop i text) ≡ 1 + digits_len (drop (i + 1) text)
+  one_digit = ap digits_len front ∙ ap (λ t. cond t (1 + digits_len (drop (i + 1) text)) 0) one
+
+  -- one digit more of the front's length
+  pub digit_len : (i + 1) + digits_len (drop (i + 1) text) ≡ i + digits_len (drop i text)
+  digit_len = omega (arith, one_digit)
+
+  digits_are : take (digits_len (drop i text)) (drop i text) ≡ get_or text i 0 ∷ take (digits_len (drop (i + 1) text)) (drop (i + 1) text)
+  digits_are =
+      let n : ℕ = digits_len (drop (i + 1) text) in
+      let e : 1 + n ≡ suc n = omega arith in
+      (λ k. take (one_digit k) (front k)) ∙ ap (λ m. take m (get_or text i 0 ∷ drop (i + 1) text)) e
+
+  -- one digit more of the front's number
+  pub digit_value : (limit n m : ℕ) → m ≡ min limit (10 * n + (get_or text i 0 - 48)) → min limit (value_after m (take (digits_len (drop (i + 1) text)) (drop (i + 1) text))) ≡ min limit (value_after n (take (digits_len (drop i text)) (drop i text)))
+  digit_value limit n m is =
+      same_capped limit m (10 * n + (get_or text i 0 - 48)) (take (digits_len (drop (i + 1) text)) (drop (i + 1) text)) (omega arith)
+      ∙ sym (ap (λ ds. min limit (value_after n ds)) digits_are)
 
 -- an item by its parts
 module _ (offset : ℕ) (item : List ℕ) where

@@ -1,5 +1,5 @@
 -- Sets that are runs of neighbours, and the words of such runs.
-use Rattle.std.proofs.Common.{◌≡◌, ℕ, suc, ◌+◌, ◌-◌, ◌*◌, ◌/◌, ◌%◌, ◌^◌, ◌<◌, ◌≤◌, min, nat_lt, Bool, true, false, not, ◌&&◌, ◌||◌, eqb, List, get_or, refl, sym, ap, ◌∙◌, inl, inr, arith}
+use Rattle.std.proofs.Common.{◌≡◌, ℕ, suc, ◌+◌, ◌-◌, ◌*◌, ◌/◌, ◌%◌, ◌^◌, ◌<◌, ◌≤◌, min, max, nat_lt, Bool, true, false, not, ◌&&◌, ◌||◌, eqb, List, get_or, refl, sym, ap, ◌∙◌, inl, inr, arith}
 use Rattle.std.specs.Prelude.{bit_and, bit_or}
 use Rattle.std.specs.Int.{bit_at}
 use Rattle.std.specs.List.{range_with_len}
@@ -25,6 +25,57 @@ has-ranks_between first last r =
       | inr from ↦ elim (cases_lt last r) [
         | inl past ↦ list_any_none (eq_by_cmp nat_cmp r) ns (λ k d lt. unsigned_tied r (get_or ns k d) ∙ ne_eqb r (get_or ns k d) (λ e. omega (arith, e, lt, length-range_with_len first n, get_or-range_with_len first n k d (omega (arith, lt, length-range_with_len first n))))) ∙ sym (rw (le-ltb r first from, lt-ltb last r past) refl)
         | inr within ↦ list_any_at (eq_by_cmp nat_cmp r) ns (r - first) 0 (omega (arith, length-range_with_len first n)) (unsigned_tied r (get_or ns (r - first) 0) ∙ eq-eqb r (get_or ns (r - first) 0) (omega (arith, get_or-range_with_len first n (r - first) 0 (omega arith)))) ∙ sym (rw (le-ltb r first from, le-ltb last r within) refl)
+      ]
+    ]
+
+-- the ranks of a run
+pub between_in : (low high q : ℕ) → low ≤ q → q ≤ high → has (ranks_between low high) q ≡ true
+between_in low high q a b = has-ranks_between low high q ∙ (λ i. not (le-ltb q low a i) && not (le-ltb high q b i))
+
+-- ranks below a run
+pub between_low : (low high q : ℕ) → q < low → has (ranks_between low high) q ≡ false
+between_low low high q lt = has-ranks_between low high q ∙ ap (λ t. not t && not (nat_lt high q)) (lt-ltb q low lt)
+
+-- ranks past a run
+pub between_high : (low high q : ℕ) → high < q → has (ranks_between low high) q ≡ false
+between_high low high q lt = has-ranks_between low high q ∙ ap (λ t. not (nat_lt q low) && not t) (lt-ltb high q lt) ∙ and_false (not (nat_lt q low))
+  where
+    and_false : (b : Bool) → (b && false) ≡ false
+    and_false true = refl
+    and_false false = refl
+
+-- runs that overlap or touch are one run
+pub union_merged : (s : Ranks) (a b c d low high : ℕ) → a ≤ b → c ≤ d → c ≤ b + 1 → a ≤ d + 1 → low ≡ min a c → high ≡ max b d → union s (ranks_between low high) ≡ union (union s (ranks_between a b)) (ranks_between c d)
+union_merged s a b c d low high some more near near_2 least greatest = same_ranks _ _ (λ q.
+    has-union s (ranks_between low high) q ∙ ap (λ t. has s q || t) (both q) ∙ or_assoc (has s q) (has (ranks_between a b) q) (has (ranks_between c d) q)
+    ∙ sym (has-union (union s (ranks_between a b)) (ranks_between c d) q ∙ ap (λ t. t || has (ranks_between c d) q) (has-union s (ranks_between a b) q)))
+  where
+    or_assoc : (x y z : Bool) → (x || (y || z)) ≡ ((x || y) || z)
+    or_assoc true y z = refl
+    or_assoc false y z = refl
+
+    or_true : (x : Bool) → (x || true) ≡ true
+    or_true true = refl
+    or_true false = refl
+
+    neither : (q : ℕ) → has (ranks_between low high) q ≡ false → has (ranks_between a b) q ≡ false → has (ranks_between c d) q ≡ false → has (ranks_between low high) q ≡ (has (ranks_between a b) q || has (ranks_between c d) q)
+    neither q x y z = x ∙ sym (λ i. y i || z i)
+
+    second : (q : ℕ) → low ≤ q → q ≤ high → c ≤ q → q ≤ d → has (ranks_between low high) q ≡ (has (ranks_between a b) q || has (ranks_between c d) q)
+    second q l h from to = between_in low high q l h ∙ sym (ap (λ t. has (ranks_between a b) q || t) (between_in c d q from to) ∙ or_true (has (ranks_between a b) q))
+
+    both : (q : ℕ) → has (ranks_between low high) q ≡ (has (ranks_between a b) q || has (ranks_between c d) q)
+    both q = elim (cases_lt q a) [
+      | inl under ↦ elim (cases_lt q c) [
+        | inl lower ↦ neither q (between_low low high q (omega arith)) (between_low a b q under) (between_low c d q lower)
+        | inr from ↦ second q (omega arith) (omega arith) from (omega arith)
+      ]
+      | inr up ↦ elim (cases_lt b q) [
+        | inl past ↦ elim (cases_lt d q) [
+          | inl after ↦ neither q (between_high low high q (omega arith)) (between_high a b q past) (between_high c d q after)
+          | inr to ↦ second q (omega arith) (omega arith) (omega arith) to
+        ]
+        | inr inner ↦ between_in low high q (omega arith) (omega arith) ∙ sym (ap (λ t. t || has (ranks_between c d) q) (between_in a b q up inner))
       ]
     ]
 

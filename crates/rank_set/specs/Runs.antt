@@ -1,7 +1,9 @@
 -- Runs of neighbouring ranks in a set.
-use Rattle.std.specs.Prelude.{ℕ, suc, ◌-◌, ◌≤◌, ◌<◌, ◌≡◌, true, false}
+use Rattle.std.specs.Prelude.{ℕ, suc, ◌-◌, ◌≤◌, ◌<◌, ◌≡◌, true, false, Option, None, Some}
 use Rattle.std.specs.List.{range_with_len}
-use Rattle.rank_set.specs.Ranks.{Ranks, has, set_of}
+use Rattle.rank_set.specs.declared.TheConstants.{RANK_LIMIT}
+use Rattle.rank_set.specs.declared.Run.{Run}
+use Rattle.rank_set.specs.Ranks.{Ranks, has, set_of, union}
 
 -- the ranks from the first to the last, none where the last is less
 unfoldable pub ranks_between : ℕ → ℕ → Ranks
@@ -14,3 +16,13 @@ pub record IsRun (s : Ranks) (from first last : ℕ) : Type 0 where
   pub passed : (q : ℕ) → from ≤ q → q < first → has s q ≡ false
   pub within : (q : ℕ) → first ≤ q → q ≤ last → has s q ≡ true
   pub ends : has s (suc last) ≡ false
+
+-- a run of ranks that is not empty
+pub record IsWithinLimit (first last : ℕ) : Type 0 where
+  pub not_empty : first ≤ last
+  pub below_limit : last < RANK_LIMIT
+
+-- a set with the ranks of a run that is kept back, if there is one
+abbrev pub with_pending : Ranks → Option Run → Ranks
+with_pending s None = s
+with_pending s (Some run) = union s (ranks_between run.first run.last)

@@ -5,7 +5,7 @@
 #![tactic(auto)]
 
 ghost use Rattle.std.specs.Prelude.{◌≡◌, ℕ, ◌<◌, ◌≤◌, ◌↔◌, true, false, OnOk, OnErr, IfOk, IfSome, IfNone, Some, slice_get, not, ◌++◌};
-ghost use Rattle.rank_set.specs.Ranks.{none, has, with_rank, union, those, in_order, is_subset, size, Has, IsSubset};
+ghost use Rattle.rank_set.specs.Ranks.{none, has, with_rank, union, those, in_order, is_subset, size, Has};
 ghost use Rattle.rank_set.specs.Runs.{ranks_between, IsRun};
 ghost use Rattle.rank_set.specs.Words.{ranks_in, AreWords, offset_of, spans};
 ghost use Rattle.rank_set.specs.Places.{to_places, from_places};
@@ -298,7 +298,7 @@ impl RankSet {
     /// The places of the ranks in a cover, a set that has them all: the place of a rank is the number of lesser ranks of the
     /// cover. The cost is that of the words and runs of both sets.
     pub fn to_places(&self, cover: &RankSet) -> Result<RankSet, AllocError>
-        requires { IsSubset self.now cover.now }
+        requires { is_subset self.now cover.now ≡ true }
         ensures places { IfOk result (λ places. places ≡ to_places cover.now self.now) }
         ensures in_cover { IfOk result (λ places. (p : ℕ) → Has p places → p < size cover.now) }
         ensures inverse { IfOk result (λ places. from_places cover.now places ≡ self.now) }
@@ -320,7 +320,7 @@ impl RankSet {
     pub fn from_places(&self, cover: &RankSet) -> Result<RankSet, AllocError>
         requires { (p : ℕ) → Has p self.now → p < size cover.now }
         ensures ranks { IfOk result (λ ranks. ranks ≡ from_places cover.now self.now) }
-        ensures subset { IfOk result (λ ranks. IsSubset ranks cover.now) }
+        ensures subset { IfOk result (λ ranks. is_subset ranks cover.now ≡ true) }
         ensures inverse { IfOk result (λ ranks. to_places cover.now ranks ≡ self.now) }
     {
         let mut ranks = RankSet::new(*self.words.allocator());

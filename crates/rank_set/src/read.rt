@@ -1,12 +1,13 @@
 //! Reads sets of ranks: items separated by `,`, each a number or `a-b`, in any order, where ranges may overlap.
 
-ghost use Rattle.rank_set.specs.Ranks.{none};
+ghost use Rattle.rank_set.specs.Ranks.{none, union};
+ghost use Rattle.rank_set.specs.Runs.{ranks_between, IsWithinLimit, with_pending};
 ghost use Rattle.rank_set.specs.Digits.{digits_len};
 ghost use Rattle.rank_set.specs.RanksText.{number_at, ends_at, after_first, item_at, item_len, items, ranks_at, ranks_text};
 ghost use Rattle.rank_set.specs.declared.read.RanksError.TheVariants.{OutOfMemory};
-ghost use Rattle.std.specs.Prelude.{◌≡◌, ◌<◌, ◌≤◌, ◌+◌, ◌-◌, ◌^◌, ◌≢◌, length, min, IfOk, IfErr, OnOk, Ok, Err, take};
+ghost use Rattle.std.specs.Prelude.{◌≡◌, ◌<◌, ◌≤◌, ◌+◌, ◌-◌, ◌^◌, ◌≢◌, length, IfOk, IfErr, IfSome, OnOk, Ok, Err};
 
-use crate::digits::{capped_value, digits_len};
+use crate::digits::capped_number;
 use crate::{RANK_LIMIT, RankSet, Run};
 use std::alloc::{AllocError, Global};
 
@@ -44,12 +45,10 @@ fn number_at(offset: usize, text: &[u8]) -> Result<(u32, usize), RanksError>
     ensures within { IfOk result (λ n. n.1 ≤ length text.now) }
     ensures err { IfErr result (λ e. number_at offset text.now ≡ Err e) }
 {
-    let len = digits_len(text);
+    let (number, len) = capped_number(text, RANK_LIMIT);
     if len == 0 {
         return Err(RanksError::BadNumber(offset));
     }
-    let (digits, _) = text.split_at(len);
-    let number = capped_value(digits, RANK_LIMIT);
     if number >= RANK_LIMIT {
         return Err(RanksError::OverLimit(offset));
     }
@@ -91,19 +90,58 @@ fn item_len(text: &[u8]) -> usize
     text.iter().take_while(|b| **b != b',').count()
 }
 
-// Adds the ranks of all items. On failure the set has those of the items before the refused one.
+// Adds the ranks of a run. They are kept back in the pending run, which takes what overlaps or touches it, and are put into the
+// set once another run comes.
+fn add_run(ranks: &mut RankSet, pending: &mut Option<Run>, run: Run) -> Result<(), AllocError>
+    requires pending { IfSome pending.old (λ p. IsWithinLimit p.first p.last) }
+    requires run { IsWithinLimit run.first run.last }
+    ensures pending { IfSome pending.new (λ p. IsWithinLimit p.first p.last) }
+    ensures ok { OnOk result
+        (with_pending ranks.new pending.new
+        ≡ union (with_pending ranks.old pending.old) (ranks_between run.first run.last)) }
+{
+    let Some(old) = *pending else {
+        *pending = Some(run);
+        return Ok(());
+    };
+    if old.last + 1 < run.first || run.last + 1 < old.first {
+        ranks.put_run(old.first, old.last)?;
+        *pending = Some(run);
+        return Ok(());
+    }
+    *pending = Some(Run {
+        first: old.first.min(run.first),
+        last: old.last.max(run.last),
+    });
+    Ok(())
+}
+
+// Puts the pending run into the set.
+fn put_pending(ranks: &mut RankSet, pending: Option<Run>) -> Result<(), AllocError>
+    requires { IfSome pending (λ p. IsWithinLimit p.first p.last) }
+    ensures { OnOk result (ranks.new ≡ with_pending ranks.old pending) }
+{
+    match pending {
+        Some(run) => ranks.put_run(run.first, run.last),
+        None => Ok(()),
+    }
+}
+
+// Adds the ranks of all items. On failure the set may have some of them.
 fn read_items(text: &[u8], ranks: &mut RankSet) -> Result<(), RanksError>
     ensures ok { OnOk result (ranks_at 0 ranks.old (items text.now) ≡ Ok ranks.new) }
     ensures err { IfErr result (λ e. e ≢ OutOfMemory → ranks_at 0 ranks.old (items text.now) ≡ Err e) }
 {
     let mut offset = 0;
     let mut rest = text;
+    let mut pending = None;
     loop {
         let len = item_len(rest);
         let (item, after) = rest.split_at(len);
         let run = item_at(offset, item)?;
-        ranks.put_run(run.first, run.last)?;
+        add_run(ranks, &mut pending, run)?;
         let Some((_, next)) = after.split_first() else {
+            put_pending(ranks, pending)?;
             return Ok(());
         };
         offset += len + 1;
@@ -112,7 +150,7 @@ fn read_items(text: &[u8], ranks: &mut RankSet) -> Result<(), RanksError>
 }
 
 /// The ranks of a text, as `7,0-2,1`: in any order, with overlaps, with any number of leading zeros. It is read from the left
-/// and refused at its first error. A run is added word by word.
+/// and refused at its first error. Items that overlap or touch the one before cost no more than their digits.
 pub fn read_ranks(alloc: Global, text: &[u8]) -> Result<RankSet, RanksError>
     ensures ok { IfOk result (λ ranks. ranks_text text.now ≡ Ok ranks) }
     ensures err { IfErr result (λ e. e ≢ OutOfMemory → ranks_text text.now ≡ Err e) }

@@ -97,6 +97,7 @@ fn assert_union(
     let mut set = left.copy()?;
     assert!(rt; set.equals(left));
     set.union_into(right)?;
+    assert!(rt; left.united(right)?.equals(&set) && set.spans(right));
     assert!(rt; left.is_subset(&set) && right.is_subset(&set));
     assert_text(rt, alloc, &set, text)
 }
@@ -125,6 +126,20 @@ fn assert_common(
     set.intersect_with(right);
     assert_eq!(rt; set.count() == left.count(), left.is_subset(right));
     assert_text(rt, alloc, &set, text)
+}
+
+fn assert_places(
+    rt: &impl Abort,
+    alloc: Global,
+    cover: &RankSet,
+    ranks: &RankSet,
+    text: &str,
+) -> Result<(), Fail> {
+    assert!(rt; ranks.is_subset(cover));
+    let places = ranks.to_places(cover)?;
+    assert_text(rt, alloc, &places, text)?;
+    assert!(rt; places.from_places(cover)?.equals(ranks));
+    Ok(())
 }
 
 #[test]
@@ -206,13 +221,52 @@ fn keeps_its_words(rt: HostRuntime) -> Result<(), Fail> {
     Ok(())
 }
 
-const TEXTS: [(&str, &str); 6] = [
+#[test]
+fn unites_within_its_words(rt: HostRuntime) -> Result<(), Fail> {
+    let alloc = rt.alloc();
+    let mut set = read_ranks(alloc, b"70,1048575")?;
+    let other = read_ranks(alloc, b"64,1048512")?;
+    assert!(rt; set.spans(&other));
+    assert!(rt; !set.spans(&read_ranks(alloc, b"63,64")?));
+    set.unite_within(&other);
+    assert_text(&rt, alloc, &set, "4:[64,70,1048512,1048575]")
+}
+
+// A cover, some of its ranks, and their places.
+const PLACES: [(&str, &str, &str); 5] = [
+    ("3,5-6,9", "5,9", "2:[1,3]"),
+    ("0-1048575", "0,64,1048575", "3:[0,64,1048575]"),
+    (
+        "64-191,1048512-1048575",
+        "64,127-128,1048512,1048575",
+        "5:[0,63-64,128,191]",
+    ),
+    ("7,1048575", "1048575", "1:[1]"),
+    ("100-300", "101-299", "199:[1-199]"),
+];
+
+#[test]
+fn gives_places_and_takes_them_back(rt: HostRuntime) -> Result<(), Fail> {
+    let alloc = rt.alloc();
+    for (cover, ranks, places) in &PLACES {
+        let cover = read_ranks(alloc, cover.as_bytes())?;
+        let ranks = read_ranks(alloc, ranks.as_bytes())?;
+        assert_places(&rt, alloc, &cover, &ranks, places)?;
+    }
+    Ok(())
+}
+
+const TEXTS: [(&str, &str); 7] = [
     ("7,0-2,1", "4:[0-2,7]"),
     ("0", "1:[0]"),
     ("16384", "1:[16384]"),
     ("1048575", "1:[1048575]"),
     ("000000000000000000000000000005-0000000006", "2:[5-6]"),
     ("9-9,8-9", "2:[8-9]"),
+    (
+        "10-20,40,30-39,21,0-5,1048575",
+        "30:[0-5,10-21,30-40,1048575]",
+    ),
 ];
 
 #[test]
@@ -258,8 +312,9 @@ fn reads_many_runs_that_overlap(rt: HostRuntime) -> Result<(), Fail> {
     let alloc = rt.alloc();
     let mut text = Vec::new(alloc);
     for _ in 0..100_000 {
-        text.extend_from_slice(b"0-16383,")?;
+        text.extend_from_slice(b"0-1048575,")?;
     }
     text.push(b'1')?;
-    assert_text(&rt, alloc, &read_ranks(alloc, &text)?, "16384:[0-16383]")
+    let ranks = read_ranks(alloc, &text)?;
+    assert_text(&rt, alloc, &ranks, "1048576:[0-1048575]")
 }

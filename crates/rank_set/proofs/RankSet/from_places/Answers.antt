@@ -1,6 +1,6 @@
-use Rattle.std.proofs.Common.{◌≡◌, ◌∙◌, ℕ, ◌+◌, ◌-◌, ◌<◌, ◌≤◌, sym, ap, subst, arith}
+use Rattle.std.proofs.Common.{◌≡◌, ◌∙◌, ℕ, ◌+◌, ◌-◌, ◌<◌, ◌≤◌, sym, ap, subst, true, arith}
 use Rattle.rank_set.specs.declared.TheConstants.{RANK_LIMIT}
-use Rattle.rank_set.specs.Ranks.{Ranks, IsSubset, union}
+use Rattle.rank_set.specs.Ranks.{Ranks, subset_from, is_subset, union}
 use Rattle.rank_set.specs.Words.{ranks_in}
 use Rattle.rank_set.specs.Places.{place, to_places, from_places, moved}
 use Rattle.rank_set.proofs.Places.{place-zero, place-le, place_after_run, none_yet, from_step, from_end, ranks_in_cover, back_to_places}
@@ -44,7 +44,7 @@ pub returns-clause-ranks : goal.returns-clause-ranks
 returns-clause-ranks c = whole c
 
 pub returns-clause-subset : goal.returns-clause-subset
-returns-clause-subset c = subst (λ t. IsSubset t c.args.cover.now) (sym (whole c)) (ranks_in_cover c.args.cover.now c.args.self.now)
+returns-clause-subset c = subst (λ t. is_subset t c.args.cover.now ≡ true) (sym (whole c)) (subset_from (from_places c.args.cover.now c.args.self.now) c.args.cover.now (ranks_in_cover c.args.cover.now c.args.self.now))
 
 pub returns-clause-inverse : goal.returns-clause-inverse
 returns-clause-inverse c = ap (to_places c.args.cover.now) (whole c) ∙ back_to_places c.args.cover.now c.args.self.now c.requires
