@@ -1,10 +1,11 @@
 -- The longest runs of a set's members and their text.
-use Rattle.std.proofs.Common.{◌≡◌, ℕ, zero, suc, ◌+◌, ◌-◌, ◌<◌, ◌≤◌, nat_eq, Bool, true, false, cond, List, [], ◌∷◌, ◌++◌, refl, sym, ap, ◌∙◌, append_assoc, arith}
+use Rattle.std.proofs.Common.{◌≡◌, ℕ, zero, suc, ◌+◌, ◌-◌, ◌<◌, ◌≤◌, nat_eq, Bool, true, false, cond, List, [], ◌∷◌, ◌++◌, length, take, refl, sym, ap, ◌∙◌, append_assoc, arith}
 use Rattle.std.specs.List.{range_with_len, filter}
 use Rattle.std.proofs.lemmas.Bool.{eq-eqb, ne_eqb}
+use Rattle.std.proofs.Math.Seq.{take-append_seam}
 use Rattle.std.proofs.lemmas.List.{append-nil}
 use Rattle.std.proofs.lemmas.List.Elements.{filter-append}
-use Rattle.rank_set.specs.Text.{run_before, runs_of, run_text, runs_text}
+use Rattle.rank_set.specs.Text.{run_before, runs_of, run_text, runs_text, BeginsWith}
 use Rattle.rank_set.proofs.Members.{range_parts, none_pass}
 
 -- the members of a range from one place up to another
@@ -98,3 +99,19 @@ pub more_step : (others : Bool) (rs later : List (ℕ × ℕ)) (r : ℕ × ℕ) 
 unfolding more_text
 more_step others rs [] r e = ap (more_text others) e ∙ sym (append-nil (cond others (44 ∷ []) [] ++ run_text r))
 more_step others rs (s ∷ later) r e = ap (more_text others) e ∙ sym (append_assoc (cond others (44 ∷ []) []) (run_text r) (44 ∷ runs_text (s ∷ later)))
+
+-- a text begins with itself
+pub begins_itself : (a b : List ℕ) → b ≡ a → BeginsWith b a
+begins_itself a b e = record { rest = []; is = e ∙ sym (append-nil a) }
+
+-- a text that goes on
+pub begins_more : (a b c x : List ℕ) → BeginsWith b a → c ≡ b ++ x → BeginsWith c a
+begins_more a b c x h e = record { rest = h.rest ++ x; is = e ∙ ap (λ t. t ++ x) h.is ∙ append_assoc a h.rest x }
+
+-- the beginning of a beginning
+pub begins_through : (a b c : List ℕ) → BeginsWith b a → BeginsWith c b → BeginsWith c a
+begins_through a b c h k = begins_more a b c k.rest h k.is
+
+-- a text that is cut back
+pub cut_back : (a b c : List ℕ) (n : ℕ) → BeginsWith b a → n ≡ length a → c ≡ take n b → c ≡ a
+cut_back a b c n h e is = is ∙ (λ i. take (e i) (h.is i)) ∙ take-append_seam a h.rest

@@ -1,5 +1,5 @@
 -- The text of a set of ranks, as `4:[0-2,7]`.
-use Rattle.std.specs.Prelude.{ℕ, suc, nat_eq, cond, List, [], ◌∷◌, ◌++◌, codes}
+use Rattle.std.specs.Prelude.{◌≡◌, ℕ, suc, nat_eq, cond, List, [], ◌∷◌, ◌++◌, codes}
 use Rattle.std.specs.Fmt.{decimal}
 use Rattle.rank_set.specs.Ranks.{Ranks, in_order, size}
 
@@ -34,3 +34,8 @@ runs_text (r ∷ s ∷ rs) = run_text r ++ comma ∷ runs_text (s ∷ rs)
 -- the count, a colon, and the runs in brackets
 abbrev pub text_of : Ranks → List ℕ
 text_of s = decimal (size s) ++ (codes ":[" ++ (runs_text (runs_of (in_order s)) ++ codes "]"))
+
+-- a text that begins with another
+pub record BeginsWith (text front : List ℕ) : Type 0 where
+  pub rest : List ℕ
+  pub is : text ≡ front ++ rest

@@ -22,7 +22,7 @@ mod words;
 pub use read::{RanksError, read_ranks};
 use std::alloc::{AllocError, Global};
 use std::marker::Model;
-use text::{write_number, write_runs};
+use text::write_ranks;
 use words::Words;
 
 /// The most words that a set spans.
@@ -341,20 +341,12 @@ impl RankSet {
         ensures ok { OnOk result (out.new.items ≡ out.old.items ++ text_of self.now) }
         ensures err { OnErr result (out.new.items ≡ out.old.items) }
     {
-        let text = self.to_text(*out.allocator())?;
-        out.extend_from_slice(&text)?;
-        Ok(())
-    }
-
-    fn to_text(&self, alloc: Global) -> Result<Vec<u8>, AllocError>
-        ensures { IfOk result (λ text. text.items ≡ text_of self.now) }
-    {
-        let mut text = Vec::new(alloc);
-        write_number(self.count(), &mut text)?;
-        text.extend_from_slice(b":[")?;
-        write_runs(self.offset, self.words.as_slice(), &mut text)?;
-        text.push(b']')?;
-        Ok(text)
+        let len = out.len();
+        let written = write_ranks(self.offset, self.words.as_slice(), out);
+        if written.is_err() {
+            out.truncate(len);
+        }
+        written
     }
 
     /// The index of the first word among all words: the least rank / 64, or 0 for the empty set.

@@ -1,19 +1,20 @@
 //! The text of a rank set, as `4:[0-2,7]`.
 
-ghost use Rattle.std.specs.Prelude.{◌≡◌, ◌≤◌, ◌+◌, ◌++◌, length, OnOk};
+ghost use Rattle.std.specs.Prelude.{◌≡◌, ◌≤◌, ◌+◌, ◌++◌, length, OnOk, OnErr};
 ghost use Rattle.std.specs.Fmt.{decimal};
 ghost use Rattle.rank_set.specs.Ranks.{in_order};
 ghost use Rattle.rank_set.specs.Words.{ranks_in};
-ghost use Rattle.rank_set.specs.Text.{run_text, runs_text, runs_of};
+ghost use Rattle.rank_set.specs.Text.{run_text, runs_text, runs_of, text_of, BeginsWith};
 
 use crate::WORD_LIMIT;
-use crate::words::next_run;
+use crate::words::{next_run, ones};
 use itoa::Buffer;
 use std::alloc::AllocError;
 
-// Appends the number's decimal digits.
-pub(crate) fn write_number(n: u32, out: &mut Vec<u8>) -> Result<(), AllocError>
-    ensures { OnOk result (out.new.items ≡ out.old.items ++ decimal n) }
+// Appends the number's decimal digits. On failure `out` is unchanged.
+fn write_number(n: u32, out: &mut Vec<u8>) -> Result<(), AllocError>
+    ensures ok { OnOk result (out.new.items ≡ out.old.items ++ decimal n) }
+    ensures err { OnErr result (out.new.items ≡ out.old.items) }
 {
     let mut digits = Buffer::new();
     out.extend_from_slice(digits.format(n).as_bytes())?;
@@ -22,7 +23,8 @@ pub(crate) fn write_number(n: u32, out: &mut Vec<u8>) -> Result<(), AllocError>
 
 // Appends a run's text: a number, or `a-b` for two ranks or more.
 fn write_run(first: u32, last: u32, out: &mut Vec<u8>) -> Result<(), AllocError>
-    ensures { OnOk result (out.new.items ≡ out.old.items ++ run_text (first, last)) }
+    ensures ok { OnOk result (out.new.items ≡ out.old.items ++ run_text (first, last)) }
+    ensures kept { BeginsWith out.new.items out.old.items }
 {
     write_number(first, out)?;
     if first != last {
@@ -33,10 +35,11 @@ fn write_run(first: u32, last: u32, out: &mut Vec<u8>) -> Result<(), AllocError>
 }
 
 // Appends the longest runs of the words' ranks, parted by commas.
-pub(crate) fn write_runs(offset: u32, words: &[u64], out: &mut Vec<u8>) -> Result<(), AllocError>
+fn write_runs(offset: u32, words: &[u64], out: &mut Vec<u8>) -> Result<(), AllocError>
     requires { offset + length words.now ≤ WORD_LIMIT }
-    ensures { OnOk result
+    ensures ok { OnOk result
         (out.new.items ≡ out.old.items ++ runs_text (runs_of (in_order (ranks_in offset words.now)))) }
+    ensures kept { BeginsWith out.new.items out.old.items }
 {
     let mut from = 0;
     while let Some(run) = next_run(offset, words, from) {
@@ -46,5 +49,18 @@ pub(crate) fn write_runs(offset: u32, words: &[u64], out: &mut Vec<u8>) -> Resul
         write_run(run.first, run.last, out)?;
         from = run.last + 1;
     }
+    Ok(())
+}
+
+// Appends the text of the words' ranks. On failure a part of it may stand behind what `out` had.
+pub(crate) fn write_ranks(offset: u32, words: &[u64], out: &mut Vec<u8>) -> Result<(), AllocError>
+    requires { offset + length words.now ≤ WORD_LIMIT }
+    ensures ok { OnOk result (out.new.items ≡ out.old.items ++ text_of (ranks_in offset words.now)) }
+    ensures kept { BeginsWith out.new.items out.old.items }
+{
+    write_number(ones(words), out)?;
+    out.extend_from_slice(b":[")?;
+    write_runs(offset, words, out)?;
+    out.push(b']')?;
     Ok(())
 }

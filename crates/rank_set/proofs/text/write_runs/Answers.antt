@@ -6,7 +6,7 @@ use Rattle.rank_set.specs.Words.{bit_in}
 use Rattle.rank_set.specs.Text.{runs_of, run_text, runs_text}
 use Rattle.rank_set.proofs.WordSets.{has-ranks_in}
 use Rattle.rank_set.proofs.Members.{members}
-use Rattle.rank_set.proofs.Runs.{members_from, first_run, no_runs, more_text, more_none, more_first, more_step}
+use Rattle.rank_set.proofs.Runs.{begins_more, begins_through, members_from, first_run, no_runs, more_text, more_none, more_first, more_step}
 use Rattle.rank_set.proofs.text.write_runs.Goals.{then-from-gt0+in_ok-push, else-from-gt0}
 use Rattle.rank_set.proofs.text.write_runs.Goals as goal
 
@@ -30,15 +30,16 @@ loop-run-preserved c =
     ] in
     record {
       within = omega arith;
+      kept = begins_through c.args.out.now.items c.if-from-gt0.out.items c.write_run.new.out.items (begins_more c.args.out.now.items c.loop-run.out.items c.if-from-gt0.out.items comma c.loop-run.invariant.kept begun) c.in_ok-write_run.ensures.kept;
       text =
-          (λ k. (c.in_ok-write_run.ensures ∙ ap (λ xs. xs ++ run_text (first, last)) begun) k ++ more_text (lt-ltb 0 (last + 1) (omega arith) k) later)
+          (λ k. (c.in_ok-write_run.ensures.ok ∙ ap (λ xs. xs ++ run_text (first, last)) begun) k ++ more_text (lt-ltb 0 (last + 1) (omega arith) k) later)
           ∙ append_assoc (c.loop-run.out.items ++ comma) (run_text (first, last)) (more_text true later) ∙ append_assoc c.loop-run.out.items comma (run_text (first, last) ++ more_text true later)
           ∙ ap (λ xs. c.loop-run.out.items ++ xs) (sym (append_assoc comma (run_text (first, last)) (more_text true later)) ∙ sym (more_step (nat_lt 0 from) (runs_of (members_from t from n)) later (first, last) runs))
           ∙ c.loop-run.invariant.text;
     }
 
-pub returns : goal.returns
-returns c =
+pub returns-clause-ok : goal.returns-clause-ok
+returns-clause-ok c =
     let t : ℕ → Bool = bit_in c.args.offset c.args.words.now in
     let n : ℕ = 64 * (c.args.offset + length c.args.words.now) in
     let from : ℕ = c.loop-run.from in
