@@ -204,13 +204,14 @@ impl<'t> Parser<'t> {
         requires invariant { ParserInvariant (parser_nodes self) (parser_view self) }
         ensures ok { IsValueOf result (whole (parser_nodes self.entry) (parser_view self.entry)) }
         ensures fits { IfOk result (λ samples. SamplesFit (parser_nodes self.entry) samples) }
-        ensures err { IfErr result (λ e. whole (parser_nodes self.entry) (parser_view self.entry) ≡ Err e) }
+        ensures err { IsErrorOf result (whole (parser_nodes self.entry) (parser_view self.entry)) }
     {
         if lacks_rank(self.topology, &self.placed) {
             return Err(TextError::bad(0, Reason::DaemonWithoutRank));
         }
+        let alloc = *self.placed.allocator();
         let paths = self.paths.into_paths();
-        Ok(Samples::new(self.placed, paths, self.lines))
+        Ok(Samples::new(alloc, self.placed, paths, self.lines)?)
     }
 }
 

@@ -1,9 +1,7 @@
-use Rattle.std.proofs.Common.{◌≡◌, ◌≢◌, ◌∙◌, sym, ap, subst, Result, Ok, Err, IfOk, IfErr}
+use Rattle.std.proofs.Common.{◌≡◌, ◌≢◌, ◌∙◌, sym, ap, subst, Err, IfOk}
 use Rattle.stat_plan.specs.Invariants.{SamplesFit}
-use Rattle.stat_plan.specs.Plans.{Sampled}
 use Rattle.text_lines.specs.Lines.{lines}
 use Rattle.text_lines.specs.Parsing.{IsValueOf, IsErrorOf}
-use Rattle.text_lines.specs.declared.text_error.TextError.{TextError}
 use Rattle.text_lines.specs.declared.text_error.TextError.TheVariants.{OutOfMemory}
 use Rattle.text_lines.proofs.Errors.{handed_on, value_has}
 use Rattle.text_lines.proofs.Parsing.{all_parsed, same_context, first_error}
@@ -52,12 +50,8 @@ returns-clause-fits c =
     (same_context parser_nodes parser_view with_line c.args.topology.now (nothing_parsed c.args.topology.now) (lines c.args.text.now) c.in_ok-parser.parser c.in_ok-parser.ensures.nodes c.in_ok-parser.ensures.view c.take_lines.new.parser c.in_ok-take_lines.ensures.taken)
     c.finish.ensures.fits
 
-weaker : {A : Type 0} (r : Result A TextError) (x : Result Sampled TextError) → IfErr r (λ e. x ≡ Err e) → IsErrorOf r x
-weaker (Ok a) x h = tt
-weaker (Err e) x h = λ _. h
-
 pub returns-clause-err : goal.returns-clause-err
-returns-clause-err c = subst (IsErrorOf c.finish.result) (sym (is_whole c)) (weaker c.finish.result _ c.finish.ensures.err)
+returns-clause-err c = subst (IsErrorOf c.finish.result) (sym (is_whole c)) c.finish.ensures.err
 
 pub returns-clause-written : goal.returns-clause-written
 returns-clause-written c =
