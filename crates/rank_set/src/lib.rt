@@ -325,12 +325,19 @@ impl RankSet {
     {
         let mut ranks = RankSet::new(*self.words.allocator());
         let mut from = 0;
-        let mut place = 0;
+        let mut first_place = 0;
         while let Some(run) = cover.next_run(from) {
             let words = self.words.as_slice();
-            let last = place + (run.last - run.first);
-            cover::add_moved(self.offset, words, place, last, run.first, &mut ranks)?;
-            place = last + 1;
+            let last_place = first_place + (run.last - run.first);
+            cover::add_moved(
+                self.offset,
+                words,
+                first_place,
+                last_place,
+                run.first,
+                &mut ranks,
+            )?;
+            first_place = last_place + 1;
             from = run.last + 1;
         }
         Ok(ranks)

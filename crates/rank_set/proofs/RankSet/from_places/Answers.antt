@@ -17,14 +17,14 @@ loop-run-init c = record {
 fits : (cover : Ranks) (from p a b : ℕ) → p ≡ place cover from → from ≤ a → a ≤ b → b < RANK_LIMIT → p + (b - a) < RANK_LIMIT
 fits cover from p a b at start some small = omega (arith, at, place-le cover from)
 
-pub overflow_add-last : goal.overflow_add-last
-overflow_add-last c = let small = fits c.args.cover.now c.loop-run.from c.loop-run.place c.in-Some.run'.first c.in-Some.run'.last c.loop-run.invariant.place c.in-Some.ensures.run.start c.in-Some.ensures.run.some c.in-Some.ensures.below_limit in omega (arith, small)
+pub overflow_add-last_place : goal.overflow_add-last_place
+overflow_add-last_place c = let small = fits c.args.cover.now c.loop-run.from c.loop-run.first_place c.in-Some.run'.first c.in-Some.run'.last c.loop-run.invariant.place c.in-Some.ensures.run.start c.in-Some.ensures.run.some c.in-Some.ensures.below_limit in omega (arith, small)
 
 pub add_moved-requires-clause-last_below_limit : goal.add_moved-requires-clause-last_below_limit
-add_moved-requires-clause-last_below_limit c = fits c.args.cover.now c.loop-run.from c.loop-run.place c.in-Some.run'.first c.in-Some.run'.last c.loop-run.invariant.place c.in-Some.ensures.run.start c.in-Some.ensures.run.some c.in-Some.ensures.below_limit
+add_moved-requires-clause-last_below_limit c = fits c.args.cover.now c.loop-run.from c.loop-run.first_place c.in-Some.run'.first c.in-Some.run'.last c.loop-run.invariant.place c.in-Some.ensures.run.start c.in-Some.ensures.run.some c.in-Some.ensures.below_limit
 
-pub overflow_add-place : goal.overflow_add-place
-overflow_add-place c = let small = fits c.args.cover.now c.loop-run.from c.loop-run.place c.in-Some.run'.first c.in-Some.run'.last c.loop-run.invariant.place c.in-Some.ensures.run.start c.in-Some.ensures.run.some c.in-Some.ensures.below_limit in omega (arith, small)
+pub overflow_add-first_place : goal.overflow_add-first_place
+overflow_add-first_place c = let small = fits c.args.cover.now c.loop-run.from c.loop-run.first_place c.in-Some.run'.first c.in-Some.run'.last c.loop-run.invariant.place c.in-Some.ensures.run.start c.in-Some.ensures.run.some c.in-Some.ensures.below_limit in omega (arith, small)
 
 pub loop-run-preserved : goal.loop-run-preserved
 loop-run-preserved c =
@@ -32,8 +32,8 @@ loop-run-preserved c =
     record {
       within = omega (arith, c.in-Some.ensures.below_limit);
       place = omega (arith, c.loop-run.invariant.place, place_after_run c.args.cover.now c.args.self.now c.loop-run.from c.in-Some.run'.first c.in-Some.run'.last run);
-      made = from_step c.args.cover.now c.args.self.now c.loop-run.from c.in-Some.run'.first c.in-Some.run'.last run c.loop-run.ranks c.add_moved.new.out c.loop-run.place c.loop-run.invariant.place c.loop-run.invariant.made
-          (c.in_ok-add_moved.ensures ∙ ap (λ s. union c.loop-run.ranks (moved c.loop-run.place (c.loop-run.place + (c.in-Some.run'.last - c.in-Some.run'.first)) c.in-Some.run'.first s)) (ap (ranks_in c.self.inside.offset) c.as_slice-words.ensures ∙ c.self.view_is));
+      made = from_step c.args.cover.now c.args.self.now c.loop-run.from c.in-Some.run'.first c.in-Some.run'.last run c.loop-run.ranks c.add_moved.new.out c.loop-run.first_place c.loop-run.invariant.place c.loop-run.invariant.made
+          (c.in_ok-add_moved.ensures ∙ ap (λ s. union c.loop-run.ranks (moved c.loop-run.first_place (c.loop-run.first_place + (c.in-Some.run'.last - c.in-Some.run'.first)) c.in-Some.run'.first s)) (ap (ranks_in c.self.inside.offset) c.as_slice-words.ensures ∙ c.self.view_is));
     }
 
 -- all ranks are there

@@ -7,7 +7,7 @@ use Rattle.rank_set.proofs.RankSet.from_places.Given as goal
 abbrev pub invariant-loop-run : goal.invariant-loop-run
 invariant-loop-run l = record {
   within : l.from ≤ RANK_LIMIT;
-  place : l.place ≡ place l.cover l.from;
+  place : l.first_place ≡ place l.cover l.from;
   made : l.ranks ≡ those (λ r. nat_lt r l.from) (from_places l.cover l.self);
 }
 
