@@ -152,6 +152,14 @@ no_run_word first last k = (
   λ lt. same_from_bits _ 0 (λ i. bit_at_mask_above (first - 64 * k) (min 64 (suc last - 64 * k)) i (omega arith) ∙ sym (Rattle.std.proofs.lemmas.Nat.Bits.bit_at-zero i)),
 )
 
+-- a word in the middle of a run has all bits
+pub whole_word : (first last k : ℕ) → first ≤ 64 * k → 64 * k + 63 ≤ last → run_word first last k ≡ 18446744073709551615
+unfolding run_word
+whole_word first last k from to =
+    let high : min 64 (suc last - 64 * k) ≡ 64 = omega arith in
+    let low : first - 64 * k ≡ 0 = omega arith in
+    (λ i. 2 ^ high i - 2 ^ low i)
+
 positive : (w i : ℕ) → is_bit w i ≡ true → 0 < w
 positive w i one = elim (cases_lt 0 w) [ inl lt ↦ lt | inr none ↦ absurd (true≢false (sym one ∙ no_bit w i (omega arith))) ]
 

@@ -150,7 +150,7 @@ fn read_items(text: &[u8], ranks: &mut RankSet) -> Result<(), RanksError>
 }
 
 /// The ranks of a text, as `7,0-2,1`: in any order, with overlaps, with any number of leading zeros. It is read from the left
-/// and refused at its first error. Items that overlap or touch the one before cost no more than their digits.
+/// and refused at its first error. Items that overlap or touch what came right before cost no more than their digits.
 pub fn read_ranks(alloc: Global, text: &[u8]) -> Result<RankSet, RanksError>
     ensures ok { IfOk result (λ ranks. ranks_text text.now ≡ Ok ranks) }
     ensures err { IfErr result (λ e. e ≢ OutOfMemory → ranks_text text.now ≡ Err e) }

@@ -133,8 +133,13 @@ fn or_run(words: &mut [u64], offset: u32, first: u32, last: u32)
     requires stops { last / 64 < offset + length words.old }
     ensures { (j : ℕ) → get_or words.new j 0 ≡ bit_or (get_or words.old j 0) (run_word first last (offset + j)) }
 {
-    for k in first / 64..last / 64 + 1 {
-        words[(k - offset) as usize] |= word_of_run(first, last, k);
+    let (low, high) = (first / 64, last / 64);
+    words[(low - offset) as usize] |= word_of_run(first, last, low);
+    for k in low + 1..high {
+        words[(k - offset) as usize] |= u64::MAX;
+    }
+    if low < high {
+        words[(high - offset) as usize] |= word_of_run(first, last, high);
     }
 }
 
