@@ -21,7 +21,7 @@ import re
 import sys
 
 # What the readers of `stat` take: docs/FORMATS.md.
-FRAMES, NAME_BYTES, RANKS, TIMES, HOSTS, PREFIXES = 128, 1023, 16384, 64, 511, 2048
+FRAMES, NAME_BYTES, RANKS, TIMES, HOSTS, PREFIXES = 128, 1023, 1048576, 64, 511, 2048
 
 MPI = r'^(P?MPI_[A-Z]|p?mpi_[a-z]|MPI::)'
 THREAD = re.compile(r'^Thread (\d+) ')

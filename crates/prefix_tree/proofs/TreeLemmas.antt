@@ -1,15 +1,15 @@
 -- Trees of pairs: the one tree, trees put together, and a tree read back.
-use Rattle.std.proofs.Common.{◌≡◌, ℕ, Bool, true, false, ◌≢◌, cond, ◌&&◌, ◌||◌, List, [], ◌∷◌, ◌++◌, Option, Some, None, refl, sym, ap, ◌∙◌, subst, eqb, length}
+use Rattle.std.proofs.Common.{◌≡◌, ℕ, Bool, true, false, cond, ◌&&◌, ◌||◌, List, [], ◌∷◌, ◌++◌, Option, Some, None, refl, sym, ap, ◌∙◌, subst, eqb}
 use Rattle.std.proofs.Common.{append-nil}
 use Rattle.std.specs.List.{list_any}
-use Rattle.std.specs.Ordering.{eq_by_cmp, is_eq, nat_cmp}
-use Rattle.std.specs.Cmp.{both_ways, nat_cmp_total, tied_itself}
+use Rattle.std.specs.Ordering.{is_eq}
+use Rattle.std.specs.Cmp.{both_ways, tied_itself}
 use Rattle.std.specs.Cmp.Lexicographic.{nat_list_cmp_total}
 use Rattle.std.specs.FinMap as finmap
 use Rattle.std.proofs.lemmas.Bool.{true≢false, eqb-true, or_left}
 use Rattle.rank_set.proofs.SomeMember.{first_member}
 use Rattle.call_path.proofs.PathLemmas.{is_path-exact, any-prefixes, and_false}
-use Rattle.rank_set.specs.Ranks.{Ranks, none, has, in_order, size, union, has-union, has-those, has-in_order, has-none, same_ranks, none_from_size}
+use Rattle.rank_set.specs.Ranks.{Ranks, none, has, in_order, size, union, has-union, has-those, has-none, same_ranks, none_from_size}
 use Rattle.call_path.specs.Path.{Path, path_cmp, is_path, is_prefix, path_cmp_total, path_cmp_exact}
 use Rattle.call_path.specs.Pairs.{Pairs, pairs_at, is_pair, passes, prefixes, prefixes_of, is_below}
 use Rattle.prefix_tree.specs.Pairs.{label, ends, IsWithin}
