@@ -17,8 +17,8 @@ pub record IsRun (s : Ranks) (from first last : ℕ) : Type 0 where
   pub within : (q : ℕ) → first ≤ q → q ≤ last → has s q ≡ true
   pub ends : has s (suc last) ≡ false
 
--- a run of ranks that is not empty
-pub record IsWithinLimit (first last : ℕ) : Type 0 where
+-- a run of ranks that is not empty, below the limit of ranks
+pub record IsRunInRange (first last : ℕ) : Type 0 where
   pub not_empty : first ≤ last
   pub below_limit : last < RANK_LIMIT
 

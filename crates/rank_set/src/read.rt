@@ -1,7 +1,7 @@
 //! Reads sets of ranks: items separated by `,`, each a number or `a-b`, in any order, where ranges may overlap.
 
 ghost use Rattle.rank_set.specs.Ranks.{none, union};
-ghost use Rattle.rank_set.specs.Runs.{ranks_between, IsWithinLimit, with_pending};
+ghost use Rattle.rank_set.specs.Runs.{ranks_between, IsRunInRange, with_pending};
 ghost use Rattle.rank_set.specs.Digits.{digits_len};
 ghost use Rattle.rank_set.specs.RanksText.{number_at, ends_at, after_first, item_at, item_len, items, ranks_at, ranks_text};
 ghost use Rattle.rank_set.specs.declared.read.RanksError.TheVariants.{OutOfMemory};
@@ -93,9 +93,9 @@ fn item_len(text: &[u8]) -> usize
 // Adds the ranks of a run. They are kept back in the pending run, which takes what overlaps or touches it, and are put into the
 // set once another run comes.
 fn add_run(ranks: &mut RankSet, pending: &mut Option<Run>, run: Run) -> Result<(), AllocError>
-    requires pending { IfSome pending.old (λ p. IsWithinLimit p.first p.last) }
-    requires run { IsWithinLimit run.first run.last }
-    ensures pending { IfSome pending.new (λ p. IsWithinLimit p.first p.last) }
+    requires pending { IfSome pending.old (λ p. IsRunInRange p.first p.last) }
+    requires run { IsRunInRange run.first run.last }
+    ensures pending { IfSome pending.new (λ p. IsRunInRange p.first p.last) }
     ensures ok { OnOk result
         (with_pending ranks.new pending.new
         ≡ union (with_pending ranks.old pending.old) (ranks_between run.first run.last)) }
@@ -118,7 +118,7 @@ fn add_run(ranks: &mut RankSet, pending: &mut Option<Run>, run: Run) -> Result<(
 
 // Puts the pending run into the set.
 fn put_pending(ranks: &mut RankSet, pending: Option<Run>) -> Result<(), AllocError>
-    requires { IfSome pending (λ p. IsWithinLimit p.first p.last) }
+    requires { IfSome pending (λ p. IsRunInRange p.first p.last) }
     ensures { OnOk result (ranks.new ≡ with_pending ranks.old pending) }
 {
     match pending {
