@@ -1,7 +1,7 @@
 //! What no clause says: texts as they are written, and that each call succeeds with ample memory.
 
 use crate::read;
-use stat_plan::{Fault, Mode, Script};
+use stat_plan::{Fault, Grain, Mode, Script};
 use std::alloc::{AllocError, Global};
 use std::process::Abort;
 use std::test::Fail;
@@ -17,6 +17,7 @@ struct Wanted {
     mode: Mode,
     waves: u8,
     samples: u8,
+    grain: Grain,
     daemons: &'static [u32],
 }
 
@@ -28,7 +29,29 @@ struct Accepted {
     faults: &'static [Fault],
 }
 
-const ACCEPTED: [Accepted; 5] = [
+const ACCEPTED: [Accepted; 6] = [
+    Accepted {
+        text: b"stream 0 dont-wait waves 1 samples 1 by  function\ton a:0\nstream 1 time-out 2 waves 1 samples 1 by line on all",
+        streams: &[
+            Wanted {
+                number: 0,
+                mode: Mode::DontWait,
+                waves: 1,
+                samples: 1,
+                grain: Grain::Function,
+                daemons: &[4],
+            },
+            Wanted {
+                number: 1,
+                mode: Mode::TimeOut(2),
+                waves: 1,
+                samples: 1,
+                grain: Grain::Line,
+                daemons: &[2, 3, 4],
+            },
+        ],
+        faults: &[],
+    },
     Accepted {
         text: b"stream 0 dont-wait waves 1 samples 1 on all",
         streams: &[Wanted {
@@ -36,6 +59,7 @@ const ACCEPTED: [Accepted; 5] = [
             mode: Mode::DontWait,
             waves: 1,
             samples: 1,
+            grain: Grain::Line,
             daemons: &[2, 3, 4],
         }],
         faults: &[],
@@ -48,6 +72,7 @@ const ACCEPTED: [Accepted; 5] = [
                 mode: Mode::WaitForAll,
                 waves: 2,
                 samples: 3,
+                grain: Grain::Line,
                 daemons: &[2],
             },
             Wanted {
@@ -55,6 +80,7 @@ const ACCEPTED: [Accepted; 5] = [
                 mode: Mode::TimeOut(1),
                 waves: 16,
                 samples: 64,
+                grain: Grain::Line,
                 daemons: &[3, 4],
             },
         ],
@@ -67,6 +93,7 @@ const ACCEPTED: [Accepted; 5] = [
             mode: Mode::TimeOut(1000),
             waves: 1,
             samples: 1,
+            grain: Grain::Line,
             daemons: &[2, 3, 4],
         }],
         faults: &[
@@ -89,6 +116,7 @@ const ACCEPTED: [Accepted; 5] = [
             mode: Mode::DontWait,
             waves: 16,
             samples: 64,
+            grain: Grain::Line,
             daemons: &[2],
         }],
         faults: &[],
@@ -101,6 +129,7 @@ const ACCEPTED: [Accepted; 5] = [
                 mode: Mode::DontWait,
                 waves: 1,
                 samples: 1,
+                grain: Grain::Line,
                 daemons: &[3],
             },
             Wanted {
@@ -108,6 +137,7 @@ const ACCEPTED: [Accepted; 5] = [
                 mode: Mode::DontWait,
                 waves: 1,
                 samples: 1,
+                grain: Grain::Line,
                 daemons: &[3],
             },
         ],
@@ -122,6 +152,7 @@ fn assert_script(rt: &impl Abort, script: &Script, case: &Accepted) {
         assert_eq!(rt; stream.mode(), wanted.mode);
         assert_eq!(rt; stream.waves(), wanted.waves);
         assert_eq!(rt; stream.samples(), wanted.samples);
+        assert_eq!(rt; stream.grain(), wanted.grain);
         assert_eq!(rt; stream.daemons(), wanted.daemons);
     }
     assert_eq!(rt; script.faults(), case.faults);
@@ -138,7 +169,7 @@ fn accepts_scripts(rt: HostRuntime) -> Result<(), Fail> {
 }
 
 // A text, and the line and reason of its first fault.
-const BAD: [(&[u8], u64, Reason); 47] = [
+const BAD: [(&[u8], u64, Reason); 53] = [
     (b"", 0, Reason::NoStream),
     (b"\n# x\n \t\r\n", 0, Reason::NoStream),
     (b"lose a:0 after 1 keep 1\n", 0, Reason::NoStream),
@@ -198,6 +229,36 @@ const BAD: [(&[u8], u64, Reason); 47] = [
     ),
     (
         b"stream 0 dont-wait waves 1 samples 1 on\r all",
+        1,
+        Reason::BadDirective,
+    ),
+    (
+        b"stream x dont-wait waves 1 samples 1 by word on all",
+        1,
+        Reason::BadDirective,
+    ),
+    (
+        b"stream x dont-wait waves 1 samples 1 by",
+        1,
+        Reason::BadDirective,
+    ),
+    (
+        b"stream x dont-wait waves 1 samples 1 by line",
+        1,
+        Reason::BadDirective,
+    ),
+    (
+        b"stream x dont-wait waves 1 samples 1 by line all",
+        1,
+        Reason::BadDirective,
+    ),
+    (
+        b"stream x dont-wait waves 1 samples 1 by line by line on all",
+        1,
+        Reason::BadDirective,
+    ),
+    (
+        b"stream x dont-wait waves 1 samples 1 on all by line",
         1,
         Reason::BadDirective,
     ),

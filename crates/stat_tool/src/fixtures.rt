@@ -67,7 +67,102 @@ pub struct Worked {
     pub report: &'static str,
 }
 
-pub const WORKED: [Worked; 13] = [
+// Two ranks at different lines of one function.
+const LINES_SMP: &str = "daemon a:0 0-1\nstack 0 0 main@10;f@3\nstack 0 1 main@12;f@3\n";
+
+// The same ranks where lines are looked at.
+const LINES_REPORT: &str = "stream 0 wave 0 release 1 final
+covered 2:[0-1]
+tree
+2:[0-1] - /
+  1:[0] - main@10
+    1:[0] 1:[0] f@3
+  1:[1] - main@12
+    1:[1] 1:[1] f@3
+classes
+class 1:[0] paths 1
+  main@10;f@3
+class 1:[1] paths 1
+  main@12;f@3
+end
+";
+
+pub const FUNCTION_SCR: &str = "stream 0 wait-for-all waves 1 samples 1 by function on all\n";
+
+pub const WORKED: [Worked; 17] = [
+    // functions alone
+    Worked {
+        topology: ONE_TOP,
+        samples: LINES_SMP,
+        script: FUNCTION_SCR,
+        report: "stream 0 wave 0 release 1 final
+covered 2:[0-1]
+tree
+2:[0-1] - /
+  2:[0-1] - main
+    2:[0-1] 2:[0-1] f
+classes
+class 2:[0-1] paths 1
+  main;f
+end
+",
+    },
+    // by line, said and unsaid
+    Worked {
+        topology: ONE_TOP,
+        samples: LINES_SMP,
+        script: "stream 0 wait-for-all waves 1 samples 1 by line on all\n",
+        report: LINES_REPORT,
+    },
+    Worked {
+        topology: ONE_TOP,
+        samples: LINES_SMP,
+        script: ALL_SCR,
+        report: LINES_REPORT,
+    },
+    // what is a line number and what is not
+    Worked {
+        topology: ONE_TOP,
+        samples: "daemon a:0 0-6
+stack 0 0 @7
+stack 0 1 f@
+stack 0 2 f@12x
+stack 0 3 poll@plt
+stack 0 4 f@1234567890
+stack 0 5 f@1@2
+stack 0 6 f@007
+",
+        script: FUNCTION_SCR,
+        report: "stream 0 wave 0 release 1 final
+covered 7:[0-6]
+tree
+7:[0-6] - /
+  1:[0] 1:[0] @7
+  1:[6] 1:[6] f
+  1:[1] 1:[1] f@
+  1:[5] 1:[5] f@1
+  1:[4] 1:[4] f@1234567890
+  1:[2] 1:[2] f@12x
+  1:[3] 1:[3] poll@plt
+classes
+class 1:[0] paths 1
+  @7
+class 1:[1] paths 1
+  f@
+class 1:[2] paths 1
+  f@12x
+class 1:[3] paths 1
+  poll@plt
+class 1:[4] paths 1
+  f@1234567890
+class 1:[5] paths 1
+  f@1
+class 1:[6] paths 1
+  f
+end
+",
+    },
+
     Worked {
         topology: TWO_TOP,
         samples: FOUR_SMP,

@@ -379,6 +379,60 @@ fn counts_the_prefixes_of_a_wave(rt: HostRuntime) -> Result<(), AllocError> {
     Ok(())
 }
 
+// Streams whose three times are one wave, by line and by function.
+const THREE_TIMES: [(&str, &str); 2] = [
+    ("line", "stream 0 wait-for-all waves 1 samples 3 by line on all\n"),
+    ("function", "stream 0 wait-for-all waves 1 samples 3 by function on all\n"),
+];
+
+#[test]
+fn counts_the_prefixes_that_a_stream_sees(rt: HostRuntime) -> Result<(), AllocError> {
+    let alloc = rt.alloc();
+    let samples = one_frame_paths(alloc, 3, 1_000)?;
+    for (grain, script) in THREE_TIMES.as_slice() {
+        let mut desk = desk_of(alloc, ONE_TOP, samples.as_str(), script)?;
+        let words = words_of(alloc, WORDS.as_slice())?;
+        let mut out = MemSink::new(alloc, 1_000, 1_000_000)?;
+        let outcome = stat(alloc, words.as_slice(), &mut desk, &mut out);
+        assert_eq!(rt; outcome.status == Status::Done, *grain == "function");
+    }
+    Ok(())
+}
+
+// A front end with 511 daemons, and 2,048 ranks on each, all in one frame.
+fn wide_job(alloc: Global) -> Result<MemDesk, AllocError> {
+    let mut topology = String::from_str(alloc, "fe:0 =>")?;
+    let mut samples = String::new(alloc);
+    for i in 0..511u32 {
+        topology.push_str(format!(in alloc; " d:{i}")?.as_str())?;
+        let line = format!(in alloc; "daemon d:{i} {}-{}\n", 2_048 * i, 2_048 * i + 2_047)?;
+        samples.push_str(line.as_str())?;
+    }
+    topology.push_str(" ;\n")?;
+    samples.push_str("stack 0 0-1046527 main\n")?;
+    desk_of(alloc, topology.as_str(), samples.as_str(), ALL_SCR)
+}
+
+const WIDE_REPORT: &str = "stream 0 wave 0 release 1 final
+covered 1046528:[0-1046527]
+tree
+1046528:[0-1046527] - /
+  1046528:[0-1046527] 1046528:[0-1046527] main
+classes
+class 1046528:[0-1046527] paths 1
+  main
+end
+";
+
+#[test]
+fn runs_a_million_ranks(rt: HostRuntime) -> Result<(), AllocError> {
+    let mut desk = wide_job(rt.alloc())?;
+    let (status, out) = run_on(rt.alloc(), &mut desk)?;
+    assert_eq!(rt; status, Status::Done);
+    assert_eq!(rt; out.bytes(), WIDE_REPORT.as_bytes());
+    Ok(())
+}
+
 // The status of a run whose topology is this text, filled up with blanks to this length.
 fn status_of_length(alloc: Global, text: &str, length: usize) -> Result<Status, AllocError> {
     let mut topology = text.as_bytes().to_vec(alloc)?;
