@@ -86,8 +86,8 @@ abbrev pub IsGoodLine : Nodes → List (List ℕ) → List ℕ → Type 0
 IsGoodLine t before line =
     (says_nothing line ≡ true) ⊎ (IsUtf8 line × (IsGoodDaemonLine t before line ⊎ IsGoodStackLine t before line))
 
--- Each line of a text is good after those before it, at most 262,144 are `stack` lines, and each daemon has a rank. What
--- the text says is what is written.
+-- Each line of a text is good after those before it, at most 262,144 are `stack` lines, and each daemon has a rank.
+-- What the text says is what is written.
 pub record IsAcceptable (t : Nodes) (text : List ℕ) (s : Sampled) : Type 0 where
   pub form : IsWritten t text s
   pub good_lines : (before after : List (List ℕ)) (line : List ℕ) →

@@ -1,8 +1,8 @@
 //! Reads samples: lines `daemon NAME RANKS`, which place ranks on a daemon, and `stack TIME RANKS PATH`, which say what
 //! placed ranks were doing.
 //!
-//! Lines that are empty, hold only spaces and tabs, or begin with `#` say nothing. `samples_of_text` says what a text means,
-//! or its first error, and [`read`] gives exactly that.
+//! Lines that are empty, hold only spaces and tabs, or begin with `#` say nothing. `samples_of_text` says what a text
+//! means, or its first error, and [`read`] gives exactly that.
 #![tactic(auto)]
 
 ghost use Rattle.std.specs.Prelude.{◌≡◌, IfOk, IfErr, OnOk, Ok};
@@ -43,8 +43,8 @@ fn take_text_lines(text: &str, parser: &mut Parser<'_>) -> Result<(), TextError>
     Ok(())
 }
 
-// Takes the lines of a text into a parser, up to the first that it refuses. A text in UTF-8 is tested once, and of another
-// text each line.
+// Takes the lines of a text into a parser, up to the first that it refuses. A text in UTF-8 is tested once, and of
+// another text each line.
 fn take_lines(text: &[u8], parser: &mut Parser<'_>) -> Result<(), TextError>
     requires { IsConsistent parser.old }
     ensures taken { OnOk result (TakesLines takes_line parser.old 1 (lines text.now) parser.new) }
@@ -57,11 +57,11 @@ fn take_lines(text: &[u8], parser: &mut Parser<'_>) -> Result<(), TextError>
     }
 }
 
-/// Reads samples of the nodes of a topology. A text is refused by its first error, read from the front line by line, and
-/// then by line 0 where a daemon has no rank. While memory lasts, exactly those texts are accepted of which each line says
-/// nothing, places ranks on a daemon for the first time, or gives a sample of ranks that are placed before it, with at most
-/// 262,144 samples and a rank for each daemon: `IsAcceptable`. Each rank is on the node where some `daemon` line places it,
-/// and the samples are those of the `stack` lines, in order: `IsWritten`.
+/// Reads samples of the nodes of a topology. A text is refused by its first error, read from the front line by line,
+/// and then by line 0 where a daemon has no rank. While memory lasts, exactly those texts are accepted of which each
+/// line says nothing, places ranks on a daemon for the first time, or gives a sample of ranks that are placed before
+/// it, with at most 262,144 samples and a rank for each daemon: `IsAcceptable`. Each rank is on the node where some
+/// `daemon` line places it, and the samples are those of the `stack` lines, in order: `IsWritten`.
 pub fn read(alloc: Global, text: &[u8], topology: &Topology) -> Result<Samples, TextError>
     ensures ok { IsValueOf result (samples_of_text topology.now text.now) }
     ensures written { IfOk result (λ samples. IsAcceptable topology.now text.now samples) }

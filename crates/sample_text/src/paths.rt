@@ -61,8 +61,8 @@ impl Paths {
         }
     }
 
-    /// The number of the path that a text on a line writes. A text that was here before has the number that it had, and is
-    /// not read again. The text of the last call is not looked for either.
+    /// The number of the path that a text on a line writes. A text that was here before has the number that it had,
+    /// and is not read again. The text of the last call is not looked for either.
     pub fn number(&mut self, line_number: u64, text: &str) -> Result<u32, TextError>
         requires holds { HoldsPaths self.old }
         requires within_limit { length self.old.paths.items < LINE_LIMIT }

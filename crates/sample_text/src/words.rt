@@ -1,5 +1,5 @@
-//! The words of a line of samples: `daemon NAME RANKS` or `stack TIME RANKS PATH`. They are checked here, before any name,
-//! number or path in them.
+//! The words of a line of samples: `daemon NAME RANKS` or `stack TIME RANKS PATH`. They are checked here, before any
+//! name, number or path in them.
 
 ghost use Rattle.std.specs.Prelude.{◌≡◌, ℕ, IfOk, IfErr, OnOk, IfSome, Ok, Err};
 ghost use Rattle.text_lines.specs.Lines.{words, after_word};
@@ -90,8 +90,8 @@ fn directive(line_number: u64, line: &str) -> Result<Line<'_>, TextError>
     }
 }
 
-// A line of samples in its usual form, read in one go: `stack`, TIME and RANKS with one blank behind each, and PATH. None
-// where the line has another form.
+// A line of samples in its usual form, read in one go: `stack`, TIME and RANKS with one blank behind each, and PATH.
+// None where the line has another form.
 fn usual_line(line: &str) -> Option<Line<'_>>
     ensures { IfSome result (λ view. (n : ℕ) → read_line n line.now ≡ Ok (line_view view)) }
 {
