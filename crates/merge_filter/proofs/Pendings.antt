@@ -1,7 +1,7 @@
 -- What is still to be added to a tree.
 use Rattle.std.proofs.Common.{◌≡◌, ◌≢◌, ℕ, ◌<◌, Bool, true, false, ◌&&◌, ◌||◌, List, [], ◌++◌, get_or, refl, sym, ap, subst, ◌∙◌, arith}
 use Rattle.std.proofs.lemmas.List.{append-nil}
-use Rattle.rank_set.specs.Ranks.{Ranks, none, has, size, size-none, in_order, is_subset, subset_from, those, has-those, union, has-union, none_from_size}
+use Rattle.rank_set.specs.Ranks.{Ranks, none, has, size, size-none, in_order, is_subset, subset_from, union, has-union, none_from_size}
 use Rattle.call_path.specs.Path.{Path, is_path}
 use Rattle.call_path.specs.Pairs.{Pairs, pairs_at, is_pair}
 use Rattle.prefix_tree.specs.Tree.{Tree, tree_of, added, count_below}
@@ -39,10 +39,7 @@ is_pair-pending P paths x r q =
     is_pair-append P (pairs_at (in_order x.ranks) (get_or paths x.path [])) r q
     ∙ ap (λ b. is_pair P r q || b) (any-pairs_of_set (is_path q) x.ranks (get_or paths x.path []) r)
 
-module _ (P : Pairs) (own own_copy here : Ranks) (paths : List Path) (line : StackLine) (old new : Pending) (copied : own_copy ≡ own) (is : here ≡ those (λ r. has line.ranks r) own_copy) where
-  in_here : (r : ℕ) → has here r ≡ (has own r && has line.ranks r)
-  in_here r = ap (λ s. has s r) is ∙ has-those (λ r. has line.ranks r) own_copy r ∙ ap (λ s. has s r && has line.ranks r) copied
-
+module _ (P : Pairs) (own : Ranks) (paths : List Path) (line : StackLine) (old new : Pending) where
   regroup : (p o h c : Bool) → (p || ((o || h) && c)) ≡ ((p || (o && c)) || (h && c))
   regroup true o h c = refl
   regroup false true h true = refl
@@ -51,7 +48,7 @@ module _ (P : Pairs) (own own_copy here : Ranks) (paths : List Path) (line : Sta
   regroup false false h c = refl
 
   -- the line's ranks join those that are still to be added
-  pub joins : (t : Tree) → t ≡ tree_of P own → line.path ≡ old.path → new.path ≡ old.path → new.ranks ≡ union old.ranks here → TakesLine P own paths (line_of paths line) line.path old new t
+  pub joins : (t : Tree) → t ≡ tree_of P own → line.path ≡ old.path → new.path ≡ old.path → new.ranks ≡ union old.ranks line.ranks → TakesLine P own paths (line_of paths line) line.path old new t
   joins t tree one path ranks = record {
     pairs = P;
     is = tree;
@@ -59,18 +56,18 @@ module _ (P : Pairs) (own own_copy here : Ranks) (paths : List Path) (line : Sta
     each = λ r q.
         is_pair-pending P paths new r q
         ∙ (λ i. is_pair P r q || (has (ranks i) r && is_path q (get_or paths (path i) [])))
-        ∙ ap (λ b. is_pair P r q || (b && is_path q (get_or paths old.path []))) (has-union old.ranks here r)
-        ∙ regroup (is_pair P r q) (has old.ranks r) (has here r) (is_path q (get_or paths old.path []))
-        ∙ (λ i. sym (is_pair-pending P paths old r q) i || (in_here r i && is_path q (get_or paths (sym one i) [])));
+        ∙ ap (λ b. is_pair P r q || (b && is_path q (get_or paths old.path []))) (has-union old.ranks line.ranks r)
+        ∙ regroup (is_pair P r q) (has old.ranks r) (has line.ranks r) (is_path q (get_or paths old.path []))
+        ∙ (λ i. sym (is_pair-pending P paths old r q) i || (has line.ranks r && is_path q (get_or paths (sym one i) [])));
   }
 
   -- they are the next that are to be added
-  pub comes_next : (u : Tree) → u ≡ tree_of (with_pending P paths old) own → new.path ≡ line.path → new.ranks ≡ here → TakesLine P own paths (line_of paths line) line.path old new u
+  pub comes_next : (u : Tree) → u ≡ tree_of (with_pending P paths old) own → new.path ≡ line.path → new.ranks ≡ line.ranks → TakesLine P own paths (line_of paths line) line.path old new u
   comes_next u tree path ranks = record {
     pairs = with_pending P paths old;
     is = tree;
     number = path;
     each = λ r q.
         is_pair-pending (with_pending P paths old) paths new r q
-        ∙ (λ i. is_pair (with_pending P paths old) r q || ((ap (λ s. has s r) ranks ∙ in_here r) i && is_path q (get_or paths (path i) [])));
+        ∙ (λ i. is_pair (with_pending P paths old) r q || (has (ranks i) r && is_path q (get_or paths (path i) [])));
   }

@@ -1,9 +1,9 @@
 -- What the samples of a wave are, by the lines that list them.
 use Rattle.std.proofs.Common.{◌≡◌, ℕ, ◌<◌, Bool, true, false, ◌&&◌, ◌||◌, nat_eq, List, [], ◌∷◌, get_or, length, map, refl, sym, ap, subst, ◌∙◌, eqb-true, eq-eqb}
-use Rattle.std.specs.List.{list_any}
+use Rattle.std.specs.List.{list_any, AllByRecursion}
 use Rattle.std.proofs.lemmas.Bool.{and_parts, and_from}
 use Rattle.std.proofs.lemmas.List.{get_or-map, length-map}
-use Rattle.rank_set.specs.Ranks.{Ranks, none, has, Has, IsSubset, in_order, those, has-those}
+use Rattle.rank_set.specs.Ranks.{Ranks, has, Has, IsSubset, in_order, those, has-those}
 use Rattle.call_path.specs.Functions.{func}
 use Rattle.call_path.specs.Path.{Path, is_path}
 use Rattle.call_path.specs.Pairs.{pairs_at, is_pair, HasNoEmptyPath, is_below}
@@ -12,14 +12,14 @@ use Rattle.prefix_tree.specs.Joined.{AreSamePairs}
 use Rattle.prefix_tree.proofs.PairLemmas.{is_pair-append, any-pairs_of_set}
 use Rattle.stat_plan.specs.Invariants.{IsPlan, IsSampleLine}
 use Rattle.stat_plan.specs.NodeSets.{In}
-use Rattle.stat_plan.specs.OwnLines.{is_listed}
+use Rattle.stat_plan.specs.OwnLines.{AreOwnLines, is_listed}
 use Rattle.stat_plan.specs.Plans.{Plan, grain, sample_count, samples, stream_ranks}
 use Rattle.stat_plan.specs.Samples.{SampleLine, is_in_wave, path_by, samples_of, seen_by, wave_lines}
 use Rattle.stat_plan.specs.StackLines.{PathIndicesInRange, line_of, lines_of}
-use Rattle.stat_plan.specs.Tables.{AreLinesOf, IsOwnLine}
 use Rattle.stat_plan.specs.declared.samples.StackLine.{StackLine}
 use Rattle.stat_plan.specs.declared.script.Grain.{Grain}
 use Rattle.stat_plan.specs.declared.script.Grain.TheVariants.{Line, Function}
+use Rattle.stat_plan.proofs.Elements.{all_from}
 use Rattle.stat_plan.proofs.FirstOver.{all_in}
 use Rattle.stat_plan.proofs.InLists.{any_from_in, in_filter, in_from_any, in_from_filter, in_from_map, in_map}
 
@@ -164,21 +164,7 @@ samples_have_paths p plan s w r q there =
     subst (λ (p : Path). 0 < length p) (sym (is_path-exact q (path_by (grain p s) listed.line.path) listed.path))
     (subst (λ n. 0 < n) (sym (length_by (grain p s) listed.line.path)) good.path.some)
 
--- the numbers of lines that have some ranks don't depend on the paths
-pub own_lines_alike : (ps qs : List Path) (lines : List StackLine) (own : Ranks) (numbers : List ℕ) → AreLinesOf (lines_of ps lines) own numbers → AreLinesOf (lines_of qs lines) own numbers
-own_lines_alike ps qs lines own numbers are = record {
-  own = λ i there. alike ps qs i (are.own i there);
-  all = λ i is. are.all i (alike qs ps i is);
-}
-  where
-    ranks_alike : (ps qs : List Path) (lines : List StackLine) → map (λ (l : SampleLine). l.ranks) (lines_of ps lines) ≡ map (λ (l : SampleLine). l.ranks) (lines_of qs lines)
-    ranks_alike ps qs [] = refl
-    ranks_alike ps qs (line ∷ lines) = ap (λ rs. line.ranks ∷ rs) (ranks_alike ps qs lines)
-
-    alike : (ps qs : List Path) (i : ℕ) → IsOwnLine (lines_of ps lines) own i → IsOwnLine (lines_of qs lines) own i
-    alike ps qs i is = record {
-      line = subst (λ n. i < n) (length-map lines (line_of ps) ∙ sym (length-map lines (line_of qs))) is.line;
-      rank = is.rank;
-      seen = ap (λ rs. has (get_or rs i none) is.rank) (sym (ranks_alike ps qs lines)) ∙ is.seen;
-      placed = is.placed;
-    }
+-- a node's own lines list its ranks alone
+pub own_lines_lie : (own : Ranks) (all : List SampleLine) (paths : List Path) (lines : List StackLine) → AreOwnLines own all (lines_of paths lines) → AllByRecursion (λ line. IsSubset line.ranks own) lines
+own_lines_lie own all paths lines are = all_from (λ (line : StackLine). IsSubset line.ranks own) lines (λ line there r rank.
+    (and_parts (has own r) (is_listed all r line.time (get_or paths line.path [])) (sym (are.each r line.time (get_or paths line.path [])) ∙ to_listed (lines_of paths lines) (line_of paths line) r (in_map (line_of paths) line lines there) rank)).0)

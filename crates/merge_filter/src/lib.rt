@@ -102,12 +102,10 @@ impl<T: PrefixTree> Contribution<T> {
         ensures partial_merge { IfOk result (IsPartialMerge plan.now) }
     {
         plan.invariant();
+        let own = plan.own_lines(d);
+        let paths = own.paths_by(grain_of(plan, s));
         let samples = sample_count(plan, s);
-        let all = plan.lines();
-        let paths = all.paths_by(grain_of(plan, s));
-        let numbers = plan.line_index(d);
-        let own = plan.ranks(d);
-        let tree = own_tree(alloc, all.lines, paths, numbers, samples, w, own)?;
+        let tree = own_tree(alloc, own.lines, paths, samples, w, plan.ranks(d))?;
         Ok(Contribution::of_tree(s, w, tree))
     }
 

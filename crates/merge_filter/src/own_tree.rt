@@ -1,12 +1,12 @@
-//! The tree of a wave's samples of some ranks, by the numbers of the lines that have one of them.
+//! The tree of a wave's samples of some ranks, by the lines of these ranks alone.
 
 ghost use Rattle.std.specs.Prelude.{◌≡◌, ◌≤◌, IfOk, OnOk};
-ghost use Rattle.rank_set.specs.Ranks.{Ranks};
+ghost use Rattle.std.specs.List.{AllByRecursion};
+ghost use Rattle.rank_set.specs.Ranks.{IsSubset, Ranks};
 ghost use Rattle.call_path.specs.Pairs.{Pairs};
 ghost use Rattle.prefix_tree.specs.Tree.{count_below, tree_of};
 ghost use Rattle.stat_plan.specs.Samples.{samples_of, wave_lines};
 ghost use Rattle.stat_plan.specs.StackLines.{PathIndicesInRange, line_of, lines_of};
-ghost use Rattle.stat_plan.specs.Tables.{AreLinesOf};
 ghost use Rattle.merge_filter.specs.Gathering.{HasRoomFor, TakesLine, with_pending};
 
 use call_path::CallPath;
@@ -45,46 +45,41 @@ fn add_pending<T: PrefixTree>(
     }
 }
 
-// Takes the own ranks of a line. They join those that are still to be added, if the path is theirs; else they are the next
-// that are to be added.
+// Takes a line. Its ranks join those that are still to be added, if the path is theirs; else they are the next that are to be
+// added.
 fn take_line<T: PrefixTree>(
     tree: &mut T,
-    own: &RankSet,
     paths: &[CallPath],
     pending: &mut Pending,
     line: &StackLine,
 ) -> Result<(), AllocError>
     requires { HasRoomFor (T.tree tree.old) paths.now pending.old }
     ensures { OnOk result
-        ((P : Pairs) → T.tree tree.old ≡ tree_of P own.now
-        → TakesLine P own.now paths.now (line_of paths.now line.now) line.now.path pending.old pending.new
-        (T.tree tree.new)) }
+        ((P : Pairs) (C : Ranks) → T.tree tree.old ≡ tree_of P C
+        → TakesLine P C paths.now (line_of paths.now line.now) line.now.path pending.old pending.new (T.tree tree.new)) }
 {
-    let mut here = own.copy()?;
-    here.intersect_with(&line.ranks);
     if line.path == pending.path {
-        pending.ranks.union_into(&here)?;
+        pending.ranks.union_into(&line.ranks)?;
         return Ok(());
     }
     add_pending(tree, paths, pending)?;
     pending.path = line.path;
-    pending.ranks = here;
+    pending.ranks = line.ranks.copy()?;
     Ok(())
 }
 
-/// The tree of a wave's samples of some ranks. `numbers` are those of the lines that have one of the ranks. It takes the least
-/// time where they come in the order of their paths.
+/// The tree of a wave's samples of some ranks, of which alone there are lines. It takes the least time where they come in the
+/// order of their paths.
 pub fn own_tree<T: PrefixTree>(
     alloc: Global,
     lines: &[StackLine],
     paths: &[CallPath],
-    numbers: &[u32],
     samples: u8,
     wave: u8,
     own: &RankSet,
 ) -> Result<T, AllocError>
     requires numbered { PathIndicesInRange paths.now lines.now }
-    requires numbers { AreLinesOf (lines_of paths.now lines.now) own.now numbers.now }
+    requires own { AllByRecursion (λ line. IsSubset line.ranks own.now) lines.now }
     requires within { count_below
         (tree_of (samples_of (wave_lines samples wave (lines_of paths.now lines.now))) own.now) ≤ 2048 }
     ensures { IfOk result
@@ -97,10 +92,9 @@ pub fn own_tree<T: PrefixTree>(
         path: 0,
         ranks: RankSet::new(alloc),
     };
-    for i in numbers {
-        let line = &lines[*i as usize];
+    for line in lines {
         if is_in_wave(samples, wave, line.time) {
-            take_line(&mut tree, own, paths, &mut pending, line)?;
+            take_line(&mut tree, paths, &mut pending, line)?;
         }
     }
     add_pending(&mut tree, paths, &pending)?;

@@ -14,7 +14,7 @@ use Rattle.stat_plan.specs.Limits.{RefusesAt, first_over, is_over, is_within_lim
 use Rattle.stat_plan.specs.declared.plan_error.PlanError.{PlanError}
 use Rattle.stat_plan.specs.declared.plan_error.PlanError.TheVariants.{TooManyPrefixes, OutOfMemory}
 use Rattle.stat_plan.proofs.InLists.{eqb_self}
-use Rattle.stat_plan.proofs.LineIndexing.{all_element}
+use Rattle.stat_plan.proofs.Elements.{all_element}
 
 -- nothing is found in the first part
 pub find-later : {X : Type 0} (test : X → Bool) (xs ys : List X) → find test xs ≡ None → find test (xs ++ ys) ≡ find test ys

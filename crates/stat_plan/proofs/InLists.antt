@@ -1,9 +1,9 @@
 -- What a list holds.
-use Rattle.std.proofs.Common.{◌≡◌, ◌⊎◌, inl, inr, ℕ, suc, zero, Bool, true, false, ◌||◌, ◌==◌, List, [], ◌∷◌, ◌++◌, map, filter, cond, Some, take, get_or, length, refl, sym, ap, subst, ◌∙◌, arith, eqb-true, eq-eqb, ◌<◌, ◌↔◌}
+use Rattle.std.proofs.Common.{◌≡◌, ◌⊎◌, inl, inr, ℕ, suc, zero, Bool, true, false, ◌||◌, ◌==◌, List, [], ◌∷◌, ◌++◌, map, filter, cond, Some, take, get_or, length, refl, sym, ap, subst, ◌∙◌, arith, eqb-true, eq-eqb, ◌<◌}
 use Rattle.std.specs.List.{list_all, list_any, Contains}
 use Rattle.std.specs.Prelude.{slice_get}
 use Rattle.std.specs.List.Sorted.{IsPermutation}
-use Rattle.std.proofs.lemmas.List.Sorted.{Contains-permutation, IsPermutation-sym}
+use Rattle.std.proofs.lemmas.List.Sorted.{Contains-permutation}
 use Rattle.std.proofs.lemmas.Bool.{true≢false, cases_lt, or_cases, or_left, or_right, and_parts, and_from}
 use Rattle.stat_plan.specs.NodeSets.{In, member}
 use Rattle.stat_plan.specs.Plans.{up_to}
@@ -99,19 +99,6 @@ up_to_below (suc n) i there = elim (in_append i (up_to n) (n ∷ []) there) [
   | (inl before) ↦ let lt = up_to_below n i before in omega (arith, lt)
   | (inr last) ↦ elim last [ (inl e) ↦ omega (arith, e) | (inr nothing) ↦ absurd nothing ]
 ]
-
--- the numbers from 0 on, in another order
-pub numbers_permuted : {K : Type 0} (keyed sorted : List (K × ℕ)) (numbers : List ℕ) (n : ℕ) → map (λ (e : K × ℕ). e.1) keyed ≡ up_to n → IsPermutation keyed sorted → numbers ≡ map (λ (e : K × ℕ). e.1) sorted → (i : ℕ) → In i numbers ↔ (i < n)
-numbers_permuted {K} keyed sorted numbers n all same is i = (
-  (λ there.
-      let from = in_from_map (λ (e : K × ℕ). e.1) sorted i (subst (In i) is there) in
-      let back = in_permuted from.0 sorted keyed (IsPermutation-sym keyed sorted same) from.1.0 in
-      up_to_below n i (subst (In i) all (subst (λ j. In j (map (λ (e : K × ℕ). e.1) keyed)) (sym from.1.1) (in_map (λ (e : K × ℕ). e.1) from.0 keyed back)))),
-  λ lt.
-      let from = in_from_map (λ (e : K × ℕ). e.1) keyed i (subst (In i) (sym all) (up_to_in n i lt)) in
-      let on = in_permuted from.0 keyed sorted same from.1.0 in
-      subst (In i) (sym is) (subst (λ j. In j (map (λ (e : K × ℕ). e.1) sorted)) (sym from.1.1) (in_map (λ (e : K × ℕ). e.1) from.0 sorted on)),
-)
 
 -- what a filter keeps
 pub in_filter : {X : Type 0} (test : X → Bool) (x : X) (xs : List X) → In x xs → test x ≡ true → In x (filter test xs)

@@ -4,7 +4,9 @@ pub mod Leaves
 pub mod InLists
 pub mod Expecting
 pub mod Indexing
-pub mod LineIndexing
+pub mod Elements
+pub mod Sharing
+pub mod OwnPaths
 pub mod FirstOver
 pub mod LookupLemmas
 pub mod TableLemmas

@@ -25,7 +25,7 @@ first_of [] r e = absurd (none-some r e)
 first_of (x ∷ xs) r e = (xs, ap (λ (o : Option ℕ). unwrap_or o x ∷ xs) e)
 
 -- the first rank is a member
-has_first : (C : Ranks) (r : ℕ) → slice_get (in_order C) 0 ≡ Some r → has C r ≡ true
+pub has_first : (C : Ranks) (r : ℕ) → slice_get (in_order C) 0 ≡ Some r → has C r ≡ true
 has_first C r e =
     let parts = first_of (in_order C) r e in
     has-in_order C r ∙ ap (list_any (eq_by_cmp nat_cmp r)) parts.1 ∙ ap (λ o. is_eq o || list_any (eq_by_cmp nat_cmp r) parts.0) (tied_itself nat_cmp_total r)

@@ -126,18 +126,21 @@ module _ (paths : List Path) (lines : List StackLine) (k w : ℕ) (g : Grain) (o
       let stack = in_from_map (line_of paths) lines line.0 wave.0 in
       let at = in_from_pairs_at pair.0 (in_order seen.0.ranks) seen.0.path seen.1.1 in
       let ranks : seen.0.ranks ≡ those (has own) stack.0.ranks = ap (λ (s : SampleLine). s.ranks) line.1.1 ∙ ap (λ (s : SampleLine). those (has own) s.ranks) stack.1.1 in
-      let rank = in_from_filter (has own) pair.0.0 (in_order stack.0.ranks) (subst (In pair.0.0) (ap in_order ranks ∙ in_order-those (has own) stack.0.ranks) at.0) in
-      (stack.0.path,
-      (record {
-        line = stack.0;
-        there = stack.1.0;
-        path = refl;
-        time = ap (λ (s : SampleLine). is_in_wave k w s.time) (sym stack.1.1) ∙ wave.1;
-        rank = pair.0.0;
-        listed = rank.0;
-        own_rank = rank.1;
-      },
-      pair.1.1 ∙ at.1 ∙ ap (λ (s : SampleLine). s.path) line.1.1 ∙ ap (λ (s : SampleLine). path_by g s.path) stack.1.1))
+      let rank = in_from_filter (has own) pair.0.0 (in_order stack.0.ranks) (subst (In pair.0.0) (ap in_order ranks ∙ in_order-those (has own) stack.0.ranks) at.0) in (
+        stack.0.path,
+        (
+          record {
+            line = stack.0;
+            there = stack.1.0;
+            path = refl;
+            time = ap (λ (s : SampleLine). is_in_wave k w s.time) (sym stack.1.1) ∙ wave.1;
+            rank = pair.0.0;
+            listed = rank.0;
+            own_rank = rank.1;
+          },
+          pair.1.1 ∙ at.1 ∙ ap (λ (s : SampleLine). s.path) line.1.1 ∙ ap (λ (s : SampleLine). path_by g s.path) stack.1.1,
+        ),
+      )
 
   module _ (in_range : PathIndicesInRange paths lines) where
     in_paths : (i : ℕ) → Lists lines k w own i → i < length paths

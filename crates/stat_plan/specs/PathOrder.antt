@@ -1,4 +1,4 @@
--- Paths in their order, and which of them a wave has. No clause of a public call cites this.
+-- Paths in their order, and which of them a wave has.
 use Rattle.std.specs.Prelude.{◌≡◌, ◌<◌, ℕ, Bool, false, ◌&&◌, nat_eq, List, [], filter, length, map, slice_index_or, Option, None, Some}
 use Rattle.std.specs.Borrow.{Bor}
 use Rattle.std.specs.List.{list_any}
@@ -28,6 +28,8 @@ pub record AreInOrder (paths : List Path) (ordered : List (Path × ℕ)) : Type 
 -- the numbers of some paths in the order of the paths
 abbrev pub IsOrderOf : List Path → List ℕ → Type 0
 IsOrderOf paths numbers = AreInOrder paths (numbered paths numbers)
+
+-- ---- which paths of them a wave has. No clause of a public call cites what follows.
 
 -- those of numbered paths that are seen
 abbrev pub seen_paths : List (Path × ℕ) → List Bool → List Path

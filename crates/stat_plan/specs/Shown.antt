@@ -5,11 +5,6 @@ use Rattle.std.specs.Borrow.{Bor}
 use Rattle.stat_plan.specs.Plans.{Plan, Stream, stream_of}
 use Rattle.stat_plan.specs.StackLines.{lines_of}
 use Rattle.stat_plan.specs.declared.samples.Lines.{Lines}
-use Rattle.stat_plan.specs.declared.samples.Line.{Line}
-
--- the line that is shown
-abbrev pub sample_line_view : Line → SampleLine
-sample_line_view line = record { time = line.time; ranks = line.ranks.now; path = line.path.now }
 
 -- the lines that are shown
 abbrev pub lines_view : Lines → List SampleLine

@@ -1,15 +1,18 @@
 //! A job: what its three files say together.
 
-ghost use Rattle.std.specs.Prelude.{◌≡◌, ◌<◌, Some, length, map, slice_get};
+ghost use Rattle.std.specs.Prelude.{◌≡◌, ◌<◌, length, map, slice_index_or};
+ghost use Rattle.rank_set.specs.Ranks.{none};
 ghost use Rattle.call_path.specs.Functions.{func};
 ghost use Rattle.stat_plan.specs.Invariants.{IsJob, SamplesFit, ScriptFits};
+ghost use Rattle.stat_plan.specs.OwnLines.{AreOwnLines};
+ghost use Rattle.stat_plan.specs.PathOrder.{IsOrderOf};
 ghost use Rattle.stat_plan.specs.Plans.{plan_of, nodes, front, ranks};
 ghost use Rattle.stat_plan.specs.Names.{name_of};
-ghost use Rattle.stat_plan.specs.Shown.{lines_view, sample_line_view};
+ghost use Rattle.stat_plan.specs.Shown.{lines_view};
 ghost use Rattle.stat_plan.specs.StackLines.{PathIndicesInRange};
 ghost use Rattle.stat_plan.specs.Trees.{parent_of, is_daemon};
 
-use crate::samples::{Line, Lines, Samples};
+use crate::samples::{Lines, Samples};
 use crate::script::{Fault, Script, StreamDef};
 use crate::topology::Topology;
 use rank_set::RankSet;
@@ -69,21 +72,25 @@ impl Job {
         &self.topology
     }
 
-    /// A line of samples, by its number.
-    pub fn line(&self, i: usize) -> Line<'_>
-        requires { i < length self.now.lines }
-        ensures { Some (sample_line_view result) ≡ slice_get self.now.lines i }
-    {
-        self.samples.line(i)
-    }
-
-    /// The lines of samples, with the numbers of their paths, the paths and their functions.
+    /// The lines of samples, in the order of their text.
     pub fn lines(&self) -> Lines<'_>
         ensures lines { lines_view result ≡ self.now.lines }
         ensures numbered { PathIndicesInRange result.paths.now result.lines.now }
         ensures functions { result.functions.now ≡ map (map func) result.paths.now }
+        ensures order { IsOrderOf result.paths.now result.order.now }
     {
         self.samples.lines()
+    }
+
+    /// The lines of a node alone, in the order of their paths.
+    pub fn own_lines(&self, n: u32) -> Lines<'_>
+        requires { n < length self.now.placed }
+        ensures own { AreOwnLines (slice_index_or self.now.placed n none) self.now.lines (lines_view result) }
+        ensures numbered { PathIndicesInRange result.paths.now result.lines.now }
+        ensures functions { result.functions.now ≡ map (map func) result.paths.now }
+        ensures order { IsOrderOf result.paths.now result.order.now }
+    {
+        self.samples.own_lines(n)
     }
 
     /// The ranks of each node, by node number.

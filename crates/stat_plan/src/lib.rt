@@ -12,9 +12,8 @@ mod expected;
 mod find;
 mod job;
 mod limit;
-mod line_index;
-mod line_order;
 mod machine;
+mod own_lines;
 mod path_order;
 mod plan;
 mod plan_error;
@@ -27,8 +26,9 @@ mod topology;
 pub use machine::{Act, Timer};
 pub use plan::Plan;
 pub use plan_error::PlanError;
-pub use samples::{LINE_LIMIT, Line, Lines, Samples, StackLine, TIME_LIMIT, is_in_wave};
+pub use samples::{LINE_LIMIT, Lines, Samples, StackLine, TIME_LIMIT, is_in_wave};
 pub use script::{
-    FAULT_LIMIT, Fault, Grain, Mode, SAMPLE_LIMIT, STREAM_LIMIT, Script, StreamDef, TICK_LIMIT, WAVE_LIMIT,
+    FAULT_LIMIT, Fault, Grain, Mode, SAMPLE_LIMIT, STREAM_LIMIT, Script, StreamDef, TICK_LIMIT,
+    WAVE_LIMIT,
 };
 pub use topology::{DEPTH_LIMIT, NODE_LIMIT, Topology};

@@ -86,12 +86,7 @@ fn paths_seen(
 }
 
 // Whether a line at a time of wave `wave` lists one of some ranks.
-fn lists_rank(
-    line: &StackLine,
-    samples: u8,
-    wave: u8,
-    ranks: &RankSet,
-) -> Result<bool, AllocError>
+fn lists_rank(line: &StackLine, samples: u8, wave: u8, ranks: &RankSet) -> Result<bool, AllocError>
     ensures { IfOk result
         (λ lists. lists ≡ (is_in_wave samples wave line.now.time && share_rank line.now.ranks ranks.now)) }
 {
@@ -177,18 +172,17 @@ fn check_stream(
     Ok(())
 }
 
-// Tests all waves, by stream and wave. The order of the paths, and that of their functions, are given.
+// Tests all waves, by stream and wave. The order of the functions of the paths is given.
 fn check_streams(
     alloc: Global,
     job: &Job,
     all: Lines<'_>,
-    by_line: &[usize],
     by_function: &[usize],
 ) -> Result<(), PlanError>
     requires lines { lines_view all ≡ job.now.lines }
     requires numbered { PathIndicesInRange all.paths.now all.lines.now }
     requires functions { all.functions.now ≡ map (map func) all.paths.now }
-    requires by_line { IsOrderOf all.paths.now by_line.now }
+    requires order { IsOrderOf all.paths.now all.order.now }
     requires by_function { IsOrderOf all.functions.now by_function.now }
     ensures ok { OnOk result (first_over job.now ≡ None) }
     ensures err { IfErr result (RefusesAt (first_over job.now)) }
@@ -196,7 +190,7 @@ fn check_streams(
     job.invariant();
     for stream in job.streams() {
         let order = match stream.grain() {
-            Grain::Line => by_line,
+            Grain::Line => all.order,
             Grain::Function => by_function,
         };
         match check_stream(alloc, job, all, order, stream) {
@@ -214,10 +208,9 @@ pub fn check_limit(alloc: Global, job: &Job) -> Result<(), PlanError>
     ensures err { IfErr result (RefusesAt (first_over job.now)) }
 {
     let all = job.lines();
-    let by_line = in_order(alloc, all.paths)?;
-    if all_are_within(alloc, all.paths, &by_line)? {
+    if all_are_within(alloc, all.paths, all.order)? {
         return Ok(());
     }
     let by_function = in_order(alloc, all.functions)?;
-    check_streams(alloc, job, all, &by_line, &by_function)
+    check_streams(alloc, job, all, &by_function)
 }

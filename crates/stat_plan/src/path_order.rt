@@ -1,6 +1,6 @@
 //! Paths in their order.
 
-ghost use Rattle.std.specs.Prelude.{IfOk};
+ghost use Rattle.std.specs.Prelude.{◌≡◌, IfOk, length};
 ghost use Rattle.stat_plan.specs.PathOrder.{IsOrderOf};
 
 use call_path::CallPath;
@@ -20,4 +20,20 @@ pub fn in_order(alloc: Global, paths: &[CallPath]) -> Result<Vec<usize>, AllocEr
         numbers.push(entry.1)?;
     }
     Ok(numbers)
+}
+
+/// By path number, the place of the path in the order of the paths, which is given.
+pub fn path_places(
+    alloc: Global,
+    paths: &[CallPath],
+    order: &[usize],
+) -> Result<Vec<usize>, AllocError>
+    requires { IsOrderOf paths.now order.now }
+    ensures { IfOk result (λ places. length places.items ≡ length paths.now) }
+{
+    let mut places = vec![in alloc; 0; paths.len()]?;
+    for (place, number) in order.iter().enumerate() {
+        places[*number] = place;
+    }
+    Ok(places)
 }

@@ -6,10 +6,12 @@ ghost use Rattle.rank_set.specs.Ranks.{none};
 ghost use Rattle.stat_plan.specs.Invariants.{IsPlan, SamplesFit, ScriptFits};
 ghost use Rattle.stat_plan.specs.Limits.{RefusesAt, first_over};
 ghost use Rattle.stat_plan.specs.Names.{name_of};
+ghost use Rattle.stat_plan.specs.OwnLines.{AreOwnLines};
+ghost use Rattle.stat_plan.specs.PathOrder.{IsOrderOf};
 ghost use Rattle.stat_plan.specs.Plans.{ancestors, expected, fault, front, is_under, nodes, plan_of, ranks, serves, stream_of};
 ghost use Rattle.stat_plan.specs.Shown.{IsStreamOf, lines_view};
 ghost use Rattle.stat_plan.specs.StackLines.{PathIndicesInRange};
-ghost use Rattle.stat_plan.specs.Tables.{AreAllExpected, AreLinesOf, ancestors_table, rows_view};
+ghost use Rattle.stat_plan.specs.Tables.{AreAllExpected, ancestors_table, rows_view};
 ghost use Rattle.stat_plan.specs.Trees.{is_daemon};
 
 use crate::ancestors::ancestors_table;
@@ -17,8 +19,6 @@ use crate::expected::expected_sets;
 use crate::find::stream_index;
 use crate::job::Job;
 use crate::limit::check_limit;
-use crate::line_index::line_index;
-use crate::line_order::by_path;
 use crate::plan_error::PlanError;
 use crate::samples::{Lines, Samples};
 use crate::script::{Fault, Script, StreamDef};
@@ -33,8 +33,6 @@ pub struct Plan {
     job: Job,
     // By node number, nearest first.
     ancestors: Vec<Vec<u32>>,
-    // By node number: the numbers of the lines that have a rank of the node, in the order of their paths.
-    line_index: Vec<Vec<u32>>,
     // By index of the stream, then by node number.
     expected: Vec<Vec<RankSet>>,
 }
@@ -52,7 +50,7 @@ impl Model for Plan {
 
     ghost view = { λ a. a.job };
 
-    ghost invariant = { λ a. IsPlan a.job × AreTables a.job (rows_view a.ancestors.items) (rows_view a.line_index.items) (rows_view a.expected.items) };
+    ghost invariant = { λ a. IsPlan a.job × AreTables a.job (rows_view a.ancestors.items) (rows_view a.expected.items) };
 }
 
 // By index of the stream, the ranks that each node expects of it.
@@ -114,15 +112,11 @@ impl Plan {
             Ok(()) => {}
             Err(e) => return Err(e),
         }
-        let all = job.lines();
-        let numbers = by_path(alloc, all.paths, all.lines)?;
         let ancestors = ancestors_table(alloc, job.topology())?;
-        let line_index = line_index(alloc, &job, &numbers)?;
         let expected = expected_tables(alloc, &job, &ancestors)?;
         Ok(Plan {
             job,
             ancestors,
-            line_index,
             expected,
         })
     }
@@ -263,20 +257,16 @@ impl Plan {
         None
     }
 
-    /// The lines of samples in the order of their text, with the numbers of their paths, the paths and their functions.
-    pub fn lines(&self) -> Lines<'_>
-        ensures lines { lines_view result ≡ self.now.lines }
+    /// The lines of a node alone, in the order of their paths: they list the node's ranks, at the times and in the paths in
+    /// which the lines of the samples list them.
+    pub fn own_lines(&self, n: u32) -> Lines<'_>
+        requires { n < nodes self.now }
+        ensures own { AreOwnLines (ranks self.now n) self.now.lines (lines_view result) }
         ensures numbered { PathIndicesInRange result.paths.now result.lines.now }
         ensures functions { result.functions.now ≡ map (map func) result.paths.now }
+        ensures order { IsOrderOf result.paths.now result.order.now }
     {
-        self.job.lines()
-    }
-
-    /// The numbers of the lines that have a rank of a node, in the order of their paths.
-    pub fn line_index(&self, n: u32) -> &[u32]
-        requires { n < nodes self.now }
-        ensures { AreLinesOf self.now.lines (ranks self.now n) result.now }
-    {
-        row_at(&self.line_index, n)
+        self.job.invariant();
+        self.job.own_lines(n)
     }
 }

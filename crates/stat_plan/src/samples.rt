@@ -1,12 +1,17 @@
 //! What a samples text says: where the ranks are, and the paths that they were seen in.
 
-ghost use Rattle.std.specs.Prelude.{◌≡◌, ◌<◌, IfOk, Some, length, map, slice_get};
+ghost use Rattle.std.specs.Prelude.{◌≡◌, ◌<◌, IfOk, length, map, slice_index_or};
+ghost use Rattle.rank_set.specs.Ranks.{none};
 ghost use Rattle.call_path.specs.Functions.{func};
 ghost use Rattle.stat_plan.specs.Samples.{is_in_wave, path_by};
-ghost use Rattle.stat_plan.specs.Shown.{lines_view, sample_line_view};
+ghost use Rattle.stat_plan.specs.Shown.{lines_view};
 ghost use Rattle.stat_plan.specs.Invariants.{AreSamples};
+ghost use Rattle.stat_plan.specs.OwnLines.{AreOwnLines};
+ghost use Rattle.stat_plan.specs.PathOrder.{IsOrderOf};
 ghost use Rattle.stat_plan.specs.Plans.{sampled};
 
+use crate::own_lines::own_lines;
+use crate::path_order::{in_order, path_places};
 use crate::script::Grain;
 use call_path::CallPath;
 use rank_set::RankSet;
@@ -30,24 +35,16 @@ pub struct StackLine {
     pub path: u32,
 }
 
-/// A line of samples, as it is read.
-#[derive(Clone, Copy)]
-pub struct Line<'a> {
-    /// The number of the sample time.
-    pub time: u32,
-    /// The ranks, at least one.
-    pub ranks: &'a RankSet,
-    /// The path that each of them was seen in.
-    pub path: &'a CallPath,
-}
-
-/// The lines of samples in the order of their text, with the number of each one's path, and by number the paths and their
-/// functions.
+/// Lines of samples, with the numbers of their paths.
 #[derive(Clone, Copy)]
 pub struct Lines<'a> {
     pub lines: &'a [StackLine],
+    /// The paths by number.
     pub paths: &'a [CallPath],
+    /// The functions of each path, by its number.
     pub functions: &'a [CallPath],
+    /// The numbers of the paths in the order of the paths.
+    pub order: &'a [usize],
 }
 
 impl<'a> Lines<'a> {
@@ -89,7 +86,11 @@ pub struct Samples {
     paths: Vec<CallPath>,
     // The functions of each path, by its number.
     functions: Vec<CallPath>,
+    // The numbers of the paths in the order of the paths.
+    order: Vec<usize>,
     lines: Vec<StackLine>,
+    // By node number: the lines of the node alone, in the order of their paths.
+    own_lines: Vec<Vec<StackLine>>,
 }
 
 impl Model for Samples {
@@ -104,10 +105,13 @@ impl Model for Samples {
     ghost use Rattle.call_path.specs.Functions.{func};
     ghost use Rattle.stat_plan.specs.StackLines.{lines_of, PathIndicesInRange};
     ghost use Rattle.stat_plan.specs.Invariants.{AreSamples};
+    ghost use Rattle.stat_plan.specs.OwnLines.{AreOwnRows};
+    ghost use Rattle.stat_plan.specs.PathOrder.{IsOrderOf};
+    ghost use Rattle.stat_plan.specs.Tables.{rows_view};
 
     ghost view = { λ a. sampled a.placed.items (lines_of a.paths.items a.lines.items) };
 
-    ghost invariant = { λ a. PathIndicesInRange a.paths.items a.lines.items × AreSamples (sampled a.placed.items (lines_of a.paths.items a.lines.items)) × (a.functions.items ≡ map (map func) a.paths.items) };
+    ghost invariant = { λ a. PathIndicesInRange a.paths.items a.lines.items × AreSamples (sampled a.placed.items (lines_of a.paths.items a.lines.items)) × (a.functions.items ≡ map (map func) a.paths.items) × IsOrderOf a.paths.items a.order.items × AreOwnRows a.placed.items a.lines.items (rows_view a.own_lines.items) };
 }
 
 impl Samples {
@@ -125,11 +129,16 @@ impl Samples {
         ensures { IfOk result (λ samples. samples ≡ sampled placed.items (lines_of paths.items lines.items)) }
     {
         let functions = functions_of(alloc, &paths)?;
+        let order = in_order(alloc, &paths)?;
+        let places = path_places(alloc, &paths, &order)?;
+        let own_lines = own_lines(alloc, &placed, &lines, &places)?;
         Ok(Samples {
             placed,
             paths,
             functions,
+            order,
             lines,
+            own_lines,
         })
     }
 
@@ -148,29 +157,35 @@ impl Samples {
         self.placed.as_slice()
     }
 
-    /// A line, by its number from 0 in the order of the text.
-    pub fn line(&self, i: usize) -> Line<'_>
-        requires { i < length self.now.lines }
-        ensures { Some (sample_line_view result) ≡ slice_get self.now.lines i }
-    {
-        let line = &self.lines[i];
-        Line {
-            time: line.time,
-            ranks: &line.ranks,
-            path: &self.paths[line.path as usize],
-        }
-    }
-
-    /// The lines, with the numbers of their paths, the paths and their functions.
+    /// The lines in the order of the text.
     pub fn lines(&self) -> Lines<'_>
         ensures lines { lines_view result ≡ self.now.lines }
         ensures numbered { PathIndicesInRange result.paths.now result.lines.now }
         ensures functions { result.functions.now ≡ map (map func) result.paths.now }
+        ensures order { IsOrderOf result.paths.now result.order.now }
     {
         Lines {
             lines: self.lines.as_slice(),
             paths: self.paths.as_slice(),
             functions: self.functions.as_slice(),
+            order: self.order.as_slice(),
+        }
+    }
+
+    /// The lines of a node alone, in the order of their paths.
+    pub fn own_lines(&self, n: u32) -> Lines<'_>
+        requires { n < length self.now.placed }
+        ensures own { AreOwnLines (slice_index_or self.now.placed n none) self.now.lines (lines_view result) }
+        ensures numbered { PathIndicesInRange result.paths.now result.lines.now }
+        ensures functions { result.functions.now ≡ map (map func) result.paths.now }
+        ensures order { IsOrderOf result.paths.now result.order.now }
+    {
+        let own = &self.own_lines[n as usize];
+        Lines {
+            lines: own.as_slice(),
+            paths: self.paths.as_slice(),
+            functions: self.functions.as_slice(),
+            order: self.order.as_slice(),
         }
     }
 }

@@ -1,7 +1,7 @@
-//! What no clause says: in what order lines are gone through, and that threads may share a plan.
+//! What no clause says: in what order paths are, and that threads may share a plan.
 
 use crate::Plan;
-use crate::line_order::path_places;
+use crate::path_order::{in_order, path_places};
 use call_path::CallPath;
 use std::test::Fail;
 
@@ -15,7 +15,9 @@ fn places_paths_in_their_order(rt: HostRuntime) -> Result<(), Fail> {
     for text in PATHS {
         paths.push(CallPath::read(alloc, text).expect(&rt, "good"))?;
     }
-    let places = path_places(alloc, &paths)?;
+    let order = in_order(alloc, &paths)?;
+    assert_eq!(rt; order.as_slice(), [3, 2, 1, 0].as_slice());
+    let places = path_places(alloc, &paths, &order)?;
     assert_eq!(rt; places.as_slice(), [3, 2, 1, 0].as_slice());
     Ok(())
 }

@@ -44,7 +44,7 @@ check_stream-requires-clause-order c =
       | (in-Line w) ↦
           let grain : Line ≡ c.stream-item.result.grain = sym w.in-Line.is ∙ c.grain.ensures in
           subst (λ g. IsOrderOf (map (path_by g) paths) c.match-grain.order.now) grain
-          (subst (IsOrderOf (map (path_by Line) paths)) (ap (λ (o : Bor (List ℕ)). o.now) (sym w.order-is)) (subst (λ ps. IsOrderOf ps c.args.by_line.now) (sym (by_line paths)) c.requires.by_line))
+          (subst (IsOrderOf (map (path_by Line) paths)) (ap (λ (o : Bor (List ℕ)). o.now) (sym w.order-is)) (subst (λ ps. IsOrderOf ps c.args.all.order.now) (sym (by_line paths)) c.requires.order))
       | (in-Function w) ↦
           let grain : Function ≡ c.stream-item.result.grain = sym w.in-Function.is ∙ c.grain.ensures in
           subst (λ g. IsOrderOf (map (path_by g) paths) c.match-grain.order.now) grain

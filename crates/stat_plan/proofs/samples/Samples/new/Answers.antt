@@ -1,0 +1,9 @@
+use Rattle.std.proofs.Common.{sym, subst}
+use Rattle.stat_plan.specs.OwnLines.{ListPlacedRanks}
+use Rattle.stat_plan.proofs.OwnPaths.{placed_ranks}
+use Rattle.stat_plan.proofs.samples.Samples.new.Goals as goal
+
+pub own_lines-requires-clause-lines : goal.own_lines-requires-clause-lines
+own_lines-requires-clause-lines c =
+    subst (λ placed. ListPlacedRanks placed c.deref-6.result.now) (sym c.deref-5.ensures.value)
+    (subst (ListPlacedRanks c.args.placed.items) (sym c.deref-6.ensures.value) (placed_ranks c.args.placed.items c.args.paths.items c.args.lines.items c.requires.samples))
