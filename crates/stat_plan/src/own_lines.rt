@@ -112,13 +112,21 @@ fn add_line(row: &mut Vec<StackLine>, line: &StackLine) -> Result<(), AllocError
     Ok(())
 }
 
+// The ranks of a line that are the node's. A node has few ranks where a line has many, so its set is the one that is cut.
+fn own_part(line: &StackLine, own: &RankSet) -> Result<RankSet, AllocError>
+    ensures { IfOk result (λ ranks. ranks ≡ those (has own.now) line.now.ranks) }
+{
+    let mut ranks = own.copy()?;
+    ranks.intersect_with(&line.ranks);
+    Ok(ranks)
+}
+
 // Gives a row the ranks of a line that are the node's.
 fn add_part(row: &mut Vec<StackLine>, line: &StackLine, own: &RankSet) -> Result<(), AllocError>
     requires { those (has own.now) line.now.ranks ≢ none }
     ensures { OnOk result (GainsRanks line.now (those (has own.now) line.now.ranks) row.old.items row.new.items) }
 {
-    let mut ranks = line.ranks.copy()?;
-    ranks.intersect_with(own);
+    let ranks = own_part(line, own)?;
     if !unite_with_last(row, line, &ranks)? {
         row.push(StackLine {
             time: line.time,
