@@ -7,3 +7,4 @@ pub mod Walk
 pub mod SamePairs
 pub mod Cuts
 pub mod Partition
+pub mod Parting

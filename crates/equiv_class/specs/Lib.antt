@@ -1,4 +1,5 @@
 pub mod Classes
 pub mod ClassList
 pub mod SeenPaths
+pub mod States
 pub mod Rows

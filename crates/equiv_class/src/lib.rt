@@ -20,6 +20,7 @@ use std::alloc::{AllocError, Global};
 
 #[cfg(test)]
 mod tests;
+mod states;
 
 /// Ranks that were seen in just the same paths, and those paths.
 #[derive(Drop)]

@@ -1,0 +1,21 @@
+use Rattle.std.proofs.Common.{◌≡◌, ◌≤◌, ◌-◌, ℕ, true}
+use Rattle.rank_set.specs.declared.TheConstants.{RANK_LIMIT}
+use Rattle.equiv_class.specs.States.{AreTables}
+use Rattle.equiv_class.proofs.Parting.{HaveMoved, member_below}
+use Rattle.equiv_class.proofs.states.part.Given as goal
+
+abbrev pub invariant-loop-r : goal.invariant-loop-r
+invariant-loop-r l = record {
+  tables : AreTables l.states l.next.items;
+  moved : HaveMoved (member_below l.ranks l.r) l.base l.fn.states l.states l.next.items;
+}
+
+abbrev pub invariant-loop-run : goal.invariant-loop-run
+invariant-loop-run l = record {
+  within : l.from ≤ RANK_LIMIT;
+  tables : AreTables l.states l.next.items;
+  moved : HaveMoved (member_below l.ranks l.from) l.base l.fn.states l.states l.next.items;
+}
+
+abbrev pub decreases-loop-run : goal.decreases-loop-run
+decreases-loop-run l = RANK_LIMIT - l.from

@@ -1,0 +1,36 @@
+-- States of ranks: two ranks have the same state where they were in the same sets so far. No public clause cites these definitions.
+use Rattle.std.specs.Prelude.{◌≡◌, ℕ, nat_eq, nat_lt, ◌-◌, ◌≤◌, ◌<◌, Bool, true, false, cond, ◌&&◌, List, [], ◌∷◌, ◌++◌, length, get_or, set}
+use Rattle.rank_set.specs.Ranks.{Ranks, none, has, those}
+use Rattle.rank_set.specs.declared.TheConstants.{RANK_LIMIT}
+use Rattle.call_path.specs.Path.{Path}
+use Rattle.equiv_class.specs.Classes.{same_answer}
+use Rattle.equiv_class.specs.SeenPaths.{same_paths}
+
+-- a table of the state of each rank, and one of the state after each state
+pub record AreTables (states next : List ℕ) : Type 0 where
+  pub long : length states ≡ RANK_LIMIT
+  pub states_within : (r : ℕ) → get_or states r 0 < length next
+  pub next_within : (k : ℕ) → get_or next k 0 < length next
+
+-- the state after a state: a new one where the table has none from `base` on
+abbrev pub state_after : ℕ → ℕ → List ℕ → ℕ
+state_after base k next = cond (nat_lt (get_or next k 0) base) (length next) (get_or next k 0)
+
+-- the table that has it
+abbrev pub with_next : ℕ → ℕ → List ℕ → List ℕ
+with_next base k next = cond (nat_lt (get_or next k 0) base) (set next k (length next) ++ 0 ∷ []) next
+
+-- the ranks of a set are parted from the others, and those of different states stay in different states
+abbrev pub ArePartedBy : Ranks → List ℕ → List ℕ → Type 0
+ArePartedBy ranks old new =
+    (r s : ℕ) → nat_eq (get_or new r 0) (get_or new s 0) ≡ (same_answer (has ranks r) (has ranks s) && nat_eq (get_or old r 0) (get_or old s 0))
+
+-- ranks have the same state exactly where they were seen in the same paths
+abbrev pub AreStates : List ℕ → List (Path × Ranks) → Type 0
+AreStates states es = (r s : ℕ) → nat_eq (get_or states r 0) (get_or states s 0) ≡ same_paths r s es
+
+-- the ranks of each state of covered ranks, of which `base` is the least
+pub record AreBlocks (covered : Ranks) (states : List ℕ) (base : ℕ) (blocks : List Ranks) : Type 0 where
+  pub from_base : (r : ℕ) → has covered r ≡ true → base ≤ get_or states r 0
+  pub block : (r : ℕ) → has covered r ≡ true
+      → get_or blocks (get_or states r 0 - base) none ≡ those (λ s. nat_eq (get_or states r 0) (get_or states s 0)) covered

@@ -1,0 +1,73 @@
+//! States of ranks: two ranks have the same state where they were in the same sets so far. The sets are noted one after
+//! another, and a set costs what it lists.
+
+ghost use Rattle.std.specs.Prelude.{◌≡◌, ℕ, ◌<◌, ◌≤◌, ◌-◌, true, length, get_or, set, nat_eq, IfOk, OnOk};
+ghost use Rattle.rank_set.specs.Ranks.{has};
+ghost use Rattle.equiv_class.specs.SeenPaths.{entries_view};
+ghost use Rattle.equiv_class.specs.States.{AreTables, ArePartedBy, AreStates, state_after, with_next};
+
+use crate::SeenPath;
+use rank_set::{RANK_LIMIT, RankSet};
+use std::alloc::AllocError;
+
+// How many states there are.
+fn count_states(next: &[u32]) -> Result<u32, AllocError>
+    ensures { IfOk result (λ count. count ≡ length next.now) }
+{
+    match u32::try_from(next.len()) {
+        Ok(count) => Ok(count),
+        Err(_) => Err(AllocError),
+    }
+}
+
+// The state after this one: a new one where the table has none from `base` on.
+fn next_state(next: &mut Vec<u32>, base: u32, state: u32) -> Result<u32, AllocError>
+    requires { state < length next.old.items }
+    ensures state { IfOk result (λ after. after ≡ state_after base state next.old.items) }
+    ensures next { OnOk result (next.new.items ≡ with_next base state next.old.items) }
+{
+    let known = next[state as usize];
+    if known >= base {
+        return Ok(known);
+    }
+    let made = count_states(next.as_slice())?;
+    next[state as usize] = made;
+    next.push(0)?;
+    Ok(made)
+}
+
+// Moves the ranks of a set on to new states, those of one state to one state.
+pub(crate) fn part(ranks: &RankSet, states: &mut [u32], next: &mut Vec<u32>) -> Result<(), AllocError>
+    requires { AreTables states.old next.old.items }
+    ensures tables { OnOk result (AreTables states.new next.new.items) }
+    ensures parted { OnOk result (ArePartedBy ranks.now states.old states.new) }
+    ensures moved { OnOk result ((r : ℕ) → has ranks.now r ≡ true → length next.old.items ≤ get_or states.new r 0) }
+{
+    let base = count_states(next.as_slice())?;
+    let mut from = 0;
+    while let Some(run) = ranks.next_run(from) {
+        from = run.last + 1;
+        for r in run.first..from {
+            let state = states[r as usize];
+            states[r as usize] = next_state(next, base, state)?;
+        }
+    }
+    Ok(())
+}
+
+// Parts the ranks by the paths that they were seen in.
+pub(crate) fn part_by_paths(
+    seen: &[SeenPath<'_>],
+    states: &mut [u32],
+    next: &mut Vec<u32>,
+) -> Result<(), AllocError>
+    requires tables { AreTables states.old next.old.items }
+    requires same { (r s : ℕ) → nat_eq (get_or states.old r 0) (get_or states.old s 0) ≡ true }
+    ensures tables { OnOk result (AreTables states.new next.new.items) }
+    ensures states { OnOk result (AreStates states.new (entries_view seen.now)) }
+{
+    for path in seen {
+        part(path.ranks, states, next)?;
+    }
+    Ok(())
+}
