@@ -8,3 +8,4 @@ pub mod SamePairs
 pub mod Cuts
 pub mod Partition
 pub mod Parting
+pub mod Filling

@@ -236,10 +236,10 @@ module _ (E : Ranks) (from base : ℕ) (old states next : List ℕ) (passed : (q
   ]
 
 -- a member moves, in a loop
-pub member_step : (E : Ranks) (base r to : ℕ) (old states next next' : List ℕ) → r < length states → has E r ≡ true → to ≡ state_after base (get_or states r 0) next
+pub member_step : (E : Ranks) (base r after : ℕ) (old states next next' : List ℕ) → r < length states → has E r ≡ true → after ≡ state_after base (get_or states r 0) next
     → next' ≡ with_next base (get_or states r 0) next → AreTables states next → HaveMoved (member_below E r) base old states next
-    → AreTables (set states r to) next' × HaveMoved (member_below E (r + 1)) base old (set states r to) next'
-member_step E base r to old states next next' r_in member is_to is_next tables h =
+    → AreTables (set states r after) next' × HaveMoved (member_below E (r + 1)) base old (set states r after) next'
+member_step E base r after old states next next' r_in member is_to is_next tables h =
     subst (λ x. AreTables (set states r x) next' × HaveMoved (member_below E (r + 1)) base old (set states r x) next') (sym is_to)
     (subst (λ n. AreTables (set states r (state_after base (get_or states r 0) next)) n × HaveMoved (member_below E (r + 1)) base old (set states r (state_after base (get_or states r 0) next)) n) (sym is_next)
     (tables_step base r states next r_in h.room tables, move_member E base r old states next r_in member tables h))

@@ -29,8 +29,9 @@ ArePartedBy ranks old new =
 abbrev pub AreStates : List ℕ → List (Path × Ranks) → Type 0
 AreStates states es = (r s : ℕ) → nat_eq (get_or states r 0) (get_or states s 0) ≡ same_paths r s es
 
--- the ranks of each state of covered ranks, of which `base` is the least
-pub record AreBlocks (covered : Ranks) (states : List ℕ) (base : ℕ) (blocks : List Ranks) : Type 0 where
-  pub from_base : (r : ℕ) → has covered r ≡ true → base ≤ get_or states r 0
-  pub block : (r : ℕ) → has covered r ≡ true
-      → get_or blocks (get_or states r 0 - base) none ≡ those (λ s. nat_eq (get_or states r 0) (get_or states s 0)) covered
+-- for each rank that is left, the block of its state has the ranks that are left and were seen in the same paths
+pub record AreBlocks (es : List (Path × Ranks)) (left : Ranks) (states : List ℕ) (base : ℕ) (sets : List Ranks) : Type 0 where
+  pub in_table : (r : ℕ) → has left r ≡ true → r < length states
+  pub from_base : (r : ℕ) → has left r ≡ true → base ≤ get_or states r 0
+  pub in_sets : (r : ℕ) → has left r ≡ true → get_or states r 0 - base < length sets
+  pub same : (r : ℕ) → has left r ≡ true → get_or sets (get_or states r 0 - base) none ≡ those (λ s. same_paths r s es) left

@@ -11,15 +11,18 @@ ghost use Rattle.call_path.specs.Pairs.{HasNoEmptyPath, Pairs, is_pair};
 ghost use Rattle.prefix_tree.specs.Tree.{tree_of, pairs_of};
 ghost use Rattle.equiv_class.specs.Classes.{HaveOwnPaths, equivalent, classes_of, classes_with, paths_of};
 ghost use Rattle.equiv_class.specs.ClassList.{class_view, class_views};
-ghost use Rattle.equiv_class.specs.SeenPaths.{AreSeveral, Lists, entries_view, same_paths, seen_in, has_all_paths, times, paths_to};
+ghost use Rattle.equiv_class.specs.SeenPaths.{Lists, entries_view, same_paths, seen_in, paths_to};
+ghost use Rattle.equiv_class.specs.States.{AreBlocks};
 
 use call_path::{CallPath, PathBuilder};
 use prefix_tree::PrefixTree;
+use rank_blocks::{Blocks, block_of, find_blocks};
 use rank_set::RankSet;
 use std::alloc::{AllocError, Global};
 
 #[cfg(test)]
 mod tests;
+mod rank_blocks;
 mod states;
 
 /// Ranks that were seen in just the same paths, and those paths.
@@ -71,9 +74,9 @@ pub fn classes<T: PrefixTree>(alloc: Global, tree: &T) -> Result<Vec<Class>, All
 {
     let mut frames = PathBuilder::new(alloc);
     let seen = seen_paths(alloc, tree, &mut frames)?;
-    let several = ranks_in_several(alloc, &seen)?;
     let mut left = tree.row(0).label.copy()?;
-    take_classes(alloc, &seen, &several, &mut left)
+    let blocks = find_blocks(alloc, &seen, &left)?;
+    take_classes(alloc, &seen, &blocks, &mut left)
 }
 
 // The paths in which ranks were seen, in order, found with an empty path.
@@ -101,47 +104,20 @@ fn seen_paths<'a, T: PrefixTree>(
     Ok(seen)
 }
 
-// The ranks that were seen in more than one of the paths.
-fn ranks_in_several(alloc: Global, seen: &[SeenPath<'_>]) -> Result<RankSet, AllocError>
-    ensures { IfOk result (λ several. AreSeveral several (entries_view seen.now)) }
-{
-    let mut once = RankSet::new(alloc);
-    let mut several = RankSet::new(alloc);
-    count_ranks(seen, &mut once, &mut several)?;
-    Ok(several)
-}
-
-// Counts each rank up to two: those that were seen, and those that were seen in more than one path.
-fn count_ranks(
-    seen: &[SeenPath<'_>],
-    once: &mut RankSet,
-    several: &mut RankSet,
-) -> Result<(), AllocError>
-    requires once { once.old ≡ none }
-    requires several { several.old ≡ none }
-    ensures { OnOk result (AreSeveral several.new (entries_view seen.now)) }
-{
-    for path in seen {
-        several.union_into(&common(path.ranks, once)?)?;
-        once.union_into(path.ranks)?;
-    }
-    Ok(())
-}
-
 // Takes the classes of the ranks that are left, the class of the least one first.
 fn take_classes(
     alloc: Global,
     seen: &[SeenPath<'_>],
-    several: &RankSet,
+    blocks: &Blocks,
     left: &mut RankSet,
 ) -> Result<Vec<Class>, AllocError>
-    requires { AreSeveral several.now (entries_view seen.now) }
+    requires { AreBlocks (entries_view seen.now) left.old blocks.now.states.items blocks.now.base blocks.now.sets.items }
     ensures { IfOk result
         (λ all. (P : Pairs) → Lists P (entries_view seen.now) → class_views all.items ≡ classes_of P left.old) }
 {
     let mut all = Vec::new(alloc);
     while let Some(r) = left.first() {
-        let class = take_class(alloc, seen, several, r, left)?;
+        let class = take_class(alloc, seen, blocks, r, left)?;
         all.push(class)?;
     }
     Ok(all)
@@ -151,11 +127,12 @@ fn take_classes(
 fn take_class(
     alloc: Global,
     seen: &[SeenPath<'_>],
-    several: &RankSet,
+    blocks: &Blocks,
     r: u32,
     left: &mut RankSet,
 ) -> Result<Class, AllocError>
-    requires several { AreSeveral several.now (entries_view seen.now) }
+    requires blocks { AreBlocks (entries_view seen.now) left.old
+        blocks.now.states.items blocks.now.base blocks.now.sets.items }
     requires member { IsTrue (has left.old r) }
     ensures class { IfOk result
         (λ class. class_view class
@@ -163,8 +140,8 @@ fn take_class(
     ensures left { OnOk result (left.new ≡ those (λ s. not (same_paths r s (entries_view seen.now))) left.old) }
 {
     let paths = rank_paths(alloc, seen, r)?;
-    let ranks = block(seen, several, r, paths.len(), left)?;
-    *left = left.difference(&ranks)?;
+    let ranks = block_of(blocks, r)?;
+    left.subtract(&ranks);
     Ok(Class { ranks, paths })
 }
 
@@ -179,78 +156,4 @@ fn rank_paths(alloc: Global, seen: &[SeenPath<'_>], r: u32) -> Result<Vec<CallPa
         }
     }
     Ok(paths)
-}
-
-// The ranks that were seen in the same paths as r, which was seen in so many.
-fn block(
-    seen: &[SeenPath<'_>],
-    several: &RankSet,
-    r: u32,
-    count: usize,
-    left: &RankSet,
-) -> Result<RankSet, AllocError>
-    requires several { AreSeveral several.now (entries_view seen.now) }
-    requires member { IsTrue (has left.now r) }
-    requires count { count ≡ times r (entries_view seen.now) }
-    ensures { IfOk result (λ block. block ≡ those (λ s. same_paths r s (entries_view seen.now)) left.now) }
-{
-    let mut block = left.copy()?;
-    keep_sharers(seen, r, &mut block)?;
-    if count == 1 {
-        return block.difference(several);
-    }
-    drop_others(seen, r, &mut block)?;
-    Ok(block)
-}
-
-// Keeps the ranks that were seen in each path of r.
-fn keep_sharers(seen: &[SeenPath<'_>], r: u32, block: &mut RankSet) -> Result<(), AllocError>
-    ensures { OnOk result (block.new ≡ those (λ s. has_all_paths r s (entries_view seen.now)) block.old) }
-{
-    for path in seen {
-        keep_if_shared(path.ranks, r, block)?;
-    }
-    Ok(())
-}
-
-// Where r was seen in the path, keeps the ranks that were seen in it too. Makes no set where all were.
-fn keep_if_shared(ranks: &RankSet, r: u32, block: &mut RankSet) -> Result<(), AllocError>
-    ensures { OnOk result (block.new ≡ those (λ s. not (has ranks.now r) || has ranks.now s) block.old) }
-{
-    if ranks.contains(r) && !block.is_subset(ranks) {
-        *block = common(block, ranks)?;
-    }
-    Ok(())
-}
-
-// Keeps the ranks that were seen in no other path than those of r.
-fn drop_others(seen: &[SeenPath<'_>], r: u32, block: &mut RankSet) -> Result<(), AllocError>
-    requires { IsTrue (has block.old r) }
-    ensures { OnOk result (block.new ≡ those (λ s. has_all_paths s r (entries_view seen.now)) block.old) }
-{
-    for path in seen {
-        drop_if_unshared(path.ranks, r, block)?;
-    }
-    Ok(())
-}
-
-// Where r was not seen in the path, drops the ranks that were. Makes no set where r alone is left.
-fn drop_if_unshared(ranks: &RankSet, r: u32, block: &mut RankSet) -> Result<(), AllocError>
-    requires { IsTrue (has block.old r) }
-    ensures ok { OnOk result (block.new ≡ those (λ s. not (has ranks.now s) || has ranks.now r) block.old) }
-    ensures member { OnOk result (IsTrue (has block.new r)) }
-{
-    if block.count() > 1 && !ranks.contains(r) {
-        *block = block.difference(ranks)?;
-    }
-    Ok(())
-}
-
-// The ranks of both.
-fn common(a: &RankSet, b: &RankSet) -> Result<RankSet, AllocError>
-    ensures { IfOk result (λ both. both ≡ those (has b.now) a.now) }
-{
-    let mut both = a.copy()?;
-    both.intersect_with(b);
-    Ok(both)
 }

@@ -11,7 +11,7 @@ use rank_set::{RANK_LIMIT, RankSet};
 use std::alloc::AllocError;
 
 // How many states there are.
-fn count_states(next: &[u32]) -> Result<u32, AllocError>
+pub(crate) fn count_states(next: &[u32]) -> Result<u32, AllocError>
     ensures { IfOk result (λ count. count ≡ length next.now) }
 {
     match u32::try_from(next.len()) {

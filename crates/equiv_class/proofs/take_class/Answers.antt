@@ -1,14 +1,21 @@
-use Rattle.std.proofs.Common.{◌≡◌, not, length, ap, ◌∙◌}
+use Rattle.std.proofs.Common.{◌≡◌, not, ap, ◌∙◌}
 use Rattle.rank_set.specs.Ranks.{has, those}
 use Rattle.equiv_class.specs.SeenPaths.{entries_view, same_paths}
-use Rattle.equiv_class.proofs.Cuts.{left_out, length-paths_to}
+use Rattle.equiv_class.proofs.Cuts.{left_out}
 use Rattle.equiv_class.proofs.take_class.Goals as goal
 
-pub block-requires-clause-count : goal.block-requires-clause-count
-block-requires-clause-count c =
-    c.len.ensures ∙ c.in_ok-paths.paths.ok.0 ∙ ap length c.in_ok-paths.ensures ∙ length-paths_to c.args.r (entries_view c.args.seen.now)
+pub block_of-requires-clause-in_table : goal.block_of-requires-clause-in_table
+block_of-requires-clause-in_table c = c.requires.blocks.in_table c.args.r c.requires.member
+
+pub block_of-requires-clause-from_base : goal.block_of-requires-clause-from_base
+block_of-requires-clause-from_base c = c.requires.blocks.from_base c.args.r c.requires.member
+
+pub block_of-requires-clause-in_sets : goal.block_of-requires-clause-in_sets
+block_of-requires-clause-in_sets c = c.requires.blocks.in_sets c.args.r c.requires.member
+
+pub returns-clause-class : goal.returns-clause-class
+returns-clause-class c = (λ i. ((c.in_ok-ranks.ensures ∙ c.requires.blocks.same c.args.r c.requires.member) i, c.in_ok-paths.ensures i))
 
 pub returns-clause-left : goal.returns-clause-left
 returns-clause-left c =
-    let told : c.in_ok-left.field-0 ≡ those (λ q. not (has c.in_ok-ranks.ranks q)) c.args.left.now = c.in_ok-left.ensures in
-    told ∙ left_out c.args.left.now c.in_ok-ranks.ranks (λ s. same_paths c.args.r s (entries_view c.args.seen.now)) c.in_ok-ranks.ensures
+    c.subtract.ensures ∙ left_out c.args.left.now c.in_ok-ranks.ranks (λ s. same_paths c.args.r s (entries_view c.args.seen.now)) (c.in_ok-ranks.ensures ∙ c.requires.blocks.same c.args.r c.requires.member)

@@ -10,6 +10,7 @@ use Rattle.equiv_class.specs.SeenPaths.{Lists, entries_view, paths_to, same_path
 use Rattle.equiv_class.specs.declared.Class.{Class}
 use Rattle.equiv_class.proofs.Blocks.{classes_none, fewer_without, has_first, next_class}
 use Rattle.equiv_class.proofs.Cuts.{same_own, those-on}
+use Rattle.equiv_class.proofs.Filling.{blocks_left}
 use Rattle.equiv_class.proofs.take_classes.Goals as goal
 
 pub take_class-requires-clause-member : goal.take_class-requires-clause-member
@@ -35,10 +36,12 @@ classes_step P es all new k left left' start r lists is_new is_k is_left least s
     ∙ ap (λ xs. class_views all ++ xs) (sym (next_class P left r least)) ∙ so_far
 
 pub loop-r-preserved : goal.loop-r-preserved
-loop-r-preserved c P lists =
-    classes_step P (entries_view c.args.seen.now) c.loop-r.all.items c.push.new.self.items c.in_ok-class.class c.loop-r.left c.take_class.new.left c.args.left.now c.in-Some.r lists
-    c.in_ok-push.ensures.items c.in_ok-class.ensures.class c.in_ok-class.ensures.left c.in-Some.ensures.least (c.loop-r.invariant P lists)
+loop-r-preserved c = record {
+  blocks = blocks_left (entries_view c.args.seen.now) c.loop-r.left c.take_class.new.left _ _ _ c.in-Some.r c.in_ok-class.ensures.left c.loop-r.invariant.blocks;
+  classes = λ P lists. classes_step P (entries_view c.args.seen.now) c.loop-r.all.items c.push.new.self.items c.in_ok-class.class c.loop-r.left c.take_class.new.left c.args.left.now c.in-Some.r lists
+      c.in_ok-push.ensures.items c.in_ok-class.ensures.class c.in_ok-class.ensures.left c.in-Some.ensures.least (c.loop-r.invariant.classes P lists);
+}
 
 pub returns : goal.returns
 returns c P lists =
-    sym (ap (λ xs. class_views c.loop-r.all.items ++ xs) (classes_none P c.loop-r.left (ap in_order c.in_default.ensures.none)) ∙ append-nil (class_views c.loop-r.all.items)) ∙ c.loop-r.invariant P lists
+    sym (ap (λ xs. class_views c.loop-r.all.items ++ xs) (classes_none P c.loop-r.left (ap in_order c.in_default.ensures.none)) ∙ append-nil (class_views c.loop-r.all.items)) ∙ c.loop-r.invariant.classes P lists

@@ -1,0 +1,218 @@
+-- The ranks of a set go to the sets of their states, one after another.
+use Rattle.std.proofs.Common.{◌≡◌, ℕ, zero, suc, ◌++◌, ◌<◌, ◌≤◌, ◌-◌, ◌+◌, Bool, true, false, ◌&&◌, ◌||◌, eqb, ltb, List, [], ◌∷◌, length, get_or, set, replicate, not, refl, sym, ap, ◌∙◌, subst, inl, inr, arith}
+use Rattle.std.specs.Ordering.{nat_cmp, eq_by_cmp}
+use Rattle.std.specs.Cmp.{unsigned_tied}
+use Rattle.std.proofs.lemmas.Bool.{true≢false, and_parts, and_from, cases_eq, cases_lt, eq-eqb, ne_eqb, eqb-true, lt-ltb, le-ltb, ltb-true}
+use Rattle.std.proofs.lemmas.List.{get_or-set_same, get_or-set_other, length-set, get_or-replicate}
+use Rattle.call_path.specs.Path.{Path}
+use Rattle.rank_set.specs.Ranks.{Ranks, none, has, those, with_rank, has-none, has-those, has-with_rank, same_ranks}
+use Rattle.rank_set.specs.Runs.{IsRun}
+use Rattle.rank_set.specs.declared.TheConstants.{RANK_LIMIT}
+use Rattle.equiv_class.specs.Classes.{same_answer}
+use Rattle.equiv_class.specs.SeenPaths.{same_paths}
+use Rattle.equiv_class.specs.States.{AreBlocks, AreStates, AreTables, ArePartedBy}
+use Rattle.equiv_class.proofs.Cuts.{those-on}
+
+-- a rank is of the state, and below an end
+abbrev pub of_state_below : List ℕ → ℕ → ℕ → ℕ → Bool
+of_state_below states k q s = eqb (get_or states s 0) k && ltb s q
+
+-- each set has the ranks of its state below an end
+pub record AreFilled (E : Ranks) (states : List ℕ) (base n q : ℕ) (sets : List Ranks) : Type 0 where
+  pub long : length sets ≡ n
+  pub filled : (k : ℕ) → k < n → get_or sets k none ≡ those (of_state_below states (base + k) q) E
+
+length-replicate : (n : ℕ) → length (replicate n none) ≡ n
+length-replicate zero = refl
+length-replicate (suc n) = ap suc (length-replicate n)
+
+and_false : (a b : Bool) → (a && (b && false)) ≡ false
+and_false true true = refl
+and_false true false = refl
+and_false false b = refl
+
+pub fill_start : (E : Ranks) (states : List ℕ) (base n : ℕ) (sets : List Ranks) → sets ≡ replicate n none → AreFilled E states base n 0 sets
+fill_start E states base n sets is = record {
+  long = ap length is ∙ length-replicate n;
+  filled = λ k lt. ap (λ xs. get_or xs k none) is ∙ get_or-replicate n k none none lt
+      ∙ same_ranks _ _ (λ s. has-none s ∙ sym (has-those (of_state_below states (base + k) 0) E s ∙ ap (λ b. has E s && (eqb (get_or states s 0) (base + k) && b)) (le-ltb s 0 (omega arith))
+      ∙ and_false (has E s) (eqb (get_or states s 0) (base + k))));
+}
+
+-- where no member lies between, nothing changes
+pub fill_gap : (E : Ranks) (states : List ℕ) (base n from first last : ℕ) (sets : List Ranks) → IsRun E from first last → AreFilled E states base n from sets
+    → AreFilled E states base n first sets
+fill_gap E states base n from first last sets run h = record {
+  long = h.long;
+  filled = λ k lt. h.filled k lt ∙ those-on E (of_state_below states (base + k) from) (of_state_below states (base + k) first) (λ s member. ap (λ b. eqb (get_or states s 0) (base + k) && b) (same s member));
+}
+  where
+    same : (s : ℕ) → has E s ≡ true → ltb s from ≡ ltb s first
+    same s member = elim (cases_lt s from) [
+      | inl lt ↦ lt-ltb s from lt ∙ sym (lt-ltb s first (omega (arith, lt, run.start)))
+      | inr ge ↦ elim (cases_lt s first) [
+        | inl lt ↦ absurd (true≢false (sym member ∙ run.passed s ge lt))
+        | inr le ↦ le-ltb s from ge ∙ sym (le-ltb s first le)
+      ]
+    ]
+
+module _ (E : Ranks) (states : List ℕ) (base r : ℕ) (member : has E r ≡ true) (from_base : base ≤ get_or states r 0) where
+  -- the set of its state gets the rank
+  own_set : with_rank (those (of_state_below states (get_or states r 0) r) E) r ≡ those (of_state_below states (get_or states r 0) (r + 1)) E
+  own_set = same_ranks _ _ (λ q. has-with_rank (those (of_state_below states (get_or states r 0) r) E) r q
+      ∙ ap (λ b. eq_by_cmp nat_cmp q r || b) (has-those (of_state_below states (get_or states r 0) r) E q)
+      ∙ each q ∙ sym (has-those (of_state_below states (get_or states r 0) (r + 1)) E q))
+    where
+      each : (q : ℕ) → (eq_by_cmp nat_cmp q r || (has E q && of_state_below states (get_or states r 0) r q)) ≡ (has E q && of_state_below states (get_or states r 0) (r + 1) q)
+      each q = elim (cases_eq q r) [
+        | inl e ↦
+            ap (λ b. b || (has E q && of_state_below states (get_or states r 0) r q)) (unsigned_tied q r ∙ eq-eqb q r e)
+            ∙ sym (and_from (has E q) (of_state_below states (get_or states r 0) (r + 1) q) (ap (has E) e ∙ member)
+            (and_from (eqb (get_or states q 0) (get_or states r 0)) (ltb q (r + 1)) (eq-eqb _ _ (ap (λ x. get_or states x 0) e)) (lt-ltb q (r + 1) (omega (arith, e)))))
+        | inr ne ↦
+            ap (λ b. b || (has E q && of_state_below states (get_or states r 0) r q)) (unsigned_tied q r ∙ ne_eqb q r ne)
+            ∙ ap (λ b. has E q && (eqb (get_or states q 0) (get_or states r 0) && b)) (below q ne)
+      ]
+        where
+          below : (q : ℕ) → (q ≡ r → ⊥) → ltb q r ≡ ltb q (r + 1)
+          below q ne = elim (cases_lt q r) [
+            | inl lt ↦ lt-ltb q r lt ∙ sym (lt-ltb q (r + 1) (omega (arith, lt)))
+            | inr ge ↦ le-ltb q r ge ∙ sym (le-ltb q (r + 1) (omega (arith, ge, ne)))
+          ]
+
+  -- the others stay
+  other_set : (k : ℕ) → (k ≡ get_or states r 0 → ⊥) → those (of_state_below states k r) E ≡ those (of_state_below states k (r + 1)) E
+  other_set k ne = those-on E (of_state_below states k r) (of_state_below states k (r + 1)) (λ q _. each q)
+    where
+      each : (q : ℕ) → of_state_below states k r q ≡ of_state_below states k (r + 1) q
+      each q = elim (cases_eq q r) [
+        | inl e ↦
+            let other : eqb (get_or states q 0) k ≡ false = ne_eqb _ _ (λ same. ne (sym same ∙ ap (λ x. get_or states x 0) e)) in
+            ap (λ b. b && ltb q r) other ∙ sym (ap (λ b. b && ltb q (r + 1)) other)
+        | inr nq ↦ elim (cases_lt q r) [
+          | inl lt ↦ ap (λ b. eqb (get_or states q 0) k && b) (lt-ltb q r lt ∙ sym (lt-ltb q (r + 1) (omega (arith, lt))))
+          | inr ge ↦ ap (λ b. eqb (get_or states q 0) k && b) (le-ltb q r ge ∙ sym (le-ltb q (r + 1) (omega (arith, ge, nq))))
+        ]
+      ]
+
+  pub fill_step : (n : ℕ) (sets sets' : List Ranks) → get_or states r 0 - base < n → sets' ≡ set sets (get_or states r 0 - base) (with_rank (get_or sets (get_or states r 0 - base) none) r)
+      → AreFilled E states base n r sets → AreFilled E states base n (r + 1) sets'
+  fill_step n sets sets' own_in is h =
+      let own : ℕ = get_or states r 0 - base in
+      let back : base + own ≡ get_or states r 0 = omega (arith, from_base) in
+      let own_lt : own < length sets = omega (arith, own_in, h.long) in
+      record {
+        long = ap length is ∙ length-set sets own (with_rank (get_or sets own none) r) ∙ h.long;
+        filled = λ k lt. elim (cases_eq k own) [
+          | inl e ↦ (λ i. get_or (is i) (e i) none) ∙ get_or-set_same sets own (with_rank (get_or sets own none) r) none own_lt
+              ∙ ap (λ S. with_rank S r) (h.filled own own_in ∙ ap (λ x. those (of_state_below states x r) E) back) ∙ own_set
+              ∙ ap (λ x. those (of_state_below states x (r + 1)) E) (sym back ∙ ap (λ x. base + x) (sym e))
+          | inr ne ↦ ap (λ xs. get_or xs k none) is ∙ get_or-set_other sets own k (with_rank (get_or sets own none) r) none ne ∙ h.filled k lt
+              ∙ other_set (base + k) (λ e. ne (omega (arith, e)))
+        ];
+      }
+
+-- when all are in their sets
+pub fill_end : (E : Ranks) (states : List ℕ) (base n q : ℕ) (sets : List Ranks) → AreFilled E states base n q sets → ((r : ℕ) → q ≤ r → has E r ≡ false)
+    → ((r : ℕ) → has E r ≡ true → base ≤ get_or states r 0) → ((r : ℕ) → has E r ≡ true → get_or states r 0 - base < n)
+    → (r : ℕ) → has E r ≡ true → get_or sets (get_or states r 0 - base) none ≡ those (λ s. eqb (get_or states r 0) (get_or states s 0)) E
+fill_end E states base n q sets h passed from_base within r member =
+    let own : ℕ = get_or states r 0 - base in
+    let back : base + own ≡ get_or states r 0 = omega (arith, from_base r member) in
+    h.filled own (within r member) ∙ ap (λ x. those (of_state_below states x q) E) back
+    ∙ those-on E (of_state_below states (get_or states r 0) q) (λ s. eqb (get_or states r 0) (get_or states s 0)) each
+  where
+    turned : (a b : ℕ) → eqb a b ≡ eqb b a
+    turned a b = elim (cases_eq a b) [ inl e ↦ eq-eqb a b e ∙ sym (eq-eqb b a (sym e)) | inr ne ↦ ne_eqb a b ne ∙ sym (ne_eqb b a (λ e. ne (sym e))) ]
+
+    and_true : (b : Bool) → (b && true) ≡ b
+    and_true true = refl
+    and_true false = refl
+
+    each : (s : ℕ) → has E s ≡ true → of_state_below states (get_or states r 0) q s ≡ eqb (get_or states r 0) (get_or states s 0)
+    each s in_E = elim (cases_lt s q) [
+      | inl lt ↦ ap (λ b. eqb (get_or states s 0) (get_or states r 0) && b) (lt-ltb s q lt) ∙ and_true (eqb (get_or states s 0) (get_or states r 0)) ∙ turned (get_or states s 0) (get_or states r 0)
+      | inr ge ↦ absurd (true≢false (sym in_E ∙ passed s ge))
+    ]
+
+-- blocks by states of the paths, parted once more by the covered ranks
+pub blocks_from_states : (es : List (Path × Ranks)) (C : Ranks) (old states next : List ℕ) (base : ℕ) (sets : List Ranks) → 0 < base → AreStates old es → ArePartedBy C old states
+    → AreTables states next → ((r : ℕ) → has C r ≡ true → base ≤ get_or states r 0) → length sets ≡ length next - base
+    → ((r : ℕ) → has C r ≡ true → get_or sets (get_or states r 0 - base) none ≡ those (λ s. eqb (get_or states r 0) (get_or states s 0)) C)
+    → AreBlocks es C states base sets
+blocks_from_states es C old states next base sets some olds parted tables from_base long filled = record {
+  in_table = λ r member. elim (cases_lt r (length states)) [
+    | inl lt ↦ lt
+    | inr ge ↦ absurd (omega (arith, some, from_base r member, Rattle.std.proofs.lemmas.List.get_or_past states r 0 ge))
+  ];
+  from_base = from_base;
+  in_sets = λ r member. let a = from_base r member in let b = tables.states_within r in omega (arith, a, b, long);
+  same = λ r member. filled r member ∙ those-on C (λ s. eqb (get_or states r 0) (get_or states s 0)) (λ s. same_paths r s es)
+      (λ s in_C. parted r s ∙ ap (λ b. b && eqb (get_or old r 0) (get_or old s 0)) (λ i. same_answer (member i) (in_C i)) ∙ olds r s);
+}
+
+zeros : (n r : ℕ) → get_or {A = ℕ} (replicate n 0) r 0 ≡ 0
+zeros zero r = refl
+zeros (suc n) zero = refl
+zeros (suc n) (suc r) = zeros n r
+
+long_zeros : (n : ℕ) → length {A = ℕ} (replicate n 0) ≡ n
+long_zeros zero = refl
+long_zeros (suc n) = ap suc (long_zeros n)
+
+-- at first all ranks have the one state 0
+pub tables_start : (states next : List ℕ) → states ≡ replicate RANK_LIMIT 0 → next ≡ 0 ∷ [] → AreTables states next
+tables_start states next is_states is_next = record {
+  long = ap length is_states ∙ long_zeros RANK_LIMIT;
+  states_within = λ r. omega (arith, ap (λ xs. get_or xs r 0) is_states ∙ zeros RANK_LIMIT r, ap length is_next);
+  next_within = λ k. omega (arith, ap (λ xs. get_or xs k 0) is_next ∙ zeros 1 k, ap length is_next);
+}
+
+pub same_start : (states : List ℕ) → states ≡ replicate RANK_LIMIT 0 → (r s : ℕ) → eqb (get_or states r 0) (get_or states s 0) ≡ true
+same_start states is r s = eq-eqb (get_or states r 0) (get_or states s 0) (ap (λ xs. get_or xs r 0) is ∙ zeros RANK_LIMIT r ∙ sym (ap (λ xs. get_or xs s 0) is ∙ zeros RANK_LIMIT s))
+
+-- the blocks of the ranks that are left after one block was taken
+pub blocks_left : (es : List (Path × Ranks)) (left left' : Ranks) (states : List ℕ) (base : ℕ) (sets : List Ranks) (r : ℕ) → left' ≡ those (λ s. not (same_paths r s es)) left
+    → AreBlocks es left states base sets → AreBlocks es left' states base sets
+blocks_left es left left' states base sets r is h = record {
+  in_table = λ s there. h.in_table s (was s there);
+  from_base = λ s there. h.from_base s (was s there);
+  in_sets = λ s there. h.in_sets s (was s there);
+  same = λ s there. h.same s (was s there) ∙ same_ranks _ _ (λ q. has-those (λ x. same_paths s x es) left q ∙ each s q (others s there) ∙ sym (has-those (λ x. same_paths s x es) left' q ∙ ap (λ b. b && same_paths s q es) (members q)));
+}
+  where
+    members : (q : ℕ) → has left' q ≡ (has left q && not (same_paths r q es))
+    members q = ap (λ (S : Ranks). has S q) is ∙ has-those (λ s. not (same_paths r s es)) left q
+
+    was : (s : ℕ) → has left' s ≡ true → has left s ≡ true
+    was s there = (and_parts (has left s) (not (same_paths r s es)) (sym (members s) ∙ there)).0
+
+    others : (s : ℕ) → has left' s ≡ true → same_paths r s es ≡ false
+    others s there = Rattle.std.proofs.lemmas.Bool.not-true (same_paths r s es) ((and_parts (has left s) (not (same_paths r s es)) (sym (members s) ∙ there)).1)
+
+    logic : (a b c : Bool) → (c ≡ true → b ≡ false) → (a && c) ≡ ((a && not b) && c)
+    logic true true true h = absurd (true≢false (h refl))
+    logic true true false h = refl
+    logic true false c h = refl
+    logic false b c h = refl
+
+    -- what is the same as s, which is not as r is, is not as r is
+    each : (s q : ℕ) → same_paths r s es ≡ false → (has left q && same_paths s q es) ≡ ((has left q && not (same_paths r q es)) && same_paths s q es)
+    each s q other = logic (has left q) (same_paths r q es) (same_paths s q es) (λ same. sym (chain r s q es same) ∙ other)
+      where
+        trade : (a b c : Bool) → same_answer b c ≡ true → same_answer a b ≡ same_answer a c
+        trade a true true e = refl
+        trade a false false e = refl
+        trade a true false e = absurd (true≢false (sym e))
+        trade a false true e = absurd (true≢false (sym e))
+
+        chain : (r s q : ℕ) (es : List (Path × Ranks)) → same_paths s q es ≡ true → same_paths r s es ≡ same_paths r q es
+        chain r s q [] e = refl
+        chain r s q (x ∷ es) e =
+            let parts = and_parts (same_answer (has x.1 s) (has x.1 q)) (same_paths s q es) e in
+            (λ i. trade (has x.1 r) (has x.1 s) (has x.1 q) parts.0 i && chain r s q es parts.1 i)
+
+-- one empty set more
+pub one_more : (n : ℕ) → replicate n none ++ none ∷ [] ≡ replicate (suc n) none
+one_more zero = refl
+one_more (suc n) = ap (λ xs. none ∷ xs) (one_more n)

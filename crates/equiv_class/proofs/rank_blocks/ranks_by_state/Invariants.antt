@@ -1,0 +1,16 @@
+use Rattle.std.proofs.Common.{◌≤◌, ◌-◌}
+use Rattle.rank_set.specs.declared.TheConstants.{RANK_LIMIT}
+use Rattle.equiv_class.proofs.Filling.{AreFilled}
+use Rattle.equiv_class.proofs.rank_blocks.ranks_by_state.Given as goal
+
+abbrev pub invariant-loop-r : goal.invariant-loop-r
+invariant-loop-r l = AreFilled l.covered l.states l.base (l.end - l.base) l.r l.sets.items
+
+abbrev pub invariant-loop-run : goal.invariant-loop-run
+invariant-loop-run l = record {
+  within : l.from ≤ RANK_LIMIT;
+  filled : AreFilled l.covered l.states l.base (l.end - l.base) l.from l.sets.items;
+}
+
+abbrev pub decreases-loop-run : goal.decreases-loop-run
+decreases-loop-run l = RANK_LIMIT - l.from
