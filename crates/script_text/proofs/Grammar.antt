@@ -1,5 +1,5 @@
--- An accepted text is written as a script.
-use Rattle.std.proofs.Common.{◌≡◌, ◌∙◌, ◌⊎◌, inl, inr, ◌+◌, ℕ, suc, Bool, true, false, cond, ◌||◌, ◌&&◌, not, nat_lt, List, [], ◌∷◌, length, filter, Ok, Err, Result, refl, sym, ap, subst, arith, codes}
+-- What lines that are parsed are written as.
+use Rattle.std.proofs.Common.{◌≡◌, ◌≢◌, ◌∙◌, ◌⊎◌, inl, inr, ◌+◌, ℕ, suc, Bool, true, false, cond, ◌||◌, ◌&&◌, not, nat_lt, List, [], ◌∷◌, length, filter, Ok, Err, Result, refl, sym, ap, subst, arith, codes}
 use Rattle.std.specs.Result.{IfOk}
 use Rattle.text_lines.specs.Lines.{lines, words, says_nothing, is_comment, are_none}
 use Rattle.text_lines.specs.Directives.{first_is, is_line_of}
@@ -18,6 +18,7 @@ use Rattle.script_text.specs.Order.{with_item}
 use Rattle.script_text.specs.Whole.{with_line, whole, script_of}
 use Rattle.script_text.proofs.InvariantLemmas.{nothing_holds, lines_holds}
 use Rattle.script_text.proofs.LineViews.{Changes, changes}
+use Rattle.script_text.proofs.NodeLists.{some_first}
 
 -- a list with an item more, by its number
 module _ {X : Type 0} (number : X → ℕ) (x : X) where
@@ -60,7 +61,7 @@ module _ {X : Type 0} (number : X → ℕ) (x : X) where
 -- items of lines of one kind
 module _ {X : Type 0} (number : X → ℕ) (kind : List ℕ → Bool) (Is : List ℕ → X → Type 0) where
   -- the items after some lines are those before them, and one for each line of the kind
-  record Adds (ls : List (List ℕ)) (xs ys : List X) : Type 0 where
+  pub record Adds (ls : List (List ℕ)) (xs ys : List X) : Type 0 where
     pub to : (x : X) → In x ys → In x xs ⊎ ((line : List ℕ) × In line (filter kind ls) × Is line x)
     pub stay : (x : X) → In x xs → In x ys
     pub from : (line : List ℕ) → In line (filter kind ls) → (x : X) × In x ys × Is line x
@@ -118,13 +119,13 @@ quiet_line word line quiet = by (is_comment line) (words line) quiet
     by false [] e = refl
     by false (w ∷ rest) e = cc
 
-line_of : (word line first : List ℕ) (rest : List (List ℕ)) → is_comment line ≡ false → words line ≡ first ∷ rest → is_line_of word line ≡ first_is word (first ∷ rest)
+pub line_of : (word line first : List ℕ) (rest : List (List ℕ)) → is_comment line ≡ false → words line ≡ first ∷ rest → is_line_of word line ≡ first_is word (first ∷ rest)
 line_of word line first rest comment is = (λ i. not (comment i) && first_is word (is i))
 
-abbrev AddsStreams : Nodes → List (List ℕ) → List Stream → List Stream → Type 0
+abbrev pub AddsStreams : Nodes → List (List ℕ) → List Stream → List Stream → Type 0
 AddsStreams t ls xs ys = Adds (λ (x : Stream). x.number) (is_line_of (codes "stream")) (IsStreamOf t) ls xs ys
 
-abbrev AddsLosses : Nodes → List (List ℕ) → List Fault → List Fault → Type 0
+abbrev pub AddsLosses : Nodes → List (List ℕ) → List Fault → List Fault → Type 0
 AddsLosses t ls xs ys = Adds (λ (f : Fault). f.node) (is_line_of (codes "lose")) (IsLossOf t) ls xs ys
 
 module _ (t : Nodes) (is : IsTopology t) where
@@ -142,7 +143,7 @@ module _ (t : Nodes) (is : IsTopology t) where
     its_line _ _ (IsLossOf t) line rest c.faults m.faults d.faults later.1 h.new (line_of (codes "lose") line (codes "lose") h.is.rest h.comment h.is.is) h.is (ap (λ x. x.faults) h.after),
   )
 
-  written : (ls : List (List ℕ)) (c d : Scripted) (number : ℕ) → parsed_lines (with_line t) c number ls ≡ Ok d → AddsStreams t ls c.streams d.streams × AddsLosses t ls c.faults d.faults
+  pub written : (ls : List (List ℕ)) (c d : Scripted) (number : ℕ) → parsed_lines (with_line t) c number ls ≡ Ok d → AddsStreams t ls c.streams d.streams × AddsLosses t ls c.faults d.faults
   unfolding parsed_lines
   written [] c d number h =
       let same : c ≡ d = ok_inj c d h in
@@ -151,21 +152,12 @@ module _ (t : Nodes) (is : IsTopology t) where
       let a = then_inv (with_line t c number line) _ d h in
       one_more line rest c a.0 d (changes t is c a.0 number line a.1) (written rest a.0 d (suc number) a.2)
 
-  whole_is : (c d : Scripted) → whole c ≡ Ok d → c ≡ d
-  whole_is c d h = by c.streams h
-    where
-      by : (xs : List Stream) → elim xs as (λ _. Result Scripted TextError) [ [] ↦ Err (Bad 0 NoStream) | (x ∷ xs) ↦ Ok c ] ≡ Ok d → c ≡ d
-      by [] h = cc
-      by (x ∷ xs) h = ok_inj c d h
-
-  -- an accepted text is written as its script
-  pub is_written : (text : List ℕ) (d : Scripted) → script_of t text ≡ Ok d → IsWritten t text d
-  unfolding script_of
+  -- lines that are parsed are written as what they say
+  pub is_written : (text : List ℕ) (d : Scripted) → parsed_lines (with_line t) (scripted [] []) 1 (lines text) ≡ Ok d → IsWritten t text d
   is_written text d h =
-      let a = then_inv (parsed_lines (with_line t) (scripted [] []) 1 (lines text)) whole d h in
-      let w = written (lines text) (scripted [] []) a.0 1 a.1 in
-      let inv = subst (λ r. IfOk r (ParserInvariant t)) a.1 (lines_holds t is (lines text) (scripted [] []) 1 (nothing_holds t)) in
-      subst (IsWritten t text) (whole_is a.0 d a.2) (record {
+      let w = written (lines text) (scripted [] []) d 1 h in
+      let inv = subst (λ r. IfOk r (ParserInvariant t)) h (lines_holds t is (lines text) (scripted [] []) 1 (nothing_holds t)) in
+      record {
         streams = λ x there. elim (w.0.to x there) [ (inl old) ↦ absurd old | (inr new) ↦ new ];
         of_stream_lines = w.0.from;
         stream_count = (let n = w.0.count in omega arith);
@@ -174,4 +166,20 @@ module _ (t : Nodes) (is : IsTopology t) where
         of_lose_lines = w.1.from;
         loss_count = (let n = w.1.count in omega arith);
         losses_increase = inv.faults_increase;
-      })
+      }
+
+-- a script that is whole has a stream
+whole_is : (c d : Scripted) → whole c ≡ Ok d → (c ≡ d) × (c.streams ≢ [])
+whole_is c d h = by c.streams h
+  where
+    by : (xs : List Stream) → elim xs as (λ _. Result Scripted TextError) [ [] ↦ Err (Bad 0 NoStream) | (x ∷ xs) ↦ Ok c ] ≡ Ok d → (c ≡ d) × (xs ≢ [])
+    by [] h = cc
+    by (x ∷ xs) h = (ok_inj c d h, some_first x xs)
+
+-- an accepted text is parsed, and there is a stream
+pub accepted_parsed : (t : Nodes) (text : List ℕ) (d : Scripted) → script_of t text ≡ Ok d → (parsed_lines (with_line t) (scripted [] []) 1 (lines text) ≡ Ok d) × (d.streams ≢ [])
+unfolding script_of
+accepted_parsed t text d h =
+    let a = then_inv (parsed_lines (with_line t) (scripted [] []) 1 (lines text)) whole d h in
+    let w = whole_is a.0 d a.2 in
+    (a.1 ∙ ap Ok w.0, subst (λ (c : Scripted). c.streams ≢ []) w.0 w.1)

@@ -71,10 +71,10 @@ mode_holds line (TimeOut ticks) = then_ok (number_from line 1 1000 (Bad line Bad
 mode_holds line DontWait = tt
 
 -- some daemons, ascending
-record AreDaemons (t : Nodes) (daemons : List ℕ) : Type 0 where
-  all : AllByRecursion (IsDaemon t) daemons
-  increasing : IsStrictlyIncreasing daemons
-  some : daemons ≢ []
+pub record AreDaemons (t : Nodes) (daemons : List ℕ) : Type 0 where
+  pub all : AllByRecursion (IsDaemon t) daemons
+  pub increasing : IsStrictlyIncreasing daemons
+  pub some : daemons ≢ []
 
 module _ (t : Nodes) (is : IsTopology t) (line : ℕ) where
   daemon_by : (name : List ℕ) (o : Option ℕ) → daemon_named name t ≡ o → IfOk (some_or (Bad line NotADaemon) o) (IsDaemon t)
@@ -113,7 +113,7 @@ module _ (t : Nodes) (is : IsTopology t) (line : ℕ) where
   on_by name names true = all_invariant
   on_by name names false = first_holds name names
 
-  daemons_holds : (names : List (List ℕ)) → IfOk (daemons_of t line names) (AreDaemons t)
+  pub daemons_holds : (names : List (List ℕ)) → IfOk (daemons_of t line names) (AreDaemons t)
   unfolding daemons_of
   daemons_holds [] = tt
   daemons_holds (name ∷ names) = on_by name names (bytes_eq name (codes "all"))
@@ -173,7 +173,7 @@ module _ (t : Nodes) (is : IsTopology t) (faults : List Fault) (line : ℕ) wher
   unfolding lost_node
   lost_holds name = over_by name (nat_le 256 (length faults)) refl
 
-  fault_holds : (w : LoseWords) → IfOk (fault_of t faults line w) (IsNewFault t faults)
+  pub fault_holds : (w : LoseWords) → IfOk (fault_of t faults line w) (IsNewFault t faults)
   unfolding fault_of IsFree
   fault_holds w =
       then_ok (lost_node t faults line w.name) _ (IsFree t faults) (IsNewFault t faults) (lost_holds w.name) (λ n a.

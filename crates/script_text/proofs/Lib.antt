@@ -10,3 +10,4 @@ pub mod NodeLists
 pub mod InvariantLemmas
 pub mod LineViews
 pub mod Grammar
+pub mod Acceptance

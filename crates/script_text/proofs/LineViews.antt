@@ -1,6 +1,7 @@
 -- What a line without an error says, and what becomes of the script.
 use Rattle.std.proofs.Common.{◌≡◌, ◌∙◌, ◌↔◌, ◌⊎◌, inl, inr, ℕ, Bool, true, false, cond, ◌||◌, ◌==◌, nat_eq, nat_lt, nat_le, List, [], ◌∷◌, length, Option, None, Some, Result, Ok, Err, refl, sym, ap, subst, codes}
 use Rattle.std.specs.List.{list_any}
+use Rattle.std.specs.Result.{IfOk}
 use Rattle.std.specs.Str.{bytes_eq}
 use Rattle.std.proofs.lemmas.Bool.{true≢false, eqb-true}
 use Rattle.std.proofs.lemmas.Slice.Eq.{bytes_eq-Decides}
@@ -23,12 +24,13 @@ use Rattle.stat_plan.specs.declared.script.Mode.TheVariants as mode
 use Rattle.stat_plan.specs.declared.script.TheConstants.{STREAM_LIMIT, WAVE_LIMIT, SAMPLE_LIMIT, TICK_LIMIT, FAULT_LIMIT}
 use Rattle.stat_plan.proofs.DaemonNames.{found_by_name}
 use Rattle.script_text.specs.declared.lose_line.TheConstants.{COUNT_LIMIT}
-use Rattle.script_text.specs.Grammar.{IsModeOf, IsNamedDaemon, IsStreamOf, IsLossOf}
+use Rattle.script_text.specs.Grammar.{IsModeOf, IsNamedDaemon, IsStreamOf, IsLossOf, AreOfDaemons}
 use Rattle.script_text.specs.Losses.{as_lost, lost_node, fault_of, with_fault}
 use Rattle.script_text.specs.Numbers.{in_range, number_from}
 use Rattle.script_text.specs.Streams.{new_number, stream_number, mode_of, daemon_of, with_named, all_daemons, daemons_of, stream_of, with_stream}
 use Rattle.script_text.specs.Whole.{with_stream_line, with_lose_line, with_words, with_line}
 use Rattle.script_text.specs.Words.{ModeWords, WaitForAll, TimeOut, DontWait, StreamWords, LoseWords, stream_words, lose_words}
+use Rattle.script_text.proofs.InvariantLemmas.{AreDaemons, daemons_holds, IsNewStream, stream_holds, IsNewFault, fault_holds}
 use Rattle.script_text.proofs.NodeLists.{in_number, passed, is_passed}
 
 if_inv : {A : Type 0} (b : Bool) (e : TextError) (r : Result A TextError) (x : A) → cond b (Err e) r ≡ Ok x → r ≡ Ok x
@@ -127,7 +129,7 @@ module _ (t : Nodes) (is : IsTopology t) (line : ℕ) where
   unfolding all_daemons
   all_named n = (λ h. passed (is_daemon t.parents) (length t.parents) n h, λ d. is_passed (is_daemon t.parents) (length t.parents) n d.0 d.1)
 
-  daemons_inv : (names : List (List ℕ)) (ds : List ℕ) → daemons_of t line names ≡ Ok ds → (n : ℕ) → In n ds ↔ IsNamedDaemon t names n
+  pub daemons_inv : (names : List (List ℕ)) (ds : List ℕ) → daemons_of t line names ≡ Ok ds → (n : ℕ) → In n ds ↔ IsNamedDaemon t names n
   unfolding daemons_of
   daemons_inv [] ds h n = cc
   daemons_inv (name ∷ names) ds h n = by (bytes_eq name (codes "all")) refl h
@@ -141,11 +143,34 @@ module _ (t : Nodes) (is : IsTopology t) (line : ℕ) where
         λ d. named_from (name ∷ names) [] ds h n (elim d.1 [ (inl all) ↦ absurd (true≢false (sym all ∙ e)) | (inr one) ↦ inr (d.0, one) ]),
       )
 
+  -- each name that was looked up is that of a daemon
+  named_each : (names : List (List ℕ)) (ds es : List ℕ) → with_named t line ds names ≡ Ok es → (name : List ℕ) → In name names → (n : ℕ) × IsDaemonNamed t name n
+  unfolding with_named
+  named_each [] ds es h name there = absurd there
+  named_each (first ∷ names) ds es h name there =
+      let a = then_inv (daemon_of t line first) (λ m. with_named t line (with_number m ds) names) es h in
+      by a.0 (daemon_inv first a.0 a.1) there (named_each names (with_number a.0 ds) es a.2 name)
+    where
+      by : (m : ℕ) → IsDaemonNamed t first m → In name (first ∷ names) → (In name names → (n : ℕ) × IsDaemonNamed t name n) → (n : ℕ) × IsDaemonNamed t name n
+      by m at (inl e) further = (m, subst (λ k. IsDaemonNamed t k m) (sym e) at)
+      by m at (inr h) further = further h
+
+  names_inv : (names : List (List ℕ)) (ds : List ℕ) → daemons_of t line names ≡ Ok ds → AreOfDaemons t names
+  unfolding daemons_of
+  names_inv [] ds h = cc
+  names_inv (name ∷ names) ds h = by (bytes_eq name (codes "all")) refl h
+    where
+      by : (b : Bool) → bytes_eq name (codes "all") ≡ b → cond b (Ok (all_daemons t)) (with_named t line [] (name ∷ names)) ≡ Ok ds → AreOfDaemons t (name ∷ names)
+      by true e h = inl e
+      by false e h = inr (named_each (name ∷ names) [] ds h)
+
 -- a `stream` line defines a stream
 pub record AddsStream (t : Nodes) (c : Scripted) (line : List ℕ) (d : Scripted) : Type 0 where
   pub new : Stream
   pub comment : is_comment line ≡ false
   pub is : IsStreamOf t line new
+  pub names : AreOfDaemons t is.words_of.names
+  pub first : IsNewStream t c.streams new
   pub after : scripted (with_stream new c.streams) c.faults ≡ d
 
 -- a `lose` line loses a node
@@ -153,6 +178,7 @@ pub record AddsLoss (t : Nodes) (c : Scripted) (line : List ℕ) (d : Scripted) 
   pub new : Fault
   pub comment : is_comment line ≡ false
   pub is : IsLossOf t line new
+  pub first : IsNewFault t c.faults new
   pub after : scripted c.streams (with_fault new c.faults) ≡ d
 
 -- what becomes of a script with a line more
@@ -160,7 +186,7 @@ abbrev pub Changes : Nodes → Scripted → List ℕ → Scripted → Type 0
 Changes t c line d = ((says_nothing line ≡ true) × (c ≡ d)) ⊎ (AddsStream t c line d ⊎ AddsLoss t c line d)
 
 module _ (t : Nodes) (is : IsTopology t) (c d : Scripted) (number : ℕ) (line : List ℕ) where
-  stream_is : (rest : List (List ℕ)) (w : StreamWords) (x : Stream) → words line ≡ codes "stream" ∷ rest → stream_words rest ≡ Some w → stream_of t c.streams number w ≡ Ok x → IsStreamOf t line x
+  stream_is : (rest : List (List ℕ)) (w : StreamWords) (x : Stream) → words line ≡ codes "stream" ∷ rest → stream_words rest ≡ Some w → stream_of t c.streams number w ≡ Ok x → (is : IsStreamOf t line x) × AreOfDaemons t is.words_of.names
   unfolding stream_of
   stream_is rest w x first form h =
       let a = then_inv (stream_number c.streams number w.number) _ x h in
@@ -168,7 +194,8 @@ module _ (t : Nodes) (is : IsTopology t) (c d : Scripted) (number : ℕ) (line :
       let e = then_inv (number_from number 1 WAVE_LIMIT (Over number Waves WAVE_LIMIT) w.waves) _ x b.2 in
       let f = then_inv (number_from number 1 SAMPLE_LIMIT (Bad number BadNumber) w.samples) _ x e.2 in
       let g = then_inv (daemons_of t number w.names) _ x f.2 in
-      subst (IsStreamOf t line) (ok_inj (stream a.0 b.0 e.0 f.0 w.grain g.0) x g.2) (record {
+      let known = subst (λ r. IfOk r (AreDaemons t)) g.1 (daemons_holds t is number w.names) in
+      let it : IsStreamOf t line (stream a.0 b.0 e.0 f.0 w.grain g.0) = record {
         rest = rest;
         is = first;
         words_of = w;
@@ -179,7 +206,9 @@ module _ (t : Nodes) (is : IsTopology t) (c d : Scripted) (number : ℕ) (line :
         samples = number_inv number 1 SAMPLE_LIMIT (Bad number BadNumber) w.samples f.0 f.1;
         grain = refl;
         daemons = daemons_inv t is number w.names g.0 g.1;
-      })
+        daemons_increase = known.increasing;
+      } in
+      subst (λ x. (is : IsStreamOf t line x) × AreOfDaemons t is.words_of.names) (ok_inj (stream a.0 b.0 e.0 f.0 w.grain g.0) x g.2) (it, names_inv t is number w.names g.0 g.1)
 
   lost_read : (name : List ℕ) (o : Option ℕ) (n : ℕ) → as_lost t c.faults number o ≡ Ok n → o ≡ Some n
   lost_read name None n h = cc
@@ -210,13 +239,14 @@ module _ (t : Nodes) (is : IsTopology t) (c d : Scripted) (number : ℕ) (line :
     by_stream first None form h = cc
     by_stream first (Some w) form h =
         let a = then_inv (stream_of t c.streams number w) (λ x. Ok (scripted (with_stream x c.streams) c.faults)) d h in
-        record { new = a.0; comment = comment; is = stream_is rest w a.0 first form a.1; after = ok_inj (scripted (with_stream a.0 c.streams) c.faults) d a.2 }
+        let s = stream_is rest w a.0 first form a.1 in
+        record { new = a.0; comment = comment; is = s.0; names = s.1; first = subst (λ r. IfOk r (IsNewStream t c.streams)) a.1 (stream_holds t is c.streams number w); after = ok_inj (scripted (with_stream a.0 c.streams) c.faults) d a.2 }
 
     by_lose : words line ≡ codes "lose" ∷ rest → (o : Option LoseWords) → lose_words rest ≡ o → with_lose_line t c number o ≡ Ok d → AddsLoss t c line d
     by_lose first None form h = cc
     by_lose first (Some w) form h =
         let a = then_inv (fault_of t c.faults number w) (λ f. Ok (scripted c.streams (with_fault f c.faults))) d h in
-        record { new = a.0; comment = comment; is = loss_is rest w a.0 first form a.1; after = ok_inj (scripted c.streams (with_fault a.0 c.faults)) d a.2 }
+        record { new = a.0; comment = comment; is = loss_is rest w a.0 first form a.1; first = subst (λ r. IfOk r (IsNewFault t c.faults)) a.1 (fault_holds t is c.faults number w); after = ok_inj (scripted c.streams (with_fault a.0 c.faults)) d a.2 }
 
   by_words : is_comment line ≡ false → (ws : List (List ℕ)) → words line ≡ ws → with_words t c number ws ≡ Ok d → Changes t c line d
   unfolding with_words

@@ -1,13 +1,16 @@
 -- What a script text means in the words of its format: its `stream` lines define streams, and its `lose` lines lose
--- nodes.
-use Rattle.std.specs.Prelude.{◌≡◌, ◌↔◌, ◌⊎◌, ℕ, true, List, ◌∷◌, length, map, filter, Some, codes}
-use Rattle.text_lines.specs.Lines.{lines, words, number_in}
+-- nodes. And which texts are accepted.
+use Rattle.std.specs.Prelude.{◌≡◌, ◌≢◌, ◌↔◌, ◌⊎◌, ◌≤◌, ℕ, true, false, List, [], ◌∷◌, ◌++◌, length, map, filter, Some, codes}
+use Rattle.text_lines.specs.Lines.{lines, words, is_comment, says_nothing, number_in}
 use Rattle.text_lines.specs.Directives.{first_is, is_line_of}
-use Rattle.stat_plan.specs.Invariants.{IsDaemon}
+use Rattle.stat_plan.specs.Daemons.{IsDaemonNamed}
+use Rattle.stat_plan.specs.Invariants.{IsDaemon, IsStream, IsFault}
 use Rattle.stat_plan.specs.Names.{name_of, number_of}
 use Rattle.stat_plan.specs.NodeSets.{In, IsStrictlyIncreasing}
 use Rattle.stat_plan.specs.Plans.{Stream, Scripted}
 use Rattle.stat_plan.specs.Topologies.{Nodes}
+use Rattle.stat_plan.specs.Trees.{root_of}
+use Rattle.stat_plan.specs.declared.script.TheConstants.{FAULT_LIMIT}
 use Rattle.stat_plan.specs.declared.script.Fault.{Fault}
 use Rattle.stat_plan.specs.declared.script.Mode.{Mode}
 use Rattle.stat_plan.specs.declared.script.Mode.TheVariants as mode
@@ -23,7 +26,8 @@ IsModeOf DontWait m = m ≡ mode.DontWait
 abbrev pub IsNamedDaemon : Nodes → List (List ℕ) → ℕ → Type 0
 IsNamedDaemon t names n = IsDaemon t n × ((first_is (codes "all") names ≡ true) ⊎ In (name_of t.names n) names)
 
--- a stream is that of a line `stream S MODE waves W samples K on NAMES`, with `by GRAIN` before `on` or without
+-- a stream is that of a line `stream S MODE waves W samples K on NAMES`, with `by GRAIN` before `on` or without; its
+-- daemons ascend
 pub record IsStreamOf (t : Nodes) (line : List ℕ) (x : Stream) : Type 0 where
   pub rest : List (List ℕ)
   pub is : words line ≡ codes "stream" ∷ rest
@@ -35,6 +39,7 @@ pub record IsStreamOf (t : Nodes) (line : List ℕ) (x : Stream) : Type 0 where
   pub samples : number_in words_of.samples ≡ Some x.samples
   pub grain : words_of.grain ≡ x.grain
   pub daemons : (n : ℕ) → In n x.daemons ↔ IsNamedDaemon t words_of.names n
+  pub daemons_increase : IsStrictlyIncreasing x.daemons
 
 -- a loss is that of a line `lose NAME after E keep K`
 pub record IsLossOf (t : Nodes) (line : List ℕ) (f : Fault) : Type 0 where
@@ -68,3 +73,44 @@ pub record IsWritten (t : Nodes) (text : List ℕ) (c : Scripted) : Type 0 where
       (f : Fault) × In f c.faults × IsLossOf t line f
   pub loss_count : length c.faults ≡ length (lose_lines (lines text))
   pub losses_increase : IsStrictlyIncreasing (map (λ f. f.node) c.faults)
+
+-- what stands after `on` is `all`, or each word there is the name of a daemon
+abbrev pub AreOfDaemons : Nodes → List (List ℕ) → Type 0
+AreOfDaemons t names =
+    (first_is (codes "all") names ≡ true) ⊎ ((name : List ℕ) → In name names → (n : ℕ) × IsDaemonNamed t name n)
+
+-- a `stream` line after others: it is that of a stream in range, it names nothing but daemons, and no `stream` line
+-- before it is that of a stream with the same number
+pub record IsGoodStreamLine (t : Nodes) (before : List (List ℕ)) (line : List ℕ) : Type 0 where
+  pub comment : is_comment line ≡ false
+  pub defined : Stream
+  pub is : IsStreamOf t line defined
+  pub names : AreOfDaemons t is.words_of.names
+  pub range : IsStream defined
+  pub new : (earlier : List ℕ) (x : Stream) → In earlier (stream_lines before) → IsStreamOf t earlier x →
+      x.number ≢ defined.number
+
+-- a `lose` line after others: it is that of a loss in range, the node that it loses is not the front end, and no `lose`
+-- line before it is that of a loss of the same node
+pub record IsGoodLoseLine (t : Nodes) (before : List (List ℕ)) (line : List ℕ) : Type 0 where
+  pub comment : is_comment line ≡ false
+  pub loss : Fault
+  pub is : IsLossOf t line loss
+  pub range : IsFault loss
+  pub behind_front : loss.node ≢ root_of t.parents
+  pub new : (earlier : List ℕ) (f : Fault) → In earlier (lose_lines before) → IsLossOf t earlier f →
+      f.node ≢ loss.node
+
+-- a line after others: it says nothing, or it is a good line of one of the two kinds
+abbrev pub IsGoodLine : Nodes → List (List ℕ) → List ℕ → Type 0
+IsGoodLine t before line =
+    (says_nothing line ≡ true) ⊎ (IsGoodStreamLine t before line ⊎ IsGoodLoseLine t before line)
+
+-- Each line of a text is good after those before it, at most 256 are `lose` lines, and there is a stream. What the text
+-- says is what is written.
+pub record IsAcceptable (t : Nodes) (text : List ℕ) (c : Scripted) : Type 0 where
+  pub form : IsWritten t text c
+  pub good_lines : (before after : List (List ℕ)) (line : List ℕ) →
+      lines text ≡ before ++ line ∷ after → IsGoodLine t before line
+  pub within_limit : length (lose_lines (lines text)) ≤ FAULT_LIMIT
+  pub some_stream : c.streams ≢ []
