@@ -24,7 +24,7 @@ use Rattle.stat_plan.specs.declared.script.Mode.TheVariants as mode
 use Rattle.stat_plan.specs.declared.script.TheConstants.{STREAM_LIMIT, WAVE_LIMIT, SAMPLE_LIMIT, TICK_LIMIT, FAULT_LIMIT}
 use Rattle.stat_plan.proofs.DaemonNames.{found_by_name}
 use Rattle.script_text.specs.declared.lose_line.TheConstants.{COUNT_LIMIT}
-use Rattle.script_text.specs.Grammar.{IsModeOf, IsNamedDaemon, IsStreamOf, IsLossOf, AreOfDaemons}
+use Rattle.script_text.specs.Grammar.{IsModeOf, IsNamedDaemon, IsStreamOf, IsLossOf, AreDaemonNames}
 use Rattle.script_text.specs.Losses.{as_lost, lost_node, fault_of, with_fault}
 use Rattle.script_text.specs.Numbers.{in_range, number_from}
 use Rattle.script_text.specs.Streams.{new_number, stream_number, mode_of, daemon_of, with_named, all_daemons, daemons_of, stream_of, with_stream}
@@ -155,12 +155,12 @@ module _ (t : Nodes) (is : IsTopology t) (line : ℕ) where
       by m at (inl e) further = (m, subst (λ k. IsDaemonNamed t k m) (sym e) at)
       by m at (inr h) further = further h
 
-  names_inv : (names : List (List ℕ)) (ds : List ℕ) → daemons_of t line names ≡ Ok ds → AreOfDaemons t names
+  names_inv : (names : List (List ℕ)) (ds : List ℕ) → daemons_of t line names ≡ Ok ds → AreDaemonNames t names
   unfolding daemons_of
   names_inv [] ds h = cc
   names_inv (name ∷ names) ds h = by (bytes_eq name (codes "all")) refl h
     where
-      by : (b : Bool) → bytes_eq name (codes "all") ≡ b → cond b (Ok (all_daemons t)) (with_named t line [] (name ∷ names)) ≡ Ok ds → AreOfDaemons t (name ∷ names)
+      by : (b : Bool) → bytes_eq name (codes "all") ≡ b → cond b (Ok (all_daemons t)) (with_named t line [] (name ∷ names)) ≡ Ok ds → AreDaemonNames t (name ∷ names)
       by true e h = inl e
       by false e h = inr (named_each (name ∷ names) [] ds h)
 
@@ -169,7 +169,7 @@ pub record AddsStream (t : Nodes) (c : Scripted) (line : List ℕ) (d : Scripted
   pub new : Stream
   pub comment : is_comment line ≡ false
   pub is : IsStreamOf t line new
-  pub names : AreOfDaemons t is.words_of.names
+  pub names : AreDaemonNames t is.words_of.names
   pub first : IsNewStream t c.streams new
   pub after : scripted (with_stream new c.streams) c.faults ≡ d
 
@@ -186,7 +186,7 @@ abbrev pub Changes : Nodes → Scripted → List ℕ → Scripted → Type 0
 Changes t c line d = ((says_nothing line ≡ true) × (c ≡ d)) ⊎ (AddsStream t c line d ⊎ AddsLoss t c line d)
 
 module _ (t : Nodes) (is : IsTopology t) (c d : Scripted) (number : ℕ) (line : List ℕ) where
-  stream_is : (rest : List (List ℕ)) (w : StreamWords) (x : Stream) → words line ≡ codes "stream" ∷ rest → stream_words rest ≡ Some w → stream_of t c.streams number w ≡ Ok x → (is : IsStreamOf t line x) × AreOfDaemons t is.words_of.names
+  stream_is : (rest : List (List ℕ)) (w : StreamWords) (x : Stream) → words line ≡ codes "stream" ∷ rest → stream_words rest ≡ Some w → stream_of t c.streams number w ≡ Ok x → (is : IsStreamOf t line x) × AreDaemonNames t is.words_of.names
   unfolding stream_of
   stream_is rest w x first form h =
       let a = then_inv (stream_number c.streams number w.number) _ x h in
@@ -208,7 +208,7 @@ module _ (t : Nodes) (is : IsTopology t) (c d : Scripted) (number : ℕ) (line :
         daemons = daemons_inv t is number w.names g.0 g.1;
         daemons_increase = known.increasing;
       } in
-      subst (λ x. (is : IsStreamOf t line x) × AreOfDaemons t is.words_of.names) (ok_inj (stream a.0 b.0 e.0 f.0 w.grain g.0) x g.2) (it, names_inv t is number w.names g.0 g.1)
+      subst (λ x. (is : IsStreamOf t line x) × AreDaemonNames t is.words_of.names) (ok_inj (stream a.0 b.0 e.0 f.0 w.grain g.0) x g.2) (it, names_inv t is number w.names g.0 g.1)
 
   lost_read : (name : List ℕ) (o : Option ℕ) (n : ℕ) → as_lost t c.faults number o ≡ Ok n → o ≡ Some n
   lost_read name None n h = cc

@@ -75,8 +75,8 @@ pub record IsWritten (t : Nodes) (text : List ℕ) (c : Scripted) : Type 0 where
   pub losses_increase : IsStrictlyIncreasing (map (λ f. f.node) c.faults)
 
 -- what stands after `on` is `all`, or each word there is the name of a daemon
-abbrev pub AreOfDaemons : Nodes → List (List ℕ) → Type 0
-AreOfDaemons t names =
+abbrev pub AreDaemonNames : Nodes → List (List ℕ) → Type 0
+AreDaemonNames t names =
     (first_is (codes "all") names ≡ true) ⊎ ((name : List ℕ) → In name names → (n : ℕ) × IsDaemonNamed t name n)
 
 -- a `stream` line after others: it is that of a stream in range, it names nothing but daemons, and no `stream` line
@@ -85,19 +85,19 @@ pub record IsGoodStreamLine (t : Nodes) (before : List (List ℕ)) (line : List 
   pub comment : is_comment line ≡ false
   pub defined : Stream
   pub is : IsStreamOf t line defined
-  pub names : AreOfDaemons t is.words_of.names
+  pub names : AreDaemonNames t is.words_of.names
   pub range : IsStream defined
   pub new : (earlier : List ℕ) (x : Stream) → In earlier (stream_lines before) → IsStreamOf t earlier x →
       x.number ≢ defined.number
 
--- a `lose` line after others: it is that of a loss in range, the node that it loses is not the front end, and no `lose`
--- line before it is that of a loss of the same node
+-- a `lose` line after others: it is that of a loss in range, of a node that is not the front end, and no `lose` line
+-- before it is that of a loss of the same node
 pub record IsGoodLoseLine (t : Nodes) (before : List (List ℕ)) (line : List ℕ) : Type 0 where
   pub comment : is_comment line ≡ false
   pub loss : Fault
   pub is : IsLossOf t line loss
   pub range : IsFault loss
-  pub behind_front : loss.node ≢ root_of t.parents
+  pub not_front : loss.node ≢ root_of t.parents
   pub new : (earlier : List ℕ) (f : Fault) → In earlier (lose_lines before) → IsLossOf t earlier f →
       f.node ≢ loss.node
 

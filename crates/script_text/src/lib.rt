@@ -5,10 +5,11 @@
 //! error. [`read`] gives exactly that.
 #![tactic(auto)]
 
-ghost use Rattle.std.specs.Prelude.{IfOk};
+ghost use Rattle.std.specs.Prelude.{◌≡◌, IfOk, Ok};
 ghost use Rattle.stat_plan.specs.Invariants.{ScriptFits};
+ghost use Rattle.stat_plan.specs.Plans.{Scripted};
 ghost use Rattle.text_lines.specs.Parsing.{IsValueOf, IsErrorOf};
-ghost use Rattle.script_text.specs.Grammar.{IsWritten};
+ghost use Rattle.script_text.specs.Grammar.{IsAcceptable};
 ghost use Rattle.script_text.specs.Whole.{script_of};
 
 mod lose_line;
@@ -25,17 +26,21 @@ use std::alloc::Global;
 use text_lines::{TextError, read_lines};
 
 /// Reads a script for a job with these nodes. The bytes of comments may be any; elsewhere the text is refused by its first
-/// error, line by line and in a line from the front, and after the last line because it has no stream. Of a text that is
-/// accepted, the streams are those of its `stream` lines and the losses those of its `lose` lines: `IsWritten`.
+/// error, line by line and in a line from the front, and after the last line because it has no stream. While memory lasts,
+/// exactly those texts are accepted of which each line says nothing, defines a stream of a new number, or loses a node
+/// other than the front end for the first time, with at most 256 `lose` lines and at least one stream: `IsAcceptable`. The
+/// streams are those of the `stream` lines and the losses those of the `lose` lines: `IsWritten`.
 ///
 /// # Errors
 ///
 /// The first error with its line, or [`TextError::OutOfMemory`].
 pub fn read(alloc: Global, text: &[u8], topology: &Topology) -> Result<Script, TextError>
     ensures ok { IsValueOf result (script_of topology.now text.now) }
-    ensures written { IfOk result (λ script. IsWritten topology.now text.now script) }
+    ensures written { IfOk result (λ script. IsAcceptable topology.now text.now script) }
     ensures fits { IfOk result (λ script. ScriptFits topology.now script) }
     ensures err { IsErrorOf result (script_of topology.now text.now) }
+    ensures accepted { (script : Scripted) → IsAcceptable topology.now text.now script →
+        script_of topology.now text.now ≡ Ok script }
 {
     topology.invariant();
     let mut parser = Parser::new(alloc, topology);

@@ -6,8 +6,8 @@ use Rattle.text_lines.specs.Parsing.{IsValueOf, IsErrorOf}
 use Rattle.text_lines.specs.declared.text_error.TextError.TheVariants.{OutOfMemory}
 use Rattle.text_lines.proofs.Errors.{handed_on, value_has}
 use Rattle.text_lines.proofs.Parsing.{all_parsed, same_context, first_error}
-use Rattle.script_text.specs.Grammar.{IsWritten}
-use Rattle.script_text.proofs.Grammar.{is_written}
+use Rattle.script_text.specs.Grammar.{IsAcceptable}
+use Rattle.script_text.proofs.Acceptance.{acceptable, is_acceptable}
 use Rattle.script_text.specs.Invariants.{ParserInvariant}
 use Rattle.script_text.specs.ParserViews.{parser_view, parser_nodes}
 use Rattle.script_text.specs.Whole.{with_line, script_of}
@@ -59,6 +59,12 @@ returns-clause-written c =
     let t = c.args.topology.now in
     let text = c.args.text.now in
     let new = c.read_lines.new.parser in
-    value_has c.finish.result (script_of t text) (IsWritten t text)
+    value_has c.finish.result (script_of t text) (IsAcceptable t text)
     (subst (IsValueOf c.finish.result) (sym (script_good t text (parser_view new) (all_parsed parser_nodes parser_view with_line t (scripted [] []) (lines text) c.new-parser.result c.new-parser.ensures.nodes c.new-parser.ensures.view new c.in_ok-read_lines.ensures.taken)))
-    c.finish.ensures.ok) (is_written t c.invariant.ensures text)
+    c.finish.ensures.ok) (is_acceptable t c.invariant.ensures text)
+
+pub returns-clause-accepted : goal.returns-clause-accepted
+returns-clause-accepted c = acceptable c.args.topology.now c.invariant.ensures c.args.text.now
+
+pub returns-in_err-read_lines-clause-accepted : goal.returns-in_err-read_lines-clause-accepted
+returns-in_err-read_lines-clause-accepted c = acceptable c.args.topology.now c.invariant.ensures c.args.text.now
