@@ -156,20 +156,19 @@ zeros zero r = refl
 zeros (suc n) zero = refl
 zeros (suc n) (suc r) = zeros n r
 
-long_zeros : (n : ℕ) → length {A = ℕ} (replicate n 0) ≡ n
+pub long_zeros : (n : ℕ) → length {A = ℕ} (replicate n 0) ≡ n
 long_zeros zero = refl
 long_zeros (suc n) = ap suc (long_zeros n)
 
 -- at first all ranks have the one state 0
-pub tables_start : (states next : List ℕ) → states ≡ replicate RANK_LIMIT 0 → next ≡ 0 ∷ [] → AreTables states next
-tables_start states next is_states is_next = record {
-  long = ap length is_states ∙ long_zeros RANK_LIMIT;
-  states_within = λ r. omega (arith, ap (λ xs. get_or xs r 0) is_states ∙ zeros RANK_LIMIT r, ap length is_next);
+pub tables_start : (n : ℕ) (states next : List ℕ) → states ≡ replicate n 0 → next ≡ 0 ∷ [] → AreTables states next
+tables_start n states next is_states is_next = record {
+  states_within = λ r. omega (arith, ap (λ xs. get_or xs r 0) is_states ∙ zeros n r, ap length is_next);
   next_within = λ k. omega (arith, ap (λ xs. get_or xs k 0) is_next ∙ zeros 1 k, ap length is_next);
 }
 
-pub same_start : (states : List ℕ) → states ≡ replicate RANK_LIMIT 0 → (r s : ℕ) → eqb (get_or states r 0) (get_or states s 0) ≡ true
-same_start states is r s = eq-eqb (get_or states r 0) (get_or states s 0) (ap (λ xs. get_or xs r 0) is ∙ zeros RANK_LIMIT r ∙ sym (ap (λ xs. get_or xs s 0) is ∙ zeros RANK_LIMIT s))
+pub same_start : (n : ℕ) (states : List ℕ) → states ≡ replicate n 0 → (r s : ℕ) → eqb (get_or states r 0) (get_or states s 0) ≡ true
+same_start n states is r s = eq-eqb (get_or states r 0) (get_or states s 0) (ap (λ xs. get_or xs r 0) is ∙ zeros n r ∙ sym (ap (λ xs. get_or xs s 0) is ∙ zeros n s))
 
 -- the blocks of the ranks that are left after one block was taken
 pub blocks_left : (es : List (Path × Ranks)) (left left' : Ranks) (states : List ℕ) (base : ℕ) (sets : List Ranks) (r : ℕ) → left' ≡ those (λ s. not (same_paths r s es)) left

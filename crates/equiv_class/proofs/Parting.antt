@@ -147,7 +147,6 @@ tables_step base r states next r_in room tables =
     let more = longer base k next k_in room in
     let good = to_within base k next k_in room tables.next_within in
     record {
-      long = length-set states r (state_after base k next) ∙ tables.long;
       states_within = λ q. elim (cases_eq q r) [
         | inl eq ↦ subst (λ x. x < length (with_next base k next)) (sym (ap (λ x. get_or (set states r (state_after base k next)) x 0) eq ∙ get_or-set_same states r (state_after base k next) 0 r_in)) good
         | inr ne ↦ subst (λ x. x < length (with_next base k next)) (sym (get_or-set_other states r q (state_after base k next) 0 ne)) (omega (arith, more, tables.states_within q))

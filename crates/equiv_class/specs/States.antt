@@ -1,16 +1,18 @@
 -- States of ranks: two ranks have the same state where they were in the same sets so far. No public clause cites these definitions.
 use Rattle.std.specs.Prelude.{◌≡◌, ℕ, nat_eq, nat_lt, ◌-◌, ◌≤◌, ◌<◌, Bool, true, false, cond, ◌&&◌, List, [], ◌∷◌, ◌++◌, length, get_or, set}
 use Rattle.rank_set.specs.Ranks.{Ranks, none, has, those}
-use Rattle.rank_set.specs.declared.TheConstants.{RANK_LIMIT}
 use Rattle.call_path.specs.Path.{Path}
 use Rattle.equiv_class.specs.Classes.{same_answer}
 use Rattle.equiv_class.specs.SeenPaths.{same_paths}
 
 -- a table of the state of each rank, and one of the state after each state
 pub record AreTables (states next : List ℕ) : Type 0 where
-  pub long : length states ≡ RANK_LIMIT
   pub states_within : (r : ℕ) → get_or states r 0 < length next
   pub next_within : (k : ℕ) → get_or next k 0 < length next
+
+-- a table has an entry for each rank of a set
+abbrev pub HasEntries : List ℕ → Ranks → Type 0
+HasEntries states ranks = (r : ℕ) → has ranks r ≡ true → r < length states
 
 -- the state after a state: a new one where the table has none from `base` on
 abbrev pub state_after : ℕ → ℕ → List ℕ → ℕ

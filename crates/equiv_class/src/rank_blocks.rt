@@ -4,11 +4,11 @@ ghost use Rattle.std.specs.Prelude.{◌≡◌, ℕ, ◌<◌, ◌≤◌, ◌-◌,
 ghost use Rattle.rank_set.specs.Ranks.{Ranks, none, has, those, with_rank};
 ghost use Rattle.call_path.specs.Path.{Path};
 ghost use Rattle.equiv_class.specs.SeenPaths.{entries_view, same_paths};
-ghost use Rattle.equiv_class.specs.States.{AreBlocks};
+ghost use Rattle.equiv_class.specs.States.{AreBlocks, HasEntries};
 
 use crate::SeenPath;
-use crate::states::{count_states, part, part_by_paths};
-use rank_set::{RANK_LIMIT, RankSet};
+use crate::states::{count_states, end_of_all, part, part_by_paths};
+use rank_set::RankSet;
 use std::alloc::{AllocError, Global};
 
 /// Covered ranks in blocks: those of one block were seen in the same paths.
@@ -31,7 +31,7 @@ pub(crate) fn find_blocks(
     ensures { IfOk result
         (λ blocks. AreBlocks (entries_view seen.now) covered.now blocks.states.items blocks.base blocks.sets.items) }
 {
-    let mut states = vec![in alloc; 0; RANK_LIMIT as usize]?;
+    let mut states = vec![in alloc; 0; end_of_all(seen, covered) as usize]?;
     let mut next = vec![in alloc; 0; 1]?;
     part_by_paths(seen, states.as_mut_slice(), &mut next)?;
     let base = count_states(next.as_slice())?;
@@ -49,7 +49,7 @@ fn ranks_by_state(
     base: u32,
     end: u32,
 ) -> Result<Vec<RankSet>, AllocError>
-    requires long { length states.now ≡ RANK_LIMIT }
+    requires entries { HasEntries states.now covered.now }
     requires from_base { (r : ℕ) → has covered.now r ≡ true → base ≤ get_or states.now r 0 }
     requires below_end { (r : ℕ) → get_or states.now r 0 < end }
     ensures length { IfOk result (λ sets. length sets.items ≡ end - base) }

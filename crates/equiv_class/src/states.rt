@@ -4,7 +4,8 @@
 ghost use Rattle.std.specs.Prelude.{◌≡◌, ℕ, ◌<◌, ◌≤◌, ◌-◌, true, length, get_or, set, nat_eq, IfOk, OnOk};
 ghost use Rattle.rank_set.specs.Ranks.{has};
 ghost use Rattle.equiv_class.specs.SeenPaths.{entries_view};
-ghost use Rattle.equiv_class.specs.States.{AreTables, ArePartedBy, AreStates, state_after, with_next};
+ghost use Rattle.std.specs.List.{AllByRecursion};
+ghost use Rattle.equiv_class.specs.States.{AreTables, ArePartedBy, AreStates, HasEntries, state_after, with_next};
 
 use crate::SeenPath;
 use rank_set::{RANK_LIMIT, RankSet};
@@ -36,9 +37,34 @@ fn next_state(next: &mut Vec<u32>, base: u32, state: u32) -> Result<u32, AllocEr
     Ok(made)
 }
 
+// A number above each of some ranks, at most the limit of ranks.
+fn end_of(ranks: &RankSet) -> u32
+    ensures above { (r : ℕ) → has ranks.now r ≡ true → r < result }
+    ensures within_limit { result ≤ RANK_LIMIT }
+{
+    let mut from = 0;
+    while let Some(run) = ranks.next_run(from) {
+        from = run.last + 1;
+    }
+    from
+}
+
+// A number above each covered rank, and each that was seen in a path.
+pub(crate) fn end_of_all(seen: &[SeenPath<'_>], covered: &RankSet) -> u32
+    ensures covered { (r : ℕ) → has covered.now r ≡ true → r < result }
+    ensures seen { AllByRecursion (λ path. (r : ℕ) → has path.ranks.now r ≡ true → r < result) seen.now }
+{
+    let mut end = end_of(covered);
+    for path in seen {
+        end = end.max(end_of(path.ranks));
+    }
+    end
+}
+
 // Moves the ranks of a set on to new states, those of one state to one state.
 pub(crate) fn part(ranks: &RankSet, states: &mut [u32], next: &mut Vec<u32>) -> Result<(), AllocError>
-    requires { AreTables states.old next.old.items }
+    requires tables { AreTables states.old next.old.items }
+    requires entries { HasEntries states.old ranks.now }
     ensures tables { OnOk result (AreTables states.new next.new.items) }
     ensures parted { OnOk result (ArePartedBy ranks.now states.old states.new) }
     ensures moved { OnOk result ((r : ℕ) → has ranks.now r ≡ true → length next.old.items ≤ get_or states.new r 0) }
@@ -62,6 +88,7 @@ pub(crate) fn part_by_paths(
     next: &mut Vec<u32>,
 ) -> Result<(), AllocError>
     requires tables { AreTables states.old next.old.items }
+    requires entries { AllByRecursion (λ path. HasEntries states.old path.ranks.now) seen.now }
     requires same { (r s : ℕ) → nat_eq (get_or states.old r 0) (get_or states.old s 0) ≡ true }
     ensures tables { OnOk result (AreTables states.new next.new.items) }
     ensures states { OnOk result (AreStates states.new (entries_view seen.now)) }

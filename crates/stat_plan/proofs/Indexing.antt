@@ -1,6 +1,5 @@
 -- The nodes of ranks, and rows by node number.
 use Rattle.std.proofs.Common.{◌≡◌, ◌≢◌, ◌⊎◌, ℕ, suc, zero, ◌+◌, ◌<◌, ◌≤◌, true, false, List, [], ◌∷◌, get_or, set, length, refl, sym, ap, subst, ◌∙◌, arith, inl, inr, Vec, Global}
-use Rattle.rank_set.specs.declared.TheConstants.{RANK_LIMIT}
 use Rattle.std.proofs.lemmas.Bool.{true≢false, or_cases, cases_lt, false_from_ne_true}
 use Rattle.std.proofs.lemmas.List.{get_or-set_same, get_or-set_other, get_or_default, get_or-map, map-set, length-map}
 use Rattle.rank_set.specs.Ranks.{Ranks, none, has, Has, union, has-union, has-none}
@@ -36,39 +35,43 @@ rank_node_is placed rank_to_node r are there =
 
 -- the nodes of one set more
 pub rank_nodes_more : (placed : List Ranks) (old new : List ℕ) (k : ℕ) (own : Ranks) → ArePlacedOnce placed → own ≡ get_or placed k own → k < length placed
-    → ((n r : ℕ) → n < k → Has r (get_or placed n none) → (r < RANK_LIMIT) × (get_or old r 0 ≡ n))
-    → ((r : ℕ) → Has r own → (r < RANK_LIMIT) × (get_or new r 0 ≡ k))
+    → ((n r : ℕ) → n < k → Has r (get_or placed n none) → get_or old r 0 ≡ n)
+    → ((r : ℕ) → Has r own → get_or new r 0 ≡ k)
     → ((r : ℕ) → has own r ≡ false → get_or new r 0 ≡ get_or old r 0)
-    → (n r : ℕ) → n < k + 1 → Has r (get_or placed n none) → (r < RANK_LIMIT) × (get_or new r 0 ≡ n)
+    → (n r : ℕ) → n < k + 1 → Has r (get_or placed n none) → get_or new r 0 ≡ n
 rank_nodes_more placed old new k own once is inside before ranks others n r below there =
     let own_is : own ≡ get_or placed k none = is ∙ get_or_default placed k own none inside in
     elim (cases_lt n k) [
       | (inl earlier) ↦
           let distinct : has own r ≡ false = false_from_ne_true (has own r) (λ also. let same = once n k r there (sym (ap (λ s. has s r) own_is) ∙ also) in omega (arith, same, earlier)) in
-          let was = before n r earlier there in
-          (was.0, others r distinct ∙ was.1)
+          others r distinct ∙ before n r earlier there
       | (inr last) ↦
           let same : n ≡ k = omega (arith, below, last) in
           let here : Has r own = ap (λ s. has s r) own_is ∙ ap (λ m. has (get_or placed m none) r) (sym same) ∙ there in
-          let now = ranks r here in
-          (now.0, now.1 ∙ sym same)
+          ranks r here ∙ sym same
     ]
 
 -- no rank is in a set past the last
-past : (placed : List Ranks) (n : ℕ) → length placed ≤ n → get_or placed n none ≡ none
+pub past : (placed : List Ranks) (n : ℕ) → length placed ≤ n → get_or placed n none ≡ none
 past [] n le = refl
 past (D ∷ Ds) zero le = absurd (omega arith)
 past (D ∷ Ds) (suc n) le = past Ds n (omega arith)
 
 -- all nodes are indexed
-pub rank_to_node_all : (placed : List Ranks) (rank_to_node : List ℕ) → length rank_to_node ≡ RANK_LIMIT → ((n r : ℕ) → n < length placed → Has r (get_or placed n none) → (r < RANK_LIMIT) × (get_or rank_to_node r 0 ≡ n)) → AreRankNodes placed rank_to_node
-rank_to_node_all placed rank_to_node all each = record {
-  all = all;
-  each = λ n r there. elim (cases_lt n (length placed)) [
-    | (inl inside) ↦ each n r inside there
-    | (inr outside) ↦ absurd (true≢false (sym there ∙ ap (λ s. has s r) (past placed n outside) ∙ has-none r))
-  ];
+pub rank_to_node_all : (placed : List Ranks) (rank_to_node : List ℕ) → ((n r : ℕ) → Has r (get_or placed n none) → r < length rank_to_node) → ((n r : ℕ) → n < length placed → Has r (get_or placed n none) → get_or rank_to_node r 0 ≡ n) → AreRankNodes placed rank_to_node
+rank_to_node_all placed rank_to_node within each = record {
+  each = λ n r there. (
+    within n r there,
+    elim (cases_lt n (length placed)) [
+      | (inl inside) ↦ each n r inside there
+      | (inr outside) ↦ absurd (true≢false (sym there ∙ ap (λ s. has s r) (past placed n outside) ∙ has-none r))
+    ],
+  );
 }
+
+-- a rank of the sets has an entry
+pub rank_has_entry : (placed : List Ranks) (rank_to_node : List ℕ) (r : ℕ) → AreRankNodes placed rank_to_node → has (all_ranks placed) r ≡ true → r < length rank_to_node
+rank_has_entry placed rank_to_node r are there = let home = rank_node_of placed r there in (are.each home.0 r home.1.holds).0
 
 -- a row of a table is changed
 module _ {X : Type 0} (rows : List (List X)) (node : ℕ) (row : List X) (inside : node < length rows) where

@@ -1,6 +1,5 @@
 -- Tables by node number.
 use Rattle.std.specs.Prelude.{ℕ, ◌≡◌, ◌<◌, cond, List, [], map, slice_get, slice_index_or, Vec, length, Option, Some}
-use Rattle.rank_set.specs.declared.TheConstants.{RANK_LIMIT}
 use Rattle.rank_set.specs.Ranks.{Ranks, none, union, Has}
 use Rattle.stat_plan.specs.NodeSets.{member}
 use Rattle.stat_plan.specs.Plans.{Plan, Stream, nodes, up_to, ranks_on, those_within}
@@ -38,5 +37,4 @@ pub record GainRanks (old new : List Ranks) (at : List ℕ) (more : Ranks) : Typ
 
 -- each placed rank has its node's number
 pub record AreRankNodes (placed : List Ranks) (rank_to_node : List ℕ) : Type 0 where
-  pub all : length rank_to_node ≡ RANK_LIMIT
-  pub each : (n r : ℕ) → Has r (slice_index_or placed n none) → (r < RANK_LIMIT) × (slice_index_or rank_to_node r 0 ≡ n)
+  pub each : (n r : ℕ) → Has r (slice_index_or placed n none) → (r < length rank_to_node) × (slice_index_or rank_to_node r 0 ≡ n)

@@ -18,11 +18,34 @@ use crate::samples::StackLine;
 use rank_set::{RANK_LIMIT, RankSet};
 use std::alloc::{AllocError, Global};
 
+// A number above each of some ranks, at most the limit of ranks.
+fn end_of(ranks: &RankSet) -> u32
+    ensures above { (q : ℕ) → Has q ranks.now → q < result }
+    ensures within_limit { result ≤ RANK_LIMIT }
+{
+    let mut from = 0;
+    while let Some(run) = ranks.next_run(from) {
+        from = run.last + 1;
+    }
+    from
+}
+
+// A number above each placed rank, at most the limit of ranks.
+fn end_of_all(placed: &[RankSet]) -> u32
+    ensures { (n r : ℕ) → Has r (slice_index_or placed.now n none) → r < result }
+{
+    let mut end = 0;
+    for ranks in placed {
+        end = end.max(end_of(ranks));
+    }
+    end
+}
+
 // Notes the node of some ranks.
 fn assign(rank_to_node: &mut [u32], ranks: &RankSet, node: u32)
-    requires { length rank_to_node.old ≡ RANK_LIMIT }
-    ensures length { length rank_to_node.new ≡ RANK_LIMIT }
-    ensures ranks { (r : ℕ) → Has r ranks.now → (r < RANK_LIMIT) × (slice_index_or rank_to_node.new r 0 ≡ node) }
+    requires { (r : ℕ) → Has r ranks.now → r < length rank_to_node.old }
+    ensures length { length rank_to_node.new ≡ length rank_to_node.old }
+    ensures ranks { (r : ℕ) → Has r ranks.now → slice_index_or rank_to_node.new r 0 ≡ node }
     ensures others { (r : ℕ) → has ranks.now r ≡ false
         → slice_index_or rank_to_node.new r 0 ≡ slice_index_or rank_to_node.old r 0 }
 {
@@ -37,7 +60,7 @@ fn assign(rank_to_node: &mut [u32], ranks: &RankSet, node: u32)
 
 // Notes the node of each placed rank. Nodes past the last that a number stands for are as if there were no memory for them.
 fn assign_all(rank_to_node: &mut [u32], placed: &[RankSet]) -> Result<(), AllocError>
-    requires length { length rank_to_node.old ≡ RANK_LIMIT }
+    requires within { (n r : ℕ) → Has r (slice_index_or placed.now n none) → r < length rank_to_node.old }
     requires once { ArePlacedOnce placed.now }
     ensures { OnOk result (AreRankNodes placed.now rank_to_node.new) }
 {
@@ -55,7 +78,7 @@ fn rank_to_node_of(alloc: Global, placed: &[RankSet]) -> Result<Vec<u32>, AllocE
     requires once { ArePlacedOnce placed.now }
     ensures { IfOk result (λ rank_to_node. AreRankNodes placed.now rank_to_node.items) }
 {
-    let mut rank_to_node = vec![in alloc; 0; RANK_LIMIT as usize]?;
+    let mut rank_to_node = vec![in alloc; 0; end_of_all(placed) as usize]?;
     assign_all(&mut rank_to_node, placed)?;
     Ok(rank_to_node)
 }

@@ -162,7 +162,6 @@ class 1:[6] paths 1
 end
 ",
     },
-
     Worked {
         topology: TWO_TOP,
         samples: FOUR_SMP,

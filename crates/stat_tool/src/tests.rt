@@ -381,8 +381,14 @@ fn counts_the_prefixes_of_a_wave(rt: HostRuntime) -> Result<(), AllocError> {
 
 // Streams whose three times are one wave, by line and by function.
 const THREE_TIMES: [(&str, &str); 2] = [
-    ("line", "stream 0 wait-for-all waves 1 samples 3 by line on all\n"),
-    ("function", "stream 0 wait-for-all waves 1 samples 3 by function on all\n"),
+    (
+        "line",
+        "stream 0 wait-for-all waves 1 samples 3 by line on all\n",
+    ),
+    (
+        "function",
+        "stream 0 wait-for-all waves 1 samples 3 by function on all\n",
+    ),
 ];
 
 #[test]

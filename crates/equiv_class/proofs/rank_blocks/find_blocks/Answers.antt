@@ -9,12 +9,12 @@ use Rattle.equiv_class.proofs.rank_blocks.find_blocks.Goals as goal
 
 pub part_by_paths-requires-clause-tables : goal.part_by_paths-requires-clause-tables
 part_by_paths-requires-clause-tables c =
-    tables_start c.as_mut_slice.result.now c.in_ok-next.next.items (c.as_mut_slice.ensures.value ∙ c.in_ok-states.ensures.items_if_clones_equal (λ y same. same))
+    tables_start c.end_of_all.result c.as_mut_slice.result.now c.in_ok-next.next.items (c.as_mut_slice.ensures.value ∙ c.in_ok-states.ensures.items_if_clones_equal (λ y same. same))
     (c.in_ok-next.ensures.items_if_clones_equal (λ y same. same))
 
 pub part_by_paths-requires-clause-same : goal.part_by_paths-requires-clause-same
 part_by_paths-requires-clause-same c =
-    same_start c.as_mut_slice.result.now (c.as_mut_slice.ensures.value ∙ c.in_ok-states.ensures.items_if_clones_equal (λ y same. same))
+    same_start c.end_of_all.result c.as_mut_slice.result.now (c.as_mut_slice.ensures.value ∙ c.in_ok-states.ensures.items_if_clones_equal (λ y same. same))
 
 pub ranks_by_state-requires-clause-from_base : goal.ranks_by_state-requires-clause-from_base
 ranks_by_state-requires-clause-from_base c r member =

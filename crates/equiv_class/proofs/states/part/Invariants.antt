@@ -1,4 +1,4 @@
-use Rattle.std.proofs.Common.{◌≡◌, ◌≤◌, ◌-◌, ℕ, true}
+use Rattle.std.proofs.Common.{◌≡◌, ◌≤◌, ◌-◌, ℕ, true, length}
 use Rattle.rank_set.specs.declared.TheConstants.{RANK_LIMIT}
 use Rattle.equiv_class.specs.States.{AreTables}
 use Rattle.equiv_class.proofs.Parting.{HaveMoved, member_below}
@@ -6,6 +6,7 @@ use Rattle.equiv_class.proofs.states.part.Given as goal
 
 abbrev pub invariant-loop-r : goal.invariant-loop-r
 invariant-loop-r l = record {
+  long : length l.states ≡ length l.fn.states;
   tables : AreTables l.states l.next.items;
   moved : HaveMoved (member_below l.ranks l.r) l.base l.fn.states l.states l.next.items;
 }
@@ -13,6 +14,7 @@ invariant-loop-r l = record {
 abbrev pub invariant-loop-run : goal.invariant-loop-run
 invariant-loop-run l = record {
   within : l.from ≤ RANK_LIMIT;
+  long : length l.states ≡ length l.fn.states;
   tables : AreTables l.states l.next.items;
   moved : HaveMoved (member_below l.ranks l.from) l.base l.fn.states l.states l.next.items;
 }

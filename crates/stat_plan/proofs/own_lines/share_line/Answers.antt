@@ -6,7 +6,7 @@ use Rattle.stat_plan.specs.OwnLines.{GainLine, GainsRanks}
 use Rattle.stat_plan.specs.Tables.{AreRankNodes, rows_view}
 use Rattle.stat_plan.specs.Samples.{all_ranks}
 use Rattle.stat_plan.specs.declared.samples.StackLine.{StackLine}
-use Rattle.stat_plan.proofs.Indexing.{IsRankNode, rank_node_is, row_here, rows_changed}
+use Rattle.stat_plan.proofs.Indexing.{IsRankNode, rank_node_is, row_here, rows_changed, rank_has_entry}
 use Rattle.stat_plan.proofs.LookupLemmas.{has_first}
 use Rattle.stat_plan.proofs.Sharing.{whole_line}
 use Rattle.stat_plan.proofs.own_lines.share_line.Goals as goal
@@ -18,7 +18,7 @@ pub unreachable-requires : goal.unreachable-requires
 unreachable-requires c = c.requires.not_empty c.in-None.ensures.none
 
 pub bounds-rank_to_node-first : goal.bounds-rank_to_node-first
-bounds-rank_to_node-first c = subst (λ k. c.in-Some.first < k) (sym c.requires.rank_to_node.all) c.in-Some.ensures.below_limit
+bounds-rank_to_node-first c = rank_has_entry c.args.placed.now c.args.rank_to_node.now c.in-Some.first c.requires.rank_to_node (c.requires.placed c.in-Some.first (has_first c.args.line.now.ranks c.in-Some.first c.in-Some.ensures.least))
 
 pub bounds-placed-node : goal.bounds-placed-node
 bounds-placed-node c = (node_of c.args.placed.now c.args.rank_to_node.now c.args.line.now.ranks c.in-Some.first c.requires.rank_to_node c.requires.placed c.in-Some.ensures.least).inside

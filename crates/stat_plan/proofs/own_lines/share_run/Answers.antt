@@ -4,7 +4,7 @@ use Rattle.rank_set.specs.Ranks.{none, has}
 use Rattle.stat_plan.specs.OwnLines.{GainParts, GainsPart}
 use Rattle.stat_plan.specs.Tables.{rows_view}
 use Rattle.stat_plan.specs.declared.samples.StackLine.{StackLine}
-use Rattle.stat_plan.proofs.Indexing.{as_long, rank_node_is, row_here, rows_changed}
+use Rattle.stat_plan.proofs.Indexing.{as_long, rank_has_entry, rank_node_is, row_here, rows_changed}
 use Rattle.stat_plan.proofs.Sharing.{parts_more, parts_none, parts_to}
 use Rattle.stat_plan.proofs.own_lines.share_run.Goals as goal
 
@@ -50,3 +50,7 @@ loop-r-preserved c =
 
 pub returns : goal.returns
 returns c = parts_to c.args.placed.now c.args.line.now c.args.first c.loop-r.r (c.args.last + 1) (rows_view c.args.rows.now) (rows_view c.loop-r.rows) (omega (arith, c.loop-r-test.false)) c.loop-r.invariant.gained
+
+pub bounds-rank_to_node-r : goal.bounds-rank_to_node-r
+bounds-rank_to_node-r c =
+    rank_has_entry c.args.placed.now c.args.rank_to_node.now c.loop-r.r c.requires.rank_to_node (c.requires.placed c.loop-r.r (c.requires.run c.loop-r.r c.loop-r.invariant.begun c.loop-r-test.true))
