@@ -1,10 +1,9 @@
 //! States of ranks: two ranks have the same state where they were in the same sets so far. The sets are noted one after
 //! another, and a set costs what it lists.
 
-ghost use Rattle.std.specs.Prelude.{◌≡◌, ℕ, ◌<◌, ◌≤◌, ◌-◌, true, length, get_or, set, nat_eq, IfOk, OnOk};
+ghost use Rattle.std.specs.Prelude.{◌≡◌, ℕ, ◌<◌, ◌≤◌, ◌-◌, true, length, get_or, set, nat_eq, All, IfOk, OnOk};
 ghost use Rattle.rank_set.specs.Ranks.{has};
 ghost use Rattle.equiv_class.specs.SeenPaths.{entries_view};
-ghost use Rattle.std.specs.List.{AllByRecursion};
 ghost use Rattle.equiv_class.specs.States.{AreTables, ArePartedBy, AreStates, HasEntries, state_after, with_next};
 
 use crate::SeenPath;
@@ -52,7 +51,7 @@ fn end_of(ranks: &RankSet) -> u32
 // A number above each covered rank, and each that was seen in a path.
 pub(crate) fn end_of_all(seen: &[SeenPath<'_>], covered: &RankSet) -> u32
     ensures covered { (r : ℕ) → has covered.now r ≡ true → r < result }
-    ensures seen { AllByRecursion (λ path. (r : ℕ) → has path.ranks.now r ≡ true → r < result) seen.now }
+    ensures seen { All (λ path. (r : ℕ) → has path.ranks.now r ≡ true → r < result) seen.now }
 {
     let mut end = end_of(covered);
     for path in seen {
@@ -88,7 +87,7 @@ pub(crate) fn part_by_paths(
     next: &mut Vec<u32>,
 ) -> Result<(), AllocError>
     requires tables { AreTables states.old next.old.items }
-    requires entries { AllByRecursion (λ path. HasEntries states.old path.ranks.now) seen.now }
+    requires entries { All (λ path. HasEntries states.old path.ranks.now) seen.now }
     requires same { (r s : ℕ) → nat_eq (get_or states.old r 0) (get_or states.old s 0) ≡ true }
     ensures tables { OnOk result (AreTables states.new next.new.items) }
     ensures states { OnOk result (AreStates states.new (entries_view seen.now)) }
