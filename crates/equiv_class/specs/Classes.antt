@@ -1,5 +1,5 @@
 -- Classes: the blocks of covered ranks that were seen in the same paths.
-use Rattle.std.specs.Prelude.{◌≡◌, ◌<◌, length, ℕ, suc, nat_eq, nat_lt, Bool, true, false, not, cond, ◌&&◌, List, [], ◌∷◌, map}
+use Rattle.std.specs.Prelude.{◌≡◌, ℕ, suc, nat_eq, nat_lt, Bool, true, false, not, cond, ◌&&◌, List, [], ◌∷◌, map}
 use Rattle.std.specs.List.{list_any, list_all, filter, AllByRecursion}
 use Rattle.std.specs.Ordering.{is_lt}
 use Rattle.rank_set.specs.Ranks.{Ranks, has, in_order, those}

@@ -1,5 +1,5 @@
 -- The paths in which ranks were seen, and what they say of a rank.
-use Rattle.std.specs.Prelude.{◌≡◌, ℕ, suc, nat_lt, Bool, not, cond, ◌||◌, List, [], ◌∷◌, map}
+use Rattle.std.specs.Prelude.{◌≡◌, ℕ, Bool, not, List, map}
 use Rattle.std.specs.List.{list_all, filter}
 use Rattle.std.specs.FinMap as finmap
 use Rattle.rank_set.specs.Ranks.{Ranks, has, is_empty}
@@ -33,22 +33,9 @@ seen_in t = map ends_at (filter has_ends (finmap.entries t.below))
 abbrev pub same_paths : ℕ → ℕ → List (Path × Ranks) → Bool
 same_paths r s es = list_all (λ e. same_answer (has e.1 r) (has e.1 s)) es
 
--- s was seen in each path in which r was seen
-abbrev pub has_all_paths : ℕ → ℕ → List (Path × Ranks) → Bool
-has_all_paths r s es = list_all (λ e. not (has e.1 r) || has e.1 s) es
-
--- in how many of the paths r was seen
-abbrev pub times : ℕ → List (Path × Ranks) → ℕ
-times r [] = 0
-times r (e ∷ es) = cond (has e.1 r) (suc (times r es)) (times r es)
-
 -- the paths in which r was seen
 abbrev pub paths_to : ℕ → List (Path × Ranks) → List Path
 paths_to r es = map (λ e. e.0) (filter (λ e. has e.1 r) es)
-
--- the set is that of the ranks which were seen in more than one of the paths
-abbrev pub AreSeveral : Ranks → List (Path × Ranks) → Type 0
-AreSeveral several es = (r : ℕ) → has several r ≡ nat_lt 1 (times r es)
 
 -- the paths say of each rank what the pairs say
 pub record Lists (P : Pairs) (es : List (Path × Ranks)) : Type 0 where

@@ -1,5 +1,5 @@
 -- States of ranks: two ranks have the same state where they were in the same sets so far. No public clause cites these definitions.
-use Rattle.std.specs.Prelude.{◌≡◌, ℕ, nat_eq, nat_lt, ◌-◌, ◌≤◌, ◌<◌, Bool, true, false, cond, ◌&&◌, List, [], ◌∷◌, ◌++◌, length, get_or, set}
+use Rattle.std.specs.Prelude.{◌≡◌, ℕ, nat_eq, nat_lt, ◌-◌, ◌≤◌, ◌<◌, true, cond, ◌&&◌, List, [], ◌∷◌, ◌++◌, length, get_or, set}
 use Rattle.rank_set.specs.Ranks.{Ranks, none, has, those}
 use Rattle.call_path.specs.Path.{Path}
 use Rattle.equiv_class.specs.Classes.{same_answer}

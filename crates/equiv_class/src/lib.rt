@@ -111,7 +111,8 @@ fn take_classes(
     blocks: &Blocks,
     left: &mut RankSet,
 ) -> Result<Vec<Class>, AllocError>
-    requires { AreBlocks (entries_view seen.now) left.old blocks.now.states.items blocks.now.base blocks.now.sets.items }
+    requires { AreBlocks (entries_view seen.now) left.old
+        blocks.now.states.items blocks.now.base blocks.now.sets.items }
     ensures { IfOk result
         (λ all. (P : Pairs) → Lists P (entries_view seen.now) → class_views all.items ≡ classes_of P left.old) }
 {

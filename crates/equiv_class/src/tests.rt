@@ -153,3 +153,17 @@ fn some_ranks_without_a_path(rt: HostRuntime) -> Result<(), AllocError> {
     )?;
     check(&rt, alloc, &OwnedTree::empty(alloc), "")
 }
+
+#[test]
+fn neighbours_in_other_paths(rt: HostRuntime) -> Result<(), AllocError> {
+    let alloc = rt.alloc();
+    let mut tree = tree_over(&rt, alloc, &[0, 1, 2, 3, 64, 65])?;
+    add(&rt, alloc, &mut tree, &[0, 2, 64], "a")?;
+    add(&rt, alloc, &mut tree, &[0, 1, 64, 65], "b")?;
+    check(
+        &rt,
+        alloc,
+        &tree,
+        "class 2:[0,64] paths 2\n  main;a\n  main;b\nclass 2:[1,65] paths 1\n  main;b\nclass 1:[2] paths 1\n  main;a\nclass 1:[3] paths 0\n",
+    )
+}

@@ -1,5 +1,4 @@
-use Rattle.std.proofs.Common.{◌≡◌, not, ap, ◌∙◌}
-use Rattle.rank_set.specs.Ranks.{has, those}
+use Rattle.std.proofs.Common.{◌∙◌}
 use Rattle.equiv_class.specs.SeenPaths.{entries_view, same_paths}
 use Rattle.equiv_class.proofs.Cuts.{left_out}
 use Rattle.equiv_class.proofs.take_class.Goals as goal

@@ -1,9 +1,9 @@
-use Rattle.std.proofs.Common.{◌≡◌, ◌-◌, eqb, ℕ, true, ◌<◌, ◌≤◌, get_or, sym, ap, subst, ◌∙◌, arith, length}
+use Rattle.std.proofs.Common.{◌≡◌, ◌-◌, eqb, ℕ, true, get_or, sym, ap, subst, ◌∙◌, arith, length}
 use Rattle.std.specs.Vec.{with_items}
 use Rattle.std.proofs.lemmas.List.{with_items_is}
 use Rattle.rank_set.specs.Ranks.{has, none, those}
 use Rattle.equiv_class.specs.SeenPaths.{entries_view}
-use Rattle.equiv_class.specs.States.{AreBlocks, ArePartedBy, AreStates}
+use Rattle.equiv_class.specs.States.{AreBlocks, AreStates}
 use Rattle.equiv_class.proofs.Filling.{blocks_from_states, same_start, tables_start}
 use Rattle.equiv_class.proofs.rank_blocks.find_blocks.Goals as goal
 

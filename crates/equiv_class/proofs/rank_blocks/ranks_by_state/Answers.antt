@@ -1,4 +1,4 @@
-use Rattle.std.proofs.Common.{◌≡◌, ◌<◌, ◌-◌, ◌+◌, get_or, length, set, subst, ap, ◌∙◌, arith}
+use Rattle.std.proofs.Common.{◌≡◌, ◌-◌, ◌+◌, get_or, length, set, subst, ap, ◌∙◌, arith}
 use Rattle.std.proofs.lemmas.List.{with_items_is}
 use Rattle.rank_set.specs.Ranks.{none, with_rank}
 use Rattle.equiv_class.proofs.Filling.{AreFilled, fill_end, fill_gap, fill_start, fill_step}
