@@ -1,12 +1,12 @@
 -- A text whose lines are good is accepted, and an accepted text is acceptable.
-use Rattle.std.proofs.Common.{◌≡◌, ◌≢◌, ◌∙◌, ◌↔◌, ◌⊎◌, inl, inr, ◌<◌, ◌≤◌, ◌+◌, ℕ, suc, Bool, true, false, ◌||◌, cond, nat_eq, nat_le, List, [], ◌∷◌, ◌++◌, length, length-append, filter, map, Option, Some, Result, Ok, Err, refl, sym, ap, subst, arith, codes, zero-le, le-ltb, eq-eqb, ne_eqb}
+use Rattle.std.proofs.Common.{◌≡◌, ◌≢◌, ◌∙◌, ◌↔◌, inl, inr, ◌<◌, ◌≤◌, ℕ, suc, Bool, true, false, ◌||◌, cond, nat_eq, List, [], ◌∷◌, ◌++◌, length, length-append, filter, map, Option, Some, Result, Ok, Err, refl, sym, ap, subst, arith, codes, zero-le, le-ltb, eq-eqb, ne_eqb}
 use Rattle.std.specs.List.{list_any}
 use Rattle.std.specs.Result.{IfOk}
 use Rattle.std.specs.Str.{bytes_eq}
 use Rattle.std.proofs.lemmas.Bool.{true≢false, lt-leb}
 use Rattle.std.proofs.lemmas.List.Elements.{filter-append}
 use Rattle.text_lines.specs.Lines.{lines, words, says_nothing, is_comment, are_none, number_in}
-use Rattle.text_lines.specs.Directives.{first_is, is_line_of}
+use Rattle.text_lines.specs.Directives.{is_line_of}
 use Rattle.text_lines.specs.Parsing.{and_then, some_or, parsed_lines}
 use Rattle.text_lines.specs.declared.text_error.TextError.{TextError}
 use Rattle.text_lines.specs.declared.text_error.TextError.TheVariants.{Bad, Over}
@@ -14,7 +14,7 @@ use Rattle.text_lines.specs.declared.text_error.Reason.TheVariants.{BadNumber, N
 use Rattle.text_lines.specs.declared.text_error.Quantity.TheVariants.{Streams, Waves, Faults}
 use Rattle.text_lines.proofs.Parsing.{parsed_none}
 use Rattle.text_lines.proofs.Errors.{then_inv, ok_inj}
-use Rattle.stat_plan.specs.Daemons.{daemon_named, IsDaemonNamed}
+use Rattle.stat_plan.specs.Daemons.{IsDaemonNamed}
 use Rattle.stat_plan.specs.Invariants.{IsMode, IsStream, IsFault}
 use Rattle.stat_plan.specs.Names.{number_of}
 use Rattle.stat_plan.specs.NodeSets.{In, with_number, IsStrictlyIncreasing}
@@ -25,12 +25,12 @@ use Rattle.stat_plan.specs.declared.script.Fault.{Fault}
 use Rattle.stat_plan.specs.declared.script.Mode.{Mode}
 use Rattle.stat_plan.specs.declared.script.Mode.TheVariants as mode
 use Rattle.stat_plan.specs.declared.script.TheConstants.{FAULT_LIMIT}
-use Rattle.stat_plan.proofs.DaemonNames.{found_by_name, named}
+use Rattle.stat_plan.proofs.DaemonNames.{found_by_name}
 use Rattle.script_text.specs.Grammar.{IsModeOf, IsNamedDaemon, IsStreamOf, IsLossOf, IsWritten, AreDaemonNames, IsGoodStreamLine, IsGoodLoseLine, IsGoodLine, IsAcceptable, stream_lines, lose_lines}
 use Rattle.script_text.specs.Invariants.{ParserInvariant}
 use Rattle.script_text.specs.Losses.{as_lost, lost_node, fault_of, with_fault}
 use Rattle.script_text.specs.Numbers.{in_range, number_from}
-use Rattle.script_text.specs.Streams.{stream_number, mode_of, daemon_of, with_named, all_daemons, daemons_of, stream_of, with_stream}
+use Rattle.script_text.specs.Streams.{mode_of, daemon_of, with_named, all_daemons, daemons_of, stream_of, with_stream}
 use Rattle.script_text.specs.Whole.{with_line, whole, script_of}
 use Rattle.script_text.specs.Words.{ModeWords, WaitForAll, TimeOut, DontWait, StreamWords, LoseWords, stream_words, lose_words}
 use Rattle.script_text.proofs.Grammar.{AddsStreams, AddsLosses, written, is_written, line_of, accepted_parsed}
