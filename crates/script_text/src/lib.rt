@@ -25,11 +25,11 @@ use stat_plan::{Script, Topology};
 use std::alloc::Global;
 use text_lines::{TextError, read_lines};
 
-/// Reads a script for a job with these nodes. The bytes of comments may be any; elsewhere the text is refused by its first
-/// error, line by line and in a line from the front, and after the last line because it has no stream. While memory lasts,
-/// exactly those texts are accepted of which each line says nothing, defines a stream of a new number, or loses a node
-/// other than the front end for the first time, with at most 256 `lose` lines and at least one stream: `IsAcceptable`. The
-/// streams are those of the `stream` lines and the losses those of the `lose` lines: `IsWritten`.
+/// Reads a script for a job with these nodes. The bytes of comments may be any; elsewhere the text is refused by its
+/// first error, line by line and in a line from the front, and after the last line because it has no stream. While
+/// memory lasts, exactly those texts are accepted of which each line says nothing, defines a stream of a new number, or
+/// loses a node other than the front end for the first time, with at most 256 `lose` lines and a stream:
+/// `IsAcceptable`. The streams are those of the `stream` lines and the losses those of the `lose` lines: `IsWritten`.
 ///
 /// # Errors
 ///
