@@ -7,7 +7,6 @@ use Rattle.std.proofs.lemmas.List.{get_or-set_same, get_or-set_other, length-set
 use Rattle.call_path.specs.Path.{Path}
 use Rattle.rank_set.specs.Ranks.{Ranks, none, has, those, with_rank, has-none, has-those, has-with_rank, same_ranks}
 use Rattle.rank_set.specs.Runs.{IsRun}
-use Rattle.rank_set.specs.declared.TheConstants.{RANK_LIMIT}
 use Rattle.equiv_class.specs.Classes.{same_answer}
 use Rattle.equiv_class.specs.SeenPaths.{same_paths}
 use Rattle.equiv_class.specs.States.{AreBlocks, AreStates, AreTables, ArePartedBy}

@@ -4,14 +4,12 @@ use Rattle.std.specs.Prelude.{cond}
 use Rattle.std.specs.List.{AllByRecursion}
 use Rattle.std.proofs.lemmas.Bool.{and_parts}
 use Rattle.rank_set.specs.Ranks.{Ranks, none}
-use Rattle.call_path.specs.Pairs.{HasNoEmptyPath}
 use Rattle.equiv_class.proofs.SamePairs.{classes_of_tree}
-use Rattle.stat_plan.specs.Invariants.{IsPlan, IsSampleLine}
+use Rattle.stat_plan.specs.Invariants.{IsPlan}
 use Rattle.stat_plan.specs.NodeSets.{In}
-use Rattle.stat_plan.specs.Plans.{Plan, daemons, front, samples, sample_count, waves_of}
-use Rattle.stat_plan.specs.Samples.{AreNoDeeper, SampleLine, is_in_wave}
-use Rattle.stat_plan.proofs.LinePrefixes.{paths-samples_of}
+use Rattle.stat_plan.specs.Plans.{Plan, daemons, front, samples, waves_of}
 use Rattle.stat_desk.specs.declared.event.Event.{Event}
+use Rattle.merge_filter.proofs.WaveSamples.{samples_have_paths}
 use Rattle.overlay_core.specs.History.{of_wave, ByKind, IsHistory, MissesOnlyLost}
 use Rattle.overlay_core.specs.declared.release.Kind.{Kind}
 use Rattle.overlay_core.specs.declared.release.Kind.TheVariants.{Partial, Final}
@@ -53,20 +51,6 @@ ends_with_all p journal plan no_faults whole s w wave =
     }
 
 -- ---- each release is of the samples
-
--- lines that are kept have 1 to 128 frames
-kept_paths : (placed : List Ranks) (test : SampleLine → Bool) (lines : List SampleLine) → AllByRecursion (IsSampleLine placed) lines → AreNoDeeper 128 (filter test lines)
-kept_paths placed test [] good = tt
-kept_paths placed test (line ∷ lines) good = by (test line) (kept_paths placed test lines good.1)
-  where
-    by : (b : Bool) → AreNoDeeper 128 (filter test lines) → AreNoDeeper 128 (cond b (line ∷ filter test lines) (filter test lines))
-    by true rest = ((good.0.path.some, good.0.path.good.within_limit), rest)
-    by false rest = rest
-
--- no sample of a wave has an empty path
-samples_have_paths : (p : Plan) → IsPlan p → (s w : ℕ) → HasNoEmptyPath (samples p s w)
-unfolding samples
-samples_have_paths p is s w = paths-samples_of 128 _ (kept_paths p.placed (λ line. is_in_wave (sample_count p s) w line.time) p.lines is.samples.lines)
 
 all_direct : (p : Plan) → IsPlan p → (releases : List TreeRelease) → AllByRecursion (ReleaseFits p) releases → AllByRecursion (IsDirect p) releases
 all_direct p is [] fit = tt

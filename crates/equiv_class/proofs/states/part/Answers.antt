@@ -1,5 +1,5 @@
 use Rattle.std.proofs.Common.{◌<◌, length, sym, subst, ◌∙◌, arith}
-use Rattle.equiv_class.proofs.Parting.{member_step, move_gap, move_start, moved_from_base, parted}
+use Rattle.equiv_class.proofs.Parting.{member_step}
 use Rattle.equiv_class.proofs.states.part.Goals as goal
 
 pub bounds-states-r : goal.bounds-states-r
