@@ -20,10 +20,10 @@ use rank_blocks::{Blocks, block_of, find_blocks};
 use rank_set::RankSet;
 use std::alloc::{AllocError, Global};
 
-#[cfg(test)]
-mod tests;
 mod rank_blocks;
 mod states;
+#[cfg(test)]
+mod tests;
 
 /// Ranks that were seen in just the same paths, and those paths.
 #[derive(Drop)]

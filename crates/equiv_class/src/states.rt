@@ -61,7 +61,11 @@ pub(crate) fn end_of_all(seen: &[SeenPath<'_>], covered: &RankSet) -> u32
 }
 
 // Moves the ranks of a set on to new states, those of one state to one state.
-pub(crate) fn part(ranks: &RankSet, states: &mut [u32], next: &mut Vec<u32>) -> Result<(), AllocError>
+pub(crate) fn part(
+    ranks: &RankSet,
+    states: &mut [u32],
+    next: &mut Vec<u32>,
+) -> Result<(), AllocError>
     requires tables { AreTables states.old next.old.items }
     requires entries { HasEntries states.old ranks.now }
     ensures tables { OnOk result (AreTables states.new next.new.items) }
