@@ -3,3 +3,4 @@ pub mod Status
 pub mod RunOutput
 pub mod NextStep
 pub mod Call
+pub mod Ending

@@ -1,5 +1,6 @@
 //! What the program does around the top call: it takes its words, uses the real files and standard output, and ends.
 ghost use Rattle.std.specs.Prelude.{◌≡◌};
+ghost use Rattle.stat_tool.specs.Ending.{IsEnding};
 ghost use Rattle.stat_tool.specs.Status.{number_of, refusal_of_status};
 
 use crate::call::stat;
@@ -32,8 +33,11 @@ pub fn ending_of(status: Status) -> Ending
     }
 }
 
-/// The call with the program's words, the real files and standard output. Words that can't be had are bad words.
-pub fn run_program<R: Env + Files + Print + AllocGlobal>(rt: &R) -> Ending {
+/// The call with the program's words, the real files and standard output. Words that can't be had are bad words. What the
+/// outside gives and takes no clause can say; that the number and the line are those of one status, it says.
+pub fn run_program<R: Env + Files + Print + AllocGlobal>(rt: &R) -> Ending
+    ensures { IsEnding result }
+{
     ending_of(status_of_run(rt))
 }
 
