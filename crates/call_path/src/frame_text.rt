@@ -31,7 +31,8 @@ impl Model for FrameText {
 
     ghost view = { λ a. cut_from 0 a.ends.items (string_bytes a.text) };
 
-    ghost invariant = { λ a. AreCuts (cut_from 0 a.ends.items (string_bytes a.text)) (string_bytes a.text) a.ends.items };
+    ghost invariant = { λ a.
+        AreCuts (cut_from 0 a.ends.items (string_bytes a.text)) (string_bytes a.text) a.ends.items };
 }
 
 impl FrameText {

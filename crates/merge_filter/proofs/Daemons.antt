@@ -4,12 +4,13 @@ use Rattle.std.specs.Prelude.{find, IsSome}
 use Rattle.std.specs.List.{AllByRecursion}
 use Rattle.std.proofs.lemmas.Bool.{or_left, or_right}
 use Rattle.rank_set.specs.Ranks.{Ranks, none, has, Has, IsSubset, union, has-union}
-use Rattle.stat_plan.specs.Invariants.{IsPlan, IsDaemon}
-use Rattle.stat_plan.specs.NodeSets.{In}
+use Rattle.stat_plan.specs.Invariants.{IsPlan}
+use Rattle.overlay_setup.specs.Scripts.{IsDaemon, Stream}
+use Rattle.overlay_setup.specs.NodeSets.{In, up_to}
 use Rattle.stat_plan.specs.Samples.{ranks_with}
-use Rattle.stat_plan.specs.Plans.{Plan, Stream, daemons, grain, nodes, nodes_of, ranks, sample_count, ranks_on, stream_of, stream_ranks, up_to, waves_of}
-use Rattle.stat_plan.specs.declared.script.Grain.{Grain}
-use Rattle.stat_plan.specs.declared.script.Grain.TheVariants.{Line}
+use Rattle.stat_plan.specs.Plans.{Plan, daemons, grain, nodes, nodes_of, ranks, sample_count, ranks_on, stream_of, stream_ranks, waves_of}
+use Rattle.overlay_setup.specs.declared.script.Grain.{Grain}
+use Rattle.overlay_setup.specs.declared.script.Grain.TheVariants.{Line}
 use Rattle.stat_plan.proofs.FirstOver.{all_in, found_in}
 use Rattle.stat_plan.proofs.InLists.{in_append, in_from_map, in_map}
 use Rattle.merge_filter.specs.Contributions.{HasWave}

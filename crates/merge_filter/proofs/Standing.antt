@@ -8,7 +8,7 @@ use Rattle.prefix_tree.proofs.TreeLemmas.{coverage-tree_of}
 use Rattle.prefix_tree.proofs.TreeLaws.{merged-tree_of, tree_of-uncovered}
 use Rattle.stat_plan.specs.Invariants.{IsPlan}
 use Rattle.stat_plan.specs.Plans.{Plan, samples, stream_ranks}
-use Rattle.merge_filter.specs.Contributions.{Contrib, HasWave, IsPartialMerge, contrib, cov_of}
+use Rattle.merge_filter.specs.Contributions.{Contrib, HasWave, IsPartialMerge, contrib, coverage_of}
 use Rattle.merge_filter.proofs.Prefixes.{rows_within}
 
 -- a tree of some ranks covers them
@@ -31,29 +31,29 @@ stands_none p s w t is wave = stands_from p s w none t (is ∙ tree_of-uncovered
 
 -- two contributions to one wave
 module _ (p : Plan) (a b : Contrib) (first : IsPartialMerge p a) (second : IsPartialMerge p b) (one_stream : b.stream ≡ a.stream) (one_wave : b.wave ≡ a.wave) where
-  merged_is : merged a.tree b.tree ≡ tree_of (samples p a.stream a.wave) (union (cov_of a) (cov_of b))
+  merged_is : merged a.tree b.tree ≡ tree_of (samples p a.stream a.wave) (union (coverage_of a) (coverage_of b))
   merged_is =
-      let other : b.tree ≡ tree_of (samples p a.stream a.wave) (cov_of b) = second.tree ∙ (λ i. tree_of (samples p (one_stream i) (one_wave i)) b.tree.coverage) in
-      (λ i. merged (first.tree i) (other i)) ∙ merged-tree_of (samples p a.stream a.wave) (cov_of a) (cov_of b)
+      let other : b.tree ≡ tree_of (samples p a.stream a.wave) (coverage_of b) = second.tree ∙ (λ i. tree_of (samples p (one_stream i) (one_wave i)) b.tree.coverage) in
+      (λ i. merged (first.tree i) (other i)) ∙ merged-tree_of (samples p a.stream a.wave) (coverage_of a) (coverage_of b)
 
-  both_lie : IsSubset (union (cov_of a) (cov_of b)) (stream_ranks p a.stream)
-  both_lie r there = elim (or_cases (has (cov_of a) r) (has (cov_of b) r) (sym (has-union (cov_of a) (cov_of b) r) ∙ there)) [
+  both_lie : IsSubset (union (coverage_of a) (coverage_of b)) (stream_ranks p a.stream)
+  both_lie r there = elim (or_cases (has (coverage_of a) r) (has (coverage_of b) r) (sym (has-union (coverage_of a) (coverage_of b) r) ∙ there)) [
     | (inl here) ↦ first.lies r here
     | (inr here) ↦ subst (λ s. Has r (stream_ranks p s)) one_stream (second.lies r here)
   ]
 
   both_stand : (t : Tree) → t ≡ merged a.tree b.tree → IsPartialMerge p (contrib a.stream a.wave t)
-  both_stand t is = stands_from p a.stream a.wave (union (cov_of a) (cov_of b)) t (is ∙ merged_is) both_lie first.wave
+  both_stand t is = stands_from p a.stream a.wave (union (coverage_of a) (coverage_of b)) t (is ∙ merged_is) both_lie first.wave
 
-  both_covered : (t : Tree) → t ≡ merged a.tree b.tree → t.coverage ≡ union (cov_of a) (cov_of b)
-  both_covered t is = covers t (samples p a.stream a.wave) (union (cov_of a) (cov_of b)) (is ∙ merged_is)
+  both_covered : (t : Tree) → t ≡ merged a.tree b.tree → t.coverage ≡ union (coverage_of a) (coverage_of b)
+  both_covered t is = covers t (samples p a.stream a.wave) (union (coverage_of a) (coverage_of b)) (is ∙ merged_is)
 
   not_full : IsPlan p → 2048 < count_below (merged a.tree b.tree) → ⊥
   not_full plan full =
       let S : Pairs = samples p a.stream a.wave in
-      let fewer = rows_within S (union (cov_of a) (cov_of b)) in
+      let fewer = rows_within S (union (coverage_of a) (coverage_of b)) in
       let within = plan.within a.stream a.wave first.wave in
-      let over : 2048 < count_below (tree_of S (union (cov_of a) (cov_of b))) = subst (λ t. 2048 < count_below t) merged_is full in
+      let over : 2048 < count_below (tree_of S (union (coverage_of a) (coverage_of b))) = subst (λ t. 2048 < count_below t) merged_is full in
       omega (arith, fewer, within, over)
 
 -- the same, of what a program holds
@@ -75,8 +75,8 @@ module _ (p : Plan) (a b v u : Contrib) (va : v ≡ a) (ub : u ≡ b) (first : I
   united t is = both_stand p v u v_stands u_stands streams waves t is
 
   -- it covers the ranks of both
-  pub united_covers : (t : Tree) → t ≡ merged v.tree u.tree → t.coverage ≡ union (cov_of a) (cov_of b)
-  united_covers t is = both_covered p v u v_stands u_stands streams waves t is ∙ (λ i. union (cov_of (va i)) (cov_of (ub i)))
+  pub united_covers : (t : Tree) → t ≡ merged v.tree u.tree → t.coverage ≡ union (coverage_of a) (coverage_of b)
+  united_covers t is = both_covered p v u v_stands u_stands streams waves t is ∙ (λ i. union (coverage_of (va i)) (coverage_of (ub i)))
 
   -- it has no more prefixes than the plan allows
   pub has_room : IsPlan p → 2048 < count_below (merged v.tree u.tree) → ⊥

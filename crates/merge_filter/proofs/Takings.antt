@@ -12,7 +12,7 @@ use Rattle.call_path.proofs.PathLemmas.{is_path-itself}
 use Rattle.prefix_tree.specs.Tree.{Tree, tree_of, count_below}
 use Rattle.prefix_tree.proofs.PairLemmas.{pair_from_passes, passes-from_pair}
 use Rattle.prefix_tree.proofs.TreeLaws.{tree_of-same_pairs}
-use Rattle.stat_plan.specs.NodeSets.{In}
+use Rattle.overlay_setup.specs.NodeSets.{In}
 use Rattle.stat_plan.specs.Samples.{SampleLine, is_in_wave, samples_of, wave_lines}
 use Rattle.stat_plan.specs.StackLines.{line_of, lines_of}
 use Rattle.stat_plan.specs.declared.samples.StackLine.{StackLine}

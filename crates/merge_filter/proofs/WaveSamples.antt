@@ -11,14 +11,14 @@ use Rattle.call_path.proofs.PathLemmas.{is_path-exact, is_path-itself}
 use Rattle.prefix_tree.specs.Joined.{AreSamePairs}
 use Rattle.prefix_tree.proofs.PairLemmas.{is_pair-append, any-pairs_of_set}
 use Rattle.stat_plan.specs.Invariants.{IsPlan, IsSampleLine}
-use Rattle.stat_plan.specs.NodeSets.{In}
+use Rattle.overlay_setup.specs.NodeSets.{In}
 use Rattle.stat_plan.specs.OwnLines.{AreOwnLines, is_listed}
 use Rattle.stat_plan.specs.Plans.{Plan, grain, sample_count, samples, stream_ranks}
 use Rattle.stat_plan.specs.Samples.{SampleLine, is_in_wave, path_by, samples_of, seen_by, wave_lines}
 use Rattle.stat_plan.specs.StackLines.{PathIndicesInRange, line_of, lines_of}
 use Rattle.stat_plan.specs.declared.samples.StackLine.{StackLine}
-use Rattle.stat_plan.specs.declared.script.Grain.{Grain}
-use Rattle.stat_plan.specs.declared.script.Grain.TheVariants.{Line, Function}
+use Rattle.overlay_setup.specs.declared.script.Grain.{Grain}
+use Rattle.overlay_setup.specs.declared.script.Grain.TheVariants.{Line, Function}
 use Rattle.stat_plan.proofs.Elements.{all_from}
 use Rattle.stat_plan.proofs.FirstOver.{all_in}
 use Rattle.stat_plan.proofs.InLists.{any_from_in, in_filter, in_from_any, in_from_filter, in_from_map, in_map}

@@ -4,7 +4,7 @@ use Rattle.std.specs.Coded.{Coded, code_by, coded×, coded_ℕ}
 use Rattle.rank_set.specs.Ranks.{Ranks, IsSubset}
 use Rattle.prefix_tree.specs.Tree.{Tree, tree_of}
 use Rattle.prefix_tree.specs.Code.{coded_tree}
-use Rattle.stat_plan.specs.NodeSets.{In}
+use Rattle.overlay_setup.specs.NodeSets.{In}
 use Rattle.stat_plan.specs.Plans.{Plan, samples, stream_ranks, waves_of}
 
 -- a stream, a wave, and what is known of the wave as a tree
@@ -22,8 +22,8 @@ abbrev pub coded_contrib : Coded Contrib
 coded_contrib = code_by (ℕ × (ℕ × Tree)) (coded× coded_ℕ (coded× coded_ℕ coded_tree)) (λ c. (c.stream, (c.wave, c.tree))) (λ p. contrib p.0 p.1.0 p.1.1) (λ _. refl)
 
 -- the ranks that it covers
-abbrev pub cov_of : Contrib → Ranks
-cov_of c = c.tree.coverage
+abbrev pub coverage_of : Contrib → Ranks
+coverage_of c = c.tree.coverage
 
 -- the plan has a wave w of stream s
 abbrev pub HasWave : Plan → ℕ → ℕ → Type 0

@@ -1,8 +1,8 @@
 //! What the nodes of a job know of a wave, and how it is merged.
 //!
-//! A [`Contribution`] is a stream, a wave and a tree. It is a partial merge of a plan if its tree is the direct merge of the
-//! wave's samples over the ranks it covers. Partial merges of one wave can be absorbed in any order and any number of times:
-//! the result is a partial merge that covers the ranks of all.
+//! A [`Contribution`] is a stream, a wave and a tree. It is a partial merge of a plan if its tree is the direct merge
+//! of the wave's samples over the ranks it covers. Partial merges of one wave can be absorbed in any order and any
+//! number of times: the result is a partial merge that covers the ranks of all.
 #![tactic(auto)]
 
 ghost use Rattle.std.specs.Prelude.{◌≡◌, ◌≤◌, IfOk, IsSome, OnOk, OnErr};
@@ -11,18 +11,19 @@ ghost use Rattle.call_path.specs.Pairs.{Pairs};
 ghost use Rattle.prefix_tree.specs.Pairs.{IsWithin};
 ghost use Rattle.prefix_tree.specs.Tree.{count_below, tree_of};
 ghost use Rattle.stat_plan.specs.Samples.{prefix_count};
-ghost use Rattle.stat_plan.specs.NodeSets.{In};
+ghost use Rattle.overlay_setup.specs.NodeSets.{In};
 ghost use Rattle.stat_plan.specs.Plans.{Plan, daemons, grain, ranks, sample_count, stream_of, stream_ranks};
-ghost use Rattle.merge_filter.specs.Contributions.{HasWave, IsPartialMerge, contrib, cov_of};
+ghost use Rattle.merge_filter.specs.Contributions.{HasWave, IsPartialMerge, contrib, coverage_of};
 
 mod own_tree;
 #[cfg(test)]
 mod tests;
 
+use overlay_setup::Grain;
 use own_tree::own_tree;
 use prefix_tree::{PrefixTree, TreeError};
 use rank_set::RankSet;
-use stat_plan::{Grain, Plan};
+use stat_plan::Plan;
 use std::alloc::{AllocError, Global};
 use std::marker::Model;
 
@@ -50,8 +51,8 @@ fn daemons_of(plan: &Plan, s: u8) -> &[u32]
     plan.known_stream(s).daemons()
 }
 
-/// The law of the limit: a tree has at most as many rows below the root as its pairs have distinct prefixes, and exactly as
-/// many where it covers the ranks of all pairs. It does nothing.
+/// The law of the limit: a tree has at most as many rows below the root as its pairs have distinct prefixes, and
+/// exactly as many where it covers the ranks of all pairs. It does nothing.
 pub fn rows_are_prefixes()
     ensures within { (P : Pairs) (C : Ranks) → count_below (tree_of P C) ≤ prefix_count P }
     ensures covered { (P : Pairs) (C : Ranks) → IsWithin P C → count_below (tree_of P C) ≡ prefix_count P }
@@ -80,7 +81,7 @@ impl<T: PrefixTree> Contribution<T> {
     pub fn none(alloc: Global, s: u8, w: u8) -> Contribution<T>
         ensures stream { result.stream ≡ s }
         ensures wave { result.wave ≡ w }
-        ensures coverage { cov_of result ≡ none }
+        ensures coverage { coverage_of result ≡ none }
         ensures partial_merge { (p : Plan) → HasWave p s w → IsPartialMerge p result }
     {
         Contribution::of_tree(s, w, T::empty(alloc))
@@ -98,7 +99,7 @@ impl<T: PrefixTree> Contribution<T> {
         requires wave { HasWave plan.now s w }
         ensures stream { IfOk result (λ c. c.stream ≡ s) }
         ensures wave { IfOk result (λ c. c.wave ≡ w) }
-        ensures coverage { IfOk result (λ c. cov_of c ≡ ranks plan.now d) }
+        ensures coverage { IfOk result (λ c. coverage_of c ≡ ranks plan.now d) }
         ensures partial_merge { IfOk result (IsPartialMerge plan.now) }
     {
         plan.invariant();
@@ -129,7 +130,7 @@ impl<T: PrefixTree> Contribution<T> {
         ensures stream { OnOk result (self.new.stream ≡ self.old.stream) }
         ensures wave { OnOk result (self.new.wave ≡ self.old.wave) }
         ensures partial_merge { OnOk result (IsPartialMerge plan.now self.new) }
-        ensures coverage { OnOk result (cov_of self.new ≡ union (cov_of self.old) (cov_of other.now)) }
+        ensures coverage { OnOk result (coverage_of self.new ≡ union (coverage_of self.old) (coverage_of other.now)) }
         ensures err { OnErr result (self.new ≡ self.old) }
     {
         plan.invariant();
@@ -182,13 +183,14 @@ impl<T: PrefixTree> Contribution<T> {
 
     /// The ranks that it covers.
     pub fn coverage(&self) -> &RankSet
-        ensures { result.now ≡ cov_of self.now }
+        ensures { result.now ≡ coverage_of self.now }
     {
         self.tree.row(0).label
     }
 }
 
-/// All samples of a wave: each daemon's own part is made, and they are absorbed one after another, in the daemons' order.
+/// All samples of a wave: each daemon's own part is made, and they are absorbed one after another, in the daemons'
+/// order.
 pub fn direct<T: PrefixTree>(
     alloc: Global,
     plan: &Plan,
@@ -198,7 +200,7 @@ pub fn direct<T: PrefixTree>(
     requires { HasWave plan.now s w }
     ensures stream { IfOk result (λ c. c.stream ≡ s) }
     ensures wave { IfOk result (λ c. c.wave ≡ w) }
-    ensures coverage { IfOk result (λ c. cov_of c ≡ stream_ranks plan.now s) }
+    ensures coverage { IfOk result (λ c. coverage_of c ≡ stream_ranks plan.now s) }
     ensures partial_merge { IfOk result (IsPartialMerge plan.now) }
 {
     let mut all: Contribution<T> = Contribution::none(alloc, s, w);

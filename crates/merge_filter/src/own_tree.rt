@@ -45,8 +45,8 @@ fn add_pending<T: PrefixTree>(
     }
 }
 
-// Takes a line. Its ranks join those that are still to be added, if the path is theirs; else they are the next that are to be
-// added.
+// Takes a line. Its ranks join those that are still to be added, if the path is theirs; else they are the next that are
+// to be added.
 fn take_line<T: PrefixTree>(
     tree: &mut T,
     paths: &[CallPath],
@@ -56,7 +56,8 @@ fn take_line<T: PrefixTree>(
     requires { HasRoomFor (T.tree tree.old) paths.now pending.old }
     ensures { OnOk result
         ((P : Pairs) (C : Ranks) → T.tree tree.old ≡ tree_of P C
-        → TakesLine P C paths.now (line_of paths.now line.now) line.now.path pending.old pending.new (T.tree tree.new)) }
+        → TakesLine P C paths.now (line_of paths.now line.now) line.now.path pending.old pending.new
+        (T.tree tree.new)) }
 {
     if line.path == pending.path {
         pending.ranks.union_into(&line.ranks)?;
@@ -68,8 +69,8 @@ fn take_line<T: PrefixTree>(
     Ok(())
 }
 
-/// The tree of a wave's samples of some ranks, of which alone there are lines. It takes the least time where they come in the
-/// order of their paths.
+/// The tree of a wave's samples of some ranks, of which alone there are lines. It takes the least time where they come
+/// in the order of their paths.
 pub fn own_tree<T: PrefixTree>(
     alloc: Global,
     lines: &[StackLine],

@@ -2,15 +2,15 @@
 use Rattle.rank_set.specs.Ranks.{Ranks, none, is_same, IsSubset}
 use Rattle.std.proofs.Common.{◌≡◌, ◌≢◌, inl, inr, ℕ, Bool, true, false, not, ◌==◌, List, [], ◌∷◌, ◌++◌, refl, sym, ap, subst, ◌∙◌, eqb-true, Option, Some, None}
 use Rattle.std.proofs.lemmas.Bool.{cond_both, true≢false}
-use Rattle.stat_plan.specs.NodeSets.{In}
+use Rattle.overlay_setup.specs.NodeSets.{In}
 use Rattle.stat_plan.specs.Machine.Waves.{put_at, Wave, Open, Closed, Book, set_wave}
 use Rattle.stat_plan.specs.Plans.{Plan, IsUnder, serves, mode, is_front, waves_of}
 use Rattle.stat_plan.specs.Machine.Due.{due_act}
 use Rattle.overlay_core.specs.Nodes.{Packet, Up, Done, Effects, due_at, to_parent, dones, acted, act_as, act, act_each}
 use Rattle.stat_plan.specs.Machine.Kin.{Kin, complete}
 use Rattle.overlay_core.specs.LinkInvariant.{SendIsSound, OpenIsSound, WaveIsSound, BookIsSound}
-use Rattle.stat_plan.specs.declared.script.Mode.{Mode}
-use Rattle.stat_plan.specs.declared.script.Mode.TheVariants.{WaitForAll, TimeOut, DontWait}
+use Rattle.overlay_setup.specs.declared.script.Mode.{Mode}
+use Rattle.overlay_setup.specs.declared.script.Mode.TheVariants.{WaitForAll, TimeOut, DontWait}
 use Rattle.stat_plan.specs.declared.machine.Timer.{Timer}
 use Rattle.stat_plan.specs.declared.machine.Timer.TheVariants.{Off, Running, Fired}
 use Rattle.stat_plan.specs.declared.machine.Act.{Act}
@@ -55,8 +55,8 @@ send_grown (TimeOut k) false false front Off e = absurd (cc)
 send_grown (TimeOut k) false false front (Running j) e = absurd (cc)
 send_grown (TimeOut k) false false front Fired e = absurd (cc)
 
-pub grown_not_empty : (cov sent : Ranks) → IsSubset sent cov → not (is_same cov sent) ≡ true → cov ≢ none
-grown_not_empty cov sent h e k = true≢false (sym e ∙ ap not (subst (λ z. is_same z sent ≡ true) (sym k) (subst (λ z. is_same none z ≡ true) (sym (none_from_subset sent (subst (IsSubset sent) k h))) (test_from_same none))))
+pub grown_not_empty : (covered sent : Ranks) → IsSubset sent covered → not (is_same covered sent) ≡ true → covered ≢ none
+grown_not_empty covered sent h e k = true≢false (sym e ∙ ap not (subst (λ z. is_same z sent ≡ true) (sym k) (subst (λ z. is_same none z ≡ true) (sym (none_from_subset sent (subst (IsSubset sent) k h))) (test_from_same none))))
 
 pub to_parent_sound : (p : Plan) (n : ℕ) (o : Option ℕ) (q : Packet) → ((m : ℕ) → o ≡ Some m → SendIsSound p n m q) → SendsAreSound p n (to_parent o q)
 to_parent_sound p n None q h m q' i = absurd i
@@ -74,31 +74,31 @@ dones_sound p n s w kin fits named m q i =
 pub subset_refl : (xs : Ranks) → IsSubset xs xs
 subset_refl xs x h = h
 
-acted_sound : (p : Plan) (n : ℕ) (kin : Kin) (s w : ℕ) (cov sent : Ranks) (timer : Timer) (k : Effects) (a : Act) → In (s, w) (waves_of p.streams) → KinFits p n kin → WorkIsSound p n k → OpenIsSound p n s cov sent → (a ≡ Send → cov ≢ none) → WorkIsSound p n (acted p kin s w cov sent timer k a)
+acted_sound : (p : Plan) (n : ℕ) (kin : Kin) (s w : ℕ) (covered sent : Ranks) (timer : Timer) (k : Effects) (a : Act) → In (s, w) (waves_of p.streams) → KinFits p n kin → WorkIsSound p n k → OpenIsSound p n s covered sent → (a ≡ Send → covered ≢ none) → WorkIsSound p n (acted p kin s w covered sent timer k a)
 unfolding acted
-acted_sound p n kin s w cov sent timer k Hold named fits h o grown = h
-acted_sound p n kin s w cov sent timer k Arm named fits h o grown = record {
+acted_sound p n kin s w covered sent timer k Hold named fits h o grown = h
+acted_sound p n kin s w covered sent timer k Arm named fits h o grown = record {
   book = each_wave_set (λ a b v. WaveIsSound p n a v) k.book s w _ h.book o;
   sends = h.sends;
 }
-acted_sound p n kin s w cov sent timer k Send named fits h o grown = record {
-  book = each_wave_set (λ a b v. WaveIsSound p n a v) k.book s w _ h.book (record { within = subset_refl cov; whole = o.whole });
-  sends = sends_append p n k.sends _ h.sends (to_parent_sound p n kin.parent (Up s w cov) (λ m e. (fits.parent m e, o.whole, grown refl, named)));
+acted_sound p n kin s w covered sent timer k Send named fits h o grown = record {
+  book = each_wave_set (λ a b v. WaveIsSound p n a v) k.book s w _ h.book (record { within = subset_refl covered; whole = o.whole });
+  sends = sends_append p n k.sends _ h.sends (to_parent_sound p n kin.parent (Up s w covered) (λ m e. (fits.parent m e, o.whole, grown refl, named)));
 }
-acted_sound p n kin s w cov sent timer k Partial named fits h o grown = record {
-  book = each_wave_set (λ a b v. WaveIsSound p n a v) k.book s w _ h.book (record { within = subset_refl cov; whole = o.whole });
+acted_sound p n kin s w covered sent timer k Partial named fits h o grown = record {
+  book = each_wave_set (λ a b v. WaveIsSound p n a v) k.book s w _ h.book (record { within = subset_refl covered; whole = o.whole });
   sends = h.sends;
 }
-acted_sound p n kin s w cov sent timer k Final named fits h o grown = record {
+acted_sound p n kin s w covered sent timer k Final named fits h o grown = record {
   book = each_wave_set (λ a b v. WaveIsSound p n a v) k.book s w _ h.book tt;
   sends = sends_append p n k.sends _ h.sends (dones_sound p n s w kin fits named);
 }
 
 act_as_sound : (p : Plan) (n : ℕ) (kin : Kin) (s w : ℕ) (k : Effects) (v : Wave) → In (s, w) (waves_of p.streams) → KinFits p n kin → WorkIsSound p n k → WaveIsSound p n s v → WorkIsSound p n (act_as p n kin s w k v)
 unfolding due_at
-act_as_sound p n kin s w k (Open cov sent timer) named fits h hv =
-    acted_sound p n kin s w cov sent timer k (due_at p n kin.lost s cov sent timer) named fits h hv
-    (λ e. grown_not_empty cov sent hv.within (send_grown (mode p s) (complete p n kin.lost s cov) (not (is_same cov sent)) (is_front p n) timer e))
+act_as_sound p n kin s w k (Open covered sent timer) named fits h hv =
+    acted_sound p n kin s w covered sent timer k (due_at p n kin.lost s covered sent timer) named fits h hv
+    (λ e. grown_not_empty covered sent hv.within (send_grown (mode p s) (complete p n kin.lost s covered) (not (is_same covered sent)) (is_front p n) timer e))
 act_as_sound p n kin s w k Closed named fits h hv = h
 
 pub act_sound : (p : Plan) (n : ℕ) (kin : Kin) (s w : ℕ) (k : Effects) → In (s, w) (waves_of p.streams) → KinFits p n kin → WorkIsSound p n k → WorkIsSound p n (act p n kin s w k)

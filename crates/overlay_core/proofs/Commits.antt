@@ -1,9 +1,9 @@
 -- A commit of a sound outcome leaves a sound state.
 use Rattle.std.proofs.Common.{◌≡◌, ◌⊎◌, ◌≤◌, inl, inr, ℕ, suc, Bool, true, false, cond, ◌&&◌, ◌==◌, List, [], ◌∷◌, ◌++◌, refl, sym, subst, arith, eqb-true, Some}
 use Rattle.std.proofs.lemmas.Bool.{cond_both, and_parts, eqb-false}
-use Rattle.stat_plan.specs.NodeSets.{In}
+use Rattle.overlay_setup.specs.NodeSets.{In}
 use Rattle.stat_plan.specs.Plans.{Plan, fault}
-use Rattle.stat_plan.specs.declared.script.Fault.{Fault}
+use Rattle.overlay_setup.specs.declared.script.Fault.{Fault}
 use Rattle.overlay_core.specs.Nodes.{Packet, Up, Done, Attach, Down, Node, Outcome}
 use Rattle.overlay_core.specs.Machine.{State, commit, to, is_spent, is_doomed}
 use Rattle.overlay_core.specs.LinkInvariant.{AreRelated, KinIsSound, PacketIsSound, SendIsSound, BookIsSound, LinkIsSound, EndsAtDown, LossIsKnown, CountIsSound, FrontIsAlive, LinkInvariant}

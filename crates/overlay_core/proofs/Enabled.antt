@@ -1,8 +1,8 @@
 -- The list of enabled events has each of them.
 use Rattle.std.proofs.Common.{◌≡◌, ◌<◌, inl, inr, ℕ, suc, zero, Bool, true, false, ◌==◌, List, [], ◌∷◌, ◌++◌, map, refl, sym, ap, subst, arith, eqb-true}
 use Rattle.std.proofs.lemmas.Bool.{and_parts, cases_Bool, eqb-false, true≢false}
-use Rattle.stat_plan.specs.NodeSets.{In}
-use Rattle.stat_plan.specs.Plans.{Plan, nodes, waves_of, up_to}
+use Rattle.overlay_setup.specs.NodeSets.{In, up_to}
+use Rattle.stat_plan.specs.Plans.{Plan, nodes, waves_of}
 use Rattle.overlay_core.specs.Nodes.{Packet}
 use Rattle.overlay_core.specs.Machine.{State, is_enabled, is_pending, samples_of, events_of, events_below, enabled_events}
 use Rattle.overlay_core.specs.Runs.{IsQuiet}

@@ -2,10 +2,10 @@
 use Rattle.std.proofs.Common.{◌≡◌, ◌⊎◌, inl, inr, ◌<◌, ℕ, true, false, ◌==◌, ◌&&◌, List, [], ◌∷◌, ◌++◌, map, refl, sym, ap, subst, ◌∙◌, lt-ltb, eqb-true}
 use Rattle.std.proofs.lemmas.Bool.{and_parts}
 use Rattle.rank_set.specs.Ranks.{Ranks, none, union, Has}
-use Rattle.stat_plan.specs.NodeSets.{In}
+use Rattle.overlay_setup.specs.NodeSets.{In}
 use Rattle.stat_plan.specs.Samples.{ranks_with, all_ranks}
 use Rattle.stat_plan.specs.Plans.{Plan, front, mode, daemons, ranks, nodes, stream_ranks, waves_of}
-use Rattle.stat_plan.specs.declared.script.Mode.TheVariants.{WaitForAll}
+use Rattle.overlay_setup.specs.declared.script.Mode.TheVariants.{WaitForAll}
 use Rattle.stat_desk.specs.declared.event.Event.{Event}
 use Rattle.overlay_core.specs.declared.release.Kind.TheVariants.{Partial as PartialRelease, Final as FinalRelease}
 use Rattle.overlay_core.specs.Nodes.{Release}
@@ -58,7 +58,7 @@ record HasOne (p : Plan) (journal : List Event) (s : ℕ) (rs : List Release) : 
   only : Release
   all : rs ≡ only ∷ []
   kind : only.kind ≡ FinalRelease
-  covers : (d : ℕ) → In d (daemons p s) → (IsLost journal d → ⊥) → (r : ℕ) → Has r (ranks p d) → Has r only.cov
+  covers : (d : ℕ) → In d (daemons p s) → (IsLost journal d → ⊥) → (r : ℕ) → Has r (ranks p d) → Has r only.covered
 
 all_final : (p : Plan) (journal : List Event) (s : ℕ) (rs : List Release) → ((r : Release) → In r rs → r.kind ≡ PartialRelease → ⊥) → EndsFinally p journal s rs → HasOne p journal s rs
 all_final p journal s rs h e = go e.before e.all e.partial
@@ -85,14 +85,14 @@ each_is_with f (x ∷ ds) first d r (inl e) h = first_stays f ds (union first (f
 each_is_with f (x ∷ ds) first d r (inr i) h = each_is_with f ds (union first (f x)) d r i h
 
 -- ranks of daemons of a stream, all of them, are the ranks of the stream
-pub all_of_stream : (p : Plan) (s : ℕ) (cov : Ranks) → ((r : ℕ) → Has r cov → (d : ℕ) × In d (daemons p s) × Has r (ranks p d)) → ((d : ℕ) → In d (daemons p s) → (r : ℕ) → Has r (ranks p d) → Has r cov) → cov ≡ stream_ranks p s
+pub all_of_stream : (p : Plan) (s : ℕ) (covered : Ranks) → ((r : ℕ) → Has r covered → (d : ℕ) × In d (daemons p s) × Has r (ranks p d)) → ((d : ℕ) → In d (daemons p s) → (r : ℕ) → Has r (ranks p d) → Has r covered) → covered ≡ stream_ranks p s
 unfolding stream_ranks
-all_of_stream p s cov from each = same_from_members cov (all_ranks (map (ranks p) (daemons p s))) up down
+all_of_stream p s covered from each = same_from_members covered (all_ranks (map (ranks p) (daemons p s))) up down
   where
-    up : (r : ℕ) → Has r cov → Has r (all_ranks (map (ranks p) (daemons p s)))
+    up : (r : ℕ) → Has r covered → Has r (all_ranks (map (ranks p) (daemons p s)))
     up r h = let k = from r h in each_is_with (ranks p) (daemons p s) none k.0 r k.1 k.2
 
-    down : (r : ℕ) → Has r (all_ranks (map (ranks p) (daemons p s))) → Has r cov
+    down : (r : ℕ) → Has r (all_ranks (map (ranks p) (daemons p s))) → Has r covered
     down r h = elim (in_ranks_with (ranks p) (daemons p s) none r h) [ inl i ↦ absurd (no_rank r i) | inr k ↦ each k.0 k.1 r k.2 ]
 
 -- a stream that waits for all, and loses no daemon, has one release of each wave, which covers all
@@ -106,7 +106,7 @@ waits_for_all p journal s w plan l waits safe i =
       only = a.only;
       all = a.all;
       kind = a.kind;
-      covers = all_of_stream p s a.only.cov (λ r j. let c = (log a.only u.0).whole r j in (c.daemon, subst (λ x. In c.daemon (daemons p x)) u.1 c.place.listed, c.holds)) (λ d j. a.covers d j (safe d j));
+      covers = all_of_stream p s a.only.covered (λ r j. let c = (log a.only u.0).whole r j in (c.daemon, subst (λ x. In c.daemon (daemons p x)) u.1 c.place.listed, c.holds)) (λ d j. a.covers d j (safe d j));
     }
   where
     from : (r : Release) → In r (of_wave s w (after p journal).releases) → (In r (after p journal).releases) × (r.stream ≡ s)

@@ -1,7 +1,7 @@
 -- What a node covers of a wave only grows, and a wave that has ended doesn't begin again.
 use Rattle.std.proofs.Common.{◌≡◌, ℕ, Bool, true, ◌==◌, List, [], ◌∷◌, ◌++◌, inl, inr, refl, sym, subst, eqb-true}
 use Rattle.std.proofs.lemmas.Bool.{and_parts, cases_Bool, eqb-false}
-use Rattle.stat_plan.specs.NodeSets.{In}
+use Rattle.overlay_setup.specs.NodeSets.{In}
 use Rattle.stat_plan.specs.Plans.{Plan}
 use Rattle.stat_plan.specs.Machine.Waves.{Wave}
 use Rattle.stat_desk.specs.declared.event.Event.{Event}
@@ -24,7 +24,7 @@ same_grows : (v : Wave) → OnlyGrows v v
 same_grows v = record { opens = λ e. e; covers = λ e r i. i }
 
 commit_grows : (p : Plan) (alive : ℕ → Bool) (st : State) (n : ℕ) (taken : List (ℕ × Packet)) (o : Outcome) (s w : ℕ) → OutcomeLinks p alive n (st.node n) taken o → OnlyGrows ((st.node n).book s w) (((commit st n o).node n).book s w)
-commit_grows p alive st n taken o s w h = subst (λ (y : Node). OnlyGrows ((st.node n).book s w) (y.book s w)) (sym (commit_here st n o)) (record { opens = h.opens s w; covers = h.cov s w })
+commit_grows p alive st n taken o s w h = subst (λ (y : Node). OnlyGrows ((st.node n).book s w) (y.book s w)) (sym (commit_here st n o)) (record { opens = h.opens s w; covers = h.covered s w })
 
 own_grows : (p : Plan) (st : State) (e : Event) (s w : ℕ) → HasPlanFacts p → LinkInvariant p st → is_enabled p st e ≡ true → OnlyGrows ((st.node (event_node e)).book s w) (((step p st e).node (event_node e)).book s w)
 unfolding lose with_link

@@ -3,7 +3,7 @@ use Rattle.rank_set.specs.Ranks.{Ranks, none, is_subset}
 use Rattle.std.proofs.Common.{◌≡◌, ◌≢◌, ◌⊎◌, inl, inr, ℕ, Bool, true, false, cond, not, ◌||◌, ◌&&◌, ◌==◌, List, [], ◌∷◌, ◌++◌, filter, refl, sym, ap, subst, ◌∙◌, eqb-true, eq-eqb, Option, Some, None, append-nil, append_assoc}
 use Rattle.std.proofs.lemmas.Bool.{cond_both, cond-true, cond-false, and_parts, and_from, cases_Bool, eqb-false, true≢false, or_cases, not_from_true}
 use Rattle.std.proofs.lemmas.List.Elements.{filter-append}
-use Rattle.stat_plan.specs.NodeSets.{In, member}
+use Rattle.overlay_setup.specs.NodeSets.{In, member}
 use Rattle.stat_plan.specs.Machine.Waves.{put_at, Wave, Open, Closed, Book, set_wave, is_open, is_closed, is_fired, sent_of, covering, growing, ticked, unsent}
 use Rattle.stat_plan.specs.Plans.{Plan, IsUnder, ancestors, serves, mode, is_front, front, daemons, ranks, is_within, is_related, waves_at, waves_of}
 use Rattle.stat_plan.specs.Machine.Due.{due_act}
@@ -15,8 +15,8 @@ use Rattle.overlay_core.specs.LinkInvariant.{LinkInvariant, KinIsSound, PacketIs
 use Rattle.overlay_core.specs.History.{of_wave, ByKind, MissesOnlyLost, IsHistory, HistoryIsSound}
 use Rattle.overlay_core.specs.declared.release.Kind.{Kind}
 use Rattle.overlay_core.specs.declared.release.Kind.TheVariants.{Partial as PartialRelease, Final as FinalRelease}
-use Rattle.stat_plan.specs.declared.script.Mode.{Mode}
-use Rattle.stat_plan.specs.declared.script.Mode.TheVariants.{WaitForAll, TimeOut, DontWait}
+use Rattle.overlay_setup.specs.declared.script.Mode.{Mode}
+use Rattle.overlay_setup.specs.declared.script.Mode.TheVariants.{WaitForAll, TimeOut, DontWait}
 use Rattle.stat_plan.specs.declared.machine.Timer.{Timer}
 use Rattle.stat_plan.specs.declared.machine.Timer.TheVariants.{Off, Running, Fired}
 use Rattle.stat_plan.specs.declared.machine.Act.{Act}
@@ -35,36 +35,36 @@ use Rattle.overlay_core.proofs.ParentChild.{node_here, node_else}
 
 -- a history looks at its wave for what was sent and for whether it is open
 history_like : (p : Plan) (alive : ℕ → Bool) (s : ℕ) (last : Ranks) (rs : List Release) (v v' : Wave) → is_open v' ≡ is_open v → sent_of v' ≡ sent_of v → IsHistory p alive s last rs v → IsHistory p alive s last rs v'
-history_like p alive s last [] (Open cov sent timer) (Open cov' sent' timer') eo es h = es ∙ h
-history_like p alive s last [] (Open cov sent timer) Closed eo es h = absurd (true≢false (sym eo))
+history_like p alive s last [] (Open covered sent timer) (Open covered' sent' timer') eo es h = es ∙ h
+history_like p alive s last [] (Open covered sent timer) Closed eo es h = absurd (true≢false (sym eo))
 history_like p alive s last [] Closed v' eo es h = absurd h
-history_like p alive s last (r ∷ rs) v v' eo es h = (h.0, go r.kind (history_like p alive s r.cov rs v v' eo es) h.1)
+history_like p alive s last (r ∷ rs) v v' eo es h = (h.0, go r.kind (history_like p alive s r.covered rs v v' eo es) h.1)
   where
-    go : (k : Kind) → (IsHistory p alive s r.cov rs v → IsHistory p alive s r.cov rs v')
-        → ByKind k ((last ≢ r.cov) × IsHistory p alive s r.cov rs v) (MissesOnlyLost p alive s r.cov r.lost × (rs ≡ []) × (is_open v ≡ false))
-        → ByKind k ((last ≢ r.cov) × IsHistory p alive s r.cov rs v') (MissesOnlyLost p alive s r.cov r.lost × (rs ≡ []) × (is_open v' ≡ false))
+    go : (k : Kind) → (IsHistory p alive s r.covered rs v → IsHistory p alive s r.covered rs v')
+        → ByKind k ((last ≢ r.covered) × IsHistory p alive s r.covered rs v) (MissesOnlyLost p alive s r.covered r.lost × (rs ≡ []) × (is_open v ≡ false))
+        → ByKind k ((last ≢ r.covered) × IsHistory p alive s r.covered rs v') (MissesOnlyLost p alive s r.covered r.lost × (rs ≡ []) × (is_open v' ≡ false))
     go PartialRelease ih x = (x.0, ih x.1)
     go FinalRelease ih x = (x.0, x.1, eo ∙ x.2)
 
 history_later : (p : Plan) (alive later : ℕ → Bool) (s : ℕ) (last : Ranks) (rs : List Release) (v : Wave) → ((a : ℕ) → alive a ≡ false → later a ≡ false) → IsHistory p alive s last rs v → IsHistory p later s last rs v
-history_later p alive later s last [] (Open cov sent timer) f h = h
+history_later p alive later s last [] (Open covered sent timer) f h = h
 history_later p alive later s last [] Closed f h = h
-history_later p alive later s last (r ∷ rs) v f h = (h.0, go r.kind (history_later p alive later s r.cov rs v f) h.1)
+history_later p alive later s last (r ∷ rs) v f h = (h.0, go r.kind (history_later p alive later s r.covered rs v f) h.1)
   where
-    go : (k : Kind) → (IsHistory p alive s r.cov rs v → IsHistory p later s r.cov rs v)
-        → ByKind k ((last ≢ r.cov) × IsHistory p alive s r.cov rs v) (MissesOnlyLost p alive s r.cov r.lost × (rs ≡ []) × (is_open v ≡ false))
-        → ByKind k ((last ≢ r.cov) × IsHistory p later s r.cov rs v) (MissesOnlyLost p later s r.cov r.lost × (rs ≡ []) × (is_open v ≡ false))
+    go : (k : Kind) → (IsHistory p alive s r.covered rs v → IsHistory p later s r.covered rs v)
+        → ByKind k ((last ≢ r.covered) × IsHistory p alive s r.covered rs v) (MissesOnlyLost p alive s r.covered r.lost × (rs ≡ []) × (is_open v ≡ false))
+        → ByKind k ((last ≢ r.covered) × IsHistory p later s r.covered rs v) (MissesOnlyLost p later s r.covered r.lost × (rs ≡ []) × (is_open v ≡ false))
     go PartialRelease ih x = (x.0, ih x.1)
     go FinalRelease ih x = (record { each = x.0.each; dead = λ m i. f m (x.0.dead m i) }, x.1, x.2)
 
 -- one release more, of a wave that is open
-history_more : (p : Plan) (alive : ℕ → Bool) (s : ℕ) (last : Ranks) (rs : List Release) (cov sent : Ranks) (t : Timer) (y : Release) (v : Wave) → IsHistory p alive s last rs (Open cov sent t) → IsHistory p alive s sent (y ∷ []) v → IsHistory p alive s last (rs ++ y ∷ []) v
-history_more p alive s last [] cov sent t y v h hy = subst (λ l. IsHistory p alive s l (y ∷ []) v) h hy
-history_more p alive s last (r ∷ rs) cov sent t y v h hy = (h.0, go r.kind (λ k. history_more p alive s r.cov rs cov sent t y v k hy) h.1)
+history_more : (p : Plan) (alive : ℕ → Bool) (s : ℕ) (last : Ranks) (rs : List Release) (covered sent : Ranks) (t : Timer) (y : Release) (v : Wave) → IsHistory p alive s last rs (Open covered sent t) → IsHistory p alive s sent (y ∷ []) v → IsHistory p alive s last (rs ++ y ∷ []) v
+history_more p alive s last [] covered sent t y v h hy = subst (λ l. IsHistory p alive s l (y ∷ []) v) h hy
+history_more p alive s last (r ∷ rs) covered sent t y v h hy = (h.0, go r.kind (λ k. history_more p alive s r.covered rs covered sent t y v k hy) h.1)
   where
-    go : (k : Kind) → (IsHistory p alive s r.cov rs (Open cov sent t) → IsHistory p alive s r.cov (rs ++ y ∷ []) v)
-        → ByKind k ((last ≢ r.cov) × IsHistory p alive s r.cov rs (Open cov sent t)) (MissesOnlyLost p alive s r.cov r.lost × (rs ≡ []) × (is_open (Open cov sent t) ≡ false))
-        → ByKind k ((last ≢ r.cov) × IsHistory p alive s r.cov (rs ++ y ∷ []) v) (MissesOnlyLost p alive s r.cov r.lost × ((rs ++ y ∷ []) ≡ []) × (is_open v ≡ false))
+    go : (k : Kind) → (IsHistory p alive s r.covered rs (Open covered sent t) → IsHistory p alive s r.covered (rs ++ y ∷ []) v)
+        → ByKind k ((last ≢ r.covered) × IsHistory p alive s r.covered rs (Open covered sent t)) (MissesOnlyLost p alive s r.covered r.lost × (rs ≡ []) × (is_open (Open covered sent t) ≡ false))
+        → ByKind k ((last ≢ r.covered) × IsHistory p alive s r.covered (rs ++ y ∷ []) v) (MissesOnlyLost p alive s r.covered r.lost × ((rs ++ y ∷ []) ≡ []) × (is_open v ≡ false))
     go PartialRelease ih x = (x.0, ih x.1)
     go FinalRelease ih x = absurd (true≢false x.2)
 
@@ -86,8 +86,8 @@ swap_test a b s w e = elim (cases_Bool ((s == a) && (w == b))) [
 ]
 
 -- a release of one wave, after which it stands as v
-one_logged : (p : Plan) (alive : ℕ → Bool) (old : List Release) (k : Effects) (s w : ℕ) (cov sent : Ranks) (t : Timer) (r : Release) (v : Wave) → WorkIsLogged p alive old k → k.book s w ≡ Open cov sent t → r.stream ≡ s → r.wave ≡ w → IsHistory p alive s sent (r ∷ []) v → (a b : ℕ) → IsHistory p alive a none (of_wave a b (old ++ (k.releases ++ r ∷ []))) (set_wave k.book s w v a b)
-one_logged p alive old k s w cov sent t r v h ev es ew hr a b =
+one_logged : (p : Plan) (alive : ℕ → Bool) (old : List Release) (k : Effects) (s w : ℕ) (covered sent : Ranks) (t : Timer) (r : Release) (v : Wave) → WorkIsLogged p alive old k → k.book s w ≡ Open covered sent t → r.stream ≡ s → r.wave ≡ w → IsHistory p alive s sent (r ∷ []) v → (a b : ℕ) → IsHistory p alive a none (of_wave a b (old ++ (k.releases ++ r ∷ []))) (set_wave k.book s w v a b)
+one_logged p alive old k s w covered sent t r v h ev es ew hr a b =
     subst (λ l. IsHistory p alive a none (of_wave a b l) (set_wave k.book s w v a b)) (append_assoc old k.releases (r ∷ []))
     (elim (cases_Bool ((a == s) && (b == w))) [
       | inl u ↦
@@ -97,7 +97,7 @@ one_logged p alive old k s w cov sent t r v h ev es ew hr a b =
           (subst (λ y. IsHistory p alive s none (of_wave s y ((old ++ k.releases) ++ r ∷ [])) (set_wave k.book s w v s y)) (sym eb)
           (subst (λ l. IsHistory p alive s none l (set_wave k.book s w v s w)) (sym (of_wave_here s w (old ++ k.releases) r es ew))
           (subst (IsHistory p alive s none (of_wave s w (old ++ k.releases) ++ r ∷ [])) (sym (set_wave_here k.book s w v))
-          (history_more p alive s none (of_wave s w (old ++ k.releases)) cov sent t r v (subst (IsHistory p alive s none (of_wave s w (old ++ k.releases))) ev (h s w)) hr))))
+          (history_more p alive s none (of_wave s w (old ++ k.releases)) covered sent t r v (subst (IsHistory p alive s none (of_wave s w (old ++ k.releases))) ev (h s w)) hr))))
       | inr f ↦
           subst (IsHistory p alive a none (of_wave a b ((old ++ k.releases) ++ r ∷ []))) (sym (set_wave_else k.book s w v a b f))
           (subst (λ l. IsHistory p alive a none l (k.book a b)) (sym (of_wave_else a b (old ++ k.releases) r (subst (λ x. ((x == a) && (r.wave == b)) ≡ false) (sym es) (subst (λ y. ((s == a) && (y == b)) ≡ false) (sym ew) (swap_test a b s w f))))) (h a b))
@@ -142,34 +142,34 @@ final_says (TimeOut k) false true true Fired e = absurd (cc)
 final_says (TimeOut k) false true false Fired e = absurd (cc)
 final_says (TimeOut k) false false top Fired e = absurd (cc)
 
-misses_only_lost : (p : Plan) (alive : ℕ → Bool) (n : ℕ) (kin : Kin) (s : ℕ) (cov : Ranks) → HasPlanFacts p → is_front p n ≡ true → KinIsSound p alive n kin → complete p n kin.lost s cov ≡ true → MissesOnlyLost p alive s cov kin.lost
+misses_only_lost : (p : Plan) (alive : ℕ → Bool) (n : ℕ) (kin : Kin) (s : ℕ) (covered : Ranks) → HasPlanFacts p → is_front p n ≡ true → KinIsSound p alive n kin → complete p n kin.lost s covered ≡ true → MissesOnlyLost p alive s covered kin.lost
 unfolding complete is_front
-misses_only_lost p alive n kin s cov plan top hk e = record {
+misses_only_lost p alive n kin s covered plan top hk e = record {
   each = λ d i.
-      let t = list_all_in (λ d. not (is_within p d n) || is_subset (ranks p d) cov || member d kin.lost) (daemons p s) d e i in
+      let t = list_all_in (λ d. not (is_within p d n) || is_subset (ranks p d) covered || member d kin.lost) (daemons p s) d e i in
       let en : n ≡ front p = eqb-true n (front p) top in
       let u : is_within p d n ≡ true = test_from_within p d n (subst (λ a. (d ≡ a) ⊎ IsUnder p d a) (sym en) (plan.daemon_place d s i)) in
-      elim (or_cases (not (is_within p d n) || is_subset (ranks p d) cov) (member d kin.lost) t) [
-        | inl a ↦ elim (or_cases (not (is_within p d n)) (is_subset (ranks p d) cov) a) [ inl b ↦ absurd (true≢false (sym b ∙ not_from_true _ u)) | inr b ↦ inl (subset_from_test (ranks p d) cov b) ]
+      elim (or_cases (not (is_within p d n) || is_subset (ranks p d) covered) (member d kin.lost) t) [
+        | inl a ↦ elim (or_cases (not (is_within p d n)) (is_subset (ranks p d) covered) a) [ inl b ↦ absurd (true≢false (sym b ∙ not_from_true _ u)) | inr b ↦ inl (subset_from_test (ranks p d) covered b) ]
         | inr a ↦ inr (in_from_member d kin.lost a)
       ];
   dead = hk.lost;
 }
 
-acted_logged : (p : Plan) (alive : ℕ → Bool) (n : ℕ) (kin : Kin) (old : List Release) (s w : ℕ) (cov sent : Ranks) (timer : Timer) (k : Effects) (a : Act) → HasPlanFacts p → is_front p n ≡ true → KinIsSound p alive n kin → OpenIsSound p n s cov sent → k.book s w ≡ Open cov sent timer → WorkIsLogged p alive old k → due_at p n kin.lost s cov sent timer ≡ a → WorkIsLogged p alive old (acted p kin s w cov sent timer k a)
+acted_logged : (p : Plan) (alive : ℕ → Bool) (n : ℕ) (kin : Kin) (old : List Release) (s w : ℕ) (covered sent : Ranks) (timer : Timer) (k : Effects) (a : Act) → HasPlanFacts p → is_front p n ≡ true → KinIsSound p alive n kin → OpenIsSound p n s covered sent → k.book s w ≡ Open covered sent timer → WorkIsLogged p alive old k → due_at p n kin.lost s covered sent timer ≡ a → WorkIsLogged p alive old (acted p kin s w covered sent timer k a)
 unfolding acted due_at
-acted_logged p alive n kin old s w cov sent timer k Hold plan top hk ho ev h e = h
-acted_logged p alive n kin old s w cov sent timer k Arm plan top hk ho ev h e =
+acted_logged p alive n kin old s w covered sent timer k Hold plan top hk ho ev h e = h
+acted_logged p alive n kin old s w covered sent timer k Arm plan top hk ho ev h e =
     each_wave_set (λ a b v. IsHistory p alive a none (of_wave a b (old ++ k.releases)) v) k.book s w _ h
-    (history_like p alive s none (of_wave s w (old ++ k.releases)) (Open cov sent timer) _ refl refl (subst (IsHistory p alive s none (of_wave s w (old ++ k.releases))) ev (h s w)))
-acted_logged p alive n kin old s w cov sent timer k Send plan top hk ho ev h e = absurd (true≢false (sym top ∙ send_below (mode p s) _ _ _ timer e))
-acted_logged p alive n kin old s w cov sent timer k Partial plan top hk ho ev h e =
-    one_logged p alive old k s w cov sent timer _ _ h ev refl refl (ho.within, (λ i. ne_from_grown cov sent (partial_grown (mode p s) _ _ _ timer e) (sym i), refl))
-acted_logged p alive n kin old s w cov sent timer k Final plan top hk ho ev h e =
-    one_logged p alive old k s w cov sent timer _ _ h ev refl refl (ho.within, (misses_only_lost p alive n kin s cov plan top hk (final_says (mode p s) _ _ _ timer e).0, refl, refl))
+    (history_like p alive s none (of_wave s w (old ++ k.releases)) (Open covered sent timer) _ refl refl (subst (IsHistory p alive s none (of_wave s w (old ++ k.releases))) ev (h s w)))
+acted_logged p alive n kin old s w covered sent timer k Send plan top hk ho ev h e = absurd (true≢false (sym top ∙ send_below (mode p s) _ _ _ timer e))
+acted_logged p alive n kin old s w covered sent timer k Partial plan top hk ho ev h e =
+    one_logged p alive old k s w covered sent timer _ _ h ev refl refl (ho.within, (λ i. ne_from_grown covered sent (partial_grown (mode p s) _ _ _ timer e) (sym i), refl))
+acted_logged p alive n kin old s w covered sent timer k Final plan top hk ho ev h e =
+    one_logged p alive old k s w covered sent timer _ _ h ev refl refl (ho.within, (misses_only_lost p alive n kin s covered plan top hk (final_says (mode p s) _ _ _ timer e).0, refl, refl))
 
 act_as_logged : (p : Plan) (alive : ℕ → Bool) (n : ℕ) (kin : Kin) (old : List Release) (s w : ℕ) (k : Effects) (v : Wave) → HasPlanFacts p → is_front p n ≡ true → KinIsSound p alive n kin → WaveIsSound p n s v → k.book s w ≡ v → WorkIsLogged p alive old k → WorkIsLogged p alive old (act_as p n kin s w k v)
-act_as_logged p alive n kin old s w k (Open cov sent timer) plan top hk hv ev h = acted_logged p alive n kin old s w cov sent timer k (due_at p n kin.lost s cov sent timer) plan top hk hv ev h refl
+act_as_logged p alive n kin old s w k (Open covered sent timer) plan top hk hv ev h = acted_logged p alive n kin old s w covered sent timer k (due_at p n kin.lost s covered sent timer) plan top hk hv ev h refl
 act_as_logged p alive n kin old s w k Closed plan top hk hv ev h = h
 
 act_each_logged : (p : Plan) (alive : ℕ → Bool) (n : ℕ) (kin : Kin) (old : List Release) (vs : List (ℕ × ℕ)) (k : Effects) → IsSubsetOf vs (waves_of p.streams) → HasPlanFacts p → is_front p n ≡ true → KinIsSound p alive n kin → WorkIsSound p n k → WorkIsLogged p alive old k → WorkIsLogged p alive old (act_each p n kin vs k)
@@ -179,13 +179,13 @@ act_each_logged p alive n kin old (v ∷ vs) k named plan top hk hw h =
     (act_as_logged p alive n kin old v.0 v.1 k (k.book v.0 v.1) plan top hk (hw.book v.0 v.1) refl h)
 
 -- acts elsewhere release nothing and close nothing
-acted_below : (p : Plan) (kin : Kin) (s w : ℕ) (cov sent : Ranks) (timer : Timer) (k : Effects) (a : Act) → k.book s w ≡ Open cov sent timer → (a ≡ Partial → ⊥) → (a ≡ Final → ⊥) → ((acted p kin s w cov sent timer k a).releases ≡ k.releases) × ((x y : ℕ) → is_open ((acted p kin s w cov sent timer k a).book x y) ≡ is_open (k.book x y))
+acted_below : (p : Plan) (kin : Kin) (s w : ℕ) (covered sent : Ranks) (timer : Timer) (k : Effects) (a : Act) → k.book s w ≡ Open covered sent timer → (a ≡ Partial → ⊥) → (a ≡ Final → ⊥) → ((acted p kin s w covered sent timer k a).releases ≡ k.releases) × ((x y : ℕ) → is_open ((acted p kin s w covered sent timer k a).book x y) ≡ is_open (k.book x y))
 unfolding acted
-acted_below p kin s w cov sent timer k Hold ev f g = (refl, λ x y. refl)
-acted_below p kin s w cov sent timer k Arm ev f g = (refl, each_wave_set (λ x y v. is_open v ≡ is_open (k.book x y)) k.book s w _ (λ x y. refl) (sym (ap is_open ev)))
-acted_below p kin s w cov sent timer k Send ev f g = (refl, each_wave_set (λ x y v. is_open v ≡ is_open (k.book x y)) k.book s w _ (λ x y. refl) (sym (ap is_open ev)))
-acted_below p kin s w cov sent timer k Partial ev f g = absurd (f refl)
-acted_below p kin s w cov sent timer k Final ev f g = absurd (g refl)
+acted_below p kin s w covered sent timer k Hold ev f g = (refl, λ x y. refl)
+acted_below p kin s w covered sent timer k Arm ev f g = (refl, each_wave_set (λ x y v. is_open v ≡ is_open (k.book x y)) k.book s w _ (λ x y. refl) (sym (ap is_open ev)))
+acted_below p kin s w covered sent timer k Send ev f g = (refl, each_wave_set (λ x y v. is_open v ≡ is_open (k.book x y)) k.book s w _ (λ x y. refl) (sym (ap is_open ev)))
+acted_below p kin s w covered sent timer k Partial ev f g = absurd (f refl)
+acted_below p kin s w covered sent timer k Final ev f g = absurd (g refl)
 
 pub partial_top : (m : Mode) (done grown top : Bool) (t : Timer) → due_act m done grown top t ≡ Partial → top ≡ true
 partial_top m done grown true t e = refl
@@ -206,8 +206,8 @@ KeepsOpen k k' = (k'.releases ≡ k.releases) × ((x y : ℕ) → is_open (k'.bo
 
 act_as_below : (p : Plan) (n : ℕ) (kin : Kin) (s w : ℕ) (k : Effects) (v : Wave) → is_front p n ≡ false → k.book s w ≡ v → KeepsOpen k (act_as p n kin s w k v)
 unfolding due_at
-act_as_below p n kin s w k (Open cov sent timer) low ev =
-    acted_below p kin s w cov sent timer k (due_at p n kin.lost s cov sent timer) ev
+act_as_below p n kin s w k (Open covered sent timer) low ev =
+    acted_below p kin s w covered sent timer k (due_at p n kin.lost s covered sent timer) ev
     (λ e. true≢false (sym (partial_top (mode p s) _ _ _ timer e) ∙ low))
     (λ e. true≢false (sym (final_says (mode p s) _ _ _ timer e).1 ∙ low))
 act_as_below p n kin s w k Closed low ev = (refl, λ x y. refl)
@@ -236,27 +236,27 @@ dones_say p kin s w c a b i =
     let e : Done a b ≡ Done s w = ap (λ v. v.1) r.3 in
     (cc, cc)
 
-acted_dones : (p : Plan) (kin : Kin) (s w : ℕ) (cov sent : Ranks) (timer : Timer) (k : Effects) (a : Act) → k.book s w ≡ Open cov sent timer → DonesAreClosed k → DonesAreClosed (acted p kin s w cov sent timer k a)
+acted_dones : (p : Plan) (kin : Kin) (s w : ℕ) (covered sent : Ranks) (timer : Timer) (k : Effects) (a : Act) → k.book s w ≡ Open covered sent timer → DonesAreClosed k → DonesAreClosed (acted p kin s w covered sent timer k a)
 unfolding acted
-acted_dones p kin s w cov sent timer k Hold ev h = h
-acted_dones p kin s w cov sent timer k Arm ev h = λ c x y i. stays_closed k.book s w _ (ap is_open ev) x y (h c x y i)
-acted_dones p kin s w cov sent timer k Send ev h = λ c x y i. elim (in_append {X = ℕ × Packet} (c, Done x y) k.sends _ i) [
+acted_dones p kin s w covered sent timer k Hold ev h = h
+acted_dones p kin s w covered sent timer k Arm ev h = λ c x y i. stays_closed k.book s w _ (ap is_open ev) x y (h c x y i)
+acted_dones p kin s w covered sent timer k Send ev h = λ c x y i. elim (in_append {X = ℕ × Packet} (c, Done x y) k.sends _ i) [
   | inl j ↦ stays_closed k.book s w _ (ap is_open ev) x y (h c x y j)
   | inr j ↦ absurd (no_done kin.parent c x y j)
 ]
   where
-    no_done : (o : Option ℕ) (c x y : ℕ) → In (c, Done x y) (to_parent o (Up s w cov)) → ⊥
+    no_done : (o : Option ℕ) (c x y : ℕ) → In (c, Done x y) (to_parent o (Up s w covered)) → ⊥
     no_done None c x y j = j
-    no_done (Some m) c x y (inl e) = let q : Done x y ≡ Up s w cov = ap (λ v. v.1) e in cc
+    no_done (Some m) c x y (inl e) = let q : Done x y ≡ Up s w covered = ap (λ v. v.1) e in cc
     no_done (Some m) c x y (inr j) = j
-acted_dones p kin s w cov sent timer k Partial ev h = λ c x y i. stays_closed k.book s w _ (ap is_open ev) x y (h c x y i)
-acted_dones p kin s w cov sent timer k Final ev h = λ c x y i. elim (in_append {X = ℕ × Packet} (c, Done x y) k.sends _ i) [
+acted_dones p kin s w covered sent timer k Partial ev h = λ c x y i. stays_closed k.book s w _ (ap is_open ev) x y (h c x y i)
+acted_dones p kin s w covered sent timer k Final ev h = λ c x y i. elim (in_append {X = ℕ × Packet} (c, Done x y) k.sends _ i) [
   | inl j ↦ stays_closed k.book s w _ (ap is_open ev) x y (h c x y j)
   | inr j ↦ let t = dones_say p kin s w c x y j in closed_here k.book s w x y t.0 t.1
 ]
 
 act_as_dones : (p : Plan) (n : ℕ) (kin : Kin) (s w : ℕ) (k : Effects) (v : Wave) → k.book s w ≡ v → DonesAreClosed k → DonesAreClosed (act_as p n kin s w k v)
-act_as_dones p n kin s w k (Open cov sent timer) ev h = acted_dones p kin s w cov sent timer k (due_at p n kin.lost s cov sent timer) ev h
+act_as_dones p n kin s w k (Open covered sent timer) ev h = acted_dones p kin s w covered sent timer k (due_at p n kin.lost s covered sent timer) ev h
 act_as_dones p n kin s w k Closed ev h = h
 
 act_each_dones : (p : Plan) (n : ℕ) (kin : Kin) (vs : List (ℕ × ℕ)) (k : Effects) → DonesAreClosed k → DonesAreClosed (act_each p n kin vs k)
@@ -283,7 +283,7 @@ acts_logged p alive n x taken kin b vs named plan hk hb g = record {
 }
 
 same_book : (x : Book) → BookGrows x x
-same_book x = record { opens = λ s w. refl; cov = λ s w r i. i; sent = λ s w. refl }
+same_book x = record { opens = λ s w. refl; covered = λ s w r i. i; sent = λ s w. refl }
 
 pub only_wave : (p : Plan) (s w : ℕ) → In (s, w) (waves_of p.streams) → IsSubsetOf ((s, w) ∷ []) (waves_of p.streams)
 only_wave p s w named v (inl e) = subst (λ a. In a (waves_of p.streams)) (sym e) named
@@ -312,15 +312,15 @@ done_logged p alive n x m s w low = record {
   where
     silent : (v : Wave) → (done_work p x.kin s w x.book v).releases ≡ []
     silent Closed = refl
-    silent (Open cov sent t) = refl
+    silent (Open covered sent t) = refl
 
     closes : (v : Wave) → x.book s w ≡ v → (a b : ℕ) → is_open ((done_work p x.kin s w x.book v).book a b) ≡ false → is_open (x.book a b) ≡ false ⊎ ((k : ℕ) × In {X = ℕ × Packet} (k, Done a b) ((m, Done s w) ∷ []))
     closes Closed ev = λ a b e. inl e
-    closes (Open cov sent t) ev = each_wave_set (λ a b v. is_open v ≡ false → is_open (x.book a b) ≡ false ⊎ ((k : ℕ) × In {X = ℕ × Packet} (k, Done a b) ((m, Done s w) ∷ []))) x.book s w Closed (λ a b e. inl e) (λ e. inr (m, inl refl))
+    closes (Open covered sent t) ev = each_wave_set (λ a b v. is_open v ≡ false → is_open (x.book a b) ≡ false ⊎ ((k : ℕ) × In {X = ℕ × Packet} (k, Done a b) ((m, Done s w) ∷ []))) x.book s w Closed (λ a b e. inl e) (λ e. inr (m, inl refl))
 
     dones' : (v : Wave) → x.book s w ≡ v → (c a b : ℕ) → In (c, Done a b) (done_work p x.kin s w x.book v).sends → is_open ((done_work p x.kin s w x.book v).book a b) ≡ false
     dones' Closed ev c a b i = absurd i
-    dones' (Open cov sent t) ev c a b i = let t = dones_say p x.kin s w c a b i in closed_here x.book s w a b t.0 t.1
+    dones' (Open covered sent t) ev c a b i = let t = dones_say p x.kin s w c a b i in closed_here x.book s w a b t.0 t.1
 
 attach_logged : (p : Plan) (alive : ℕ → Bool) (n : ℕ) (x : Node) (taken : List (ℕ × Packet)) (m : ℕ) → OutcomeIsLogged p alive n x taken (received_attach p n x m)
 unfolding received_attach
@@ -337,14 +337,14 @@ attach_logged p alive n x taken m = record {
 }
   where
     closed_open : (v : Wave) → is_closed v ≡ true → is_open v ≡ false
-    closed_open (Open cov sent t) e = absurd (true≢false (sym e))
+    closed_open (Open covered sent t) e = absurd (true≢false (sym e))
     closed_open Closed e = refl
 
 top_parent : (p : Plan) (alive : ℕ → Bool) (n : ℕ) (x : Node) (m : ℕ) → HasPlanFacts p → KinIsSound p alive n x.kin → is_front p n ≡ true → is_parent x.kin.parent m ≡ false
 top_parent p alive n x m plan hk top = rw (front_top_of p alive n x.kin plan hk top) refl
 
 unsent_open' : (v : Wave) → is_open (unsent v) ≡ is_open v
-unsent_open' (Open cov sent t) = refl
+unsent_open' (Open covered sent t) = refl
 unsent_open' Closed = refl
 
 down_logged : (p : Plan) (alive : ℕ → Bool) (n : ℕ) (x : Node) (taken : List (ℕ × Packet)) (m : ℕ) → HasPlanFacts p → KinIsSound p alive n x.kin → KinIsSound p alive n (received_down p n x m).kin → BookIsSound p n x.book → OutcomeIsLogged p alive n x taken (received_down p n x m)

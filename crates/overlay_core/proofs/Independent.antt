@@ -2,7 +2,7 @@
 use Rattle.std.proofs.Common.{◌≡◌, ◌≢◌, ℕ, true, false, cond, ◌==◌, ◌&&◌, not, List, [], ◌∷◌, ◌++◌, take, refl, sym, ap, subst, ◌∙◌, eqb-true, Some, None}
 use Rattle.std.specs.List.{list_any, AllByRecursion}
 use Rattle.std.proofs.lemmas.Bool.{cond_both, and_parts, true≢false}
-use Rattle.stat_plan.specs.NodeSets.{member}
+use Rattle.overlay_setup.specs.NodeSets.{member}
 use Rattle.stat_plan.specs.Plans.{Plan, daemons, waves_at, is_related, fault}
 use Rattle.stat_plan.specs.Machine.Waves.{is_running}
 use Rattle.stat_desk.specs.declared.event.Event.{Event}

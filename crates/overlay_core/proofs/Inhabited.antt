@@ -7,26 +7,27 @@ use Rattle.std.proofs.lemmas.Bool.{or_cases, true≢false}
 use Rattle.rank_set.specs.Ranks.{none, has, with_rank, set_of, is_empty, Has, has-set_of}
 use Rattle.std.specs.Ordering.{nat_cmp, eq_by_cmp}
 use Rattle.std.specs.Cmp.{unsigned_tied}
-use Rattle.stat_plan.specs.NodeSets.{In}
-use Rattle.stat_plan.specs.Names.{IsName}
-use Rattle.stat_plan.specs.Trees.{parent_of, ancestors, root_of, is_daemon, IsTree}
-use Rattle.stat_plan.specs.Topologies.{IsTopology}
+use Rattle.overlay_setup.specs.NodeSets.{In}
+use Rattle.overlay_setup.specs.Names.{IsName}
+use Rattle.overlay_setup.specs.Trees.{parent_of, ancestors, root_of, is_daemon, IsTree}
+use Rattle.overlay_setup.specs.Topologies.{IsTopology}
 use Rattle.stat_plan.specs.Samples.{IsWithinLimit}
 use Rattle.stat_plan.specs.Plans.{nodes_of, scripted_of, samples}
-use Rattle.stat_plan.specs.Invariants.{IsPlan, IsScript, ArePlacedOnce, ScriptFits}
+use Rattle.stat_plan.specs.Invariants.{IsPlan, ArePlacedOnce}
+use Rattle.overlay_setup.specs.Scripts.{ScriptFits, IsScript}
 use Rattle.overlay_core.specs.Rows.{lost_late}
 
 front_name : IsName (codes "fe:0")
-front_name = record { host = codes "fe"; index = codes "0"; parts = refl; host_bytes = refl; host_some = omega arith; host_few = omega arith; digits = refl; digits_some = omega arith; digits_few = omega arith; no_leading_zero = refl }
+front_name = record { host = codes "fe"; index = codes "0"; parts = refl; host_bytes = refl; has_host = omega arith; host_within_limit = omega arith; digits = refl; has_digits = omega arith; digits_within_limit = omega arith; no_leading_zero = refl }
 
 inner_name : IsName (codes "c0:0")
-inner_name = record { host = codes "c0"; index = codes "0"; parts = refl; host_bytes = refl; host_some = omega arith; host_few = omega arith; digits = refl; digits_some = omega arith; digits_few = omega arith; no_leading_zero = refl }
+inner_name = record { host = codes "c0"; index = codes "0"; parts = refl; host_bytes = refl; has_host = omega arith; host_within_limit = omega arith; digits = refl; has_digits = omega arith; digits_within_limit = omega arith; no_leading_zero = refl }
 
 first_name : IsName (codes "a:0")
-first_name = record { host = codes "a"; index = codes "0"; parts = refl; host_bytes = refl; host_some = omega arith; host_few = omega arith; digits = refl; digits_some = omega arith; digits_few = omega arith; no_leading_zero = refl }
+first_name = record { host = codes "a"; index = codes "0"; parts = refl; host_bytes = refl; has_host = omega arith; host_within_limit = omega arith; digits = refl; has_digits = omega arith; digits_within_limit = omega arith; no_leading_zero = refl }
 
 second_name : IsName (codes "b:0")
-second_name = record { host = codes "b"; index = codes "0"; parts = refl; host_bytes = refl; host_some = omega arith; host_few = omega arith; digits = refl; digits_some = omega arith; digits_few = omega arith; no_leading_zero = refl }
+second_name = record { host = codes "b"; index = codes "0"; parts = refl; host_bytes = refl; has_host = omega arith; host_within_limit = omega arith; digits = refl; has_digits = omega arith; digits_within_limit = omega arith; no_leading_zero = refl }
 
 names_differ : IsDistinct bytes_eq lost_late.names
 unfolding IsDistinct
@@ -68,7 +69,7 @@ topology : IsTopology (nodes_of lost_late)
 topology = record {
   paired = refl;
   some = omega arith;
-  few = omega arith;
+  within_limit = omega arith;
   tree = tree;
   named = (front_name, (inner_name, (first_name, (second_name, tt))));
   distinct = names_differ;
@@ -126,7 +127,7 @@ stream_good y (inr i) = absurd i
 script : IsScript (scripted_of lost_late)
 script = record {
   some = some_of _ _;
-  streams = (record { number = omega arith; mode = tt; waves_some = omega arith; waves_few = omega arith; samples_some = omega arith; samples_few = omega arith; daemons_some = some_of _ _; daemons_increase = (stream_good, ((λ y i. absurd i), tt)) }, tt);
+  streams = (record { number = omega arith; mode = tt; has_waves = omega arith; waves_within_limit = omega arith; has_samples = omega arith; samples_within_limit = omega arith; has_daemons = some_of _ _; daemons_increase = (stream_good, ((λ y i. absurd i), tt)) }, tt);
   streams_increase = ((λ y i. absurd i), tt);
   faults = (record { after = omega arith; keep = omega arith }, tt);
   faults_limit = omega arith;
@@ -143,7 +144,7 @@ within s w = zero-le
 pub lost_late_is_plan : IsPlan lost_late
 lost_late_is_plan = record {
   topology = topology;
-  samples = record { once = once; lines = tt; few = zero-le };
+  samples = record { once = once; lines = tt; within_limit = zero-le };
   script = script;
   samples_fit = record { paired = refl; on_daemons = on_daemons; nowhere_else = nowhere_else };
   script_fits = fits;

@@ -1,7 +1,7 @@
 -- Journals with an event more, and what stands in the list of enabled events.
 use Rattle.std.proofs.Common.{◌≡◌, ◌≤◌, ◌<◌, ◌+◌, ℕ, true, false, List, [], ◌∷◌, ◌++◌, length, refl, arith, length-append, lt-ltb}
 use Rattle.std.specs.Prelude.{◌↔◌}
-use Rattle.stat_plan.specs.NodeSets.{In}
+use Rattle.overlay_setup.specs.NodeSets.{In}
 use Rattle.stat_plan.specs.Plans.{Plan, nodes}
 use Rattle.stat_desk.specs.declared.event.Event.{Event}
 use Rattle.overlay_core.specs.Bound.{bound}

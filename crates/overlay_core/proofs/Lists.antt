@@ -2,8 +2,7 @@
 use Rattle.std.proofs.Common.{◌≡◌, ◌≢◌, ◌⊎◌, inl, inr, ℕ, suc, zero, Bool, true, false, cond, ◌==◌, nat_lt, List, [], ◌∷◌, ◌++◌, map, filter, take, refl, sym, subst, arith, eqb-true, eq-eqb, ◌<◌, ◌≤◌, lt_trans, ◌∙◌, ap, length}
 use Rattle.std.specs.List.{list_all, list_any}
 use Rattle.std.proofs.lemmas.Bool.{true≢false, or_cases, or_left, or_right, eqb-false, and_parts, and_from, ltb-false, ltb-true}
-use Rattle.stat_plan.specs.Plans.{up_to}
-use Rattle.stat_plan.specs.NodeSets.{In, member, with_number, without_number, IsStrictlyIncreasing}
+use Rattle.overlay_setup.specs.NodeSets.{up_to, In, member, with_number, without_number, IsStrictlyIncreasing}
 use Rattle.rank_set.specs.Ranks.{Ranks, none, has, size, in_order, union, is_subset, is_same, is_empty, Has, IsSubset, has-none, has-union, has-in_order, same_ranks, subset_has, subset_from, none_from_size}
 use Rattle.std.specs.Ordering.{nat_cmp, eq_by_cmp, is_eq}
 use Rattle.std.specs.Cmp.{both_ways, nat_cmp_total, tied_itself}

@@ -1,7 +1,7 @@
 -- The loss of a node leaves a sound state.
 use Rattle.std.proofs.Common.{◌≡◌, ◌⊎◌, inl, inr, ℕ, suc, zero, Bool, true, false, cond, ◌&&◌, ◌==◌, List, [], ◌∷◌, ◌++◌, take, refl, sym, subst, ◌∙◌, eqb-true, eq-eqb, None}
 use Rattle.std.proofs.lemmas.Bool.{cond_both, cond-true, cond-false, and_parts, and_from, cases_Bool, eqb-false, or_cases, or_left, or_right}
-use Rattle.stat_plan.specs.NodeSets.{In}
+use Rattle.overlay_setup.specs.NodeSets.{In}
 use Rattle.stat_plan.specs.Machine.Waves.{put_at}
 use Rattle.stat_plan.specs.Plans.{Plan, fault, front, is_related, is_under, ancestors}
 use Rattle.overlay_core.specs.Nodes.{Packet, Up, Done, Attach, Down}

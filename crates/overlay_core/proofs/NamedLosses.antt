@@ -2,9 +2,9 @@
 use Rattle.std.proofs.Common.{◌≡◌, inl, inr, ◌<◌, ◌==◌, ℕ, true, false, List, [], ◌∷◌, ◌++◌, Option, None, filter, find, refl, sym, ap, subst, ◌∙◌}
 use Rattle.std.proofs.lemmas.Bool.{cond_both, and_parts, true≢false}
 use Rattle.rank_set.specs.Ranks.{Ranks}
-use Rattle.stat_plan.specs.NodeSets.{In}
+use Rattle.overlay_setup.specs.NodeSets.{In}
 use Rattle.stat_plan.specs.Plans.{Plan, fault, nodes, ranks, waves_at}
-use Rattle.stat_plan.specs.declared.script.Fault.{Fault}
+use Rattle.overlay_setup.specs.declared.script.Fault.{Fault}
 use Rattle.stat_plan.specs.Machine.Kin.{Kin, is_parent, without_child, with_parent}
 use Rattle.stat_plan.specs.Machine.Waves.{Wave, Open, Closed, Book, set_wave, covering, growing, is_fired, ticked}
 use Rattle.stat_plan.specs.declared.machine.Timer.{Timer}
@@ -37,16 +37,16 @@ names_more lost rs x e h r i = elim (in_append r rs (x ∷ []) i) [
   | inr j ↦ elim j [ inl is ↦ ap (λ (r : Release). r.lost) is ∙ e | inr none ↦ absurd none ]
 ]
 
-acted_names : (p : Plan) (kin : Kin) (s w : ℕ) (cov sent : Ranks) (timer : Timer) (k : Effects) (a : Act) → NamesKin kin k → NamesKin kin (acted p kin s w cov sent timer k a)
+acted_names : (p : Plan) (kin : Kin) (s w : ℕ) (covered sent : Ranks) (timer : Timer) (k : Effects) (a : Act) → NamesKin kin k → NamesKin kin (acted p kin s w covered sent timer k a)
 unfolding acted
-acted_names p kin s w cov sent timer k Hold h = h
-acted_names p kin s w cov sent timer k Arm h = h
-acted_names p kin s w cov sent timer k Send h = h
-acted_names p kin s w cov sent timer k Partial h = names_more kin.lost k.releases _ refl h
-acted_names p kin s w cov sent timer k Final h = names_more kin.lost k.releases _ refl h
+acted_names p kin s w covered sent timer k Hold h = h
+acted_names p kin s w covered sent timer k Arm h = h
+acted_names p kin s w covered sent timer k Send h = h
+acted_names p kin s w covered sent timer k Partial h = names_more kin.lost k.releases _ refl h
+acted_names p kin s w covered sent timer k Final h = names_more kin.lost k.releases _ refl h
 
 act_as_names : (p : Plan) (n : ℕ) (kin : Kin) (s w : ℕ) (k : Effects) (v : Wave) → NamesKin kin k → NamesKin kin (act_as p n kin s w k v)
-act_as_names p n kin s w k (Open cov sent timer) h = acted_names p kin s w cov sent timer k (due_at p n kin.lost s cov sent timer) h
+act_as_names p n kin s w k (Open covered sent timer) h = acted_names p kin s w covered sent timer k (due_at p n kin.lost s covered sent timer) h
 act_as_names p n kin s w k Closed h = h
 
 act_each_names : (p : Plan) (n : ℕ) (kin : Kin) (vs : List (ℕ × ℕ)) (k : Effects) → NamesKin kin k → NamesKin kin (act_each p n kin vs k)
@@ -74,7 +74,7 @@ received_names p n x m (Up s w set) = begun_names p n x.kin s w (set_wave x.book
 received_names p n x m (Done s w) = go (x.book s w)
   where
     go : (v : Wave) → NamesKin x.kin (done_work p x.kin s w x.book v)
-    go (Open cov sent timer) = λ r i. absurd i
+    go (Open covered sent timer) = λ r i. absurd i
     go Closed = λ r i. absurd i
 received_names p n x m Attach = λ r i. absurd i
 received_names p n x m Down =

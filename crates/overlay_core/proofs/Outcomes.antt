@@ -2,7 +2,7 @@
 use Rattle.rank_set.specs.Ranks.{Ranks, union, Has, IsSubset}
 use Rattle.std.proofs.Common.{◌≡◌, ◌⊎◌, inl, inr, ℕ, Bool, true, false, cond, ◌&&◌, ◌==◌, List, [], ◌∷◌, filter, find, refl, sym, ap, subst, ◌∙◌, eqb-true, Option, Some, None}
 use Rattle.std.proofs.lemmas.Bool.{cond_both, and_parts, cases_Bool, eqb-false}
-use Rattle.stat_plan.specs.NodeSets.{In, member, with_number}
+use Rattle.overlay_setup.specs.NodeSets.{In, member, with_number}
 use Rattle.stat_plan.specs.Plans.{Plan, IsUnder, ancestors, serves, daemons, ranks, waves_at, waves_of}
 use Rattle.overlay_core.specs.Nodes.{Packet, Up, Done, Attach, Down, Node, Effects, Outcome, begin, done_work, sampled, after_tick, received_up, received_done, received_attach, received_down, received}
 use Rattle.stat_plan.specs.Machine.Kin.{Kin, nearest, is_parent, without_child, with_parent}
@@ -103,7 +103,7 @@ own_ranks : (p : Plan) (n s : ℕ) → In n (daemons p s) → IsUnion p s n (ran
 own_ranks p n s h r i = record { daemon = n; place = record { listed = h; within = inl refl }; holds = i; all = λ x j. j }
 
 pub covering_sound : (p : Plan) (n s : ℕ) (v : Wave) → HasPlanFacts p → In n (daemons p s) → is_empty_open v ≡ true → WaveIsSound p n s v → WaveIsSound p n s (covering (ranks p n) v)
-covering_sound p n s (Open cov sent timer) plan h e hv = record { within = λ x i. absurd (no_rank x (subst (Has x) (empty_true cov e) (hv.within x i))); whole = own_ranks p n s h }
+covering_sound p n s (Open covered sent timer) plan h e hv = record { within = λ x i. absurd (no_rank x (subst (Has x) (empty_true covered e) (hv.within x i))); whole = own_ranks p n s h }
 covering_sound p n s Closed plan h e hv = tt
 
 -- a sample
@@ -114,7 +114,7 @@ sampled_sound p alive n x s w plan hk hb hd named he =
     (begin_sound p n _ (each_wave_set (λ a b v. WaveIsSound p n a v) x.book s w _ hb (covering_sound p n s (x.book s w) plan hd he (hb s w)))))
 
 pub ticked_sound : (p : Plan) (n s : ℕ) (v : Wave) → WaveIsSound p n s v → WaveIsSound p n s (ticked v)
-ticked_sound p n s (Open cov sent timer) h = h
+ticked_sound p n s (Open covered sent timer) h = h
 ticked_sound p n s Closed h = h
 
 -- a tick
@@ -138,11 +138,11 @@ whole_above p s m n xs r plan h c = record {
 }
 
 pub growing_sound : (p : Plan) (m n s : ℕ) (set : Ranks) (v : Wave) → HasPlanFacts p → IsUnder p m n → IsUnion p s m set → WaveIsSound p n s v → WaveIsSound p n s (growing set v)
-growing_sound p m n s set (Open cov sent timer) plan u hs hv = record {
-  within = λ x i. union_left x cov set (hv.within x i);
-  whole = λ r i. elim (in_union r cov set i) [
-    | inl j ↦ whole_within p s n cov (union cov set) r (λ x. union_left x cov set) (hv.whole r j)
-    | inr j ↦ whole_within p s n set (union cov set) r (λ x. union_right x cov set) (whole_above p s m n set r plan u (hs r j))
+growing_sound p m n s set (Open covered sent timer) plan u hs hv = record {
+  within = λ x i. union_left x covered set (hv.within x i);
+  whole = λ r i. elim (in_union r covered set i) [
+    | inl j ↦ whole_within p s n covered (union covered set) r (λ x. union_left x covered set) (hv.whole r j)
+    | inr j ↦ whole_within p s n set (union covered set) r (λ x. union_right x covered set) (whole_above p s m n set r plan u (hs r j))
   ];
 }
 growing_sound p m n s set Closed plan u hs hv = tt
@@ -155,7 +155,7 @@ up_sound p alive n x m s w set plan hk hb hq =
     (begin_sound p n _ (each_wave_set (λ a b v. WaveIsSound p n a v) x.book s w _ hb (growing_sound p m n s set (x.book s w) plan hq.0 hq.1 (hb s w)))))
 
 done_work_sound : (p : Plan) (n : ℕ) (kin : Kin) (s w : ℕ) (book : Book) (v : Wave) → In (s, w) (waves_of p.streams) → KinFits p n kin → BookIsSound p n book → WorkIsSound p n (done_work p kin s w book v)
-done_work_sound p n kin s w book (Open cov sent timer) named fits hb = record { book = each_wave_set (λ a b v. WaveIsSound p n a v) book s w _ hb tt; sends = dones_sound p n s w kin fits named }
+done_work_sound p n kin s w book (Open covered sent timer) named fits hb = record { book = each_wave_set (λ a b v. WaveIsSound p n a v) book s w _ hb tt; sends = dones_sound p n s w kin fits named }
 done_work_sound p n kin s w book Closed named fits hb = begin_sound p n book hb
 
 -- the word that a wave has ended
@@ -188,7 +188,7 @@ attach_sound p alive n x m hk hb u = record {
 }
 
 pub unsent_sound : (p : Plan) (n s : ℕ) (v : Wave) → WaveIsSound p n s v → WaveIsSound p n s (unsent v)
-unsent_sound p n s (Open cov sent timer) h = record { within = λ x i. absurd (no_rank x i); whole = h.whole }
+unsent_sound p n s (Open covered sent timer) h = record { within = λ x i. absurd (no_rank x i); whole = h.whole }
 unsent_sound p n s Closed h = h
 
 in_heard : (m a : ℕ) → In a (m ∷ []) → a ≡ m

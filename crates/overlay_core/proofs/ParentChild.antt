@@ -1,7 +1,7 @@
 -- A living node and its living parent, over a commit and over a loss.
 use Rattle.std.proofs.Common.{◌≡◌, ◌⊎◌, inl, inr, ℕ, Bool, true, false, cond, ◌&&◌, ◌==◌, List, [], ◌∷◌, ◌++◌, refl, sym, ap, subst, ◌∙◌, eqb-true, eq-eqb, Some}
 use Rattle.std.proofs.lemmas.Bool.{cond-true, cond-false, and_parts, and_from, cases_Bool, eqb-false, true≢false}
-use Rattle.stat_plan.specs.NodeSets.{In}
+use Rattle.overlay_setup.specs.NodeSets.{In}
 use Rattle.stat_plan.specs.Plans.{Plan, ancestors, waves_at, serves}
 use Rattle.overlay_core.specs.Nodes.{Packet, Up, Done, Attach, Down, Node, Outcome, received}
 use Rattle.stat_plan.specs.Machine.Waves.{is_open}
@@ -91,7 +91,7 @@ pair_parent p old st n taken o c x y takes nc alive g h = record {
     | inr i ↦ elim (takes c n Attach i) [ inl j ↦ inr (grows c n Attach j) | inr t ↦ inl (g.took_attach c t.1) ]
   ];
   sent = λ s w r e i. elim (h.sent s w r (g.opens s w e) i) [
-    | inl j ↦ inl (g.cov s w e r j)
+    | inl j ↦ inl (g.covered s w e r j)
     | inr j ↦ elim (takes c n (Up s w j.set) j.there) [
       | inl k ↦ inr (record { set = j.set; there = grows c n (Up s w j.set) k; holds = j.holds })
       | inr t ↦ inl (g.took_up c s w j.set t.1 e r j.holds)

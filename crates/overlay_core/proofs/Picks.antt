@@ -2,7 +2,7 @@
 use Rattle.std.proofs.Common.{◌≡◌, ◌≤◌, ◌<◌, ◌+◌, ◌/◌, ◌%◌, ◌^◌, inl, inr, ℕ, suc, zero, true, false, ◌==◌, List, [], ◌∷◌, ◌++◌, ap, length, refl, sym, subst, ◌∙◌, arith, Option, Some, None, zero-le}
 use Rattle.std.specs.Prelude.{slice_get}
 use Rattle.std.proofs.lemmas.Bool.{cond_both, true≢false, cases_Bool, eqb-false}
-use Rattle.stat_plan.specs.NodeSets.{In}
+use Rattle.overlay_setup.specs.NodeSets.{In}
 use Rattle.stat_plan.specs.Plans.{Plan, nodes}
 use Rattle.overlay_core.specs.Machine.{State, start, step, lose, is_enabled, enabled_events}
 use Rattle.overlay_core.specs.Runs.{run, after, IsLegal, IsLegalFrom, IsQuiet, IsWhole}

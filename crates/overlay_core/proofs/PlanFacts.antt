@@ -4,14 +4,15 @@ use Rattle.std.specs.Prelude.{slice_index_or, find, nat_eq}
 use Rattle.std.specs.List.{AllByRecursion}
 use Rattle.std.proofs.lemmas.Bool.{and_parts, eqb-false, true≢false}
 use Rattle.rank_set.specs.Ranks.{none}
-use Rattle.stat_plan.specs.NodeSets.{In, IsStrictlyIncreasing}
-use Rattle.stat_plan.specs.Trees as tree
-use Rattle.stat_plan.specs.Trees.{climb, is_other, is_daemon, root_of}
-use Rattle.stat_plan.specs.Plans.{Plan, Stream, nodes, nodes_of, front, ancestors, IsUnder, ranks, stream_of, daemons, mode, fault, waves_of, up_to}
-use Rattle.stat_plan.specs.Invariants.{IsPlan, IsStream, IsMode, IsDaemon}
-use Rattle.stat_plan.specs.declared.script.Mode.{Mode}
-use Rattle.stat_plan.specs.declared.script.Mode.TheVariants.{WaitForAll, TimeOut, DontWait}
-use Rattle.stat_plan.specs.declared.script.Fault.{Fault}
+use Rattle.overlay_setup.specs.NodeSets.{In, IsStrictlyIncreasing, up_to}
+use Rattle.overlay_setup.specs.Trees as tree
+use Rattle.overlay_setup.specs.Trees.{climb, is_other, is_daemon, root_of}
+use Rattle.stat_plan.specs.Plans.{Plan, nodes, nodes_of, front, ancestors, IsUnder, ranks, stream_of, daemons, mode, fault, waves_of}
+use Rattle.overlay_setup.specs.Scripts.{Stream, IsDaemon, IsStream, IsMode}
+use Rattle.stat_plan.specs.Invariants.{IsPlan}
+use Rattle.overlay_setup.specs.declared.script.Mode.{Mode}
+use Rattle.overlay_setup.specs.declared.script.Mode.TheVariants.{WaitForAll, TimeOut, DontWait}
+use Rattle.overlay_setup.specs.declared.script.Fault.{Fault}
 
 -- the facts on a plan that the proofs use: the front end is above all other nodes and is never lost, being under is an order,
 -- the ancestors of an ancestor are the rest of the list, and the daemons of a stream are leaves that have ranks
@@ -273,7 +274,7 @@ some_daemon p all s w i = go (find (λ x. x.number == s) p.streams) refl
   where
     go : (o : Option Stream) → find (λ x. x.number == s) p.streams ≡ o → (d : ℕ) × In d (elim o [ None ↦ [] | Some x ↦ x.daemons ])
     go None e = absurd (wave_stream p.streams s w i e)
-    go (Some x) e = let k = found IsStream (λ x. x.number == s) p.streams x all e in first_one x.daemons k.daemons_some
+    go (Some x) e = let k = found IsStream (λ x. x.number == s) p.streams x all e in first_one x.daemons k.has_daemons
 
 -- each daemon of a stream is a node that is nobody's parent
 listed : (p : Plan) (d s : ℕ) → IsPlan p → In d (daemons p s) → IsDaemon (nodes_of p) d

@@ -2,8 +2,8 @@
 use Rattle.rank_set.specs.Ranks.{none, is_subset}
 use Rattle.std.proofs.Common.{◌≡◌, ◌≤◌, ◌<◌, ◌+◌, ◌*◌, inl, inr, ℕ, suc, zero, Bool, true, false, cond, ◌&&◌, ◌==◌, nat_lt, lt-ltb, List, [], ◌∷◌, ◌++◌, length, take, refl, sym, ap, subst, ◌∙◌, arith, eqb-true, eq-eqb, le_refl, le_trans, not, zero-le, mul-le-mul_right}
 use Rattle.std.proofs.lemmas.Bool.{cond_both, cond-true, cond-false, and_parts, and_from, cases_Bool, true≢false, ltb-true}
-use Rattle.stat_plan.specs.NodeSets.{In, IsStrictlyIncreasing, member}
-use Rattle.stat_plan.specs.Plans.{Plan, IsUnder, ancestors, nodes, daemons, ranks, is_related, waves_at, waves_of, up_to, fault, is_within, serves}
+use Rattle.overlay_setup.specs.NodeSets.{In, IsStrictlyIncreasing, member, up_to}
+use Rattle.stat_plan.specs.Plans.{Plan, IsUnder, ancestors, nodes, daemons, ranks, is_related, waves_at, waves_of, fault, is_within, serves}
 use Rattle.overlay_core.specs.Nodes.{Packet, Up, Done, Attach, Down, Node, Outcome, sampled, after_tick, received}
 use Rattle.stat_plan.specs.Machine.Waves.{Open}
 use Rattle.stat_plan.specs.Machine.Kin.{without_child}

@@ -5,8 +5,9 @@ use Rattle.std.specs.List.{list_any, list_all}
 use Rattle.std.specs.Ordering.{nat_cmp, eq_by_cmp, is_eq}
 use Rattle.std.specs.Cmp.{nat_cmp_total, tied_itself}
 use Rattle.std.proofs.lemmas.Bool.{cond_both, or_left, or_right, and_parts, and_from, cases_Bool, true≢false}
-use Rattle.stat_plan.specs.NodeSets.{In, member, with_number}
-use Rattle.stat_plan.specs.Plans.{Plan, Stream, ancestors, serves, mode, stream_of, is_front, nodes, daemons, ranks, is_within, waves_at, waves_of}
+use Rattle.overlay_setup.specs.NodeSets.{In, member, with_number}
+use Rattle.stat_plan.specs.Plans.{Plan, ancestors, serves, mode, stream_of, is_front, nodes, daemons, ranks, is_within, waves_at, waves_of}
+use Rattle.overlay_setup.specs.Scripts.{Stream}
 use Rattle.stat_plan.specs.Machine.Due.{due_act}
 use Rattle.overlay_core.specs.Nodes.{Packet, Up, Done, Attach, Down, Node, Effects, Outcome, begin, due_at, to_parent, dones, acted, act_as, act, act_each, done_work, sampled, after_tick, received_up, received_done, received_attach, received_down}
 use Rattle.stat_plan.specs.Machine.Kin.{Kin, complete, nearest, is_parent, without_child, with_parent}
@@ -16,8 +17,8 @@ use Rattle.overlay_core.proofs.PlanFacts.{HasPlanFacts}
 use Rattle.overlay_core.specs.LinkInvariant.{KinIsSound, WaveIsSound}
 use Rattle.overlay_core.specs.Settled.{WaveIsSettled, NodeIsSettled, TimerIsSound}
 use Rattle.overlay_core.specs.Bound.{longest}
-use Rattle.stat_plan.specs.declared.script.Mode.{Mode}
-use Rattle.stat_plan.specs.declared.script.Mode.TheVariants.{WaitForAll, TimeOut, DontWait}
+use Rattle.overlay_setup.specs.declared.script.Mode.{Mode}
+use Rattle.overlay_setup.specs.declared.script.Mode.TheVariants.{WaitForAll, TimeOut, DontWait}
 use Rattle.stat_plan.specs.declared.machine.Timer.{Timer}
 use Rattle.stat_plan.specs.declared.machine.Timer.TheVariants.{Off, Running, Fired}
 use Rattle.stat_plan.specs.declared.machine.Act.{Act}
@@ -38,20 +39,20 @@ tick_cap p = longest p.streams
 unfoldable pub wave_count : Plan → ℕ
 wave_count p = length (waves_of p.streams)
 
--- the daemons of s at or under n that cov lacks
+-- the daemons of s at or under n that covered lacks
 unfoldable pub uncovered : Plan → ℕ → ℕ → Ranks → ℕ
-uncovered p n s cov = length (filter (λ d. is_within p d n && not (is_subset (ranks p d) cov)) (daemons p s))
+uncovered p n s covered = length (filter (λ d. is_within p d n && not (is_subset (ranks p d) covered)) (daemons p s))
 
 -- the ticks of a wave until its timer has run out and it is passed on, and the passing on
 abbrev pub pend : ℕ → Ranks → Ranks → Timer → ℕ
-pend t cov sent Off = cond (is_same cov sent) 0 (t + 1)
-pend t cov sent (Running k) = k + 1
-pend t cov sent Fired = 1
+pend t covered sent Off = cond (is_same covered sent) 0 (t + 1)
+pend t covered sent (Running k) = k + 1
+pend t covered sent Fired = 1
 
 -- Of an open wave: what each daemon that can still come in makes it do, what is pending, and the words to its children at the
 -- end.
 abbrev pub wave_weight : Plan → ℕ → ℕ → Wave → ℕ
-wave_weight p n s (Open cov sent timer) = uncovered p n s cov * (tick_cap p + 2) + pend (tick_cap p) cov sent timer + nodes p
+wave_weight p n s (Open covered sent timer) = uncovered p n s covered * (tick_cap p + 2) + pend (tick_cap p) covered sent timer + nodes p
 wave_weight p n s Closed = 0
 
 -- of all waves
@@ -93,16 +94,16 @@ drop_at p n book s w v c i le =
     weaken : (a c b : ℕ) → a + c ≤ b → a ≤ b
     weaken a c b h = omega arith
 
-pend_some : (t : ℕ) (cov sent : Ranks) (timer : Timer) → is_same cov sent ≡ false → 1 ≤ pend t cov sent timer
-pend_some t cov sent Off e = subst (λ b. 1 ≤ cond b 0 (t + 1)) (sym e) (omega arith)
-pend_some t cov sent (Running k) e = omega arith
-pend_some t cov sent Fired e = omega arith
+pend_some : (t : ℕ) (covered sent : Ranks) (timer : Timer) → is_same covered sent ≡ false → 1 ≤ pend t covered sent timer
+pend_some t covered sent Off e = subst (λ b. 1 ≤ cond b 0 (t + 1)) (sym e) (omega arith)
+pend_some t covered sent (Running k) e = omega arith
+pend_some t covered sent Fired e = omega arith
 
-pend_none : (t : ℕ) (cov : Ranks) → pend t cov cov Off ≡ 0
-pend_none t cov = subst (λ b. cond b 0 (t + 1) ≡ 0) (sym (test_from_same cov)) refl
+pend_none : (t : ℕ) (covered : Ranks) → pend t covered covered Off ≡ 0
+pend_none t covered = subst (λ b. cond b 0 (t + 1) ≡ 0) (sym (test_from_same covered)) refl
 
-pend_off : (t : ℕ) (cov sent : Ranks) → pend t cov sent Off ≤ t + 1
-pend_off t cov sent = cond_both (is_same cov sent) 0 (t + 1) (λ x. x ≤ t + 1) (λ e. zero-le) (λ e. le_refl _)
+pend_off : (t : ℕ) (covered sent : Ranks) → pend t covered sent Off ≤ t + 1
+pend_off t covered sent = cond_both (is_same covered sent) 0 (t + 1) (λ x. x ≤ t + 1) (λ e. zero-le) (λ e. le_refl _)
 
 not_true : (b : Bool) → not b ≡ true → b ≡ false
 not_true true e = absurd (true≢false (sym e))
@@ -148,41 +149,41 @@ attach_weight p (Some m) = omega arith
 abbrev pub work_weight : Plan → ℕ → Effects → ℕ
 work_weight p n k = book_weight p n k.book + sends_weight p k.sends
 
-acted_decreases : (p : Plan) (n : ℕ) (kin : Kin) (s w : ℕ) (cov sent : Ranks) (timer : Timer) (k : Effects) (a : Act) → In (s, w) (waves_of p.streams) → length kin.children ≤ nodes p → k.book s w ≡ Open cov sent timer → due_at p n kin.lost s cov sent timer ≡ a → work_weight p n (acted p kin s w cov sent timer k a) ≤ work_weight p n k
+acted_decreases : (p : Plan) (n : ℕ) (kin : Kin) (s w : ℕ) (covered sent : Ranks) (timer : Timer) (k : Effects) (a : Act) → In (s, w) (waves_of p.streams) → length kin.children ≤ nodes p → k.book s w ≡ Open covered sent timer → due_at p n kin.lost s covered sent timer ≡ a → work_weight p n (acted p kin s w covered sent timer k a) ≤ work_weight p n k
 unfolding acted due_at
-acted_decreases p n kin s w cov sent timer k Hold i few ev e = le_refl _
-acted_decreases p n kin s w cov sent timer k Arm i few ev e =
-    let t = after_arm (mode p s) (complete p n kin.lost s cov) (not (is_same cov sent)) (is_front p n) timer 0 e in
-    let off : timer ≡ Off = arm_off (mode p s) (complete p n kin.lost s cov) (not (is_same cov sent)) (is_front p n) timer e in
-    let grown : is_same cov sent ≡ false = not_true _ t.1 in
-    let full : pend (tick_cap p) cov sent timer ≡ tick_cap p + 1 = subst (λ y. pend (tick_cap p) cov sent y ≡ tick_cap p + 1) (sym off) (subst (λ b. cond b 0 (tick_cap p + 1) ≡ tick_cap p + 1) (sym grown) refl) in
-    let old : wave_weight p n s (k.book s w) ≡ uncovered p n s cov * (tick_cap p + 2) + pend (tick_cap p) cov sent timer + nodes p = ap (wave_weight p n s) ev in
+acted_decreases p n kin s w covered sent timer k Hold i few ev e = le_refl _
+acted_decreases p n kin s w covered sent timer k Arm i few ev e =
+    let t = after_arm (mode p s) (complete p n kin.lost s covered) (not (is_same covered sent)) (is_front p n) timer 0 e in
+    let off : timer ≡ Off = arm_off (mode p s) (complete p n kin.lost s covered) (not (is_same covered sent)) (is_front p n) timer e in
+    let grown : is_same covered sent ≡ false = not_true _ t.1 in
+    let full : pend (tick_cap p) covered sent timer ≡ tick_cap p + 1 = subst (λ y. pend (tick_cap p) covered sent y ≡ tick_cap p + 1) (sym off) (subst (λ b. cond b 0 (tick_cap p + 1) ≡ tick_cap p + 1) (sym grown) refl) in
+    let old : wave_weight p n s (k.book s w) ≡ uncovered p n s covered * (tick_cap p + 2) + pend (tick_cap p) covered sent timer + nodes p = ap (wave_weight p n s) ev in
     let le : ticks (mode p s) ≤ tick_cap p = ticks_le p s in
-    let d : book_weight p n (set_wave k.book s w (Open cov sent (Running (ticks (mode p s))))) + 0 ≤ book_weight p n k.book = drop_at p n k.book s w (Open cov sent (Running (ticks (mode p s)))) 0 i (omega arith) in
+    let d : book_weight p n (set_wave k.book s w (Open covered sent (Running (ticks (mode p s))))) + 0 ≤ book_weight p n k.book = drop_at p n k.book s w (Open covered sent (Running (ticks (mode p s)))) 0 i (omega arith) in
     omega arith
-acted_decreases p n kin s w cov sent timer k Send i few ev e =
-    let grown : is_same cov sent ≡ false = not_true _ (send_grown (mode p s) (complete p n kin.lost s cov) (not (is_same cov sent)) (is_front p n) timer e) in
-    let some : 1 ≤ pend (tick_cap p) cov sent timer = pend_some (tick_cap p) cov sent timer grown in
-    let none : pend (tick_cap p) cov cov Off ≡ 0 = pend_none (tick_cap p) cov in
-    let old : wave_weight p n s (k.book s w) ≡ uncovered p n s cov * (tick_cap p + 2) + pend (tick_cap p) cov sent timer + nodes p = ap (wave_weight p n s) ev in
-    let d : book_weight p n (set_wave k.book s w (Open cov cov Off)) + 1 ≤ book_weight p n k.book = drop_at p n k.book s w (Open cov cov Off) 1 i (omega arith) in
-    let u : sends_weight p (to_parent kin.parent (Up s w cov)) ≤ 1 = up_weight p kin.parent s w cov in
-    let a : sends_weight p (k.sends ++ to_parent kin.parent (Up s w cov)) ≡ sends_weight p k.sends + sends_weight p (to_parent kin.parent (Up s w cov)) = sends_append p k.sends _ in
+acted_decreases p n kin s w covered sent timer k Send i few ev e =
+    let grown : is_same covered sent ≡ false = not_true _ (send_grown (mode p s) (complete p n kin.lost s covered) (not (is_same covered sent)) (is_front p n) timer e) in
+    let some : 1 ≤ pend (tick_cap p) covered sent timer = pend_some (tick_cap p) covered sent timer grown in
+    let none : pend (tick_cap p) covered covered Off ≡ 0 = pend_none (tick_cap p) covered in
+    let old : wave_weight p n s (k.book s w) ≡ uncovered p n s covered * (tick_cap p + 2) + pend (tick_cap p) covered sent timer + nodes p = ap (wave_weight p n s) ev in
+    let d : book_weight p n (set_wave k.book s w (Open covered covered Off)) + 1 ≤ book_weight p n k.book = drop_at p n k.book s w (Open covered covered Off) 1 i (omega arith) in
+    let u : sends_weight p (to_parent kin.parent (Up s w covered)) ≤ 1 = up_weight p kin.parent s w covered in
+    let a : sends_weight p (k.sends ++ to_parent kin.parent (Up s w covered)) ≡ sends_weight p k.sends + sends_weight p (to_parent kin.parent (Up s w covered)) = sends_append p k.sends _ in
     omega arith
-acted_decreases p n kin s w cov sent timer k Partial i few ev e =
-    let none : pend (tick_cap p) cov cov Off ≡ 0 = pend_none (tick_cap p) cov in
-    let old : wave_weight p n s (k.book s w) ≡ uncovered p n s cov * (tick_cap p + 2) + pend (tick_cap p) cov sent timer + nodes p = ap (wave_weight p n s) ev in
-    let d : book_weight p n (set_wave k.book s w (Open cov cov Off)) + 0 ≤ book_weight p n k.book = drop_at p n k.book s w (Open cov cov Off) 0 i (omega arith) in
+acted_decreases p n kin s w covered sent timer k Partial i few ev e =
+    let none : pend (tick_cap p) covered covered Off ≡ 0 = pend_none (tick_cap p) covered in
+    let old : wave_weight p n s (k.book s w) ≡ uncovered p n s covered * (tick_cap p + 2) + pend (tick_cap p) covered sent timer + nodes p = ap (wave_weight p n s) ev in
+    let d : book_weight p n (set_wave k.book s w (Open covered covered Off)) + 0 ≤ book_weight p n k.book = drop_at p n k.book s w (Open covered covered Off) 0 i (omega arith) in
     omega arith
-acted_decreases p n kin s w cov sent timer k Final i few ev e =
-    let old : wave_weight p n s (k.book s w) ≡ uncovered p n s cov * (tick_cap p + 2) + pend (tick_cap p) cov sent timer + nodes p = ap (wave_weight p n s) ev in
+acted_decreases p n kin s w covered sent timer k Final i few ev e =
+    let old : wave_weight p n s (k.book s w) ≡ uncovered p n s covered * (tick_cap p + 2) + pend (tick_cap p) covered sent timer + nodes p = ap (wave_weight p n s) ev in
     let d : book_weight p n (set_wave k.book s w Closed) + nodes p ≤ book_weight p n k.book = drop_at p n k.book s w Closed (nodes p) i (omega arith) in
     let u : sends_weight p (dones p kin s w) ≤ nodes p = dones_weight p kin s w few in
     let a : sends_weight p (k.sends ++ dones p kin s w) ≡ sends_weight p k.sends + sends_weight p (dones p kin s w) = sends_append p k.sends _ in
     omega arith
 
 act_as_decreases : (p : Plan) (n : ℕ) (kin : Kin) (s w : ℕ) (k : Effects) (v : Wave) → In (s, w) (waves_of p.streams) → length kin.children ≤ nodes p → k.book s w ≡ v → work_weight p n (act_as p n kin s w k v) ≤ work_weight p n k
-act_as_decreases p n kin s w k (Open cov sent timer) i few ev = acted_decreases p n kin s w cov sent timer k (due_at p n kin.lost s cov sent timer) i few ev refl
+act_as_decreases p n kin s w k (Open covered sent timer) i few ev = acted_decreases p n kin s w covered sent timer k (due_at p n kin.lost s covered sent timer) i few ev refl
 act_as_decreases p n kin s w k Closed i few ev = le_refl _
 
 act_each_decreases : (p : Plan) (n : ℕ) (kin : Kin) (vs : List (ℕ × ℕ)) (k : Effects) → IsSubsetOf vs (waves_of p.streams) → length kin.children ≤ nodes p → work_weight p n (act_each p n kin vs k) ≤ work_weight p n k
@@ -207,23 +208,23 @@ unfolding sends_weight
 begin_weight p n b = omega arith
 
 -- a coverage that grows by a daemon's ranks
-covered_drop : (p : Plan) (n s d : ℕ) (cov cov' : Ranks) → In d (daemons p s) → is_within p d n ≡ true → IsSubset cov cov' → IsSubset (ranks p d) cov' → is_subset (ranks p d) cov ≡ false → uncovered p n s cov' + 1 ≤ uncovered p n s cov
+covered_drop : (p : Plan) (n s d : ℕ) (covered covered' : Ranks) → In d (daemons p s) → is_within p d n ≡ true → IsSubset covered covered' → IsSubset (ranks p d) covered' → is_subset (ranks p d) covered ≡ false → uncovered p n s covered' + 1 ≤ uncovered p n s covered
 unfolding uncovered
-covered_drop p n s d cov cov' i u sub sub' e =
-    length_filter_drop (λ d. is_within p d n && not (is_subset (ranks p d) cov')) (λ d. is_within p d n && not (is_subset (ranks p d) cov)) (daemons p s) d
-    (λ x j t. let a = and_parts (is_within p x n) (not (is_subset (ranks p x) cov')) t in and_from _ _ a.0 (not_more x (not_true _ a.1)))
+covered_drop p n s d covered covered' i u sub sub' e =
+    length_filter_drop (λ d. is_within p d n && not (is_subset (ranks p d) covered')) (λ d. is_within p d n && not (is_subset (ranks p d) covered)) (daemons p s) d
+    (λ x j t. let a = and_parts (is_within p x n) (not (is_subset (ranks p x) covered')) t in and_from _ _ a.0 (not_more x (not_true _ a.1)))
     i
     (back)
     (and_from _ _ u (subst (λ b. not b ≡ true) (sym e) refl))
   where
-    not_more : (x : ℕ) → is_subset (ranks p x) cov' ≡ false → not (is_subset (ranks p x) cov) ≡ true
-    not_more x f = elim (cases_Bool (is_subset (ranks p x) cov)) [
-      | inl t ↦ absurd (true≢false (sym (test_from_subset (ranks p x) cov' (λ r j. sub r (subset_from_test (ranks p x) cov t r j))) ∙ f))
+    not_more : (x : ℕ) → is_subset (ranks p x) covered' ≡ false → not (is_subset (ranks p x) covered) ≡ true
+    not_more x f = elim (cases_Bool (is_subset (ranks p x) covered)) [
+      | inl t ↦ absurd (true≢false (sym (test_from_subset (ranks p x) covered' (λ r j. sub r (subset_from_test (ranks p x) covered t r j))) ∙ f))
       | inr g ↦ subst (λ b. not b ≡ true) (sym g) refl
     ]
 
-    back : (is_within p d n && not (is_subset (ranks p d) cov')) ≡ false
-    back = subst (λ b. (is_within p d n && not b) ≡ false) (sym (test_from_subset (ranks p d) cov' sub')) (and_no (is_within p d n))
+    back : (is_within p d n && not (is_subset (ranks p d) covered')) ≡ false
+    back = subst (λ b. (is_within p d n && not b) ≡ false) (sym (test_from_subset (ranks p d) covered' sub')) (and_no (is_within p d n))
       where
         and_no : (b : Bool) → (b && false) ≡ false
         and_no true = refl
@@ -242,24 +243,24 @@ first_missing s t e = go (in_order s) (λ r i. has-in_order s r ∙ i) e
       | inr f ↦ (x, h x (or_left (eq_by_cmp nat_cmp x x) (list_any (eq_by_cmp nat_cmp x) xs) (ap is_eq (tied_itself nat_cmp_total x))), f)
     ]
 
-pend_grows : (t : ℕ) (cov cov' sent : Ranks) (timer : Timer) → pend t cov' sent timer ≤ pend t cov sent timer + (t + 1)
-pend_grows t cov cov' sent Off = let a = pend_off t cov' sent in omega arith
-pend_grows t cov cov' sent (Running k) = omega arith
-pend_grows t cov cov' sent Fired = omega arith
+pend_grows : (t : ℕ) (covered covered' sent : Ranks) (timer : Timer) → pend t covered' sent timer ≤ pend t covered sent timer + (t + 1)
+pend_grows t covered covered' sent Off = let a = pend_off t covered' sent in omega arith
+pend_grows t covered covered' sent (Running k) = omega arith
+pend_grows t covered covered' sent Fired = omega arith
 
 -- ranks that come up
 growing_decreases : (p : Plan) (n s : ℕ) (set : Ranks) (v : Wave) → WaveIsSound p n s v → WaveIsSound p n s (growing set v) → wave_weight p n s (growing set v) ≤ wave_weight p n s v
-growing_decreases p n s set (Open cov sent timer) h h' = elim (cases_Bool (is_subset (union cov set) cov)) [
+growing_decreases p n s set (Open covered sent timer) h h' = elim (cases_Bool (is_subset (union covered set) covered)) [
   | inl t ↦
-      let e : union cov set ≡ cov = same_from_members (union cov set) cov (subset_from_test (union cov set) cov t) (λ r i. union_left r cov set i) in
-      subst (λ l. uncovered p n s l * (tick_cap p + 2) + pend (tick_cap p) l sent timer + nodes p ≤ uncovered p n s cov * (tick_cap p + 2) + pend (tick_cap p) cov sent timer + nodes p) (sym e) (le_refl _)
+      let e : union covered set ≡ covered = same_from_members (union covered set) covered (subset_from_test (union covered set) covered t) (λ r i. union_left r covered set i) in
+      subst (λ l. uncovered p n s l * (tick_cap p + 2) + pend (tick_cap p) l sent timer + nodes p ≤ uncovered p n s covered * (tick_cap p + 2) + pend (tick_cap p) covered sent timer + nodes p) (sym e) (le_refl _)
   | inr f ↦
-      let r = first_missing (union cov set) cov f in
+      let r = first_missing (union covered set) covered f in
       let c = h'.whole r.0 r.1 in
-      let d : uncovered p n s (union cov set) + 1 ≤ uncovered p n s cov = covered_drop p n s c.daemon cov (union cov set) c.place.listed (test_from_within p c.daemon n c.place.within) (λ x i. union_left x cov set i) c.all
-      (lacks (ranks p c.daemon) cov r.0 c.holds r.2) in
-      let k = grow_cost p (uncovered p n s (union cov set)) (uncovered p n s cov) d in
-      let g = pend_grows (tick_cap p) cov (union cov set) sent timer in
+      let d : uncovered p n s (union covered set) + 1 ≤ uncovered p n s covered = covered_drop p n s c.daemon covered (union covered set) c.place.listed (test_from_within p c.daemon n c.place.within) (λ x i. union_left x covered set i) c.all
+      (lacks (ranks p c.daemon) covered r.0 c.holds r.2) in
+      let k = grow_cost p (uncovered p n s (union covered set)) (uncovered p n s covered) d in
+      let g = pend_grows (tick_cap p) covered (union covered set) sent timer in
       omega arith
 ]
   where
@@ -278,13 +279,13 @@ up_decreases p n x s w set i few h h' =
     omega arith
 
 -- a sample
-covering_decreases : (p : Plan) (n s : ℕ) (v : Wave) → HasPlanFacts p → In n (daemons p s) → is_empty_open v ≡ true → WaveIsSound p n s v → ((cov sent : Ranks) (t : Timer) → v ≡ Open cov sent t → TimerIsSound p s cov sent t) → wave_weight p n s (covering (ranks p n) v) + 1 ≤ wave_weight p n s v
-covering_decreases p n s (Open cov sent timer) plan hd e h ht =
-    let ec : cov ≡ none = empty_true cov e in
+covering_decreases : (p : Plan) (n s : ℕ) (v : Wave) → HasPlanFacts p → In n (daemons p s) → is_empty_open v ≡ true → WaveIsSound p n s v → ((covered sent : Ranks) (t : Timer) → v ≡ Open covered sent t → TimerIsSound p s covered sent t) → wave_weight p n s (covering (ranks p n) v) + 1 ≤ wave_weight p n s v
+covering_decreases p n s (Open covered sent timer) plan hd e h ht =
+    let ec : covered ≡ none = empty_true covered e in
     let es : sent ≡ none = none_from_subset sent (subst (IsSubset sent) ec h.within) in
     subst (λ c. wave_weight p n s (Open (ranks p n) sent timer) + 1 ≤ wave_weight p n s (Open c sent timer)) (sym ec)
     (subst (λ z. wave_weight p n s (Open (ranks p n) z timer) + 1 ≤ wave_weight p n s (Open none z timer)) (sym es)
-    (at_none timer (subst (λ z. TimerIsSound p s none z timer) es (subst (λ c. TimerIsSound p s c sent timer) ec (ht cov sent timer refl)))))
+    (at_none timer (subst (λ z. TimerIsSound p s none z timer) es (subst (λ c. TimerIsSound p s c sent timer) ec (ht covered sent timer refl)))))
   where
     some : (xs : Ranks) → xs ≢ none → is_subset xs none ≡ false
     some xs ne = elim (cases_Bool (is_subset xs none)) [ inl t ↦ absurd (ne (none_from_subset xs (subset_from_test xs none t))) | inr f ↦ f ]
@@ -303,26 +304,26 @@ pub sampled_decreases : (p : Plan) (n : ℕ) (x : Node) (s w : ℕ) → HasPlanF
 unfolding sampled
 sampled_decreases p n x s w plan i hd few e h hc =
     let b = set_wave x.book s w (covering (ranks p n) (x.book s w)) in
-    let d : book_weight p n b + 1 ≤ book_weight p n x.book = drop_at p n x.book s w (covering (ranks p n) (x.book s w)) 1 i (covering_decreases p n s (x.book s w) plan hd e h (λ cov sent t ev. (subst (WaveIsSettled p n x.kin.lost s) ev hc).1)) in
+    let d : book_weight p n b + 1 ≤ book_weight p n x.book = drop_at p n x.book s w (covering (ranks p n) (x.book s w)) 1 i (covering_decreases p n s (x.book s w) plan hd e h (λ covered sent t ev. (subst (WaveIsSettled p n x.kin.lost s) ev hc).1)) in
     let a : work_weight p n (act p n x.kin s w (begin b)) ≤ work_weight p n (begin b) = act_as_decreases p n x.kin s w (begin b) (b s w) i few refl in
     let z : work_weight p n (begin b) ≡ book_weight p n b = begin_weight p n b in
     omega arith
 
 -- a tick
 ticked_decreases : (p : Plan) (n s : ℕ) (v : Wave) → wave_weight p n s (ticked v) ≤ wave_weight p n s v
-ticked_decreases p n s (Open cov sent Off) = le_refl _
-ticked_decreases p n s (Open cov sent (Running zero)) = omega arith
-ticked_decreases p n s (Open cov sent (Running (suc zero))) = omega arith
-ticked_decreases p n s (Open cov sent (Running (suc (suc t)))) = omega arith
-ticked_decreases p n s (Open cov sent Fired) = le_refl _
+ticked_decreases p n s (Open covered sent Off) = le_refl _
+ticked_decreases p n s (Open covered sent (Running zero)) = omega arith
+ticked_decreases p n s (Open covered sent (Running (suc zero))) = omega arith
+ticked_decreases p n s (Open covered sent (Running (suc (suc t)))) = omega arith
+ticked_decreases p n s (Open covered sent Fired) = le_refl _
 ticked_decreases p n s Closed = le_refl _
 
 running_decreases : (p : Plan) (n s : ℕ) (lost : List ℕ) (v : Wave) → is_running v ≡ true → WaveIsSettled p n lost s v → wave_weight p n s (ticked v) + 1 ≤ wave_weight p n s v
-running_decreases p n s lost (Open cov sent Off) e h = absurd (true≢false (sym e))
-running_decreases p n s lost (Open cov sent (Running zero)) e h = absurd (let k = h.1.0 in omega arith)
-running_decreases p n s lost (Open cov sent (Running (suc zero))) e h = omega arith
-running_decreases p n s lost (Open cov sent (Running (suc (suc t)))) e h = omega arith
-running_decreases p n s lost (Open cov sent Fired) e h = absurd (true≢false (sym e))
+running_decreases p n s lost (Open covered sent Off) e h = absurd (true≢false (sym e))
+running_decreases p n s lost (Open covered sent (Running zero)) e h = absurd (let k = h.1.0 in omega arith)
+running_decreases p n s lost (Open covered sent (Running (suc zero))) e h = omega arith
+running_decreases p n s lost (Open covered sent (Running (suc (suc t)))) e h = omega arith
+running_decreases p n s lost (Open covered sent Fired) e h = absurd (true≢false (sym e))
 running_decreases p n s lost Closed e h = absurd (true≢false (sym e))
 
 pub tick_decreases : (p : Plan) (n : ℕ) (x : Node) → length x.kin.children ≤ nodes p → NodeIsSettled p n x → list_any (λ v. is_running (x.book v.0 v.1)) (waves_at p n) ≡ true → Decreases p n x 0 (after_tick p n x)
@@ -341,8 +342,8 @@ tick_decreases p n x few hc e =
 -- the word that a wave has ended
 done_work_decreases : (p : Plan) (n : ℕ) (kin : Kin) (s w : ℕ) (book : Book) (v : Wave) → In (s, w) (waves_of p.streams) → length kin.children ≤ nodes p → book s w ≡ v → work_weight p n (done_work p kin s w book v) ≤ book_weight p n book
 done_work_decreases p n kin s w book Closed i few ev = let z = begin_weight p n book in omega arith
-done_work_decreases p n kin s w book (Open cov sent timer) i few ev =
-    let old : wave_weight p n s (book s w) ≡ uncovered p n s cov * (tick_cap p + 2) + pend (tick_cap p) cov sent timer + nodes p = ap (wave_weight p n s) ev in
+done_work_decreases p n kin s w book (Open covered sent timer) i few ev =
+    let old : wave_weight p n s (book s w) ≡ uncovered p n s covered * (tick_cap p + 2) + pend (tick_cap p) covered sent timer + nodes p = ap (wave_weight p n s) ev in
     let d : book_weight p n (set_wave book s w Closed) + nodes p ≤ book_weight p n book = drop_at p n book s w Closed (nodes p) i (omega arith) in
     let u : sends_weight p (dones p kin s w) ≤ nodes p = dones_weight p kin s w few in
     omega arith
@@ -381,7 +382,7 @@ kin_drop p n m lost i f =
     keeps a e = elim (cases_Bool (member a lost)) [ inl t ↦ absurd (true≢false (sym (in_member a (with_number m lost) (with_number_old a m lost (in_from_member a lost t))) ∙ e)) | inr g ↦ subst (λ b. not b ≡ true) (sym g) refl ]
 
 unsent_decreases : (p : Plan) (n s : ℕ) (v : Wave) → wave_weight p n s (unsent v) ≤ wave_weight p n s v + (tick_cap p + 1)
-unsent_decreases p n s (Open cov sent timer) = let a = pend_off (tick_cap p) cov none in omega arith
+unsent_decreases p n s (Open covered sent timer) = let a = pend_off (tick_cap p) covered none in omega arith
 unsent_decreases p n s Closed = zero-le
 
 is_parent_some : (o : Option ℕ) (m : ℕ) → is_parent o m ≡ true → o ≡ Some m

@@ -2,7 +2,7 @@
 use Rattle.rank_set.specs.Ranks.{Ranks}
 use Rattle.std.proofs.Common.{◌≡◌, ◌≢◌, inl, inr, ℕ, Bool, true, false, List, [], ◌∷◌, filter, refl, sym, subst, eqb-true}
 use Rattle.std.proofs.lemmas.Bool.{cond_both, and_parts}
-use Rattle.stat_plan.specs.NodeSets.{In}
+use Rattle.overlay_setup.specs.NodeSets.{In}
 use Rattle.stat_plan.specs.Plans.{Plan, front, is_front, mode, daemons, waves_at, waves_of}
 use Rattle.stat_plan.specs.Machine.Due.{due_act}
 use Rattle.overlay_core.specs.Nodes.{Packet, Up, Done, Attach, Down, Node, Effects, Outcome, Release, begin, due_at, acted, act_as, act, act_each, to_parent, done_work, sampled, after_tick, received_up, received_done, received_attach, received_down, received}
@@ -15,8 +15,8 @@ use Rattle.overlay_core.specs.LinkInvariant.{LinkInvariant, KinIsSound, PacketIs
 use Rattle.overlay_core.specs.Whole.{IsSound}
 use Rattle.overlay_core.specs.Releases.{ReleaseIsSound, ReleasesAreSound}
 use Rattle.overlay_core.specs.declared.release.Kind.TheVariants.{Partial as PartialRelease, Final as FinalRelease}
-use Rattle.stat_plan.specs.declared.script.Mode.{Mode}
-use Rattle.stat_plan.specs.declared.script.Mode.TheVariants.{WaitForAll, TimeOut, DontWait}
+use Rattle.overlay_setup.specs.declared.script.Mode.{Mode}
+use Rattle.overlay_setup.specs.declared.script.Mode.TheVariants.{WaitForAll, TimeOut, DontWait}
 use Rattle.stat_plan.specs.declared.machine.Timer.{Timer}
 use Rattle.stat_plan.specs.declared.machine.Act.{Act}
 use Rattle.stat_plan.specs.declared.machine.Act.TheVariants.{Hold, Arm, Send, Partial, Final}
@@ -40,32 +40,32 @@ partial_mode (TimeOut j) false grown top t e k = cc
 abbrev LogIsSound : Plan → Effects → Type 0
 LogIsSound p k = (r : Release) → In r k.releases → ReleaseIsSound p r
 
-at_front : (p : Plan) (n s : ℕ) (cov : Ranks) → is_front p n ≡ true → IsUnion p s n cov → IsUnion p s (front p) cov
+at_front : (p : Plan) (n s : ℕ) (covered : Ranks) → is_front p n ≡ true → IsUnion p s n covered → IsUnion p s (front p) covered
 unfolding is_front
-at_front p n s cov top h = subst (λ a. IsUnion p s a cov) (eqb-true n (front p) top) h
+at_front p n s covered top h = subst (λ a. IsUnion p s a covered) (eqb-true n (front p) top) h
 
-acted_log : (p : Plan) (n : ℕ) (kin : Kin) (s w : ℕ) (cov sent : Ranks) (timer : Timer) (k : Effects) (a : Act) → In (s, w) (waves_of p.streams) → OpenIsSound p n s cov sent → due_at p n kin.lost s cov sent timer ≡ a → LogIsSound p k → LogIsSound p (acted p kin s w cov sent timer k a)
+acted_log : (p : Plan) (n : ℕ) (kin : Kin) (s w : ℕ) (covered sent : Ranks) (timer : Timer) (k : Effects) (a : Act) → In (s, w) (waves_of p.streams) → OpenIsSound p n s covered sent → due_at p n kin.lost s covered sent timer ≡ a → LogIsSound p k → LogIsSound p (acted p kin s w covered sent timer k a)
 unfolding acted due_at
-acted_log p n kin s w cov sent timer k Hold i o e h = h
-acted_log p n kin s w cov sent timer k Arm i o e h = h
-acted_log p n kin s w cov sent timer k Send i o e h = h
-acted_log p n kin s w cov sent timer k Partial i o e h = λ r j. elim (in_append r k.releases _ j) [
+acted_log p n kin s w covered sent timer k Hold i o e h = h
+acted_log p n kin s w covered sent timer k Arm i o e h = h
+acted_log p n kin s w covered sent timer k Send i o e h = h
+acted_log p n kin s w covered sent timer k Partial i o e h = λ r j. elim (in_append r k.releases _ j) [
   | inl l ↦ h r l
   | inr l ↦ elim l [
     | inl q ↦ subst (ReleaseIsSound p) (sym q) (record {
       named = i;
-      whole = at_front p n s cov (partial_top (mode p s) _ _ _ timer e) o.whole;
+      whole = at_front p n s covered (partial_top (mode p s) _ _ _ timer e) o.whole;
       waits = λ z. partial_mode (mode p s) _ _ _ timer e;
     })
     | inr q ↦ absurd q
   ]
 ]
-acted_log p n kin s w cov sent timer k Final i o e h = λ r j. elim (in_append r k.releases _ j) [
+acted_log p n kin s w covered sent timer k Final i o e h = λ r j. elim (in_append r k.releases _ j) [
   | inl l ↦ h r l
   | inr l ↦ elim l [
     | inl q ↦ subst (ReleaseIsSound p) (sym q) (record {
       named = i;
-      whole = at_front p n s cov (final_says (mode p s) _ _ _ timer e).1 o.whole;
+      whole = at_front p n s covered (final_says (mode p s) _ _ _ timer e).1 o.whole;
       waits = λ z. absurd (not_partial z);
     })
     | inr q ↦ absurd q
@@ -76,7 +76,7 @@ acted_log p n kin s w cov sent timer k Final i o e h = λ r j. elim (in_append r
     not_partial z = cc
 
 act_as_log : (p : Plan) (n : ℕ) (kin : Kin) (s w : ℕ) (k : Effects) (v : Wave) → In (s, w) (waves_of p.streams) → WaveIsSound p n s v → LogIsSound p k → LogIsSound p (act_as p n kin s w k v)
-act_as_log p n kin s w k (Open cov sent timer) i hv h = acted_log p n kin s w cov sent timer k (due_at p n kin.lost s cov sent timer) i hv refl h
+act_as_log p n kin s w k (Open covered sent timer) i hv h = acted_log p n kin s w covered sent timer k (due_at p n kin.lost s covered sent timer) i hv refl h
 act_as_log p n kin s w k Closed i hv h = h
 
 act_each_log : (p : Plan) (n : ℕ) (kin : Kin) (vs : List (ℕ × ℕ)) (k : Effects) → IsSubsetOf vs (waves_of p.streams) → KinFits p n kin → WorkIsSound p n k → LogIsSound p k → LogIsSound p (act_each p n kin vs k)
@@ -96,7 +96,7 @@ received_log p alive n x m (Up s w set) plan hk hk' hb hq =
 received_log p alive n x m (Done s w) plan hk hk' hb hq = go (x.book s w)
   where
     go : (v : Wave) → LogIsSound p (done_work p x.kin s w x.book v)
-    go (Open cov sent t) = λ r j. absurd j
+    go (Open covered sent t) = λ r j. absurd j
     go Closed = λ r j. absurd j
 received_log p alive n x m Attach plan hk hk' hb hq = λ r j. absurd j
 received_log p alive n x m Down plan hk hk' hb hq =

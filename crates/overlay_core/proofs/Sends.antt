@@ -4,13 +4,13 @@ use Rattle.std.specs.List.{count_by}
 use Rattle.std.proofs.lemmas.List.Sums.{sum_by-append}
 use Rattle.std.proofs.lemmas.Bool.{cond_both, cases_Bool, and_parts, eqb-false, true≢false, cond-true}
 use Rattle.rank_set.specs.Ranks.{Ranks, none, is_same}
-use Rattle.stat_plan.specs.NodeSets.{member, with_number}
+use Rattle.overlay_setup.specs.NodeSets.{member, with_number}
 use Rattle.stat_plan.specs.Plans.{Plan, ancestors, ranks, mode, is_front, serves, waves_at}
 use Rattle.stat_plan.specs.Machine.Due.{due_act}
 use Rattle.stat_plan.specs.Machine.Kin.{Kin, complete, nearest, is_parent, with_parent, without_child}
 use Rattle.stat_plan.specs.Machine.Waves.{Wave, Open, Closed, Book, set_wave, has_grown, ticks, is_fired, is_closed, covering, growing, ticked, unsent}
-use Rattle.stat_plan.specs.declared.script.Mode.{Mode}
-use Rattle.stat_plan.specs.declared.script.Mode.TheVariants.{WaitForAll, TimeOut, DontWait}
+use Rattle.overlay_setup.specs.declared.script.Mode.{Mode}
+use Rattle.overlay_setup.specs.declared.script.Mode.TheVariants.{WaitForAll, TimeOut, DontWait}
 use Rattle.stat_plan.specs.declared.machine.Timer.{Timer}
 use Rattle.stat_plan.specs.declared.machine.Timer.TheVariants.{Off, Running, Fired}
 use Rattle.stat_plan.specs.declared.machine.Act.{Act}
@@ -95,50 +95,50 @@ partial_grown (TimeOut j) false false top Off e = absurd (cc)
 partial_grown (TimeOut j) false false top (Running i) e = absurd (cc)
 partial_grown (TimeOut j) false false top Fired e = absurd (cc)
 
-none_unsent : (cov : Ranks) → one_if (has_grown cov cov) ≡ 0
-none_unsent cov = ap (λ b. one_if (not b)) (test_from_same cov)
+none_unsent : (covered : Ranks) → one_if (has_grown covered covered) ≡ 0
+none_unsent covered = ap (λ b. one_if (not b)) (test_from_same covered)
 
 -- a wave that is passed on had something to send, and has nothing after
-pass_pays : (x : Book) (a b : ℕ) (cov sent : Ranks) (timer : Timer) (s w : ℕ) → x a b ≡ Open cov sent timer → has_grown cov sent ≡ true → one_if ((s == a) && (w == b)) + one_if (is_unsent (set_wave x a b (Open cov cov Off) s w)) ≤ one_if (is_unsent (x s w))
-pass_pays x a b cov sent timer s w e grown =
-    at_wave (λ v. one_if ((s == a) && (w == b)) + one_if (is_unsent v) ≤ one_if (is_unsent (x s w))) x a b (Open cov cov Off) s w
+pass_pays : (x : Book) (a b : ℕ) (covered sent : Ranks) (timer : Timer) (s w : ℕ) → x a b ≡ Open covered sent timer → has_grown covered sent ≡ true → one_if ((s == a) && (w == b)) + one_if (is_unsent (set_wave x a b (Open covered covered Off) s w)) ≤ one_if (is_unsent (x s w))
+pass_pays x a b covered sent timer s w e grown =
+    at_wave (λ v. one_if ((s == a) && (w == b)) + one_if (is_unsent v) ≤ one_if (is_unsent (x s w))) x a b (Open covered covered Off) s w
     (λ t.
     let one : one_if ((s == a) && (w == b)) ≡ 1 = ap one_if t in
-    let none : one_if (has_grown cov cov) ≡ 0 = none_unsent cov in
-    let old : one_if (is_unsent (x s w)) ≡ 1 = ap (λ v. one_if (is_unsent v)) (wave_is x a b (Open cov sent timer) s w e t) ∙ ap one_if grown in
+    let none : one_if (has_grown covered covered) ≡ 0 = none_unsent covered in
+    let old : one_if (is_unsent (x s w)) ≡ 1 = ap (λ v. one_if (is_unsent v)) (wave_is x a b (Open covered sent timer) s w e t) ∙ ap one_if grown in
     omega arith)
     (λ f. let none : one_if ((s == a) && (w == b)) ≡ 0 = ap one_if f in omega arith)
 
 -- no act on a wave raises what is spent on any
-acted_pays : (p : Plan) (n : ℕ) (kin : Kin) (a b : ℕ) (cov sent : Ranks) (timer : Timer) (k : Effects) (what : Act) (s w : ℕ) → k.book a b ≡ Open cov sent timer → due_at p n kin.lost a cov sent timer ≡ what → spent s w (acted p kin a b cov sent timer k what) ≤ spent s w k
+acted_pays : (p : Plan) (n : ℕ) (kin : Kin) (a b : ℕ) (covered sent : Ranks) (timer : Timer) (k : Effects) (what : Act) (s w : ℕ) → k.book a b ≡ Open covered sent timer → due_at p n kin.lost a covered sent timer ≡ what → spent s w (acted p kin a b covered sent timer k what) ≤ spent s w k
 unfolding acted due_at
-acted_pays p n kin a b cov sent timer k Hold s w e d = le_refl _
-acted_pays p n kin a b cov sent timer k Arm s w e d =
-    let same : one_if (is_unsent (set_wave k.book a b (Open cov sent (Running (ticks (mode p a)))) s w)) ≤ one_if (is_unsent (k.book s w)) =
-    at_wave (λ v. one_if (is_unsent v) ≤ one_if (is_unsent (k.book s w))) k.book a b (Open cov sent (Running (ticks (mode p a)))) s w (λ t. subst (λ v. one_if (has_grown cov sent) ≤ one_if (is_unsent v)) (sym (wave_is k.book a b (Open cov sent timer) s w e t)) (le_refl _)) (λ f. le_refl _)
+acted_pays p n kin a b covered sent timer k Hold s w e d = le_refl _
+acted_pays p n kin a b covered sent timer k Arm s w e d =
+    let same : one_if (is_unsent (set_wave k.book a b (Open covered sent (Running (ticks (mode p a)))) s w)) ≤ one_if (is_unsent (k.book s w)) =
+    at_wave (λ v. one_if (is_unsent v) ≤ one_if (is_unsent (k.book s w))) k.book a b (Open covered sent (Running (ticks (mode p a)))) s w (λ t. subst (λ v. one_if (has_grown covered sent) ≤ one_if (is_unsent v)) (sym (wave_is k.book a b (Open covered sent timer) s w e t)) (le_refl _)) (λ f. le_refl _)
     in
     omega arith
-acted_pays p n kin a b cov sent timer k Send s w e d =
-    let grown : has_grown cov sent ≡ true = send_grown (mode p a) (complete p n kin.lost a cov) (has_grown cov sent) (is_front p n) timer d in
-    let pass = pass_pays k.book a b cov sent timer s w e grown in
-    let more : count_by (λ v. is_up_of s w v.1) (k.sends ++ to_parent kin.parent (Up a b cov)) ≡ count_by (λ v. is_up_of s w v.1) k.sends + count_by (λ v. is_up_of s w v.1) (to_parent kin.parent (Up a b cov)) = count_append (λ v. is_up_of s w v.1) k.sends (to_parent kin.parent (Up a b cov)) in
-    let one : count_by (λ v. is_up_of s w v.1) (to_parent kin.parent (Up a b cov)) ≤ one_if ((s == a) && (w == b)) = one_up kin.parent a b s w cov in
+acted_pays p n kin a b covered sent timer k Send s w e d =
+    let grown : has_grown covered sent ≡ true = send_grown (mode p a) (complete p n kin.lost a covered) (has_grown covered sent) (is_front p n) timer d in
+    let pass = pass_pays k.book a b covered sent timer s w e grown in
+    let more : count_by (λ v. is_up_of s w v.1) (k.sends ++ to_parent kin.parent (Up a b covered)) ≡ count_by (λ v. is_up_of s w v.1) k.sends + count_by (λ v. is_up_of s w v.1) (to_parent kin.parent (Up a b covered)) = count_append (λ v. is_up_of s w v.1) k.sends (to_parent kin.parent (Up a b covered)) in
+    let one : count_by (λ v. is_up_of s w v.1) (to_parent kin.parent (Up a b covered)) ≤ one_if ((s == a) && (w == b)) = one_up kin.parent a b s w covered in
     omega arith
-acted_pays p n kin a b cov sent timer k Partial s w e d =
-    let grown : has_grown cov sent ≡ true = partial_grown (mode p a) (complete p n kin.lost a cov) (has_grown cov sent) (is_front p n) timer d in
-    let pass = pass_pays k.book a b cov sent timer s w e grown in
-    let more : count_by (is_partial_of s w) (k.releases ++ release a b cov PartialRelease kin.lost ∷ []) ≡ count_by (is_partial_of s w) k.releases + (0 + one_if ((s == a) && (w == b))) = count_append (is_partial_of s w) k.releases (release a b cov PartialRelease kin.lost ∷ []) in
+acted_pays p n kin a b covered sent timer k Partial s w e d =
+    let grown : has_grown covered sent ≡ true = partial_grown (mode p a) (complete p n kin.lost a covered) (has_grown covered sent) (is_front p n) timer d in
+    let pass = pass_pays k.book a b covered sent timer s w e grown in
+    let more : count_by (is_partial_of s w) (k.releases ++ release a b covered PartialRelease kin.lost ∷ []) ≡ count_by (is_partial_of s w) k.releases + (0 + one_if ((s == a) && (w == b))) = count_append (is_partial_of s w) k.releases (release a b covered PartialRelease kin.lost ∷ []) in
     omega arith
-acted_pays p n kin a b cov sent timer k Final s w e d =
+acted_pays p n kin a b covered sent timer k Final s w e d =
     let same : one_if (is_unsent (set_wave k.book a b Closed s w)) ≤ one_if (is_unsent (k.book s w)) = at_wave (λ v. one_if (is_unsent v) ≤ one_if (is_unsent (k.book s w))) k.book a b Closed s w (λ t. zero-le) (λ f. le_refl _) in
     let more : count_by (λ v. is_up_of s w v.1) (k.sends ++ dones p kin a b) ≡ count_by (λ v. is_up_of s w v.1) k.sends + count_by (λ v. is_up_of s w v.1) (dones p kin a b) = count_append (λ v. is_up_of s w v.1) k.sends (dones p kin a b) in
     let none : count_by (λ v. is_up_of s w v.1) (dones p kin a b) ≡ 0 = no_done_ups p kin a b s w in
-    let final : count_by (is_partial_of s w) (k.releases ++ release a b cov FinalRelease kin.lost ∷ []) ≡ count_by (is_partial_of s w) k.releases + 0 = count_append (is_partial_of s w) k.releases (release a b cov FinalRelease kin.lost ∷ []) in
+    let final : count_by (is_partial_of s w) (k.releases ++ release a b covered FinalRelease kin.lost ∷ []) ≡ count_by (is_partial_of s w) k.releases + 0 = count_append (is_partial_of s w) k.releases (release a b covered FinalRelease kin.lost ∷ []) in
     omega arith
 
 act_as_pays : (p : Plan) (n : ℕ) (kin : Kin) (a b : ℕ) (k : Effects) (v : Wave) (s w : ℕ) → k.book a b ≡ v → spent s w (act_as p n kin a b k v) ≤ spent s w k
 act_as_pays p n kin a b k Closed s w e = le_refl _
-act_as_pays p n kin a b k (Open cov sent timer) s w e = acted_pays p n kin a b cov sent timer k (due_at p n kin.lost a cov sent timer) s w e refl
+act_as_pays p n kin a b k (Open covered sent timer) s w e = acted_pays p n kin a b covered sent timer k (due_at p n kin.lost a covered sent timer) s w e refl
 
 act_each_pays : (p : Plan) (n : ℕ) (kin : Kin) (vs : List (ℕ × ℕ)) (k : Effects) (s w : ℕ) → spent s w (act_each p n kin vs k) ≤ spent s w k
 act_each_pays p n kin [] k s w = le_refl _
@@ -159,10 +159,10 @@ at_most_one true = omega arith
 at_most_one false = omega arith
 
 -- what isn't sent now wasn't sent before, or is new
-triangle : (old cov sent : Ranks) → one_if (has_grown cov sent) ≤ one_if (has_grown old sent) + one_if (not (is_same cov old))
-triangle old cov sent = elim (cases_Bool (is_same cov old)) [
-  | inl t ↦ let e : cov ≡ old = same_true cov old t in subst (λ c. one_if (has_grown c sent) ≤ one_if (has_grown old sent) + one_if (not (is_same cov old))) (sym e) (omega arith)
-  | inr f ↦ let one : one_if (not (is_same cov old)) ≡ 1 = ap (λ b. one_if (not b)) f in let le : one_if (has_grown cov sent) ≤ 1 = at_most_one (has_grown cov sent) in omega arith
+triangle : (old covered sent : Ranks) → one_if (has_grown covered sent) ≤ one_if (has_grown old sent) + one_if (not (is_same covered old))
+triangle old covered sent = elim (cases_Bool (is_same covered old)) [
+  | inl t ↦ let e : covered ≡ old = same_true covered old t in subst (λ c. one_if (has_grown c sent) ≤ one_if (has_grown old sent) + one_if (not (is_same covered old))) (sym e) (omega arith)
+  | inr f ↦ let one : one_if (not (is_same covered old)) ≡ 1 = ap (λ b. one_if (not b)) f in let le : one_if (has_grown covered sent) ≤ 1 = at_most_one (has_grown covered sent) in omega arith
 ]
 
 -- the same, for a wave that stood as v0 and stands as v1
@@ -174,46 +174,46 @@ pays_by x kin book a b sent v0 v1 e0 e1 le =
     omega arith
 
 -- one act on a wave that covers something else now
-one_acted : (p : Plan) (n : ℕ) (x : Node) (a b : ℕ) (old cov sent : Ranks) (was timer : Timer) (what : Act) → x.book a b ≡ Open old sent was → due_at p n x.kin.lost a cov sent timer ≡ what
-    → Pays x x.kin (acted p x.kin a b cov sent timer (begin (set_wave x.book a b (Open cov sent timer))) what).book a b (sends_in a b (acted p x.kin a b cov sent timer (begin (set_wave x.book a b (Open cov sent timer))) what))
+one_acted : (p : Plan) (n : ℕ) (x : Node) (a b : ℕ) (old covered sent : Ranks) (was timer : Timer) (what : Act) → x.book a b ≡ Open old sent was → due_at p n x.kin.lost a covered sent timer ≡ what
+    → Pays x x.kin (acted p x.kin a b covered sent timer (begin (set_wave x.book a b (Open covered sent timer))) what).book a b (sends_in a b (acted p x.kin a b covered sent timer (begin (set_wave x.book a b (Open covered sent timer))) what))
 unfolding acted due_at
-one_acted p n x a b old cov sent was timer Hold e d =
-    pays_by x x.kin (set_wave x.book a b (Open cov sent timer)) a b 0 (Open old sent was) (Open cov sent timer) e (set_wave_here x.book a b (Open cov sent timer)) (let t = triangle old cov sent in omega arith)
-one_acted p n x a b old cov sent was timer Arm e d =
-    let book = set_wave x.book a b (Open cov sent timer) in
-    pays_by x x.kin (set_wave book a b (Open cov sent (Running (ticks (mode p a))))) a b 0 (Open old sent was) (Open cov sent (Running (ticks (mode p a)))) e (set_wave_here book a b (Open cov sent (Running (ticks (mode p a))))) (let t = triangle old cov sent in omega arith)
-one_acted p n x a b old cov sent was timer Send e d =
-    let book = set_wave x.book a b (Open cov sent timer) in
-    let ups : ℕ = count_by (λ v. is_up_of a b v.1) (to_parent x.kin.parent (Up a b cov)) in
-    let few : count_by (λ v. is_up_of a b v.1) (to_parent x.kin.parent (Up a b cov)) ≤ one_if ((a == a) && (b == b)) = one_up x.kin.parent a b a b cov in
+one_acted p n x a b old covered sent was timer Hold e d =
+    pays_by x x.kin (set_wave x.book a b (Open covered sent timer)) a b 0 (Open old sent was) (Open covered sent timer) e (set_wave_here x.book a b (Open covered sent timer)) (let t = triangle old covered sent in omega arith)
+one_acted p n x a b old covered sent was timer Arm e d =
+    let book = set_wave x.book a b (Open covered sent timer) in
+    pays_by x x.kin (set_wave book a b (Open covered sent (Running (ticks (mode p a))))) a b 0 (Open old sent was) (Open covered sent (Running (ticks (mode p a)))) e (set_wave_here book a b (Open covered sent (Running (ticks (mode p a))))) (let t = triangle old covered sent in omega arith)
+one_acted p n x a b old covered sent was timer Send e d =
+    let book = set_wave x.book a b (Open covered sent timer) in
+    let ups : ℕ = count_by (λ v. is_up_of a b v.1) (to_parent x.kin.parent (Up a b covered)) in
+    let few : count_by (λ v. is_up_of a b v.1) (to_parent x.kin.parent (Up a b covered)) ≤ one_if ((a == a) && (b == b)) = one_up x.kin.parent a b a b covered in
     let one : one_if ((a == a) && (b == b)) ≤ 1 = at_most_one ((a == a) && (b == b)) in
-    let none : one_if (has_grown cov cov) ≡ 0 = none_unsent cov in
-    let grown : one_if (has_grown cov sent) ≡ 1 = ap one_if (send_grown (mode p a) (complete p n x.kin.lost a cov) (has_grown cov sent) (is_front p n) timer d) in
-    let t = triangle old cov sent in
-    pays_by x x.kin (set_wave book a b (Open cov cov Off)) a b (count_by (λ v. is_up_of a b v.1) (to_parent x.kin.parent (Up a b cov)) + 0) (Open old sent was) (Open cov cov Off) e (set_wave_here book a b (Open cov cov Off)) (omega arith)
-one_acted p n x a b old cov sent was timer Partial e d =
-    let book = set_wave x.book a b (Open cov sent timer) in
+    let none : one_if (has_grown covered covered) ≡ 0 = none_unsent covered in
+    let grown : one_if (has_grown covered sent) ≡ 1 = ap one_if (send_grown (mode p a) (complete p n x.kin.lost a covered) (has_grown covered sent) (is_front p n) timer d) in
+    let t = triangle old covered sent in
+    pays_by x x.kin (set_wave book a b (Open covered covered Off)) a b (count_by (λ v. is_up_of a b v.1) (to_parent x.kin.parent (Up a b covered)) + 0) (Open old sent was) (Open covered covered Off) e (set_wave_here book a b (Open covered covered Off)) (omega arith)
+one_acted p n x a b old covered sent was timer Partial e d =
+    let book = set_wave x.book a b (Open covered sent timer) in
     let one : one_if ((a == a) && (b == b)) ≤ 1 = at_most_one ((a == a) && (b == b)) in
-    let none : one_if (has_grown cov cov) ≡ 0 = none_unsent cov in
-    let grown : one_if (has_grown cov sent) ≡ 1 = ap one_if (partial_grown (mode p a) (complete p n x.kin.lost a cov) (has_grown cov sent) (is_front p n) timer d) in
-    let t = triangle old cov sent in
-    pays_by x x.kin (set_wave book a b (Open cov cov Off)) a b (0 + (0 + one_if ((a == a) && (b == b)))) (Open old sent was) (Open cov cov Off) e (set_wave_here book a b (Open cov cov Off)) (omega arith)
-one_acted p n x a b old cov sent was timer Final e d =
-    let book = set_wave x.book a b (Open cov sent timer) in
+    let none : one_if (has_grown covered covered) ≡ 0 = none_unsent covered in
+    let grown : one_if (has_grown covered sent) ≡ 1 = ap one_if (partial_grown (mode p a) (complete p n x.kin.lost a covered) (has_grown covered sent) (is_front p n) timer d) in
+    let t = triangle old covered sent in
+    pays_by x x.kin (set_wave book a b (Open covered covered Off)) a b (0 + (0 + one_if ((a == a) && (b == b)))) (Open old sent was) (Open covered covered Off) e (set_wave_here book a b (Open covered covered Off)) (omega arith)
+one_acted p n x a b old covered sent was timer Final e d =
+    let book = set_wave x.book a b (Open covered sent timer) in
     let none : count_by (λ v. is_up_of a b v.1) (dones p x.kin a b) ≡ 0 = no_done_ups p x.kin a b a b in
     pays_by x x.kin (set_wave book a b Closed) a b (count_by (λ v. is_up_of a b v.1) (dones p x.kin a b) + 0) (Open old sent was) Closed e (set_wave_here book a b Closed) (omega arith)
 
 -- what a wave covers may change, what was sent of it doesn't
 abbrev pub IsLater : Wave → Wave → Type 0
-IsLater (Open old sent was) (Open cov same timer) = sent ≡ same
+IsLater (Open old sent was) (Open covered same timer) = sent ≡ same
 IsLater (Open old sent was) Closed = ⊥
-IsLater Closed (Open cov same timer) = ⊥
+IsLater Closed (Open covered same timer) = ⊥
 IsLater Closed Closed = Unit {0}
 
 act_here : (p : Plan) (n : ℕ) (x : Node) (a b : ℕ) (old v : Wave) → x.book a b ≡ old → IsLater old v → Pays x x.kin (act_as p n x.kin a b (begin (set_wave x.book a b v)) v).book a b (sends_in a b (act_as p n x.kin a b (begin (set_wave x.book a b v)) v))
-act_here p n x a b (Open old sent was) (Open cov same timer) e l = one_acted p n x a b old cov same was timer (due_at p n x.kin.lost a cov same timer) (e ∙ ap (λ k. Open old k was) l) refl
+act_here p n x a b (Open old sent was) (Open covered same timer) e l = one_acted p n x a b old covered same was timer (due_at p n x.kin.lost a covered same timer) (e ∙ ap (λ k. Open old k was) l) refl
 act_here p n x a b (Open old sent was) Closed e l = absurd l
-act_here p n x a b Closed (Open cov same timer) e l = absurd l
+act_here p n x a b Closed (Open covered same timer) e l = absurd l
 act_here p n x a b Closed Closed e l = pays_by x x.kin (set_wave x.book a b Closed) a b 0 Closed Closed e (set_wave_here x.book a b Closed) (omega arith)
 
 abbrev pub touched : Plan → ℕ → Node → ℕ → ℕ → Wave → Effects
@@ -237,15 +237,15 @@ touched_pays p n x a b v s w l = elim (cases_Bool ((s == a) && (w == b))) [
 ]
 
 later_covering : (set : Ranks) (v : Wave) → IsLater v (covering set v)
-later_covering set (Open cov sent timer) = refl
+later_covering set (Open covered sent timer) = refl
 later_covering set Closed = tt
 
 later_growing : (set : Ranks) (v : Wave) → IsLater v (growing set v)
-later_growing set (Open cov sent timer) = refl
+later_growing set (Open covered sent timer) = refl
 later_growing set Closed = tt
 
 ticked_unsent : (v : Wave) → is_unsent (ticked v) ≡ is_unsent v
-ticked_unsent (Open cov sent timer) = refl
+ticked_unsent (Open covered sent timer) = refl
 ticked_unsent Closed = refl
 
 sampled_pays : (p : Plan) (n : ℕ) (x : Node) (a b s w : ℕ) → OutcomePays x (sampled p n x a b) s w
@@ -289,7 +289,7 @@ received_pays p n x m (Up a b set) s w = touched_pays p n x a b (growing set (x.
 received_pays p n x m (Done a b) s w = go (x.book a b)
   where
     go : (v : Wave) → Pays x x.kin (done_work p x.kin a b x.book v).book s w (sends_in s w (done_work p x.kin a b x.book v))
-    go (Open cov sent timer) =
+    go (Open covered sent timer) =
         let same : one_if (is_unsent (set_wave x.book a b Closed s w)) ≤ one_if (is_unsent (x.book s w)) = at_wave (λ v. one_if (is_unsent v) ≤ one_if (is_unsent (x.book s w))) x.book a b Closed s w (λ t. zero-le) (λ f. le_refl _) in
         let none : count_by (λ v. is_up_of s w v.1) (dones p x.kin a b) ≡ 0 = no_done_ups p x.kin a b s w in
         omega arith

@@ -2,7 +2,7 @@
 use Rattle.rank_set.specs.Ranks.{Ranks, none, union, is_subset, is_same, is_empty, Has, IsSubset}
 use Rattle.std.proofs.Common.{◌≡◌, ◌≢◌, ◌⊎◌, ◌≤◌, inl, inr, ℕ, suc, zero, Bool, true, false, not, ◌||◌, ◌&&◌, ◌==◌, List, [], ◌∷◌, filter, refl, sym, ap, subst, ◌∙◌, arith, eqb-true, eq-eqb, le_refl}
 use Rattle.std.proofs.lemmas.Bool.{cond_both, and_parts, and_from, cases_Bool, true≢false, or_cases, not_from_true}
-use Rattle.stat_plan.specs.NodeSets.{In, member}
+use Rattle.overlay_setup.specs.NodeSets.{In, member}
 use Rattle.stat_plan.specs.Machine.Waves.{put_at, Wave, Open, Closed, Book, set_wave, ticks, is_fired, covering, growing, ticked, unsent}
 use Rattle.stat_plan.specs.Plans.{Plan, serves, mode, is_front, daemons, ranks, is_within, waves_at, waves_of}
 use Rattle.stat_plan.specs.Machine.Due.{due_act}
@@ -12,8 +12,8 @@ use Rattle.overlay_core.specs.Machine.{State, start, step, commit, with_link, lo
 use Rattle.overlay_core.proofs.PlanFacts.{HasPlanFacts}
 use Rattle.overlay_core.specs.LinkInvariant.{LinkInvariant, WaveIsSound, BookIsSound}
 use Rattle.overlay_core.specs.Settled.{TimerIsSound, WaveIsSettled, NodeIsSettled, NodesAreSettled}
-use Rattle.stat_plan.specs.declared.script.Mode.{Mode}
-use Rattle.stat_plan.specs.declared.script.Mode.TheVariants.{WaitForAll, TimeOut, DontWait}
+use Rattle.overlay_setup.specs.declared.script.Mode.{Mode}
+use Rattle.overlay_setup.specs.declared.script.Mode.TheVariants.{WaitForAll, TimeOut, DontWait}
 use Rattle.stat_plan.specs.declared.machine.Timer.{Timer}
 use Rattle.stat_plan.specs.declared.machine.Timer.TheVariants.{Off, Running, Fired}
 use Rattle.stat_plan.specs.declared.machine.Act.{Act}
@@ -77,54 +77,54 @@ ticks_mode DontWait h = absurd (omega arith)
 
 -- what a timer is before an act: it may be fired
 abbrev TimerFits : Plan → ℕ → Ranks → Ranks → Timer → Type 0
-TimerFits p s cov sent Off = Unit {0}
-TimerFits p s cov sent (Running t) = (1 ≤ t) × (t ≤ ticks (mode p s)) × (cov ≢ sent)
-TimerFits p s cov sent Fired = (1 ≤ ticks (mode p s)) × (cov ≢ sent)
+TimerFits p s covered sent Off = Unit {0}
+TimerFits p s covered sent (Running t) = (1 ≤ t) × (t ≤ ticks (mode p s)) × (covered ≢ sent)
+TimerFits p s covered sent Fired = (1 ≤ ticks (mode p s)) × (covered ≢ sent)
 
 abbrev WaveFits : Plan → ℕ → Wave → Type 0
-WaveFits p s (Open cov sent timer) = TimerFits p s cov sent timer
+WaveFits p s (Open covered sent timer) = TimerFits p s covered sent timer
 WaveFits p s Closed = Unit {0}
 
-fits_from_sound : (p : Plan) (s : ℕ) (cov sent : Ranks) (t : Timer) → TimerIsSound p s cov sent t → TimerFits p s cov sent t
-fits_from_sound p s cov sent Off h = tt
-fits_from_sound p s cov sent (Running t) h = h
-fits_from_sound p s cov sent Fired h = absurd h
+fits_from_sound : (p : Plan) (s : ℕ) (covered sent : Ranks) (t : Timer) → TimerIsSound p s covered sent t → TimerFits p s covered sent t
+fits_from_sound p s covered sent Off h = tt
+fits_from_sound p s covered sent (Running t) h = h
+fits_from_sound p s covered sent Fired h = absurd h
 
 fits_from_settled : (p : Plan) (n : ℕ) (lost : List ℕ) (s : ℕ) (v : Wave) → WaveIsSettled p n lost s v → WaveFits p s v
-fits_from_settled p n lost s (Open cov sent timer) h = fits_from_sound p s cov sent timer h.1
+fits_from_settled p n lost s (Open covered sent timer) h = fits_from_sound p s covered sent timer h.1
 fits_from_settled p n lost s Closed h = tt
 
-grown_test : (cov sent : Ranks) → cov ≢ sent → not (is_same cov sent) ≡ true
-grown_test cov sent ne = elim (cases_Bool (is_same cov sent)) [ inl e ↦ absurd (ne (same_true cov sent e)) | inr e ↦ subst (λ b. not b ≡ true) (sym e) refl ]
+grown_test : (covered sent : Ranks) → covered ≢ sent → not (is_same covered sent) ≡ true
+grown_test covered sent ne = elim (cases_Bool (is_same covered sent)) [ inl e ↦ absurd (ne (same_true covered sent e)) | inr e ↦ subst (λ b. not b ≡ true) (sym e) refl ]
 
-pub ne_from_grown : (cov sent : Ranks) → not (is_same cov sent) ≡ true → cov ≢ sent
-ne_from_grown cov sent e k = let t : is_same cov sent ≡ true = subst (λ z. is_same cov z ≡ true) k (test_from_same cov) in true≢false (sym e ∙ not_from_true _ t)
+pub ne_from_grown : (covered sent : Ranks) → not (is_same covered sent) ≡ true → covered ≢ sent
+ne_from_grown covered sent e k = let t : is_same covered sent ≡ true = subst (λ z. is_same covered z ≡ true) k (test_from_same covered) in true≢false (sym e ∙ not_from_true _ t)
 
 -- nothing is due for the wave that was acted on
-acted_settled : (p : Plan) (n : ℕ) (kin : Kin) (s w : ℕ) (cov sent : Ranks) (timer : Timer) (k : Effects) (a : Act) → HasPlanFacts p → k.book s w ≡ Open cov sent timer → TimerFits p s cov sent timer → due_at p n kin.lost s cov sent timer ≡ a → WaveIsSettled p n kin.lost s ((acted p kin s w cov sent timer k a).book s w)
+acted_settled : (p : Plan) (n : ℕ) (kin : Kin) (s w : ℕ) (covered sent : Ranks) (timer : Timer) (k : Effects) (a : Act) → HasPlanFacts p → k.book s w ≡ Open covered sent timer → TimerFits p s covered sent timer → due_at p n kin.lost s covered sent timer ≡ a → WaveIsSettled p n kin.lost s ((acted p kin s w covered sent timer k a).book s w)
 unfolding acted due_at
-acted_settled p n kin s w cov sent timer k Hold plan ev fit e = subst (WaveIsSettled p n kin.lost s) (sym ev) (e, held timer fit e)
+acted_settled p n kin s w covered sent timer k Hold plan ev fit e = subst (WaveIsSettled p n kin.lost s) (sym ev) (e, held timer fit e)
   where
-    held : (t : Timer) → TimerFits p s cov sent t → due_act (mode p s) (complete p n kin.lost s cov) (not (is_same cov sent)) (is_front p n) t ≡ Hold → TimerIsSound p s cov sent t
+    held : (t : Timer) → TimerFits p s covered sent t → due_act (mode p s) (complete p n kin.lost s covered) (not (is_same covered sent)) (is_front p n) t ≡ Hold → TimerIsSound p s covered sent t
     held Off f h = tt
     held (Running t) f h = f
-    held Fired f h = let j = ticks_mode (mode p s) f.0 in fired_held (mode p s) (complete p n kin.lost s cov) (is_front p n) j.0 j.1 (subst (λ b. due_act (mode p s) (complete p n kin.lost s cov) b (is_front p n) Fired ≡ Hold) (grown_test cov sent f.1) h)
-acted_settled p n kin s w cov sent timer k Arm plan ev fit e =
-    let t = after_arm (mode p s) (complete p n kin.lost s cov) (not (is_same cov sent)) (is_front p n) timer (ticks (mode p s)) e in
-    subst (WaveIsSettled p n kin.lost s) (sym (set_wave_here k.book s w _)) (t.0, (some t.2.0 t.2.1, le_refl _, ne_from_grown cov sent t.1))
+    held Fired f h = let j = ticks_mode (mode p s) f.0 in fired_held (mode p s) (complete p n kin.lost s covered) (is_front p n) j.0 j.1 (subst (λ b. due_act (mode p s) (complete p n kin.lost s covered) b (is_front p n) Fired ≡ Hold) (grown_test covered sent f.1) h)
+acted_settled p n kin s w covered sent timer k Arm plan ev fit e =
+    let t = after_arm (mode p s) (complete p n kin.lost s covered) (not (is_same covered sent)) (is_front p n) timer (ticks (mode p s)) e in
+    subst (WaveIsSettled p n kin.lost s) (sym (set_wave_here k.book s w _)) (t.0, (some t.2.0 t.2.1, le_refl _, ne_from_grown covered sent t.1))
   where
     some : (j : ℕ) → mode p s ≡ TimeOut j → 1 ≤ ticks (mode p s)
     some j em = subst (λ m. 1 ≤ ticks m) (sym em) (plan.ticks_some s j em)
-acted_settled p n kin s w cov sent timer k Send plan ev fit e =
+acted_settled p n kin s w covered sent timer k Send plan ev fit e =
     subst (WaveIsSettled p n kin.lost s) (sym (set_wave_here k.book s w _))
-    (subst (λ b. due_act (mode p s) (complete p n kin.lost s cov) (not b) (is_front p n) Off ≡ Hold) (sym (test_from_same cov)) (after_pass (mode p s) (complete p n kin.lost s cov) (not (is_same cov sent)) (is_front p n) timer (inl e)), tt)
-acted_settled p n kin s w cov sent timer k Partial plan ev fit e =
+    (subst (λ b. due_act (mode p s) (complete p n kin.lost s covered) (not b) (is_front p n) Off ≡ Hold) (sym (test_from_same covered)) (after_pass (mode p s) (complete p n kin.lost s covered) (not (is_same covered sent)) (is_front p n) timer (inl e)), tt)
+acted_settled p n kin s w covered sent timer k Partial plan ev fit e =
     subst (WaveIsSettled p n kin.lost s) (sym (set_wave_here k.book s w _))
-    (subst (λ b. due_act (mode p s) (complete p n kin.lost s cov) (not b) (is_front p n) Off ≡ Hold) (sym (test_from_same cov)) (after_pass (mode p s) (complete p n kin.lost s cov) (not (is_same cov sent)) (is_front p n) timer (inr e)), tt)
-acted_settled p n kin s w cov sent timer k Final plan ev fit e = subst (WaveIsSettled p n kin.lost s) (sym (set_wave_here k.book s w _)) tt
+    (subst (λ b. due_act (mode p s) (complete p n kin.lost s covered) (not b) (is_front p n) Off ≡ Hold) (sym (test_from_same covered)) (after_pass (mode p s) (complete p n kin.lost s covered) (not (is_same covered sent)) (is_front p n) timer (inr e)), tt)
+acted_settled p n kin s w covered sent timer k Final plan ev fit e = subst (WaveIsSettled p n kin.lost s) (sym (set_wave_here k.book s w _)) tt
 
 act_as_settled : (p : Plan) (n : ℕ) (kin : Kin) (s w : ℕ) (k : Effects) (v : Wave) → HasPlanFacts p → k.book s w ≡ v → WaveFits p s v → WaveIsSettled p n kin.lost s ((act_as p n kin s w k v).book s w)
-act_as_settled p n kin s w k (Open cov sent timer) plan ev fit = acted_settled p n kin s w cov sent timer k (due_at p n kin.lost s cov sent timer) plan ev fit refl
+act_as_settled p n kin s w k (Open covered sent timer) plan ev fit = acted_settled p n kin s w covered sent timer k (due_at p n kin.lost s covered sent timer) plan ev fit refl
 act_as_settled p n kin s w k Closed plan ev fit = subst (WaveIsSettled p n kin.lost s) (sym ev) tt
 
 pub act_settled : (p : Plan) (n : ℕ) (kin : Kin) (s w : ℕ) (k : Effects) → HasPlanFacts p → WaveFits p s (k.book s w) → WaveIsSettled p n kin.lost s ((act p n kin s w k).book s w)
@@ -139,16 +139,16 @@ set_wave_else x s w v a b e =
     (λ u. ap (λ i. x i b) (sym (eqb-true a s t))))
     (λ t. refl)
 
-pub acted_else : (p : Plan) (kin : Kin) (s w : ℕ) (cov sent : Ranks) (timer : Timer) (k : Effects) (act' : Act) (a b : ℕ) → ((a == s) && (b == w)) ≡ false → (acted p kin s w cov sent timer k act').book a b ≡ k.book a b
+pub acted_else : (p : Plan) (kin : Kin) (s w : ℕ) (covered sent : Ranks) (timer : Timer) (k : Effects) (act' : Act) (a b : ℕ) → ((a == s) && (b == w)) ≡ false → (acted p kin s w covered sent timer k act').book a b ≡ k.book a b
 unfolding acted
-acted_else p kin s w cov sent timer k Hold a b e = refl
-acted_else p kin s w cov sent timer k Arm a b e = set_wave_else k.book s w _ a b e
-acted_else p kin s w cov sent timer k Send a b e = set_wave_else k.book s w _ a b e
-acted_else p kin s w cov sent timer k Partial a b e = set_wave_else k.book s w _ a b e
-acted_else p kin s w cov sent timer k Final a b e = set_wave_else k.book s w _ a b e
+acted_else p kin s w covered sent timer k Hold a b e = refl
+acted_else p kin s w covered sent timer k Arm a b e = set_wave_else k.book s w _ a b e
+acted_else p kin s w covered sent timer k Send a b e = set_wave_else k.book s w _ a b e
+acted_else p kin s w covered sent timer k Partial a b e = set_wave_else k.book s w _ a b e
+acted_else p kin s w covered sent timer k Final a b e = set_wave_else k.book s w _ a b e
 
 act_as_else : (p : Plan) (n : ℕ) (kin : Kin) (s w : ℕ) (k : Effects) (v : Wave) (a b : ℕ) → ((a == s) && (b == w)) ≡ false → (act_as p n kin s w k v).book a b ≡ k.book a b
-act_as_else p n kin s w k (Open cov sent timer) a b e = acted_else p kin s w cov sent timer k (due_at p n kin.lost s cov sent timer) a b e
+act_as_else p n kin s w k (Open covered sent timer) a b e = acted_else p kin s w covered sent timer k (due_at p n kin.lost s covered sent timer) a b e
 act_as_else p n kin s w k Closed a b e = refl
 
 pub act_else : (p : Plan) (n : ℕ) (kin : Kin) (s w : ℕ) (k : Effects) (a b : ℕ) → ((a == s) && (b == w)) ≡ false → (act p n kin s w k).book a b ≡ k.book a b
@@ -184,22 +184,22 @@ act_each_settled p n kin (v ∷ vs) k s w plan fit h =
     ]
 
 -- a coverage that has grown stays so
-grown_stays : (cov sent set : Ranks) → IsSubset sent cov → cov ≢ sent → union cov set ≢ sent
-grown_stays cov sent set sub ne e = ne (same_from_members cov sent (λ r i. subst (λ l. Has r l) e (union_left r cov set i)) sub)
+grown_stays : (covered sent set : Ranks) → IsSubset sent covered → covered ≢ sent → union covered set ≢ sent
+grown_stays covered sent set sub ne e = ne (same_from_members covered sent (λ r i. subst (λ l. Has r l) e (union_left r covered set i)) sub)
 
 growing_fits : (p : Plan) (n s : ℕ) (set : Ranks) (v : Wave) → WaveIsSound p n s v → WaveFits p s v → WaveFits p s (growing set v)
-growing_fits p n s set (Open cov sent Off) h f = tt
-growing_fits p n s set (Open cov sent (Running t)) h f = (f.0, f.1, grown_stays cov sent set h.within f.2)
-growing_fits p n s set (Open cov sent Fired) h f = (f.0, grown_stays cov sent set h.within f.1)
+growing_fits p n s set (Open covered sent Off) h f = tt
+growing_fits p n s set (Open covered sent (Running t)) h f = (f.0, f.1, grown_stays covered sent set h.within f.2)
+growing_fits p n s set (Open covered sent Fired) h f = (f.0, grown_stays covered sent set h.within f.1)
 growing_fits p n s set Closed h f = tt
 
-both_empty : (cov sent : Ranks) → is_empty cov ≡ true → IsSubset sent cov → cov ≡ sent
-both_empty cov sent e h = empty_true cov e ∙ sym (none_from_subset sent (subst (IsSubset sent) (empty_true cov e) h))
+both_empty : (covered sent : Ranks) → is_empty covered ≡ true → IsSubset sent covered → covered ≡ sent
+both_empty covered sent e h = empty_true covered e ∙ sym (none_from_subset sent (subst (IsSubset sent) (empty_true covered e) h))
 
 covering_fits : (p : Plan) (n s : ℕ) (set : Ranks) (v : Wave) → is_empty_open v ≡ true → WaveIsSound p n s v → WaveFits p s v → WaveFits p s (covering set v)
-covering_fits p n s set (Open cov sent Off) e h f = tt
-covering_fits p n s set (Open cov sent (Running t)) e h f = absurd (f.2 (both_empty cov sent e h.within))
-covering_fits p n s set (Open cov sent Fired) e h f = absurd (f.1 (both_empty cov sent e h.within))
+covering_fits p n s set (Open covered sent Off) e h f = tt
+covering_fits p n s set (Open covered sent (Running t)) e h f = absurd (f.2 (both_empty covered sent e h.within))
+covering_fits p n s set (Open covered sent Fired) e h f = absurd (f.1 (both_empty covered sent e h.within))
 covering_fits p n s set Closed e h f = tt
 
 -- one wave is changed and acted on
@@ -229,14 +229,14 @@ done_settled p n x s w h a b i = go (x.book s w)
   where
     go : (v : Wave) → WaveIsSettled p n x.kin.lost a ((done_work p x.kin s w x.book v).book a b)
     go Closed = h a b i
-    go (Open cov sent timer) = each_wave_set (λ a b y. In (a, b) (waves_at p n) → WaveIsSettled p n x.kin.lost a y) x.book s w Closed h (λ j. tt) a b i
+    go (Open covered sent timer) = each_wave_set (λ a b y. In (a, b) (waves_at p n) → WaveIsSettled p n x.kin.lost a y) x.book s w Closed h (λ j. tt) a b i
 
 attach_settled : (p : Plan) (n : ℕ) (x : Node) (m : ℕ) → NodeIsSettled p n x → NodeIsSettled p n (next_node x (received_attach p n x m))
 unfolding received_attach
 attach_settled p n x m h = h
 
 unsent_fits : (p : Plan) (s : ℕ) (v : Wave) → WaveFits p s (unsent v)
-unsent_fits p s (Open cov sent timer) = tt
+unsent_fits p s (Open covered sent timer) = tt
 unsent_fits p s Closed = tt
 
 down_settled : (p : Plan) (n : ℕ) (x : Node) (m : ℕ) → HasPlanFacts p → NodeIsSettled p n x → NodeIsSettled p n (next_node x (received_down p n x m))
@@ -247,20 +247,20 @@ down_settled p n x m plan h =
     (λ e s w i. act_each_settled p n (without_child x.kin m) (waves_at p n) (begin x.book) s w plan (fits_from_settled p n x.kin.lost s (x.book s w) (h s w i)) (inl i))
 
 ticked_fits : (p : Plan) (n : ℕ) (lost : List ℕ) (s : ℕ) (v : Wave) → WaveIsSettled p n lost s v → WaveFits p s (ticked v)
-ticked_fits p n lost s (Open cov sent Off) h = tt
-ticked_fits p n lost s (Open cov sent (Running zero)) h = (let a = h.1.0 in let b = h.1.1 in omega arith, h.1.2)
-ticked_fits p n lost s (Open cov sent (Running (suc zero))) h = (h.1.1, h.1.2)
-ticked_fits p n lost s (Open cov sent (Running (suc (suc t)))) h = (omega arith, (let b = h.1.1 in omega arith), h.1.2)
-ticked_fits p n lost s (Open cov sent Fired) h = absurd h.1
+ticked_fits p n lost s (Open covered sent Off) h = tt
+ticked_fits p n lost s (Open covered sent (Running zero)) h = (let a = h.1.0 in let b = h.1.1 in omega arith, h.1.2)
+ticked_fits p n lost s (Open covered sent (Running (suc zero))) h = (h.1.1, h.1.2)
+ticked_fits p n lost s (Open covered sent (Running (suc (suc t)))) h = (omega arith, (let b = h.1.1 in omega arith), h.1.2)
+ticked_fits p n lost s (Open covered sent Fired) h = absurd h.1
 ticked_fits p n lost s Closed h = tt
 
 ticked_settled : (p : Plan) (n : ℕ) (lost : List ℕ) (s : ℕ) (v : Wave) → WaveIsSettled p n lost s v → is_fired (ticked v) ≡ false → WaveIsSettled p n lost s (ticked v)
 unfolding due_at
-ticked_settled p n lost s (Open cov sent Off) h e = h
-ticked_settled p n lost s (Open cov sent (Running zero)) h e = absurd (true≢false e)
-ticked_settled p n lost s (Open cov sent (Running (suc zero))) h e = absurd (true≢false e)
-ticked_settled p n lost s (Open cov sent (Running (suc (suc t)))) h e = (running_same (mode p s) _ _ _ (suc t) (suc (suc t)) ∙ h.0, (omega arith, (let b = h.1.1 in omega arith), h.1.2))
-ticked_settled p n lost s (Open cov sent Fired) h e = absurd h.1
+ticked_settled p n lost s (Open covered sent Off) h e = h
+ticked_settled p n lost s (Open covered sent (Running zero)) h e = absurd (true≢false e)
+ticked_settled p n lost s (Open covered sent (Running (suc zero))) h e = absurd (true≢false e)
+ticked_settled p n lost s (Open covered sent (Running (suc (suc t)))) h e = (running_same (mode p s) _ _ _ (suc t) (suc (suc t)) ∙ h.0, (omega arith, (let b = h.1.1 in omega arith), h.1.2))
+ticked_settled p n lost s (Open covered sent Fired) h e = absurd h.1
 ticked_settled p n lost s Closed h e = tt
 
 tick_settled : (p : Plan) (n : ℕ) (x : Node) → HasPlanFacts p → NodeIsSettled p n x → NodeIsSettled p n (next_node x (after_tick p n x))

@@ -1,8 +1,8 @@
 -- A sound state is sound after each enabled event, and so after each legal journal.
 use Rattle.std.proofs.Common.{◌≡◌, ◌⊎◌, ◌<◌, inl, inr, ℕ, Bool, true, false, not, ◌&&◌, ◌==◌, nat_lt, List, [], ◌∷◌, map, refl, sym, ap, subst, ◌∙◌, eqb-true, eq-eqb, Option, Some, None, lt-ltb, zero-le}
 use Rattle.std.proofs.lemmas.Bool.{cond_both, cond-true, and_parts, and_from, not-true}
-use Rattle.stat_plan.specs.NodeSets.{In}
-use Rattle.stat_plan.specs.Plans.{Plan, IsUnder, ancestors, daemons, front, nodes, up_to}
+use Rattle.overlay_setup.specs.NodeSets.{In, up_to}
+use Rattle.stat_plan.specs.Plans.{Plan, IsUnder, ancestors, daemons, front, nodes}
 use Rattle.overlay_core.specs.Nodes.{Packet, Up, Done, Attach, Down}
 use Rattle.stat_plan.specs.Machine.Kin.{nearest}
 use Rattle.overlay_core.specs.Machine.{State, start, step, with_link, receive, is_enabled, is_active, is_doomed, children_of}

@@ -2,11 +2,11 @@
 use Rattle.rank_set.specs.Ranks.{Ranks, none, is_subset, is_same, is_empty, Has, IsSubset}
 use Rattle.std.proofs.Common.{◌≡◌, ◌≢◌, ◌⊎◌, ◌≤◌, ◌<◌, ◌+◌, inl, inr, ℕ, suc, zero, Bool, true, false, cond, not, ◌||◌, ◌&&◌, ◌==◌, List, [], ◌∷◌, ◌++◌, find, length, refl, sym, ap, subst, ◌∙◌, arith, eqb-true, eq-eqb, Option, Some, None, length-append, le_refl}
 use Rattle.std.proofs.lemmas.Bool.{and_from, cases_Bool, eqb-false, true≢false, or_left, or_right, not-false, ltb-true}
-use Rattle.stat_plan.specs.NodeSets.{In, member}
-use Rattle.stat_plan.specs.Plans.{Plan, IsUnder, ancestors, serves, mode, is_front, front, nodes, daemons, ranks, is_within, waves_at, waves_of, up_to}
+use Rattle.overlay_setup.specs.NodeSets.{In, member, up_to}
+use Rattle.stat_plan.specs.Plans.{Plan, IsUnder, ancestors, serves, mode, is_front, front, nodes, daemons, ranks, is_within, waves_at, waves_of}
 use Rattle.stat_plan.specs.Machine.Due.{due_act}
 use Rattle.overlay_core.specs.Nodes.{Packet, Up, Done, Attach, Down, Release, due_at}
-use Rattle.stat_plan.specs.Machine.Waves.{Wave, Open, Closed, is_open, cov_of, sent_of}
+use Rattle.stat_plan.specs.Machine.Waves.{Wave, Open, Closed, is_open, coverage_of, sent_of}
 use Rattle.stat_plan.specs.Machine.Kin.{complete, nearest}
 use Rattle.overlay_core.specs.Machine.{State, start, step, is_enabled, is_active, is_doomed, is_pending, is_empty_open, next_sample, is_wave, commit, lose, with_link, receive}
 use Rattle.overlay_core.specs.Runs.{run, after, IsLegal, IsLegalFrom, IsQuiet, IsWhole}
@@ -18,7 +18,7 @@ use Rattle.overlay_core.specs.History.{of_wave, ByKind, MissesOnlyLost, IsHistor
 use Rattle.overlay_core.specs.Whole.{IsSound}
 use Rattle.overlay_core.specs.declared.release.Kind.{Kind}
 use Rattle.overlay_core.specs.declared.release.Kind.TheVariants.{Partial as PartialRelease, Final as FinalRelease}
-use Rattle.stat_plan.specs.declared.script.Mode.{Mode}
+use Rattle.overlay_setup.specs.declared.script.Mode.{Mode}
 use Rattle.stat_plan.specs.declared.machine.Timer.{Timer}
 use Rattle.stat_plan.specs.declared.machine.Act.TheVariants.{Hold}
 use Rattle.stat_desk.specs.declared.event.Event.{Event}
@@ -192,32 +192,32 @@ unfolding waves_at
 wave_named p n s w i = (filter_in (λ v. serves p n v.0) (waves_of p.streams) (s, w) i).0
 
 abbrev Covers : Plan → State → ℕ → ℕ → ℕ → Type 0
-Covers p st n s w = (d : ℕ) → In d (daemons p s) → st.alive d ≡ true → (d ≡ n) ⊎ IsUnder p d n → IsSubset (ranks p d) (cov_of ((st.node n).book s w))
+Covers p st n s w = (d : ℕ) → In d (daemons p s) → st.alive d ≡ true → (d ≡ n) ⊎ IsUnder p d n → IsSubset (ranks p d) (coverage_of ((st.node n).book s w))
 
-complete_from : (p : Plan) (st : State) (n s w : ℕ) → IsSound p st → IsQuiet p st → st.alive n ≡ true → Covers p st n s w → complete p n (st.node n).kin.lost s (cov_of ((st.node n).book s w)) ≡ true
+complete_from : (p : Plan) (st : State) (n s w : ℕ) → IsSound p st → IsQuiet p st → st.alive n ≡ true → Covers p st n s w → complete p n (st.node n).kin.lost s (coverage_of ((st.node n).book s w)) ≡ true
 unfolding complete
-complete_from p st n s w h quiet up cov = list_all_from (λ d. not (is_within p d n) || is_subset (ranks p d) (cov_of ((st.node n).book s w)) || member d (st.node n).kin.lost) (daemons p s)
+complete_from p st n s w h quiet up covered = list_all_from (λ d. not (is_within p d n) || is_subset (ranks p d) (coverage_of ((st.node n).book s w)) || member d (st.node n).kin.lost) (daemons p s)
     (λ d i. elim (cases_Bool (is_within p d n)) [
       | inr f ↦ or_left _ _ (or_left _ _ (subst (λ b. not b ≡ true) (sym f) refl))
       | inl t ↦
           let u = within_from_test p d n t in
           elim (cases_Bool (st.alive d)) [
-            | inl ud ↦ or_left _ _ (or_right _ _ (test_from_subset (ranks p d) _ (cov d i ud u)))
+            | inl ud ↦ or_left _ _ (or_right _ _ (test_from_subset (ranks p d) _ (covered d i ud u)))
             | inr dd ↦ or_right _ _ (in_member d _ (dead_is_known p st n d h quiet up dd (inr (elim u [ inl e ↦ absurd (true≢false (sym (subst (λ a. st.alive a ≡ true) (sym e) up) ∙ dd)) | inr v ↦ v ]))))
           ]
     ])
 
 -- an open wave, by its parts
 record IsOpenAs (p : Plan) (n s : ℕ) (lost : List ℕ) (v : Wave) : Type 0 where
-  cov : Ranks
+  covered : Ranks
   sent : Ranks
   timer : Timer
-  is : v ≡ Open cov sent timer
-  sound : OpenIsSound p n s cov sent
-  held : due_at p n lost s cov sent timer ≡ Hold
+  is : v ≡ Open covered sent timer
+  sound : OpenIsSound p n s covered sent
+  held : due_at p n lost s covered sent timer ≡ Hold
 
 open_as : (p : Plan) (n s : ℕ) (lost : List ℕ) (v : Wave) → is_open v ≡ true → WaveIsSound p n s v → WaveIsSettled p n lost s v → IsOpenAs p n s lost v
-open_as p n s lost (Open cov sent timer) e h c = record { cov = cov; sent = sent; timer = timer; is = refl; sound = h; held = c.0 }
+open_as p n s lost (Open covered sent timer) e h c = record { covered = covered; sent = sent; timer = timer; is = refl; sound = h; held = c.0 }
 open_as p n s lost Closed e h c = absurd (true≢false (sym e))
 
 open_at : (p : Plan) (st : State) (n s w : ℕ) → IsSound p st → st.alive n ≡ true → In (s, w) (waves_at p n) → is_open ((st.node n).book s w) ≡ true → IsOpenAs p n s (st.node n).kin.lost ((st.node n).book s w)
@@ -226,17 +226,17 @@ open_at p st n s w h up i e = open_as p n s (st.node n).kin.lost ((st.node n).bo
 open_everywhere : (p : Plan) (st : State) (n s w : ℕ) → IsSound p st → is_open ((st.node (front p)).book s w) ≡ true → is_open ((st.node n).book s w) ≡ true
 open_everywhere p st n s w h e = elim (cases_Bool (is_open ((st.node n).book s w))) [ inl t ↦ t | inr f ↦ absurd (true≢false (sym e ∙ h.history.closed n s w f)) ]
 
-sampled_there : (p : Plan) (st : State) (n s w : ℕ) → HasPlanFacts p → IsSound p st → IsQuiet p st → st.alive n ≡ true → In n (daemons p s) → In (s, w) (waves_at p n) → is_open ((st.node n).book s w) ≡ true → IsSubset (ranks p n) (cov_of ((st.node n).book s w))
+sampled_there : (p : Plan) (st : State) (n s w : ℕ) → HasPlanFacts p → IsSound p st → IsQuiet p st → st.alive n ≡ true → In n (daemons p s) → In (s, w) (waves_at p n) → is_open ((st.node n).book s w) ≡ true → IsSubset (ranks p n) (coverage_of ((st.node n).book s w))
 sampled_there p st n s w plan h quiet up hd hw e = go ((st.node n).book s w) refl (h.base.books n s w)
   where
-    go : (v : Wave) → (st.node n).book s w ≡ v → WaveIsSound p n s v → IsSubset (ranks p n) (cov_of v)
-    go (Open cov sent t) ev hv = elim (cases_Bool (is_empty cov)) [
+    go : (v : Wave) → (st.node n).book s w ≡ v → WaveIsSound p n s v → IsSubset (ranks p n) (coverage_of v)
+    go (Open covered sent t) ev hv = elim (cases_Bool (is_empty covered)) [
       | inl e ↦ absurd (quiet_sampled p st n s w quiet up hd (wave_named p n s w hw) (subst (λ v. is_empty_open v ≡ true) (sym ev) e))
       | inr f ↦
-          let r = some_rank cov (λ k. true≢false (sym (subst (λ z. is_empty z ≡ true) (sym k) refl) ∙ f)) in
+          let r = some_rank covered (λ k. true≢false (sym (subst (λ z. is_empty z ≡ true) (sym k) refl) ∙ f)) in
           let c = hv.whole r.0 r.1 in
           elim c.place.within [
-            | inl k ↦ subst (λ a. IsSubset (ranks p a) cov) k c.all
+            | inl k ↦ subst (λ a. IsSubset (ranks p a) covered) k c.all
             | inr u ↦ absurd (plan.daemon_leaf n s c.daemon hd u)
           ]
     ]
@@ -246,7 +246,7 @@ sampled_there p st n s w plan h quiet up hd hw e = go ((st.node n).book s w) ref
 covers : (p : Plan) (st : State) (fuel n s w : ℕ) → HasPlanFacts p → IsSound p st → IsQuiet p st → is_open ((st.node (front p)).book s w) ≡ true → st.alive n ≡ true → In (s, w) (waves_at p n) → nodes p ≤ length (ancestors p n) + fuel → Covers p st n s w
 unfolding due_at is_front
 covers p st fuel n s w plan h quiet open' up hw le d hd ud (inl e) =
-    subst (λ a. IsSubset (ranks p a) (cov_of ((st.node n).book s w))) (sym e)
+    subst (λ a. IsSubset (ranks p a) (coverage_of ((st.node n).book s w))) (sym e)
     (sampled_there p st n s w plan h quiet up (subst (λ a. In a (daemons p s)) e hd) hw (open_everywhere p st n s w h open'))
 covers p st zero n s w plan h quiet open' up hw le d hd ud (inr u) =
     let x = on_the_way p st (length (ancestors p d)) d n plan h quiet ud up u (le_refl _) in
@@ -256,16 +256,16 @@ covers p st (suc fuel) n s w plan h quiet open' up hw le d hd ud (inr u) =
     let c = x.0 in
     let hc : In (s, w) (waves_at p c) = waves_within p d c n s w hd x.1.within hw in
     let oc = open_everywhere p st c s w h open' in
-    let cov : Covers p st c s w = covers p st fuel c s w plan h quiet open' x.1.alive hc (let a = x.1.parent.nearer in omega arith) in
+    let covered : Covers p st c s w = covers p st fuel c s w plan h quiet open' x.1.alive hc (let a = x.1.parent.nearer in omega arith) in
     let o = open_at p st c s w h x.1.alive hc oc in
-    let ec : cov_of ((st.node c).book s w) ≡ o.cov = ap cov_of {y = Open o.cov o.sent o.timer} o.is in
-    let es : sent_of ((st.node c).book s w) ≡ o.sent = ap sent_of {y = Open o.cov o.sent o.timer} o.is in
-    let full : complete p c (st.node c).kin.lost s o.cov ≡ true = subst (λ l. complete p c (st.node c).kin.lost s l ≡ true) ec (complete_from p st c s w h quiet x.1.alive cov) in
+    let ec : coverage_of ((st.node c).book s w) ≡ o.covered = ap coverage_of {y = Open o.covered o.sent o.timer} o.is in
+    let es : sent_of ((st.node c).book s w) ≡ o.sent = ap sent_of {y = Open o.covered o.sent o.timer} o.is in
+    let full : complete p c (st.node c).kin.lost s o.covered ≡ true = subst (λ l. complete p c (st.node c).kin.lost s l ≡ true) ec (complete_from p st c s w h quiet x.1.alive covered) in
     let low : is_front p c ≡ false = not_front c x.1.parent in
-    let same : not (is_same o.cov o.sent) ≡ false = held_same (mode p s) (not (is_same o.cov o.sent)) o.timer (subst (λ b. due_act (mode p s) true (not (is_same o.cov o.sent)) b o.timer ≡ Hold) low (subst (λ b. due_act (mode p s) b (not (is_same o.cov o.sent)) (is_front p c) o.timer ≡ Hold) full o.held)) in
-    let e : o.cov ≡ o.sent = same_true o.cov o.sent (not-false (is_same o.cov o.sent) same) in
+    let same : not (is_same o.covered o.sent) ≡ false = held_same (mode p s) (not (is_same o.covered o.sent)) o.timer (subst (λ b. due_act (mode p s) true (not (is_same o.covered o.sent)) b o.timer ≡ Hold) low (subst (λ b. due_act (mode p s) b (not (is_same o.covered o.sent)) (is_front p c) o.timer ≡ Hold) full o.held)) in
+    let e : o.covered ≡ o.sent = same_true o.covered o.sent (not-false (is_same o.covered o.sent) same) in
     λ r i.
-    let j : Has r (sent_of ((st.node c).book s w)) = subst (λ l. Has r l) (ec ∙ e ∙ sym es) (cov d hd ud x.1.within r i) in
+    let j : Has r (sent_of ((st.node c).book s w)) = subst (λ l. Has r l) (ec ∙ e ∙ sym es) (covered d hd ud x.1.within r i) in
     elim ((h.pairs c n x.1.alive up x.1.parent.named).sent s w r (open_everywhere p st n s w h open') j) [
       | inl k ↦ k
       | inr k ↦ absurd (subst (λ l. In (Up s w k.set) l) (quiet_links p st c n quiet up) k.there)
@@ -286,11 +286,11 @@ unfolding due_at is_front
 front_closed p st s w plan h quiet hw = elim (cases_Bool (is_open ((st.node (front p)).book s w))) [
   | inr f ↦ f
   | inl e ↦
-      let cov = covers p st (nodes p) (front p) s w plan h quiet e h.base.front hw (omega arith) in
+      let covered = covers p st (nodes p) (front p) s w plan h quiet e h.base.front hw (omega arith) in
       let o = open_at p st (front p) s w h h.base.front hw e in
-      let ec : cov_of ((st.node (front p)).book s w) ≡ o.cov = ap cov_of {y = Open o.cov o.sent o.timer} o.is in
-      let full : complete p (front p) (st.node (front p)).kin.lost s o.cov ≡ true = subst (λ l. complete p (front p) (st.node (front p)).kin.lost s l ≡ true) ec (complete_from p st (front p) s w h quiet h.base.front cov) in
-      absurd (final_due (mode p s) (not (is_same o.cov o.sent)) o.timer (subst (λ b. due_act (mode p s) true (not (is_same o.cov o.sent)) b o.timer ≡ Hold) (eq-eqb (front p) (front p) refl) (subst (λ b. due_act (mode p s) b (not (is_same o.cov o.sent)) (is_front p (front p)) o.timer ≡ Hold) full o.held)))
+      let ec : coverage_of ((st.node (front p)).book s w) ≡ o.covered = ap coverage_of {y = Open o.covered o.sent o.timer} o.is in
+      let full : complete p (front p) (st.node (front p)).kin.lost s o.covered ≡ true = subst (λ l. complete p (front p) (st.node (front p)).kin.lost s l ≡ true) ec (complete_from p st (front p) s w h quiet h.base.front covered) in
+      absurd (final_due (mode p s) (not (is_same o.covered o.sent)) o.timer (subst (λ b. due_act (mode p s) true (not (is_same o.covered o.sent)) b o.timer ≡ Hold) (eq-eqb (front p) (front p) refl) (subst (λ b. due_act (mode p s) b (not (is_same o.covered o.sent)) (is_front p (front p)) o.timer ≡ Hold) full o.held)))
 ]
 
 -- Done down the tree
@@ -321,7 +321,7 @@ pub record EndsWith (p : Plan) (alive : ℕ → Bool) (s : ℕ) (rs : List Relea
   pub all : rs ≡ before ++ final ∷ []
   pub partial : (r : Release) → In r before → r.kind ≡ PartialRelease
   pub kind : final.kind ≡ FinalRelease
-  pub misses : MissesOnlyLost p alive s final.cov final.lost
+  pub misses : MissesOnlyLost p alive s final.covered final.lost
 
 -- each wave has ended, at the front end and at each living node that serves it
 pub record IsOver (p : Plan) (st : State) : Type 0 where
@@ -330,11 +330,11 @@ pub record IsOver (p : Plan) (st : State) : Type 0 where
 
 -- a history of a closed wave ends in its final release
 ends_finally : (p : Plan) (alive : ℕ → Bool) (s : ℕ) (last : Ranks) (rs : List Release) (v : Wave) → is_open v ≡ false → IsHistory p alive s last rs v → EndsWith p alive s rs
-ends_finally p alive s last [] (Open cov sent t) e h = absurd (true≢false e)
+ends_finally p alive s last [] (Open covered sent t) e h = absurd (true≢false e)
 ends_finally p alive s last [] Closed e h = absurd h
-ends_finally p alive s last (r ∷ rs) v e h = go r.kind refl h.1 (ends_finally p alive s r.cov rs v e)
+ends_finally p alive s last (r ∷ rs) v e h = go r.kind refl h.1 (ends_finally p alive s r.covered rs v e)
   where
-    go : (k : Kind) → r.kind ≡ k → ByKind k ((last ≢ r.cov) × IsHistory p alive s r.cov rs v) (MissesOnlyLost p alive s r.cov r.lost × (rs ≡ []) × (is_open v ≡ false)) → (IsHistory p alive s r.cov rs v → EndsWith p alive s rs) → EndsWith p alive s (r ∷ rs)
+    go : (k : Kind) → r.kind ≡ k → ByKind k ((last ≢ r.covered) × IsHistory p alive s r.covered rs v) (MissesOnlyLost p alive s r.covered r.lost × (rs ≡ []) × (is_open v ≡ false)) → (IsHistory p alive s r.covered rs v → EndsWith p alive s rs) → EndsWith p alive s (r ∷ rs)
     go PartialRelease ek x ih = let f = ih x.1 in record {
       before = r ∷ f.before;
       final = f.final;

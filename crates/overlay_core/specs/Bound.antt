@@ -1,6 +1,7 @@
 -- How long a legal journal can be.
 use Rattle.std.specs.Prelude.{ℕ, ◌+◌, ◌*◌, max, List, [], ◌∷◌, length}
-use Rattle.stat_plan.specs.Plans.{Plan, Stream, nodes, waves_of}
+use Rattle.stat_plan.specs.Plans.{Plan, nodes, waves_of}
+use Rattle.overlay_setup.specs.Scripts.{Stream}
 use Rattle.stat_plan.specs.Machine.Waves.{ticks}
 
 -- the greatest timeout of some streams, 0 where there is none

@@ -3,7 +3,7 @@ use Rattle.std.specs.Prelude.{◌≡◌, ℕ, ◌+◌, Bool, true, false, ◌&&�
 use Rattle.std.specs.List.{count_by}
 use Rattle.rank_set.specs.Ranks.{IsSubset, is_same}
 use Rattle.stat_plan.specs.Plans.{Plan}
-use Rattle.stat_plan.specs.Machine.Waves.{Wave, Open, Closed, is_open, cov_of, has_grown}
+use Rattle.stat_plan.specs.Machine.Waves.{Wave, Open, Closed, is_open, coverage_of, has_grown}
 use Rattle.stat_desk.specs.declared.event.Event.{Event}
 use Rattle.overlay_core.specs.declared.release.Kind.{Kind}
 use Rattle.overlay_core.specs.declared.release.Kind.TheVariants.{Partial as PartialRelease, Final as FinalRelease}
@@ -38,14 +38,14 @@ sends_in s w k = count_by (λ v. is_up_of s w v.1) k.sends + count_by (is_partia
 
 -- whether a wave that stood so, and stands so after an event, is open and covers something else now
 abbrev pub grows : Wave → Wave → Bool
-grows (Open old a b) (Open cov c d) = not (is_same cov old)
+grows (Open old a b) (Open covered c d) = not (is_same covered old)
 grows (Open old a b) Closed = false
 grows Closed v = false
 
 -- a wave that is open now was open, and covers what it covered
 pub record OnlyGrows (old new : Wave) : Type 0 where
   pub opens : is_open new ≡ true → is_open old ≡ true
-  pub covers : is_open new ≡ true → IsSubset (cov_of old) (cov_of new)
+  pub covers : is_open new ≡ true → IsSubset (coverage_of old) (coverage_of new)
 
 -- whether two parents are the same
 abbrev pub is_same_parent : Option ℕ → Option ℕ → Bool
@@ -56,7 +56,7 @@ is_same_parent (Some m) (Some k) = m == k
 
 -- whether a wave covers what wasn't sent yet
 abbrev pub is_unsent : Wave → Bool
-is_unsent (Open cov sent timer) = has_grown cov sent
+is_unsent (Open covered sent timer) = has_grown covered sent
 is_unsent Closed = false
 
 -- how often n sends the wave in an event

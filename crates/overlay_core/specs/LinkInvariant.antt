@@ -2,9 +2,9 @@
 -- books cover, and of counts.
 use Rattle.rank_set.specs.Ranks.{Ranks, none, Has, IsSubset}
 use Rattle.std.specs.Prelude.{ℕ, ◌≡◌, ◌≢◌, ◌≤◌, ◌⊎◌, Bool, true, false, ⊤, List, [], ◌∷◌, Some}
-use Rattle.stat_plan.specs.NodeSets.{In, IsStrictlyIncreasing}
+use Rattle.overlay_setup.specs.NodeSets.{In, IsStrictlyIncreasing}
 use Rattle.stat_plan.specs.Plans.{Plan, ancestors, IsUnder, front, fault, ranks, daemons, serves, waves_of}
-use Rattle.stat_plan.specs.declared.script.Fault.{Fault}
+use Rattle.overlay_setup.specs.declared.script.Fault.{Fault}
 use Rattle.overlay_core.specs.Nodes.{Packet, Up, Done, Attach, Down, Node}
 use Rattle.stat_plan.specs.Machine.Kin.{Kin, nearest}
 use Rattle.stat_plan.specs.Machine.Waves.{Wave, Open, Closed, Book}
@@ -20,15 +20,15 @@ pub record IsDaemonAt (p : Plan) (d s n : ℕ) : Type 0 where
   pub within : (d ≡ n) ⊎ IsUnder p d n
 
 -- r is a rank of a daemon at or under n whose ranks are all covered
-pub record ComesWhole (p : Plan) (s n : ℕ) (cov : Ranks) (r : ℕ) : Type 0 where
+pub record ComesWhole (p : Plan) (s n : ℕ) (covered : Ranks) (r : ℕ) : Type 0 where
   pub daemon : ℕ
   pub place : IsDaemonAt p daemon s n
   pub holds : Has r (ranks p daemon)
-  pub all : IsSubset (ranks p daemon) cov
+  pub all : IsSubset (ranks p daemon) covered
 
 -- what is covered are all ranks of some daemons of s at or under n
 abbrev pub IsUnion : Plan → ℕ → ℕ → Ranks → Type 0
-IsUnion p s n cov = (r : ℕ) → Has r cov → ComesWhole p s n cov r
+IsUnion p s n covered = (r : ℕ) → Has r covered → ComesWhole p s n covered r
 
 -- Kin: who is known to be lost is lost and stands above or under n; the parent is the nearest ancestor that isn't known to be
 -- lost; the children stand under n.
@@ -78,13 +78,13 @@ pub record LossIsKnown (p : Plan) (st : State) (n m : ℕ) : Type 0 where
   pub once : st.alive n ≡ true → In m (st.node n).kin.lost → In Down (st.link m n) → ⊥
 
 -- an open wave covers all ranks of some daemons, and what was sent of it is covered
-pub record OpenIsSound (p : Plan) (n s : ℕ) (cov sent : Ranks) : Type 0 where
-  pub within : IsSubset sent cov
-  pub whole : IsUnion p s n cov
+pub record OpenIsSound (p : Plan) (n s : ℕ) (covered sent : Ranks) : Type 0 where
+  pub within : IsSubset sent covered
+  pub whole : IsUnion p s n covered
 
 -- a wave that has ended is sound
 abbrev pub WaveIsSound : Plan → ℕ → ℕ → Wave → Type 0
-WaveIsSound p n s (Open cov sent timer) = OpenIsSound p n s cov sent
+WaveIsSound p n s (Open covered sent timer) = OpenIsSound p n s covered sent
 WaveIsSound p n s Closed = ⊤
 
 -- Books: each wave is sound

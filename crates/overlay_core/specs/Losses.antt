@@ -1,6 +1,6 @@
 -- The nodes that a journal loses.
 use Rattle.std.specs.Prelude.{ℕ, List}
-use Rattle.stat_plan.specs.NodeSets.{In}
+use Rattle.overlay_setup.specs.NodeSets.{In}
 use Rattle.stat_desk.specs.declared.event.Event.{Event}
 use Rattle.stat_desk.specs.declared.event.Event.TheVariants.{Lose}
 

@@ -2,11 +2,11 @@
 use Rattle.std.specs.Prelude.{ℕ, zero, suc, Bool, true, false, ◌&&◌, not, ◌==◌, nat_lt, cond, List, [], ◌∷◌, ◌++◌, map, filter, take, find, Option, Some, None}
 use Rattle.std.specs.List.{list_any}
 use Rattle.rank_set.specs.Ranks.{none, is_empty}
-use Rattle.stat_plan.specs.NodeSets.{member}
-use Rattle.stat_plan.specs.Plans.{Plan, nodes, up_to, ancestors, is_related, waves_at, waves_of, daemons, fault}
+use Rattle.overlay_setup.specs.NodeSets.{member, up_to}
+use Rattle.stat_plan.specs.Plans.{Plan, nodes, ancestors, is_related, waves_at, waves_of, daemons, fault}
 use Rattle.stat_plan.specs.Machine.Kin.{nearest}
 use Rattle.stat_plan.specs.Machine.Waves.{Wave, Open, Closed, put_at, is_running}
-use Rattle.stat_plan.specs.declared.script.Fault.{Fault}
+use Rattle.overlay_setup.specs.declared.script.Fault.{Fault}
 use Rattle.stat_plan.specs.declared.machine.Timer.TheVariants.{Off}
 use Rattle.stat_desk.specs.declared.event.Event.{Event}
 use Rattle.stat_desk.specs.declared.event.Event.TheVariants.{Sample, Recv, Tick, Lose}
@@ -96,7 +96,7 @@ step p st (Lose n) = lose p st n
 
 -- whether a wave is open and covers nothing yet
 abbrev pub is_empty_open : Wave → Bool
-is_empty_open (Open cov sent timer) = is_empty cov
+is_empty_open (Open covered sent timer) = is_empty covered
 is_empty_open Closed = false
 
 -- the first wave of the stream that is open and covers nothing yet

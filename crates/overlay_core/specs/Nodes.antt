@@ -1,7 +1,7 @@
 -- A node of the overlay: what it keeps, and what an event of its own leaves of it.
 use Rattle.std.specs.Prelude.{ℕ, ◌&&◌, if◌then◌else◌, List, [], ◌∷◌, ◌++◌, map, filter, Option, None, Some}
 use Rattle.rank_set.specs.Ranks.{Ranks}
-use Rattle.stat_plan.specs.NodeSets.{with_number}
+use Rattle.overlay_setup.specs.NodeSets.{with_number}
 use Rattle.stat_plan.specs.Plans.{Plan, is_front, ranks, mode, serves, waves_at}
 use Rattle.stat_plan.specs.Machine.Due.{due_act}
 use Rattle.stat_plan.specs.Machine.Waves.{Wave, Open, Closed, Book, set_wave, has_grown, ticks, is_fired, is_closed, covering, growing, ticked, unsent}
@@ -33,7 +33,7 @@ pub record Node : Type 0 where
 pub record Release : Type 0 where
   pub stream : ℕ
   pub wave : ℕ
-  pub cov : Ranks
+  pub covered : Ranks
   pub kind : Kind
   pub lost : List ℕ
 
@@ -50,7 +50,7 @@ pub record Outcome : Type 0 where
 
 -- what is due for an open wave
 unfoldable pub due_at : Plan → ℕ → List ℕ → ℕ → Ranks → Ranks → Timer → Act
-due_at p n lost s cov sent timer = due_act (mode p s) (complete p n lost s cov) (has_grown cov sent) (is_front p n) timer
+due_at p n lost s covered sent timer = due_act (mode p s) (complete p n lost s covered) (has_grown covered sent) (is_front p n) timer
 
 -- a packet to the parent, if there is one
 abbrev pub to_parent : Option ℕ → Packet → List (ℕ × Packet)
@@ -63,32 +63,32 @@ dones p kin s w = map (λ c. (c, Done s w)) (filter (λ c. serves p c s) kin.chi
 
 -- a release of a wave
 abbrev pub release : ℕ → ℕ → Ranks → Kind → List ℕ → Release
-release s w cov kind lost = record { stream = s; wave = w; cov = cov; kind = kind; lost = lost }
+release s w covered kind lost = record { stream = s; wave = w; covered = covered; kind = kind; lost = lost }
 
 -- one act on an open wave
 unfoldable pub acted : Plan → Kin → ℕ → ℕ → Ranks → Ranks → Timer → Effects → Act → Effects
-acted p kin s w cov sent timer k Hold = k
-acted p kin s w cov sent timer k Arm =
-    record { book = set_wave k.book s w (Open cov sent (Running (ticks (mode p s)))); sends = k.sends; releases = k.releases }
-acted p kin s w cov sent timer k Send =
-    record { book = set_wave k.book s w (Open cov cov Off); sends = k.sends ++ to_parent kin.parent (Up s w cov); releases = k.releases }
-acted p kin s w cov sent timer k Partial =
+acted p kin s w covered sent timer k Hold = k
+acted p kin s w covered sent timer k Arm =
+    record { book = set_wave k.book s w (Open covered sent (Running (ticks (mode p s)))); sends = k.sends; releases = k.releases }
+acted p kin s w covered sent timer k Send =
+    record { book = set_wave k.book s w (Open covered covered Off); sends = k.sends ++ to_parent kin.parent (Up s w covered); releases = k.releases }
+acted p kin s w covered sent timer k Partial =
     record {
-      book = set_wave k.book s w (Open cov cov Off);
+      book = set_wave k.book s w (Open covered covered Off);
       sends = k.sends;
-      releases = k.releases ++ release s w cov PartialRelease kin.lost ∷ [];
+      releases = k.releases ++ release s w covered PartialRelease kin.lost ∷ [];
     }
-acted p kin s w cov sent timer k Final =
+acted p kin s w covered sent timer k Final =
     record {
       book = set_wave k.book s w Closed;
       sends = k.sends ++ dones p kin s w;
-      releases = k.releases ++ release s w cov FinalRelease kin.lost ∷ [];
+      releases = k.releases ++ release s w covered FinalRelease kin.lost ∷ [];
     }
 
 -- what is due for a wave that stands so is done
 abbrev pub act_as : Plan → ℕ → Kin → ℕ → ℕ → Effects → Wave → Effects
 act_as p n kin s w k Closed = k
-act_as p n kin s w k (Open cov sent timer) = acted p kin s w cov sent timer k (due_at p n kin.lost s cov sent timer)
+act_as p n kin s w k (Open covered sent timer) = acted p kin s w covered sent timer k (due_at p n kin.lost s covered sent timer)
 
 -- what is due for a wave is done
 abbrev pub act : Plan → ℕ → Kin → ℕ → ℕ → Effects → Effects
@@ -127,7 +127,7 @@ received_up p n x s w set = record {
 -- a wave in this state ends, and the children are notified
 abbrev pub done_work : Plan → Kin → ℕ → ℕ → Book → Wave → Effects
 done_work p kin s w book Closed = begin book
-done_work p kin s w book (Open cov sent timer) = record { book = set_wave book s w Closed; sends = dones p kin s w; releases = [] }
+done_work p kin s w book (Open covered sent timer) = record { book = set_wave book s w Closed; sends = dones p kin s w; releases = [] }
 
 -- the parent says that a wave has ended
 unfoldable pub received_done : Plan → ℕ → Node → ℕ → ℕ → Outcome

@@ -1,10 +1,10 @@
 -- What holds of a living node and its living parent, which are joined by two links.
 use Rattle.rank_set.specs.Ranks.{Ranks, Has}
 use Rattle.std.specs.Prelude.{ℕ, ◌≡◌, ◌⊎◌, true, false, List, Some}
-use Rattle.stat_plan.specs.NodeSets.{In}
+use Rattle.overlay_setup.specs.NodeSets.{In}
 use Rattle.stat_plan.specs.Plans.{Plan, waves_at}
 use Rattle.overlay_core.specs.Nodes.{Packet, Up, Done, Attach, Node}
-use Rattle.stat_plan.specs.Machine.Waves.{is_open, cov_of, sent_of}
+use Rattle.stat_plan.specs.Machine.Waves.{is_open, coverage_of, sent_of}
 use Rattle.overlay_core.specs.Machine.{State}
 
 -- r is on the way up in a packet of the wave
@@ -18,7 +18,7 @@ pub record ParentChildHolds (p : Plan) (c : ℕ) (x y : Node) (up down : List Pa
   -- the parent has the child, or will hear of it
   pub child : In c y.kin.children ⊎ In Attach up
   -- what the child sent of a wave that is open at the parent, the parent covers, or it is on the way
-  pub sent : (s w r : ℕ) → is_open (y.book s w) ≡ true → Has r (sent_of (x.book s w)) → Has r (cov_of (y.book s w)) ⊎ IsUnderWay r s w up
+  pub sent : (s w r : ℕ) → is_open (y.book s w) ≡ true → Has r (sent_of (x.book s w)) → Has r (coverage_of (y.book s w)) ⊎ IsUnderWay r s w up
   -- where a wave has ended at the parent and not at the child, the word of it is on the way, or the parent will be asked
   pub closed : (s w : ℕ) → In (s, w) (waves_at p c) → is_open (y.book s w) ≡ false → is_open (x.book s w) ≡ true → In (Done s w) down ⊎ In Attach up
 

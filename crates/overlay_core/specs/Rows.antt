@@ -1,14 +1,15 @@
 -- Worked jobs: small plans with journals, which the definitions must compute.
 use Rattle.std.specs.Prelude.{◌≡◌, refl, codes, ℕ, true, List, [], ◌∷◌, Option, Some, None}
 use Rattle.rank_set.specs.Ranks.{Ranks, none, has, with_rank, union, those, set_of}
-use Rattle.stat_plan.specs.Plans.{Plan, stream, ancestors, is_under, is_within, is_related, front, is_front, ranks, stream_of, daemons, mode, serves, waves_at, fault}
+use Rattle.stat_plan.specs.Plans.{Plan, ancestors, is_under, is_within, is_related, front, is_front, ranks, stream_of, daemons, mode, serves, waves_at, fault}
+use Rattle.overlay_setup.specs.Scripts.{stream}
 use Rattle.stat_plan.specs.Machine.Kin.{complete}
 use Rattle.stat_plan.specs.Machine.Waves.{Open}
 use Rattle.stat_plan.specs.declared.machine.Timer.TheVariants.{Running}
-use Rattle.stat_plan.specs.declared.script.Grain.TheVariants.{Line}
-use Rattle.stat_plan.specs.declared.script.Mode.{Mode}
-use Rattle.stat_plan.specs.declared.script.Mode.TheVariants.{WaitForAll, TimeOut, DontWait}
-use Rattle.stat_plan.specs.declared.script.Fault.{Fault}
+use Rattle.overlay_setup.specs.declared.script.Grain.TheVariants.{Line}
+use Rattle.overlay_setup.specs.declared.script.Mode.{Mode}
+use Rattle.overlay_setup.specs.declared.script.Mode.TheVariants.{WaitForAll, TimeOut, DontWait}
+use Rattle.overlay_setup.specs.declared.script.Fault.{Fault}
 use Rattle.stat_desk.specs.declared.event.Event.{Event}
 use Rattle.stat_desk.specs.declared.event.Event.TheVariants.{Sample, Recv, Tick, Lose}
 use Rattle.overlay_core.specs.declared.release.Kind.TheVariants.{Partial as PartialRelease, Final as FinalRelease}
@@ -40,10 +41,10 @@ pub record Gives (p : Plan) (journal : List Event) (given : List Release) (follo
 
 -- a release of the one wave
 abbrev partial : Ranks → List ℕ → Release
-partial cov lost = release 0 0 cov PartialRelease lost
+partial covered lost = release 0 0 covered PartialRelease lost
 
 abbrev final : Ranks → List ℕ → Release
-final cov lost = release 0 0 cov FinalRelease lost
+final covered lost = release 0 0 covered FinalRelease lost
 
 -- one daemon
 abbrev pub one_daemon : Plan

@@ -1,7 +1,7 @@
 -- Settled: between events nothing is due at a living node.
 use Rattle.rank_set.specs.Ranks.{Ranks}
 use Rattle.std.specs.Prelude.{ℕ, ◌≡◌, ◌≢◌, ◌≤◌, true, ⊤, List}
-use Rattle.stat_plan.specs.NodeSets.{In}
+use Rattle.overlay_setup.specs.NodeSets.{In}
 use Rattle.stat_plan.specs.Plans.{Plan, mode, waves_at}
 use Rattle.overlay_core.specs.Nodes.{Node, due_at}
 use Rattle.stat_plan.specs.Machine.Waves.{Wave, Open, Closed, ticks}
@@ -12,13 +12,13 @@ use Rattle.stat_plan.specs.declared.machine.Act.TheVariants.{Hold}
 
 -- a timer runs for at least a tick and at most the timeout, and only where something was not sent yet; none has run out
 abbrev pub TimerIsSound : Plan → ℕ → Ranks → Ranks → Timer → Type 0
-TimerIsSound p s cov sent Off = ⊤
-TimerIsSound p s cov sent (Running t) = (1 ≤ t) × (t ≤ ticks (mode p s)) × (cov ≢ sent)
-TimerIsSound p s cov sent Fired = ⊥
+TimerIsSound p s covered sent Off = ⊤
+TimerIsSound p s covered sent (Running t) = (1 ≤ t) × (t ≤ ticks (mode p s)) × (covered ≢ sent)
+TimerIsSound p s covered sent Fired = ⊥
 
 -- nothing is due for the wave
 abbrev pub WaveIsSettled : Plan → ℕ → List ℕ → ℕ → Wave → Type 0
-WaveIsSettled p n lost s (Open cov sent timer) = (due_at p n lost s cov sent timer ≡ Hold) × TimerIsSound p s cov sent timer
+WaveIsSettled p n lost s (Open covered sent timer) = (due_at p n lost s covered sent timer ≡ Hold) × TimerIsSound p s covered sent timer
 WaveIsSettled p n lost s Closed = ⊤
 
 -- nothing is due for any wave that the node serves

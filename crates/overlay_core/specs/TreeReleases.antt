@@ -26,7 +26,7 @@ releases_view tree rs = map (release_view tree) rs
 
 -- the machine's release: of the tree, the ranks that it covers
 abbrev pub bare_release : TreeRelease → Release
-bare_release r = record { stream = r.stream; wave = r.wave; cov = r.tree.coverage; kind = r.kind; lost = r.lost }
+bare_release r = record { stream = r.stream; wave = r.wave; covered = r.tree.coverage; kind = r.kind; lost = r.lost }
 
 -- the machine's releases
 abbrev pub bare_releases : List TreeRelease → List Release

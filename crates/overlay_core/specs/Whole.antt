@@ -1,7 +1,7 @@
 -- What a legal journal leaves, and what a whole one does.
 use Rattle.std.specs.Prelude.{ℕ, ◌≡◌, ◌<◌, true, false, List, [], ◌∷◌, ◌++◌}
 use Rattle.rank_set.specs.Ranks.{Has, IsSubset}
-use Rattle.stat_plan.specs.NodeSets.{In}
+use Rattle.overlay_setup.specs.NodeSets.{In}
 use Rattle.stat_plan.specs.Plans.{Plan, nodes, daemons, ranks, waves_of, waves_at}
 use Rattle.stat_plan.specs.Machine.Waves.{is_open}
 use Rattle.stat_desk.specs.declared.event.Event.{Event}
@@ -32,8 +32,8 @@ pub record EndsFinally (p : Plan) (journal : List Event) (s : ℕ) (rs : List Re
   pub all : rs ≡ before ++ final ∷ []
   pub partial : (r : Release) → In r before → r.kind ≡ PartialRelease
   pub kind : final.kind ≡ FinalRelease
-  pub covers : (d : ℕ) → In d (daemons p s) → (IsLost journal d → ⊥) → IsSubset (ranks p d) final.cov
-  pub misses : (d r : ℕ) → In d (daemons p s) → Has r (ranks p d) → (Has r final.cov → ⊥) → IsLost journal d × In d final.lost
+  pub covers : (d : ℕ) → In d (daemons p s) → (IsLost journal d → ⊥) → IsSubset (ranks p d) final.covered
+  pub misses : (d r : ℕ) → In d (daemons p s) → Has r (ranks p d) → (Has r final.covered → ⊥) → IsLost journal d × In d final.lost
   pub names : (n : ℕ) → n < nodes p → In n final.lost → IsLost journal n
 
 -- each wave of the plan has ended: at the front end, and at each living node that serves it
@@ -50,4 +50,4 @@ pub record HasOneRelease (p : Plan) (s : ℕ) (rs : List Release) : Type 0 where
   pub only : Release
   pub all : rs ≡ only ∷ []
   pub kind : only.kind ≡ FinalRelease
-  pub covers : CoversAll p s only.cov
+  pub covers : CoversAll p s only.covered

@@ -1,9 +1,9 @@
-//! The machine of the overlay: nodes that stand in a tree, pass the ranks of each wave up to the front end, and may be lost on
-//! the way.
+//! The machine of the overlay: nodes that stand in a tree, pass the ranks of each wave up to the front end, and may be
+//! lost on the way.
 //!
-//! What the machine is stands in `specs/`: a state, the events that are enabled, and the state after each. The functions here
-//! are laws of it. Their bodies are empty: what a law says is its contract. A crate above calls its function, or imports the
-//! lemma that is its answer.
+//! What the machine is stands in `specs/`: a state, the events that are enabled, and the state after each. The
+//! functions here are laws of it. Their bodies are empty: what a law says is its contract. A crate above calls its
+//! function, or imports the lemma that is its answer.
 #![tactic(auto)]
 
 ghost use Rattle.overlay_core.specs.Independent.{outcome, AreIndependent};
@@ -19,9 +19,9 @@ ghost use Rattle.overlay_core.specs.Runs.{run, after, IsLegal, IsQuiet, IsWhole}
 ghost use Rattle.overlay_core.specs.Whole.{HasEnded, HasOneRelease, IsSound, LosesNoDaemon};
 ghost use Rattle.stat_desk.specs.declared.event.Event.{Event};
 ghost use Rattle.stat_plan.specs.Invariants.{IsPlan};
-ghost use Rattle.stat_plan.specs.NodeSets.{In};
+ghost use Rattle.overlay_setup.specs.NodeSets.{In};
 ghost use Rattle.stat_plan.specs.Plans.{Plan, nodes, mode, waves_of};
-ghost use Rattle.stat_plan.specs.declared.script.Mode.TheVariants.{WaitForAll};
+ghost use Rattle.overlay_setup.specs.declared.script.Mode.TheVariants.{WaitForAll};
 ghost use Rattle.std.specs.List.{AllByRecursion};
 ghost use Rattle.std.specs.Prelude.{◌≡◌, ◌≤◌, ◌<◌, ◌+◌, ◌↔◌, true, false, length, List, [], ◌∷◌, ◌++◌, Some, ℕ};
 
@@ -41,14 +41,15 @@ pub fn legal_journals_are_short()
         → is_enabled p (after p journal) e ≡ true → length journal < bound p }
 {}
 
-/// A law: a whole journal has ended each wave. The wave has one final release, its last, which covers each daemon of the
-/// stream that the journal doesn't lose; the daemon of a missing rank is lost, and the release says so. And each living node
-/// that serves the wave has closed it.
+/// A law: a whole journal has ended each wave. The wave has one final release, its last, which covers each daemon of
+/// the stream that the journal doesn't lose; the daemon of a missing rank is lost, and the release says so. And each
+/// living node that serves the wave has closed it.
 pub fn whole_journals_have_ended()
     ensures ended { (p : Plan) (journal : List Event) → IsPlan p → IsWhole p journal → HasEnded p journal }
 {}
 
-/// A law: a stream that waits for all, and none of whose daemons is lost, has one release of each wave, of all its ranks.
+/// A law: a stream that waits for all, and none of whose daemons is lost, has one release of each wave, of all its
+/// ranks.
 pub fn waiting_streams_release_once()
     ensures once { (p : Plan) (journal : List Event) (s w : ℕ) → IsPlan p → IsWhole p journal
         → mode p s ≡ WaitForAll → LosesNoDaemon p journal s → In (s, w) (waves_of p.streams)
@@ -75,14 +76,15 @@ pub fn picks_go_on()
     ensures legal { (p : Plan) (seed : ℕ) (journal : List Event) (y : ℕ) → Picks p seed journal y → IsLegal p journal }
 {}
 
-/// A law: each release is of a wave of the plan, covers all ranks of some daemons of its stream, and is final where the stream
-/// waits for all.
+/// A law: each release is of a wave of the plan, covers all ranks of some daemons of its stream, and is final where the
+/// stream waits for all.
 pub fn releases_are_sound()
     ensures sound { (p : Plan) (journal : List Event) → IsPlan p → IsLegal p journal
         → ReleasesAreSound p (after p journal) }
 {}
 
-/// A law: the list of enabled events has exactly the events that are enabled, and is empty exactly if the state is quiet.
+/// A law: the list of enabled events has exactly the events that are enabled, and is empty exactly if the state is
+/// quiet.
 pub fn enabled_events_are_listed()
     ensures listed { (p : Plan) (journal : List Event) (e : Event) → IsPlan p → IsLegal p journal
         → (is_enabled p (after p journal) e ≡ true) ↔ In e (enabled_events p (after p journal)) }
@@ -90,8 +92,8 @@ pub fn enabled_events_are_listed()
         ↔ (enabled_events p (after p journal) ≡ []) }
 {}
 
-/// A law: a journal with an event more leaves the state one step on, and is legal just where the journal is and the event may
-/// come after it.
+/// A law: a journal with an event more leaves the state one step on, and is legal just where the journal is and the
+/// event may come after it.
 pub fn journals_go_on()
     ensures state { (p : Plan) (journal : List Event) (e : Event)
         → after p (journal ++ e ∷ []) ≡ step p (after p journal) e }
@@ -113,8 +115,8 @@ pub fn releases_name_lost_nodes()
         → IsLegal p journal → In r (after p journal).releases → In n r.lost → IsLost journal n }
 {}
 
-/// A law: a node sends a wave at most as often as what it covers of the wave grew or its parent changed, and once less where
-/// something isn't sent yet.
+/// A law: a node sends a wave at most as often as what it covers of the wave grew or its parent changed, and once less
+/// where something isn't sent yet.
 pub fn sends_are_bounded()
     ensures paid { (p : Plan) (journal : List Event) (n s w : ℕ)
         → sends p (start p) journal n s w + one_if (is_unsent (((after p journal).node n).book s w))
@@ -128,8 +130,8 @@ pub fn coverages_only_grow()
         → OnlyGrows (((after p journal).node n).book s w) (((after p (journal ++ e ∷ [])).node n).book s w) }
 {}
 
-/// A law: an event that may come may still come after events of other nodes, where none of them is the loss of the sender of
-/// its packet, and leaves of its node what it would have left before.
+/// A law: an event that may come may still come after events of other nodes, where none of them is the loss of the
+/// sender of its packet, and leaves of its node what it would have left before.
 pub fn independent_events_commute()
     ensures single { (p : Plan) (st : State) (e f : Event) → AreIndependent e f → is_enabled p st e ≡ true
         → (is_enabled p (step p st f) e ≡ true) × (outcome p (step p st f) e ≡ outcome p st e) }

@@ -2,11 +2,11 @@ pub mod Queues
 pub mod Listed
 pub mod Offers
 pub mod States
-pub mod KeepingParts
-pub mod Keeping
-pub mod Coming
+pub mod PartsInvariant
+pub mod EventInvariant
+pub mod NextEvents
 pub mod Handing
 pub mod SmallCounts
 pub mod Sending
-pub mod Happening
+pub mod WholeEvents
 pub mod Initial

@@ -9,8 +9,7 @@ use Rattle.std.proofs.lemmas.Bool.{true≢false, or_cases, or_left, or_right}
 use Rattle.std.proofs.lemmas.Bool.Decides.{nat_tests}
 use Rattle.std.proofs.lemmas.List.{length-append}
 use Rattle.std.proofs.lemmas.Option.{none-some}
-use Rattle.stat_plan.specs.NodeSets.{In, IsStrictlyIncreasing}
-use Rattle.stat_plan.specs.Plans.{up_to}
+use Rattle.overlay_setup.specs.NodeSets.{In, IsStrictlyIncreasing, up_to}
 use Rattle.stat_plan.proofs.FirstOver.{all_in}
 use Rattle.stat_plan.proofs.InLists.{in_filter, in_from_filter}
 use Rattle.overlay_core.proofs.Lists.{filter_increases, up_to_increases, up_to_below}

@@ -8,14 +8,15 @@ use Rattle.std.proofs.lemmas.List.{append-nil, drop_more, get_or_read}
 use Rattle.std.proofs.lemmas.List.Elements.{filter-append}
 use Rattle.std.proofs.lemmas.Grind.{flat_map-append}
 use Rattle.std.proofs.lemmas.Option.{slice_get_read}
-use Rattle.stat_plan.specs.NodeSets.{In, IsStrictlyIncreasing, member}
-use Rattle.stat_plan.specs.Plans.{Plan, Stream, nodes, nodes_of, ancestors, is_within, daemons, stream_of, serves, up_to, waves_of, waves_at, fault}
-use Rattle.stat_plan.specs.Trees.{climb, is_daemon, parent_of}
-use Rattle.stat_plan.specs.Invariants.{IsPlan, IsDaemon}
+use Rattle.overlay_setup.specs.NodeSets.{In, IsStrictlyIncreasing, member, up_to}
+use Rattle.stat_plan.specs.Plans.{Plan, nodes, nodes_of, ancestors, is_within, daemons, stream_of, serves, waves_of, waves_at, fault}
+use Rattle.overlay_setup.specs.Scripts.{Stream, IsDaemon}
+use Rattle.overlay_setup.specs.Trees.{climb, is_daemon, parent_of}
+use Rattle.stat_plan.specs.Invariants.{IsPlan}
 use Rattle.stat_plan.specs.Machine.Waves.{is_running}
 use Rattle.stat_plan.proofs.FirstOver.{all_in, found_in}
 use Rattle.stat_plan.proofs.InLists.{in_append, in_at, in_map, any_from_in, in_from_any}
-use Rattle.stat_plan.proofs.Leaves.{daemon_is_leaf}
+use Rattle.overlay_setup.proofs.Leaves.{daemon_is_leaf}
 use Rattle.overlay_core.specs.Machine.{State, events_below, events_of, enabled_events, is_active, is_doomed, is_enabled, is_pending, is_spent, is_wave, next_sample, samples_of, start_node}
 use Rattle.overlay_core.specs.TreeReleases.{TreeRelease}
 use Rattle.overlay_core.proofs.Lists.{in_member, in_from_member, up_to_below, eqb_self}

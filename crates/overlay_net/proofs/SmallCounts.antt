@@ -3,12 +3,13 @@ use Rattle.std.proofs.Common.{◌≡◌, ◌+◌, ◌*◌, ◌^◌, ◌<◌, ◌
 use Rattle.std.proofs.lemmas.List.{length-map}
 use Rattle.std.proofs.Math.Nat.{mul-le-mul, max-le}
 use Rattle.std.specs.List.{AllByRecursion}
-use Rattle.stat_plan.specs.declared.topology.TheConstants.{NODE_LIMIT}
-use Rattle.stat_plan.specs.declared.script.Mode.{Mode}
-use Rattle.stat_plan.specs.declared.script.Mode.TheVariants.{WaitForAll, TimeOut, DontWait}
-use Rattle.stat_plan.specs.Invariants.{IsMode, IsPlan, IsStream}
-use Rattle.stat_plan.specs.NodeSets.{In, IsStrictlyIncreasing}
-use Rattle.stat_plan.specs.Plans.{Plan, Stream, nodes, up_to, waves_of}
+use Rattle.overlay_setup.specs.declared.topology.TheConstants.{NODE_LIMIT}
+use Rattle.overlay_setup.specs.declared.script.Mode.{Mode}
+use Rattle.overlay_setup.specs.declared.script.Mode.TheVariants.{WaitForAll, TimeOut, DontWait}
+use Rattle.stat_plan.specs.Invariants.{IsPlan}
+use Rattle.overlay_setup.specs.Scripts.{IsMode, IsStream, Stream}
+use Rattle.overlay_setup.specs.NodeSets.{In, IsStrictlyIncreasing, up_to}
+use Rattle.stat_plan.specs.Plans.{Plan, nodes, waves_of}
 use Rattle.stat_plan.specs.Machine.Waves.{ticks}
 use Rattle.stat_plan.proofs.TableLemmas.{length-up_to}
 use Rattle.stat_desk.specs.declared.event.Event.{Event}
@@ -106,7 +107,7 @@ waves_within_limit (x ∷ xs) all =
     let a : length (waves_of (x ∷ xs)) ≡ length (own_waves x) + length (waves_of xs) = length-append (own_waves x) (waves_of xs) in
     let b : length (own_waves x) ≡ length (up_to x.waves) = length-map (up_to x.waves) (λ w. (x.number, w)) in
     let c : length (up_to x.waves) ≡ x.waves = length-up_to x.waves in
-    let d : x.waves ≤ 16 = all.0.waves_few in
+    let d : x.waves ≤ 16 = all.0.waves_within_limit in
     let rest : length (waves_of xs) ≤ 16 * length xs = waves_within_limit xs all.1 in
     omega arith
 
@@ -141,7 +142,7 @@ small_bound_of n m t hn hm ht =
 -- the bound of a plan is small
 pub small_bound : (p : Plan) → IsPlan p → bound p < 2 ^ 62
 small_bound p plan =
-    let a : nodes p ≤ NODE_LIMIT = plan.topology.few in
+    let a : nodes p ≤ NODE_LIMIT = plan.topology.within_limit in
     let b : length (waves_of p.streams) ≤ 16 * length p.streams = waves_within_limit p.streams plan.script.streams in
     let c : length p.streams ≤ 8 = streams_within_limit p.streams plan.script.streams plan.script.streams_increase in
     let m : length (waves_of p.streams) ≤ 128 = omega arith in

@@ -2,8 +2,9 @@
 use Rattle.std.specs.Prelude.{◌≡◌, refl, ℕ, Bool, nat_lt, cond, List, [], ◌∷◌, ◌++◌, map, slice_get, slice_index_or, Some, None}
 use Rattle.std.specs.List.{AllByRecursion, flat_map}
 use Rattle.std.specs.Coded.{Coded, code_by, coded×, coded_bool, coded_list}
-use Rattle.stat_plan.specs.NodeSets.{member}
-use Rattle.stat_plan.specs.Plans.{Plan, Stream, nodes}
+use Rattle.overlay_setup.specs.NodeSets.{member}
+use Rattle.stat_plan.specs.Plans.{Plan, nodes}
+use Rattle.overlay_setup.specs.Scripts.{Stream}
 use Rattle.stat_plan.specs.Codes.{coded_plan}
 use Rattle.stat_desk.specs.declared.event.Event.{Event}
 use Rattle.stat_desk.specs.declared.event.Event.TheVariants.{Sample, Recv, Tick}

@@ -5,7 +5,7 @@ ghost use Rattle.std.specs.List.{flat_map};
 ghost use Rattle.stat_desk.specs.declared.event.Event.{Event};
 ghost use Rattle.stat_desk.specs.declared.event.Event.TheVariants.{Recv};
 ghost use Rattle.stat_plan.specs.Invariants.{IsPlan};
-ghost use Rattle.stat_plan.specs.NodeSets.{In, member};
+ghost use Rattle.overlay_setup.specs.NodeSets.{In, member};
 ghost use Rattle.stat_plan.specs.Plans.{Plan, daemons};
 ghost use Rattle.overlay_core.specs.Machine.{enabled_events, is_enabled, is_wave, next_sample};
 ghost use Rattle.overlay_core.specs.TreeReleases.{TreeRelease};
@@ -16,9 +16,10 @@ ghost use Rattle.overlay_net.specs.Events.{AreParts, AreReady, IsNth, has_some, 
 
 use crate::inbox::Inbox;
 use overlay_node::Node;
+use overlay_setup::StreamDef;
 use prefix_tree::PrefixTree;
 use stat_desk::Event;
-use stat_plan::{Plan, StreamDef};
+use stat_plan::Plan;
 use std::collections::BTreeSet;
 
 /// What an index finds in a list of events.

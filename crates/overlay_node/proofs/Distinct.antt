@@ -1,14 +1,15 @@
 -- A plan's waves are distinct, and what follows for the entries of a node.
 use Rattle.std.proofs.Common.{◌≡◌, inl, inr, ℕ, Bool, true, false, cond, ◌==◌, List, [], ◌∷◌, ◌++◌, map, filter, length, get_or, refl, sym, ap, subst, arith, eqb-true, ◌<◌, ◌∙◌}
 use Rattle.std.proofs.lemmas.Bool.{and_parts, and_from, cases_Bool}
-use Rattle.stat_plan.specs.NodeSets.{In, IsStrictlyIncreasing}
+use Rattle.overlay_setup.specs.NodeSets.{In, IsStrictlyIncreasing, up_to}
 use Rattle.stat_plan.specs.Invariants.{IsPlan}
 use Rattle.stat_plan.specs.Machine.Waves.{Wave}
 use Rattle.stat_plan.proofs.InLists.{in_at}
-use Rattle.stat_plan.specs.Plans.{Plan, Stream, serves, up_to, waves_of, waves_at}
+use Rattle.stat_plan.specs.Plans.{Plan, serves, waves_of, waves_at}
+use Rattle.overlay_setup.specs.Scripts.{Stream}
 use Rattle.overlay_core.proofs.Lists.{in_append, filter_from, up_to_increases, eqb_self}
 use Rattle.overlay_node.specs.Acting.{AreDistinct}
-use Rattle.overlay_node.specs.NodeViews.{EntryView, book_of, given_of, is_entry_of, keys_of, wave_of}
+use Rattle.overlay_node.specs.NodeViews.{EntryView, book_of, release_count_of, is_entry_of, keys_of, wave_of}
 
 -- distinct keys of two lists without a common one are distinct together
 once_append : (xs ys : List (ℕ × ℕ)) → AreDistinct xs → AreDistinct ys → ((v : ℕ × ℕ) → In {X = ℕ × ℕ} v xs → In {X = ℕ × ℕ} v ys → ⊥) → AreDistinct (xs ++ ys)
@@ -84,17 +85,17 @@ book_own (d ∷ ds) h e (inl k) = subst (λ (y : EntryView). book_of (d ∷ ds) 
 book_own (d ∷ ds) h e (inr i) = ap (λ b. cond b (wave_of d) (book_of ds e.stream e.wave)) (is_of_other ds d e h.0 i) ∙ book_own ds h.1 e i
 
 -- the releases of an entry's key are those that the entry has counted
-pub given_own : (es : List EntryView) → AreDistinct (keys_of es) → (e : EntryView) → In {X = EntryView} e es → given_of es e.stream e.wave ≡ e.given
+pub given_own : (es : List EntryView) → AreDistinct (keys_of es) → (e : EntryView) → In {X = EntryView} e es → release_count_of es e.stream e.wave ≡ e.release_count
 given_own [] h e i = absurd i
-given_own (d ∷ ds) h e (inl k) = subst (λ (y : EntryView). given_of (d ∷ ds) y.stream y.wave ≡ y.given) (sym k) (ap (λ b. cond b d.given (given_of ds d.stream d.wave)) (is_of_own d))
-given_own (d ∷ ds) h e (inr i) = ap (λ b. cond b d.given (given_of ds e.stream e.wave)) (is_of_other ds d e h.0 i) ∙ given_own ds h.1 e i
+given_own (d ∷ ds) h e (inl k) = subst (λ (y : EntryView). release_count_of (d ∷ ds) y.stream y.wave ≡ y.release_count) (sym k) (ap (λ b. cond b d.release_count (release_count_of ds d.stream d.wave)) (is_of_own d))
+given_own (d ∷ ds) h e (inr i) = ap (λ b. cond b d.release_count (release_count_of ds e.stream e.wave)) (is_of_other ds d e h.0 i) ∙ given_own ds h.1 e i
 
 -- the book at the key of the i-th entry is that entry's wave
 pub book_at : (es : List EntryView) (i : ℕ) (d : EntryView) → AreDistinct (keys_of es) → i < length es → book_of es (get_or es i d).stream (get_or es i d).wave ≡ wave_of (get_or es i d)
 book_at es i d h lt = book_own es h (get_or es i d) (in_at es i d lt)
 
 -- the releases of the key of the i-th entry are those that this entry has counted
-pub given_at : (es : List EntryView) (i : ℕ) (d : EntryView) → AreDistinct (keys_of es) → i < length es → given_of es (get_or es i d).stream (get_or es i d).wave ≡ (get_or es i d).given
+pub given_at : (es : List EntryView) (i : ℕ) (d : EntryView) → AreDistinct (keys_of es) → i < length es → release_count_of es (get_or es i d).stream (get_or es i d).wave ≡ (get_or es i d).release_count
 given_at es i d h lt = given_own es h (get_or es i d) (in_at es i d lt)
 
 -- the keys whose waves pass a test are those of the entries that do

@@ -4,7 +4,7 @@ use Rattle.std.specs.List.{AllByRecursion}
 use Rattle.std.proofs.lemmas.Bool.{and_parts, cases_Bool}
 use Rattle.std.proofs.lemmas.List.{append-nil}
 use Rattle.prefix_tree.specs.Tree.{Tree}
-use Rattle.stat_plan.specs.NodeSets.{In}
+use Rattle.overlay_setup.specs.NodeSets.{In}
 use Rattle.stat_plan.specs.Machine.Kin.{Kin}
 use Rattle.stat_plan.specs.Invariants.{IsPlan}
 use Rattle.stat_plan.specs.Plans.{Plan, daemons, nodes, waves_at}
@@ -62,7 +62,7 @@ each_same p n kin (v ∷ vs) k distinct = by (each_same p n kin vs (act p n kin 
 -- ---- events
 
 ends : (p : Plan) (kin : Kin) (s w : ℕ) (b : Book) (v : Wave) → done_work p kin s w b v ≡ end_as p kin s w (begin b) v
-ends p kin s w b (Open cov sent timer) = refl
+ends p kin s w b (Open covered sent timer) = refl
 ends p kin s w b Closed = refl
 
 abbrev outcome_with : Kin → Effects → Outcome

@@ -6,7 +6,7 @@ use Rattle.std.specs.Cmp.{unsigned_tied, nat_cmp_total, tied_itself}
 use Rattle.std.specs.Ordering.{is_eq}
 use Rattle.std.proofs.lemmas.Bool.{true≢false, and_parts, or_cases, or_left, or_right, ltb-true}
 use Rattle.rank_set.specs.Ranks.{Ranks, IsSubset, in_order, is_strictly_increasing, size, from_T, has-in_order, same_list}
-use Rattle.stat_plan.specs.NodeSets.{In, IsStrictlyIncreasing}
+use Rattle.overlay_setup.specs.NodeSets.{In, IsStrictlyIncreasing}
 
 above : (x : ℕ) (ys : List ℕ) → list_all (λ y. nat_lt x y) ys ≡ true → (y : ℕ) → In y ys → x < y
 above x [] h y i = absurd i

@@ -4,13 +4,14 @@ use Rattle.std.proofs.lemmas.List.{drop_all, map-append, append_assoc}
 use Rattle.std.proofs.lemmas.List.Elements.{filter-append}
 use Rattle.std.specs.List.{AllByRecursion}
 use Rattle.rank_set.specs.Ranks.{none}
-use Rattle.stat_plan.specs.NodeSets.{In}
-use Rattle.stat_plan.specs.Plans.{Plan, Stream, up_to, waves_of}
+use Rattle.overlay_setup.specs.NodeSets.{In, up_to}
+use Rattle.stat_plan.specs.Plans.{Plan, waves_of}
+use Rattle.overlay_setup.specs.Scripts.{Stream}
 use Rattle.stat_plan.specs.Machine.Waves.{Book, Open}
 use Rattle.stat_plan.specs.declared.machine.Timer.TheVariants.{Off}
 use Rattle.stat_plan.proofs.InLists.{append_left, append_right, in_at, in_map}
 use Rattle.overlay_core.proofs.Whole.{in_up_to}
-use Rattle.overlay_node.specs.NodeViews.{EntryView, EntryFits, book_of, given_of, is_entry_of, keys_of}
+use Rattle.overlay_node.specs.NodeViews.{EntryView, EntryFits, book_of, release_count_of, is_entry_of, keys_of}
 use Rattle.overlay_node.specs.Starts.{HasWaves, IsUntouched, first_waves}
 use Rattle.overlay_node.proofs.Reading.{drop_read}
 
@@ -127,9 +128,9 @@ untouched_book p es h = λ i s w. at es h s w i
     at (e ∷ es) h s w = (λ i. cond (is_entry_of s w e) (h.0.wave i) (at es h.1 s w i)) ∙ both (is_entry_of s w e)
 
 -- there was no release of a wave
-pub untouched_given : (p : Plan) (es : List EntryView) → AllByRecursion (IsUntouched p) es → (s w : ℕ) → given_of es s w ≡ 0
+pub untouched_given : (p : Plan) (es : List EntryView) → AllByRecursion (IsUntouched p) es → (s w : ℕ) → release_count_of es s w ≡ 0
 untouched_given p [] h s w = refl
-untouched_given p (e ∷ es) h s w = (λ i. cond (is_entry_of s w e) (h.0.given i) (untouched_given p es h.1 s w i)) ∙ both (is_entry_of s w e)
+untouched_given p (e ∷ es) h s w = (λ i. cond (is_entry_of s w e) (h.0.release_count i) (untouched_given p es h.1 s w i)) ∙ both (is_entry_of s w e)
   where
     both : (b : Bool) → ◌≡◌ {A = ℕ} (cond b 0 0) 0
     both true = refl

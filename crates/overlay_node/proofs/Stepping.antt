@@ -5,14 +5,14 @@ use Rattle.std.specs.List.{AllByRecursion}
 use Rattle.std.specs.Cmp.{both_ways}
 use Rattle.std.proofs.Math.ListN.{set}
 use Rattle.std.proofs.lemmas.Bool.{and_parts, and_from, true≢false}
-use Rattle.stat_plan.specs.NodeSets.{In}
+use Rattle.overlay_setup.specs.NodeSets.{In}
 use Rattle.stat_plan.specs.Plans.{Plan}
 use Rattle.stat_plan.specs.Machine.Waves.{set_wave}
 use Rattle.overlay_core.specs.Nodes.{Release, Effects}
 use Rattle.overlay_core.specs.History.{of_wave}
 use Rattle.overlay_core.specs.TreeReleases.{AreNumberedInOrder, bare_release, bare_releases}
 use Rattle.overlay_node.specs.Packets.{Output, bare_sends}
-use Rattle.overlay_node.specs.NodeViews.{EntryFits, EntryView, book_of, given_of, is_entry_of, keys_of, wave_of}
+use Rattle.overlay_node.specs.NodeViews.{EntryFits, EntryView, book_of, release_count_of, is_entry_of, keys_of, wave_of}
 use Rattle.overlay_node.specs.Acting.{StepsEntries, StepsEntry, entry_index}
 use Rattle.overlay_node.proofs.Books.{book_read, shadow}
 use Rattle.overlay_node.proofs.Numbering.{after_more, count_more, numbered_more}
@@ -25,8 +25,8 @@ pub record Replaces (p : Plan) (es : List EntryView) (e f : EntryView) (new : Li
   pub keys : keys_of new ≡ keys_of es
   pub fits_here : AllByRecursion (EntryFits p) es → EntryFits p e
   pub fits : AllByRecursion (EntryFits p) es → EntryFits p f → AllByRecursion (EntryFits p) new
-  pub given_here : given_of es e.stream e.wave ≡ e.given
-  pub given : (a b : ℕ) → given_of new a b ≡ cond ((a == e.stream) && (b == e.wave)) f.given (given_of es a b)
+  pub given_here : release_count_of es e.stream e.wave ≡ e.release_count
+  pub release_count : (a b : ℕ) → release_count_of new a b ≡ cond ((a == e.stream) && (b == e.wave)) f.release_count (release_count_of es a b)
 
 swapped : (x y a b : ℕ) → ((x == a) && (y == b)) ≡ ((a == x) && (b == y))
 swapped x y a b = both_ways _ _
@@ -66,11 +66,11 @@ replaced p (x ∷ xs) zero e f at lt is fs fw =
       keys = (λ i. ((fs ∙ sym xs') i, (fw ∙ sym xw') i) ∷ keys_of xs);
       fits_here = λ h. subst (EntryFits p) (sym is) h.0;
       fits = λ h k. (k, h.1);
-      given_here = ap (λ c. cond c x.given (given_of xs e.stream e.wave)) ec ∙ ap (λ (y : EntryView). y.given) (sym is);
-      given = λ a b.
-          (λ i. cond (test_for f e.stream e.wave a b fs fw i) f.given (given_of xs a b))
-          ∙ shadow ((a == e.stream) && (b == e.wave)) f.given x.given (given_of xs a b)
-          ∙ (λ i. cond ((a == e.stream) && (b == e.wave)) f.given (cond (sym (test_for x e.stream e.wave a b xs' xw') i) x.given (given_of xs a b)));
+      given_here = ap (λ c. cond c x.release_count (release_count_of xs e.stream e.wave)) ec ∙ ap (λ (y : EntryView). y.release_count) (sym is);
+      release_count = λ a b.
+          (λ i. cond (test_for f e.stream e.wave a b fs fw i) f.release_count (release_count_of xs a b))
+          ∙ shadow ((a == e.stream) && (b == e.wave)) f.release_count x.release_count (release_count_of xs a b)
+          ∙ (λ i. cond ((a == e.stream) && (b == e.wave)) f.release_count (cond (sym (test_for x e.stream e.wave a b xs' xw') i) x.release_count (release_count_of xs a b)));
     }
 replaced p (x ∷ xs) (suc i) e f at lt is fs fw =
     let k = index_later (is_entry_of e.stream e.wave x) (entry_index e.stream e.wave xs) i at in
@@ -86,35 +86,35 @@ replaced p (x ∷ xs) (suc i) e f at lt is fs fw =
       keys = ap (λ l. (x.stream, x.wave) ∷ l) r.keys;
       fits_here = λ h. r.fits_here h.1;
       fits = λ h g. (h.0, r.fits h.1 g);
-      given_here = ap (λ c. cond c x.given (given_of xs e.stream e.wave)) k.0 ∙ r.given_here;
-      given = λ a b.
-          ap (cond (is_entry_of a b x) x.given) (r.given a b)
-          ∙ crossed (is_entry_of a b x) ((a == e.stream) && (b == e.wave)) x.given f.given (given_of xs a b) (distinct a b);
+      given_here = ap (λ c. cond c x.release_count (release_count_of xs e.stream e.wave)) k.0 ∙ r.given_here;
+      release_count = λ a b.
+          ap (cond (is_entry_of a b x) x.release_count) (r.release_count a b)
+          ∙ crossed (is_entry_of a b x) ((a == e.stream) && (b == e.wave)) x.release_count f.release_count (release_count_of xs a b) (distinct a b);
     }
 
 -- ---- counts
 
 -- the releases of each wave that are counted, where one wave has counted g
-same_given : (es : List EntryView) (e : EntryView) (g a b : ℕ) → given_of es e.stream e.wave ≡ e.given → g ≡ e.given → cond ((a == e.stream) && (b == e.wave)) g (given_of es a b) ≡ given_of es a b
+same_given : (es : List EntryView) (e : EntryView) (g a b : ℕ) → release_count_of es e.stream e.wave ≡ e.release_count → g ≡ e.release_count → cond ((a == e.stream) && (b == e.wave)) g (release_count_of es a b) ≡ release_count_of es a b
 same_given es e g a b here is = by ((a == e.stream) && (b == e.wave)) refl
   where
-    by : (c : Bool) → ((a == e.stream) && (b == e.wave)) ≡ c → cond c g (given_of es a b) ≡ given_of es a b
+    by : (c : Bool) → ((a == e.stream) && (b == e.wave)) ≡ c → cond c g (release_count_of es a b) ≡ release_count_of es a b
     by false ec = refl
-    by true ec = let v = and_parts (a == e.stream) (b == e.wave) ec in is ∙ sym here ∙ (λ j. given_of es (sym (eqb-true a e.stream v.0) j) (sym (eqb-true b e.wave v.1) j))
+    by true ec = let v = and_parts (a == e.stream) (b == e.wave) ec in is ∙ sym here ∙ (λ j. release_count_of es (sym (eqb-true a e.stream v.0) j) (sym (eqb-true b e.wave v.1) j))
 
-more_given : (es : List EntryView) (e : EntryView) (g a b n : ℕ) (rs : List Release) (r : Release) → given_of es e.stream e.wave ≡ e.given → r.stream ≡ e.stream → r.wave ≡ e.wave → g ≡ suc e.given → given_of es a b ≡ length (of_wave a b rs)
-    → cond ((a == e.stream) && (b == e.wave)) g (given_of es a b) ≡ length (of_wave a b (rs ++ r ∷ []))
+more_given : (es : List EntryView) (e : EntryView) (g a b n : ℕ) (rs : List Release) (r : Release) → release_count_of es e.stream e.wave ≡ e.release_count → r.stream ≡ e.stream → r.wave ≡ e.wave → g ≡ suc e.release_count → release_count_of es a b ≡ length (of_wave a b rs)
+    → cond ((a == e.stream) && (b == e.wave)) g (release_count_of es a b) ≡ length (of_wave a b (rs ++ r ∷ []))
 more_given es e g a b n rs r here rs' rw' is h =
     by ((a == e.stream) && (b == e.wave)) refl
     ∙ (λ j. cond ((a == sym rs' j) && (b == sym rw' j)) (suc (length (of_wave a b rs))) (length (of_wave a b rs)))
     ∙ (λ j. cond (sym (swapped r.stream r.wave a b) j) (suc (length (of_wave a b rs))) (length (of_wave a b rs)))
     ∙ sym (count_more a b rs r)
   where
-    by : (c : Bool) → ((a == e.stream) && (b == e.wave)) ≡ c → cond c g (given_of es a b) ≡ cond c (suc (length (of_wave a b rs))) (length (of_wave a b rs))
+    by : (c : Bool) → ((a == e.stream) && (b == e.wave)) ≡ c → cond c g (release_count_of es a b) ≡ cond c (suc (length (of_wave a b rs))) (length (of_wave a b rs))
     by false ec = h
     by true ec =
         let v = and_parts (a == e.stream) (b == e.wave) ec in
-        is ∙ ap suc (sym here ∙ (λ j. given_of es (sym (eqb-true a e.stream v.0) j) (sym (eqb-true b e.wave v.1) j)) ∙ h)
+        is ∙ ap suc (sym here ∙ (λ j. release_count_of es (sym (eqb-true a e.stream v.0) j) (sym (eqb-true b e.wave v.1) j)) ∙ h)
 
 -- ---- a step
 
@@ -129,14 +129,14 @@ steps_by p does es new e f o q all r h = record {
     | inr k ↦ subst (AreNumberedInOrder earlier) (sym k.releases) (numbered_more earlier o.releases k.next n (k.number ∙ ap suc (sym r.given_here ∙ c e.stream e.wave r.there ∙ (λ j. length (of_wave (sym k.stream j) (sym k.wave j) (earlier ++ bare_releases o.releases))))))
   ];
   counts = λ earlier c a b i.
-      let old : given_of es a b ≡ length (of_wave a b (earlier ++ bare_releases o.releases)) = c a b (subst (In {X = ℕ × ℕ} (a, b)) r.keys i) in
+      let old : release_count_of es a b ≡ length (of_wave a b (earlier ++ bare_releases o.releases)) = c a b (subst (In {X = ℕ × ℕ} (a, b)) r.keys i) in
       elim h.gives [
         | inl k ↦
-            r.given a b ∙ same_given es e f.given a b r.given_here k.given ∙ old
+            r.release_count a b ∙ same_given es e f.release_count a b r.given_here k.release_count ∙ old
             ∙ ap (λ l. length (of_wave a b (earlier ++ bare_releases l))) (sym k.releases)
         | inr k ↦
-            r.given a b
-            ∙ more_given es e f.given a b 0 (earlier ++ bare_releases o.releases) (bare_release k.next) r.given_here k.stream k.wave k.given old
+            r.release_count a b
+            ∙ more_given es e f.release_count a b 0 (earlier ++ bare_releases o.releases) (bare_release k.next) r.given_here k.stream k.wave k.release_count old
             ∙ ap (λ l. length (of_wave a b l)) (sym (after_more earlier o.releases k.next))
             ∙ ap (λ l. length (of_wave a b (earlier ++ bare_releases l))) (sym k.releases)
       ];

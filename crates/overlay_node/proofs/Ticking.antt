@@ -6,7 +6,7 @@ use Rattle.std.proofs.Math.ListN.{set}
 use Rattle.std.proofs.lemmas.Bool.{and_parts, and_from, cases_Bool}
 use Rattle.std.proofs.lemmas.List.{take_more, take_all}
 use Rattle.rank_set.specs.Ranks.{Ranks}
-use Rattle.stat_plan.specs.NodeSets.{In}
+use Rattle.overlay_setup.specs.NodeSets.{In}
 use Rattle.stat_plan.specs.Plans.{Plan}
 use Rattle.stat_plan.specs.Machine.Kin.{Kin}
 use Rattle.stat_plan.specs.Machine.Waves.{Wave, Closed, is_fired, ticked, ticked_timer}
@@ -16,7 +16,7 @@ use Rattle.merge_filter.specs.Contributions.{Contrib}
 use Rattle.overlay_core.specs.Nodes.{Effects, act, act_as}
 use Rattle.overlay_core.specs.TreeReleases.{bare_releases}
 use Rattle.overlay_node.specs.Packets.{Output, bare_sends}
-use Rattle.overlay_node.specs.NodeViews.{EntryFits, EntryView, PartFits, book_of, given_of, is_entry_of, keys_of, wave_state, wave_of}
+use Rattle.overlay_node.specs.NodeViews.{EntryFits, EntryView, PartFits, book_of, release_count_of, is_entry_of, keys_of, wave_state, wave_of}
 use Rattle.overlay_node.specs.Acting.{AreDistinct, StepsEntries, StepsEntry, act_fired, each_fired, entry_index, tick, tick_all, ticked_entry, effects_of, effects_with}
 use Rattle.overlay_node.proofs.Books.{same_book}
 use Rattle.overlay_node.proofs.Fitting.{ticked_fits}
@@ -89,17 +89,17 @@ pub ticked_keys : (es : List EntryView) → keys_of (map ticked_entry es) ≡ ke
 ticked_keys [] = refl
 ticked_keys (e ∷ es) = ap (λ l. (e.stream, e.wave) ∷ l) (ticked_keys es)
 
-ticked_given : (es : List EntryView) (s w : ℕ) → given_of (map ticked_entry es) s w ≡ given_of es s w
+ticked_given : (es : List EntryView) (s w : ℕ) → release_count_of (map ticked_entry es) s w ≡ release_count_of es s w
 ticked_given [] s w = refl
-ticked_given (e ∷ es) s w = ap (cond (is_entry_of s w e) e.given) (ticked_given es s w)
+ticked_given (e ∷ es) s w = ap (cond (is_entry_of s w e) e.release_count) (ticked_given es s w)
 
-ticked_part : (p : Plan) (s w : ℕ) (sent : Ranks) (t : Timer) (given : ℕ) (o : Option Contrib) → PartFits p s w sent t given o → PartFits p s w sent (ticked_timer t) given o
-ticked_part p s w sent t given None h = tt
-ticked_part p s w sent t given (Some c) h = record { stream = h.stream; wave = h.wave; merge = h.merge; within = h.within; within_limit = h.within_limit; timer_fits = ticked_fits p s t h.timer_fits }
+ticked_part : (p : Plan) (s w : ℕ) (sent : Ranks) (t : Timer) (release_count : ℕ) (o : Option Contrib) → PartFits p s w sent t release_count o → PartFits p s w sent (ticked_timer t) release_count o
+ticked_part p s w sent t release_count None h = tt
+ticked_part p s w sent t release_count (Some c) h = record { stream = h.stream; wave = h.wave; merge = h.merge; within = h.within; within_limit = h.within_limit; timer_fits = ticked_fits p s t h.timer_fits }
 
 pub ticked_all : (p : Plan) (es : List EntryView) → AllByRecursion (EntryFits p) es → AllByRecursion (EntryFits p) (map ticked_entry es)
 ticked_all p [] h = tt
-ticked_all p (e ∷ es) h = (ticked_part p e.stream e.wave e.sent e.timer e.given e.part h.0, ticked_all p es h.1)
+ticked_all p (e ∷ es) h = (ticked_part p e.stream e.wave e.sent e.timer e.release_count e.part h.0, ticked_all p es h.1)
 
 pub steps_ticked : (p : Plan) (es : List EntryView) (o : Output) → AllByRecursion (EntryFits p) es → StepsEntries p tick_all es (map ticked_entry es) o o
 steps_ticked p es o h = record {
@@ -124,7 +124,7 @@ module _ (p : Plan) (n : ℕ) (kin : Kin) where
         wave = refl;
         fits = h;
         output = λ x. x;
-        gives = inl (record { given = refl; releases = refl });
+        gives = inl (record { release_count = refl; releases = refl });
         work = λ b eb.
             (λ i. effects_with (same_book b e.stream e.wave (wave_of e) eb i) o)
             ∙ ap (λ c. cond c (act p n kin e.stream e.wave (effects_with b o)) (effects_with b o)) (sym (ap is_fired eb ∙ idle));

@@ -1,8 +1,8 @@
 -- The waves and the children of a node.
 use Rattle.std.proofs.Common.{◌<◌, ℕ, Bool, List, [], ◌∷◌, filter, refl, inl, inr}
 use Rattle.std.specs.List.{AllByRecursion}
-use Rattle.stat_plan.specs.NodeSets.{In}
-use Rattle.stat_plan.specs.Plans.{Plan, daemons, is_within, serves, up_to, waves_at, waves_of}
+use Rattle.overlay_setup.specs.NodeSets.{In, up_to}
+use Rattle.stat_plan.specs.Plans.{Plan, daemons, is_within, serves, waves_at, waves_of}
 use Rattle.stat_plan.proofs.InLists.{any_from_in, in_filter, in_from_filter, up_to_below}
 use Rattle.overlay_core.proofs.ParentLinks.{test_from_within}
 

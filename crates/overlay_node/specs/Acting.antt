@@ -3,7 +3,7 @@ use Rattle.std.specs.Prelude.{◌≡◌, ◌⊎◌, ⊤, ℕ, zero, suc, ◌<◌
 use Rattle.std.specs.List.{AllByRecursion}
 use Rattle.rank_set.specs.Ranks.{Ranks, union}
 use Rattle.prefix_tree.specs.Tree.{Tree, tree_of}
-use Rattle.stat_plan.specs.NodeSets.{In}
+use Rattle.overlay_setup.specs.NodeSets.{In}
 use Rattle.stat_plan.specs.Plans.{Plan, nodes, mode, ranks, samples, serves}
 use Rattle.stat_plan.specs.Machine.Kin.{Kin}
 use Rattle.stat_plan.specs.Machine.Waves.{Wave, Open, Closed, Book, set_wave, is_fired, ticked, ticks, ticked_timer, covering, growing}
@@ -12,7 +12,7 @@ use Rattle.stat_plan.specs.declared.machine.Act.{Act}
 use Rattle.stat_plan.specs.declared.machine.Act.TheVariants.{Hold, Arm, Send, Partial, Final}
 use Rattle.stat_desk.specs.declared.event.Event.{Event}
 use Rattle.stat_desk.specs.declared.event.Event.TheVariants.{Sample, Recv, Tick, Lose}
-use Rattle.merge_filter.specs.Contributions.{Contrib, contrib, cov_of}
+use Rattle.merge_filter.specs.Contributions.{Contrib, contrib, coverage_of}
 use Rattle.overlay_core.specs.declared.release.Kind.{Kind}
 use Rattle.overlay_core.specs.declared.release.Kind.TheVariants.{Partial as PartialRelease, Final as FinalRelease}
 use Rattle.overlay_core.specs.Nodes.{Release, Effects, due_at, dones, act}
@@ -52,7 +52,7 @@ with_dones p kin s w o = record { sends = o.sends ++ dones_to p s w kin.children
 
 -- the next release of an entry's wave, with this tree
 abbrev pub release_with : EntryView → Kind → Tree → TreeRelease
-release_with e kind tree = record { stream = e.stream; wave = e.wave; number = suc e.given; kind = kind; tree = tree; lost = [] }
+release_with e kind tree = record { stream = e.stream; wave = e.wave; number = suc e.release_count; kind = kind; tree = tree; lost = [] }
 
 -- the next release of an entry's wave, of what has come in of it
 abbrev pub next_release : EntryView → Contrib → Kind → TreeRelease
@@ -64,11 +64,11 @@ with_release r o = record { sends = o.sends; releases = o.releases ++ r ∷ [] }
 
 -- the entry after its wave was passed on
 abbrev pub passed_entry : Contrib → EntryView → EntryView
-passed_entry c e = record e { sent = cov_of c; timer = Off }
+passed_entry c e = record e { sent = coverage_of c; timer = Off }
 
 -- the entry with a release more
 abbrev pub counted_entry : EntryView → EntryView
-counted_entry e = record e { given = suc e.given }
+counted_entry e = record e { release_count = suc e.release_count }
 
 -- the entry of a wave that has ended
 abbrev pub ended_entry : EntryView → EntryView
@@ -103,7 +103,7 @@ output_by p kin a e o (Some c) = output_after p kin a c e o
 -- what is due for an entry, where no node is known to be lost
 abbrev pub due_of : Plan → ℕ → EntryView → Option Contrib → Act
 due_of p n e None = Hold
-due_of p n e (Some c) = due_at p n [] e.stream (cov_of c) e.sent e.timer
+due_of p n e (Some c) = due_at p n [] e.stream (coverage_of c) e.sent e.timer
 
 -- the entry after what is due for it
 abbrev pub acted_entry : Plan → ℕ → EntryView → EntryView
@@ -120,7 +120,7 @@ partial_merge p s w set = contrib s w (tree_of (samples p s w) set)
 -- the entry with these ranks in addition to what has come in; unchanged if its wave has ended
 abbrev pub grown_part : Plan → Ranks → EntryView → Option Contrib → EntryView
 grown_part p set e None = e
-grown_part p set e (Some c) = record e { part = Some (partial_merge p e.stream e.wave (union (cov_of c) set)) }
+grown_part p set e (Some c) = record e { part = Some (partial_merge p e.stream e.wave (union (coverage_of c) set)) }
 
 -- the entry with these ranks in addition
 abbrev pub grown_entry : Plan → Ranks → EntryView → EntryView
@@ -159,7 +159,7 @@ pub record OutputFits (p : Plan) (o : Output) : Type 0 where
 
 -- no release of the entry's wave was added
 pub record GivesNothing (e f : EntryView) (rs qs : List TreeRelease) : Type 0 where
-  pub given : f.given ≡ e.given
+  pub release_count : f.release_count ≡ e.release_count
   pub releases : qs ≡ rs
 
 -- one release of the entry's wave was added, with the next number, and the entry has counted it
@@ -167,8 +167,8 @@ pub record GivesNext (e f : EntryView) (rs qs : List TreeRelease) : Type 0 where
   pub next : TreeRelease
   pub stream : next.stream ≡ e.stream
   pub wave : next.wave ≡ e.wave
-  pub number : next.number ≡ suc e.given
-  pub given : f.given ≡ suc e.given
+  pub number : next.number ≡ suc e.release_count
+  pub release_count : f.release_count ≡ suc e.release_count
   pub releases : qs ≡ rs ++ next ∷ []
 
 -- What a step does to an entry, and to the output so far. `does` is the machine's step, and the step does the same whatever
@@ -199,7 +199,7 @@ act_changed p n kin s w change k = act p n kin s w (record { book = set_wave k.b
 -- a wave in this state ends, which is sent to the children
 abbrev pub end_as : Plan → Kin → ℕ → ℕ → Effects → Wave → Effects
 end_as p kin s w k Closed = k
-end_as p kin s w k (Open cov sent timer) = record { book = set_wave k.book s w Closed; sends = k.sends ++ dones p kin s w; releases = k.releases }
+end_as p kin s w k (Open covered sent timer) = record { book = set_wave k.book s w Closed; sends = k.sends ++ dones p kin s w; releases = k.releases }
 
 -- a wave ends, which is sent to the children
 abbrev pub end : Plan → Kin → ℕ → ℕ → Effects → Effects

@@ -3,7 +3,7 @@ use Rattle.std.specs.Prelude.{◌≡◌, refl, ℕ, suc, ◌++◌, find, option_
 use Rattle.std.specs.List.{AllByRecursion, list_any}
 use Rattle.std.specs.Coded.{Coded, code_by, coded×, coded_list, coded_option, coded_ℕ}
 use Rattle.rank_set.specs.Ranks.{Ranks, none, IsSubset, size, coded_ranks}
-use Rattle.stat_plan.specs.NodeSets.{In}
+use Rattle.overlay_setup.specs.NodeSets.{In}
 use Rattle.stat_plan.specs.Plans.{Plan, nodes, daemons, mode, waves_at}
 use Rattle.stat_plan.specs.Machine.Kin.{Kin}
 use Rattle.stat_plan.specs.Machine.Waves.{Wave, Open, Closed, Book, is_running, ticks}
@@ -11,7 +11,7 @@ use Rattle.stat_plan.specs.declared.machine.Timer.{Timer}
 use Rattle.stat_plan.specs.declared.machine.Timer.TheVariants.{Off, Running, Fired}
 use Rattle.stat_desk.specs.declared.event.Event.{Event}
 use Rattle.stat_desk.specs.declared.event.Event.TheVariants.{Sample, Recv, Tick, Lose}
-use Rattle.merge_filter.specs.Contributions.{Contrib, IsPartialMerge, contrib, coded_contrib, cov_of}
+use Rattle.merge_filter.specs.Contributions.{Contrib, IsPartialMerge, contrib, coded_contrib, coverage_of}
 use Rattle.overlay_core.specs.Nodes.{Node, Outcome, Packet, Release, handled}
 use Rattle.overlay_core.specs.TreeReleases.{AreNumberedInOrder, TreeRelease, bare_releases}
 use Rattle.overlay_core.specs.Machine.{start_node, next_sample, is_empty_open, is_wave}
@@ -26,7 +26,7 @@ pub record EntryView : Type 0 where
   pub part : Option Contrib
   pub sent : Ranks
   pub timer : Timer
-  pub given : ℕ
+  pub release_count : ℕ
 
 -- a node: its number, its kin, its waves, and how many events it has done
 pub record NodeView : Type 0 where
@@ -40,7 +40,7 @@ pub record NodeView : Type 0 where
 -- the machine's wave of these parts
 abbrev pub wave_state : Option Contrib → Ranks → Timer → Wave
 wave_state None sent timer = Closed
-wave_state (Some c) sent timer = Open (cov_of c) sent timer
+wave_state (Some c) sent timer = Open (coverage_of c) sent timer
 
 abbrev pub wave_of : EntryView → Wave
 wave_of e = wave_state e.part e.sent e.timer
@@ -63,13 +63,13 @@ abbrev pub keys_of : List EntryView → List (ℕ × ℕ)
 keys_of es = map (λ e. (e.stream, e.wave)) es
 
 -- how many releases of a wave the entries have counted
-abbrev pub given_of : List EntryView → ℕ → ℕ → ℕ
-given_of [] s w = 0
-given_of (e ∷ es) s w = cond (is_entry_of s w e) e.given (given_of es s w)
+abbrev pub release_count_of : List EntryView → ℕ → ℕ → ℕ
+release_count_of [] s w = 0
+release_count_of (e ∷ es) s w = cond (is_entry_of s w e) e.release_count (release_count_of es s w)
 
 -- the entries have counted the releases of their waves
 abbrev pub Counts : List EntryView → List Release → Type 0
-Counts es rs = (s w : ℕ) → In {X = ℕ × ℕ} (s, w) (keys_of es) → given_of es s w ≡ length (of_wave s w rs)
+Counts es rs = (s w : ℕ) → In {X = ℕ × ℕ} (s, w) (keys_of es) → release_count_of es s w ≡ length (of_wave s w rs)
 
 -- ---- what holds of a node between its events
 
@@ -81,20 +81,20 @@ TimerFits p s Fired = 1 ≤ ticks (mode p s)
 
 -- What has come in of an open wave is a partial merge of that wave, and covers what was passed on. Each release so far
 -- passed on a new rank, so there are at most as many of them as ranks that were passed on.
-pub record OpenFits (p : Plan) (s w : ℕ) (sent : Ranks) (timer : Timer) (given : ℕ) (c : Contrib) : Type 0 where
+pub record OpenFits (p : Plan) (s w : ℕ) (sent : Ranks) (timer : Timer) (release_count : ℕ) (c : Contrib) : Type 0 where
   pub stream : c.stream ≡ s
   pub wave : c.wave ≡ w
   pub merge : IsPartialMerge p c
-  pub within : IsSubset sent (cov_of c)
-  pub within_limit : given ≤ size sent
+  pub within : IsSubset sent (coverage_of c)
+  pub within_limit : release_count ≤ size sent
   pub timer_fits : TimerFits p s timer
 
 abbrev pub PartFits : Plan → ℕ → ℕ → Ranks → Timer → ℕ → Option Contrib → Type 0
-PartFits p s w sent timer given None = ⊤
-PartFits p s w sent timer given (Some c) = OpenFits p s w sent timer given c
+PartFits p s w sent timer release_count None = ⊤
+PartFits p s w sent timer release_count (Some c) = OpenFits p s w sent timer release_count c
 
 abbrev pub EntryFits : Plan → EntryView → Type 0
-EntryFits p e = PartFits p e.stream e.wave e.sent e.timer e.given e.part
+EntryFits p e = PartFits p e.stream e.wave e.sent e.timer e.release_count e.part
 
 -- it is a node of the plan, has the topology's kin, and has an entry for each wave of the streams that it serves
 pub record IsNodeOf (p : Plan) (v : NodeView) : Type 0 where
@@ -186,7 +186,7 @@ coded_kin = code_by (Option ℕ × (List ℕ × List ℕ)) (coded× (coded_optio
 
 abbrev pub coded_entry : Coded EntryView
 coded_entry = code_by (ℕ × (ℕ × (Option Contrib × (Ranks × (Timer × ℕ))))) (coded× coded_ℕ (coded× coded_ℕ (coded× (coded_option coded_contrib) (coded× coded_ranks (coded× coded_timer coded_ℕ)))))
-    (λ e. (e.stream, (e.wave, (e.part, (e.sent, (e.timer, e.given)))))) (λ p. record { stream = p.0; wave = p.1.0; part = p.1.1.0; sent = p.1.1.1.0; timer = p.1.1.1.1.0; given = p.1.1.1.1.1 }) (λ _. refl)
+    (λ e. (e.stream, (e.wave, (e.part, (e.sent, (e.timer, e.release_count)))))) (λ p. record { stream = p.0; wave = p.1.0; part = p.1.1.0; sent = p.1.1.1.0; timer = p.1.1.1.1.0; release_count = p.1.1.1.1.1 }) (λ _. refl)
 
 abbrev pub coded_node : Coded NodeView
 coded_node = code_by (ℕ × (Kin × (List EntryView × ℕ))) (coded× coded_ℕ (coded× coded_kin (coded× (coded_list coded_entry) coded_ℕ))) (λ n. (n.number, (n.kin, (n.entries, n.count)))) (λ p. record { number = p.0; kin = p.1.0; entries = p.1.1.0; count = p.1.1.1 }) (λ _. refl)

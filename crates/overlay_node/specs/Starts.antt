@@ -2,7 +2,8 @@
 use Rattle.std.specs.Prelude.{◌≡◌, ℕ, ◌<◌, List, map}
 use Rattle.std.specs.List.{AllByRecursion}
 use Rattle.rank_set.specs.Ranks.{none}
-use Rattle.stat_plan.specs.Plans.{Plan, up_to}
+use Rattle.stat_plan.specs.Plans.{Plan}
+use Rattle.overlay_setup.specs.NodeSets.{up_to}
 use Rattle.stat_plan.specs.Machine.Waves.{Open}
 use Rattle.stat_plan.specs.declared.machine.Timer.TheVariants.{Off}
 use Rattle.merge_filter.specs.Contributions.{HasWave}
@@ -12,7 +13,7 @@ use Rattle.overlay_node.specs.NodeViews.{EntryView, EntryFits, wave_of}
 pub record IsUntouched (p : Plan) (e : EntryView) : Type 0 where
   pub fits : EntryFits p e
   pub wave : wave_of e ≡ Open none none Off
-  pub given : e.given ≡ 0
+  pub release_count : e.release_count ≡ 0
 
 -- entries of such waves
 abbrev pub AreUntouched : Plan → List EntryView → Type 0

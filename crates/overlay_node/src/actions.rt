@@ -15,9 +15,10 @@ use crate::due::{due_for, mode_of};
 use crate::entry::WaveEntry;
 use crate::packet::{Outgoing, Packet};
 use overlay_core::{Kind, Release};
+use overlay_setup::Mode;
 use prefix_tree::PrefixTree;
 use rank_set::{RANK_LIMIT, RankSet};
-use stat_plan::{Act, Mode, Timer};
+use stat_plan::{Act, Timer};
 use std::alloc::{AllocError, Global};
 
 // How many ticks a timer of the mode runs.
@@ -104,13 +105,13 @@ fn next_release<T: PrefixTree>(
     kind: Kind,
     tree: T,
 ) -> Release<T>
-    requires { entry.now.given + 1 < 2 ^ 32 }
+    requires { entry.now.release_count + 1 < 2 ^ 32 }
     ensures { release_view T.tree result ≡ release_with entry.now kind (T.tree tree) }
 {
     Release {
         stream: entry.stream,
         wave: entry.wave,
-        number: entry.given + 1,
+        number: entry.release_count + 1,
         kind,
         tree,
         lost: Vec::new(alloc),
@@ -135,7 +136,7 @@ fn give_partial<T: PrefixTree>(
             .push(next_release(alloc, entry, Kind::Partial, tree))?;
         entry.sent = part.coverage().copy()?;
         entry.timer = Timer::Off;
-        entry.given += 1;
+        entry.release_count += 1;
     }
     Ok(())
 }
@@ -158,7 +159,7 @@ fn give_final<T: PrefixTree>(
         let tree = part.into_tree();
         out.releases
             .push(next_release(alloc, entry, Kind::Final, tree))?;
-        entry.given += 1;
+        entry.release_count += 1;
     }
     Ok(())
 }

@@ -20,7 +20,7 @@ pub struct WaveEntry<T: PrefixTree> {
     /// The wave's timer.
     pub timer: Timer,
     /// How many releases of the wave there were at this node.
-    pub given: u32,
+    pub release_count: u32,
 }
 
 impl<T: PrefixTree> Model for WaveEntry<T> {
@@ -36,6 +36,6 @@ impl<T: PrefixTree> Model for WaveEntry<T> {
       part = e.part;
       sent = e.sent;
       timer = e.timer;
-      given = e.given;
+      release_count = e.release_count;
     } };
 }

@@ -3,10 +3,10 @@
 ghost use Rattle.std.specs.Prelude.{◌≡◌, ◌<◌, ℕ, length, map, IsTrue, OnOk};
 ghost use Rattle.std.specs.List.{AllByRecursion};
 ghost use Rattle.rank_set.specs.Ranks.{union};
-ghost use Rattle.stat_plan.specs.NodeSets.{In};
+ghost use Rattle.overlay_setup.specs.NodeSets.{In};
 ghost use Rattle.stat_plan.specs.Plans.{daemons, ranks};
 ghost use Rattle.stat_plan.specs.Machine.Waves.{covering, growing, is_fired, ticked_timer};
-ghost use Rattle.merge_filter.specs.Contributions.{HasWave, IsPartialMerge, contrib, cov_of};
+ghost use Rattle.merge_filter.specs.Contributions.{HasWave, IsPartialMerge, contrib, coverage_of};
 ghost use Rattle.overlay_core.specs.Machine.{is_empty_open};
 ghost use Rattle.overlay_node.specs.NodeViews.{EntryFits, wave_of, keys_of, book_of};
 ghost use Rattle.overlay_node.specs.Contexts.{IsNodeContext, StepsEntriesAt, StepsEntryAt, changed_at, each_fired_at, end_at, fired_at, output_after_end, tick_at};
@@ -46,7 +46,7 @@ fn unite<T: PrefixTree>(
     requires stream { received.stream ≡ part.old.stream }
     requires wave { received.wave ≡ part.old.wave }
     ensures { OnOk result (part.new
-        ≡ partial_merge plan.now part.old.stream part.old.wave (union (cov_of part.old) (cov_of received))) }
+        ≡ partial_merge plan.now part.old.stream part.old.wave (union (coverage_of part.old) (coverage_of received))) }
 {
     if part.coverage().first().is_none() {
         *part = received;
@@ -65,7 +65,7 @@ fn grow<T: PrefixTree>(
     requires received_merge { IsPartialMerge plan.now received }
     requires stream { received.stream ≡ entry.old.stream }
     requires wave { received.wave ≡ entry.old.wave }
-    ensures { OnOk result (entry.new ≡ grown_entry plan.now (cov_of received) entry.old) }
+    ensures { OnOk result (entry.new ≡ grown_entry plan.now (coverage_of received) entry.old) }
 {
     match &mut entry.part {
         Some(part) => unite(plan, part, received),
@@ -86,7 +86,7 @@ fn take_up<T: PrefixTree>(
     requires stream { received.stream ≡ entry.old.stream }
     requires wave { received.wave ≡ entry.old.wave }
     ensures { OnOk result (StepsEntryAt context.now
-        (changed_at context.now entry.old.stream entry.old.wave (growing (cov_of received)))
+        (changed_at context.now entry.old.stream entry.old.wave (growing (coverage_of received)))
         entry.old entry.new out.old out.new) }
 {
     context.plan.invariant();
@@ -108,7 +108,7 @@ fn take_sample<T: PrefixTree>(
     requires stream { own.stream ≡ entry.old.stream }
     requires wave { own.wave ≡ entry.old.wave }
     ensures { OnOk result (StepsEntryAt context.now
-        (changed_at context.now entry.old.stream entry.old.wave (covering (cov_of own)))
+        (changed_at context.now entry.old.stream entry.old.wave (covering (coverage_of own)))
         entry.old entry.new out.old out.new) }
 {
     context.plan.invariant();
@@ -172,7 +172,7 @@ pub fn on_up<T: PrefixTree>(
     requires has_entry { In {X = ℕ × ℕ} (s, w) (keys_of entries.old) }
     requires partial_merge { IsPartialMerge context.now.plan.now (contrib s w (T.tree tree)) }
     ensures { OnOk result (StepsEntriesAt context.now
-        (changed_at context.now s w (growing (cov_of (contrib s w (T.tree tree)))))
+        (changed_at context.now s w (growing (coverage_of (contrib s w (T.tree tree)))))
         entries.old entries.new out.old out.new) }
 {
     let received = Contribution::of_tree(s, w, tree);

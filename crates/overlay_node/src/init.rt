@@ -3,7 +3,8 @@
 ghost use Rattle.std.specs.Prelude.{◌≡◌, ◌<◌, ◌++◌, [], ℕ, IfOk, OnOk, map};
 ghost use Rattle.std.specs.List.{AllByRecursion};
 ghost use Rattle.stat_plan.specs.Machine.Kin.{is_parent, nearest};
-ghost use Rattle.stat_plan.specs.Plans.{Plan, ancestors, nodes, up_to, waves_at};
+ghost use Rattle.stat_plan.specs.Plans.{Plan, ancestors, nodes, waves_at};
+ghost use Rattle.overlay_setup.specs.NodeSets.{up_to};
 ghost use Rattle.merge_filter.specs.Contributions.{HasWave};
 ghost use Rattle.overlay_core.specs.Machine.{children_of};
 ghost use Rattle.overlay_node.specs.NodeViews.{keys_of};
@@ -60,7 +61,7 @@ fn untouched_entry<T: PrefixTree>(alloc: Global, s: u8, w: u8) -> WaveEntry<T>
         part: Some(Contribution::none(alloc, s, w)),
         sent: RankSet::new(alloc),
         timer: Timer::Off,
-        given: 0,
+        release_count: 0,
     }
 }
 

@@ -17,14 +17,14 @@ use Rattle.text_lines.specs.declared.text_error.Reason.TheVariants.{NotADaemon, 
 use Rattle.text_lines.proofs.Cuts.{past_blanks, word_here}
 use Rattle.text_lines.proofs.Parsing.{parsed_none}
 use Rattle.text_lines.proofs.Errors.{then_inv, ok_inj}
-use Rattle.stat_plan.specs.Daemons.{daemon_named}
-use Rattle.stat_plan.specs.Names.{name_of}
+use Rattle.overlay_setup.specs.Daemons.{daemon_named}
+use Rattle.overlay_setup.specs.Names.{name_of}
 use Rattle.stat_plan.specs.Plans.{Sampled, sampled}
 use Rattle.stat_plan.specs.Samples.{SampleLine, all_ranks}
-use Rattle.stat_plan.specs.Topologies.{Nodes, IsTopology}
-use Rattle.stat_plan.specs.Trees.{is_daemon}
+use Rattle.overlay_setup.specs.Topologies.{Nodes, IsTopology}
+use Rattle.overlay_setup.specs.Trees.{is_daemon}
 use Rattle.stat_plan.specs.declared.samples.TheConstants.{TIME_LIMIT, LINE_LIMIT}
-use Rattle.stat_plan.proofs.DaemonNames.{found_by_name}
+use Rattle.overlay_setup.proofs.DaemonNames.{found_by_name}
 use Rattle.sample_text.specs.Grammar.{IsDaemonLine, SomePlacesRank, IsPlacedBy, IsSampleOf, AreSamplesOf, IsWritten, IsGoodDaemonLine, IsGoodStackLine, IsGoodLine, IsAcceptable, stack_lines}
 use Rattle.sample_text.specs.Words.{LineView, Nothing, Daemon, Stack, path_in, directive, read_line}
 use Rattle.sample_text.specs.Steps.{if_holds, daemon_on, ranks_on, ranks_or_error, time_at, time_on, add_at, sample, with_line_view, with_line}
@@ -145,25 +145,25 @@ module _ (t : Nodes) (topology : IsTopology t) (before : List (List ℕ)) (u : S
       by n (inr new) = new
 
   module _ (line : List ℕ) where
-    abbrev Goes : Type 0
-    Goes = (m : Sampled) × ((number : ℕ) → with_line t u number line ≡ Ok m)
+    abbrev IsTaken : Type 0
+    IsTaken = (m : Sampled) × ((number : ℕ) → with_line t u number line ≡ Ok m)
 
-    goes : (view : LineView) (m : Sampled) → ((number : ℕ) → read_line number line ≡ Ok view) → ((number : ℕ) → with_line_view t u number view ≡ Ok m) → Goes
-    goes view m read next = (m, λ number. line_good t u number line view (read number) ∙ next number)
+    is_taken : (view : LineView) (m : Sampled) → ((number : ℕ) → read_line number line ≡ Ok view) → ((number : ℕ) → with_line_view t u number view ≡ Ok m) → IsTaken
+    is_taken view m read next = (m, λ number. line_good t u number line view (read number) ∙ next number)
 
-    daemon_goes : IsUtf8 line → IsGoodDaemonLine t before line → Goes
-    daemon_goes utf8 g =
+    daemon_taken : IsUtf8 line → IsGoodDaemonLine t before line → IsTaken
+    daemon_taken utf8 g =
         let name = name_of t.names g.node in
-        goes (Daemon name g.word) (record u { placed = add_at u.placed g.node g.ranks }) (daemon_read line name g.word utf8 g.is)
+        is_taken (Daemon name g.word) (record u { placed = add_at u.placed g.node g.ranks }) (daemon_read line name g.word utf8 g.is)
         (λ number. daemon_good t u number name g.word g.node (named_good t number name g.node ((found_by_name t topology name g.node).1 (g.daemon.0, refl, g.daemon.1)))
         g.ranks (ranks_good number g.word g.ranks g.read)
         (disjoint_from g.ranks (all_ranks u.placed) (λ r new old. g.new r new (placed_from r old))))
 
-    stack_goes : IsUtf8 line → IsGoodStackLine t before line → length (filter stack before) < LINE_LIMIT → Goes
-    stack_goes utf8 g few =
+    stack_taken : IsUtf8 line → IsGoodStackLine t before line → length (filter stack before) < LINE_LIMIT → IsTaken
+    stack_taken utf8 g few =
         let x = g.sample in
         let is = g.is in
-        goes (Stack is.time_word is.ranks_word (path_in (after_word line))) (record u { lines = u.lines ++ x ∷ [] }) (stack_read line x utf8 g.comment is)
+        is_taken (Stack is.time_word is.ranks_word (path_in (after_word line))) (record u { lines = u.lines ++ x ∷ [] }) (stack_read line x utf8 g.comment is)
         (λ number. stack_good u number is.time_word is.ranks_word (path_in (after_word line)) (omega (arith, lines_length, few))
         x.time (time_good number is.time_word x.time is.time g.time)
         x.ranks (ranks_good number is.ranks_word x.ranks is.ranks)
@@ -171,10 +171,10 @@ module _ (t : Nodes) (topology : IsTopology t) (before : List (List ℕ)) (u : S
         x.path (path_good number (path_in (after_word line)) x.path is.path))
 
     -- a good line is taken
-    good_goes : IsGoodLine t before line → (stack line ≡ true → length (filter stack before) < LINE_LIMIT) → Goes
-    good_goes (inl quiet) few = goes Nothing u (λ number. line_of_nothing number line quiet) (λ number. refl)
-    good_goes (inr (utf8, inl g)) few = daemon_goes utf8 g
-    good_goes (inr (utf8, inr g)) few = stack_goes utf8 g (few (sample_is_stack line g.sample g.comment g.is))
+    good_taken : IsGoodLine t before line → (stack line ≡ true → length (filter stack before) < LINE_LIMIT) → IsTaken
+    good_taken (inl quiet) few = is_taken Nothing u (λ number. line_of_nothing number line quiet) (λ number. refl)
+    good_taken (inr (utf8, inl g)) few = daemon_taken utf8 g
+    good_taken (inr (utf8, inr g)) few = stack_taken utf8 g (few (sample_is_stack line g.sample g.comment g.is))
 
     -- a line that is taken is good
     daemon_is_good : (m : Sampled) → AddsRanks t u line m → IsGoodDaemonLine t before line
@@ -266,7 +266,7 @@ module _ (t : Nodes) (topology : IsTopology t) (text : List ℕ) (s : Sampled) w
   all_taken : IsAcceptable t text s → (after before : List (List ℕ)) (u : Sampled) → parsed_lines (with_line t) (nothing_parsed t) 1 before ≡ Ok u → lines text ≡ before ++ after → (v : Sampled) × (parsed_lines (with_line t) (nothing_parsed t) 1 (lines text) ≡ Ok v)
   all_taken a [] before u h is = (u, ap (parsed_lines (with_line t) (nothing_parsed t) 1) (is ∙ append_none before) ∙ h)
   all_taken a (line ∷ after) before u h is =
-      let next = good_goes t topology before u h line (a.good_lines before after line is) (λ k. let more = fewer before after line k in let same = ap (λ ls. length (filter stack ls)) is in let limit = a.within_limit in omega arith) in
+      let next = good_taken t topology before u h line (a.good_lines before after line is) (λ k. let more = fewer before after line k in let same = ap (λ ls. length (filter stack ls)) is in let limit = a.within_limit in omega arith) in
       all_taken a after (before ++ line ∷ []) next.0 (parsed_then (with_line t) before (nothing_parsed t) 1 u next.0 line h next.1) (is ∙ append_one before line after)
 
   -- an acceptable text is accepted

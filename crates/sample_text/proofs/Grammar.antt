@@ -6,13 +6,13 @@ use Rattle.rank_set.specs.RanksText.{ranks_text}
 use Rattle.text_lines.specs.Lines.{lines, words, says_nothing, is_comment, are_none}
 use Rattle.text_lines.specs.Directives.{first_is, is_line_of}
 use Rattle.text_lines.specs.Parsing.{parsed_lines}
-use Rattle.stat_plan.specs.Daemons.{IsDaemonNamed}
-use Rattle.stat_plan.specs.Names.{name_of}
-use Rattle.stat_plan.specs.NodeSets.{In}
+use Rattle.overlay_setup.specs.Daemons.{IsDaemonNamed}
+use Rattle.overlay_setup.specs.Names.{name_of}
+use Rattle.overlay_setup.specs.NodeSets.{In}
 use Rattle.stat_plan.specs.Plans.{Sampled}
 use Rattle.stat_plan.specs.Samples.{SampleLine}
-use Rattle.stat_plan.specs.Topologies.{Nodes, IsTopology}
-use Rattle.stat_plan.proofs.DaemonNames.{found_by_name, number_of_name}
+use Rattle.overlay_setup.specs.Topologies.{Nodes, IsTopology}
+use Rattle.overlay_setup.proofs.DaemonNames.{found_by_name, number_of_name}
 use Rattle.sample_text.specs.Grammar.{IsDaemonLine, PlacesRank, SomePlacesRank, IsSampleOf, AreSamplesOf, IsWritten}
 use Rattle.sample_text.specs.Steps.{add_at, with_line}
 use Rattle.sample_text.specs.Whole.{nothing_parsed, lacks_rank, whole, samples_of_text}

@@ -11,11 +11,11 @@ use Rattle.call_path.specs.declared.read.PathError.{PathError}
 use Rattle.call_path.proofs.ReadBack.{read_good}
 use Rattle.stat_plan.specs.Invariants.{IsSampleLine, AreSamples, SamplesFit}
 use Rattle.text_lines.specs.Lines.{number_in}
-use Rattle.stat_plan.specs.Names.{number_of}
+use Rattle.overlay_setup.specs.Names.{number_of}
 use Rattle.stat_plan.specs.Plans.{Sampled}
 use Rattle.stat_plan.specs.Samples.{SampleLine, all_ranks}
-use Rattle.stat_plan.specs.Topologies.{Nodes}
-use Rattle.stat_plan.specs.Trees.{is_daemon}
+use Rattle.overlay_setup.specs.Topologies.{Nodes}
+use Rattle.overlay_setup.specs.Trees.{is_daemon}
 use Rattle.text_lines.specs.declared.text_error.TextError.{TextError}
 use Rattle.text_lines.specs.declared.text_error.TextError.TheVariants.{Bad, Over}
 use Rattle.text_lines.specs.declared.text_error.Reason.TheVariants.{NotADaemon, Unplaced}
@@ -25,7 +25,7 @@ use Rattle.sample_text.specs.Words.{LineView, Nothing, Daemon, Stack, read_line}
 use Rattle.sample_text.specs.Steps.{if_holds, daemon_on, ranks_on, time_at, time_on, path_or_error, path_on, are_disjoint, add_at, sample, with_daemon, with_stack, with_line_view, with_line}
 use Rattle.sample_text.specs.Whole.{nothing_parsed, lacks_rank}
 use Rattle.text_lines.specs.Parsing.{and_then, some_or, parsed_lines}
-use Rattle.stat_plan.specs.Daemons.{if_daemon, daemon_named}
+use Rattle.overlay_setup.specs.Daemons.{if_daemon, daemon_named}
 use Rattle.sample_text.specs.Invariants.{ParserInvariant}
 use Rattle.sample_text.proofs.Sets.{length-add_at, other_set, all_ranks_grow, once_more, length-empty_sets, empty_sets_empty}
 use Rattle.sample_text.proofs.SomeRank.{not_none}
@@ -176,7 +176,7 @@ holds_after t u rest is = at_ok (ParserInvariant t) (parsed_lines (with_line t) 
 
 -- samples, where the invariant holds
 pub are_samples : (t : Nodes) (s : Sampled) → ParserInvariant t s → AreSamples s
-are_samples t s h = record { once = h.once; lines = h.lines; few = h.within_limit }
+are_samples t s h = record { once = h.once; lines = h.lines; within_limit = h.within_limit }
 
 or_false_parts : (a b : Bool) → (a || b) ≡ false → (a ≡ false) × (b ≡ false)
 or_false_parts true b e = cc

@@ -16,10 +16,10 @@ use Rattle.text_lines.specs.declared.text_error.TextError.{TextError}
 use Rattle.text_lines.specs.declared.text_error.TextError.TheVariants.{Bad, Over}
 use Rattle.text_lines.specs.declared.text_error.Reason.TheVariants.{NotUtf8, BadDirective, NotADaemon, BadTime, PlacedTwice, Unplaced}
 use Rattle.text_lines.specs.declared.text_error.Quantity.TheVariants.{Lines}
-use Rattle.stat_plan.specs.Daemons.{daemon_named}
+use Rattle.overlay_setup.specs.Daemons.{daemon_named}
 use Rattle.stat_plan.specs.Plans.{Sampled}
 use Rattle.stat_plan.specs.Samples.{SampleLine, all_ranks}
-use Rattle.stat_plan.specs.Topologies.{Nodes}
+use Rattle.overlay_setup.specs.Topologies.{Nodes}
 use Rattle.stat_plan.specs.declared.samples.TheConstants.{TIME_LIMIT, LINE_LIMIT}
 use Rattle.sample_text.specs.Grammar.{IsDaemonLine, IsSampleOf}
 use Rattle.sample_text.specs.Steps.{if_holds, daemon_on, ranks_or_error, ranks_on, time_at, time_on, path_or_error, path_on, are_disjoint, add_at, sample, with_daemon, with_stack, with_line_view, with_line}

@@ -131,11 +131,11 @@ not_in_both ranks others r disjoint one other =
 -- sets are disjoint where no rank is in both
 pub disjoint_from : (ranks others : Ranks) → ((r : ℕ) → Has r ranks → Has r others → ⊥) → are_disjoint ranks others ≡ true
 unfolding are_disjoint
-disjoint_from ranks others apart =
+disjoint_from ranks others distinct =
     ap is_empty (same_ranks (those (has others) ranks) none (λ r. has-those (has others) ranks r ∙ by r (has ranks r) refl (has others r) refl ∙ sym (has-none r)))
   where
     by : (r : ℕ) (a : Bool) → has ranks r ≡ a → (b : Bool) → has others r ≡ b → (a && b) ≡ false
-    by r true one true other = absurd (apart r one other)
+    by r true one true other = absurd (distinct r one other)
     by r true one false other = refl
     by r false one b other = refl
 

@@ -4,7 +4,7 @@ use Rattle.rank_set.specs.Ranks.{Ranks, is_subset}
 use Rattle.call_path.specs.Path.{Path}
 use Rattle.stat_plan.specs.Plans.{Sampled}
 use Rattle.stat_plan.specs.Samples.{all_ranks}
-use Rattle.stat_plan.specs.Topologies.{Nodes}
+use Rattle.overlay_setup.specs.Topologies.{Nodes}
 use Rattle.text_lines.specs.declared.text_error.TextError.{TextError}
 use Rattle.text_lines.specs.declared.text_error.TextError.TheVariants.{Bad, Over}
 use Rattle.text_lines.specs.declared.text_error.Reason.TheVariants.{PlacedTwice, Unplaced}

@@ -7,12 +7,13 @@ use Rattle.rank_set.specs.RanksText.{ranks_text}
 use Rattle.call_path.specs.Reading.{path_of}
 use Rattle.text_lines.specs.Lines.{lines, words, is_comment, says_nothing, after_blanks, after_word, number_in}
 use Rattle.text_lines.specs.Directives.{is_line_of}
-use Rattle.stat_plan.specs.Names.{name_of}
-use Rattle.stat_plan.specs.NodeSets.{In}
+use Rattle.overlay_setup.specs.Names.{name_of}
+use Rattle.overlay_setup.specs.NodeSets.{In}
 use Rattle.stat_plan.specs.Plans.{Sampled}
 use Rattle.stat_plan.specs.Samples.{SampleLine}
-use Rattle.stat_plan.specs.Topologies.{Nodes}
-use Rattle.stat_plan.specs.Invariants.{IsDaemon, SamplesFit}
+use Rattle.overlay_setup.specs.Topologies.{Nodes}
+use Rattle.stat_plan.specs.Invariants.{SamplesFit}
+use Rattle.overlay_setup.specs.Scripts.{IsDaemon}
 use Rattle.stat_plan.specs.declared.samples.TheConstants.{TIME_LIMIT, LINE_LIMIT}
 
 -- a line `daemon NAME RANKS`

@@ -4,8 +4,8 @@ use Rattle.std.specs.List.{AllByRecursion}
 use Rattle.rank_set.specs.Ranks.{none}
 use Rattle.stat_plan.specs.Invariants.{ArePlacedOnce, IsSampleLine}
 use Rattle.stat_plan.specs.Plans.{Sampled}
-use Rattle.stat_plan.specs.Topologies.{Nodes}
-use Rattle.stat_plan.specs.Trees.{is_daemon}
+use Rattle.overlay_setup.specs.Topologies.{Nodes}
+use Rattle.overlay_setup.specs.Trees.{is_daemon}
 use Rattle.stat_plan.specs.declared.samples.TheConstants.{LINE_LIMIT}
 
 -- ranks that are placed once, and on daemons alone; and samples of them, within the limit

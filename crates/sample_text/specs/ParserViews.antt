@@ -5,7 +5,7 @@ use Rattle.call_path.specs.Path.{Path}
 use Rattle.call_path.specs.Reading.{path_of}
 use Rattle.stat_plan.specs.Plans.{Sampled, sampled}
 use Rattle.stat_plan.specs.Samples.{all_ranks}
-use Rattle.stat_plan.specs.Topologies.{Nodes}
+use Rattle.overlay_setup.specs.Topologies.{Nodes}
 use Rattle.stat_plan.specs.StackLines.{lines_of, PathIndicesInRange}
 use Rattle.sample_text.specs.declared.paths.Paths.{Paths}
 use Rattle.sample_text.specs.declared.parser.Parser.{Parser}

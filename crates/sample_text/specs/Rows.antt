@@ -2,13 +2,13 @@
 use Rattle.std.specs.Prelude.{◌≡◌, refl, ℕ, List, [], ◌∷◌, ◌++◌, None, Some, Result, Ok, Err, codes}
 use Rattle.rank_set.specs.Ranks.{none, set_of}
 use Rattle.stat_plan.specs.Plans.{Sampled, sampled}
-use Rattle.stat_plan.specs.Topologies.{Nodes, topology}
+use Rattle.overlay_setup.specs.Topologies.{Nodes, topology}
 use Rattle.text_lines.specs.declared.text_error.TextError.{TextError}
 use Rattle.text_lines.specs.declared.text_error.TextError.TheVariants.{Bad, Over}
 use Rattle.text_lines.specs.declared.text_error.Reason.TheVariants.{NotUtf8, BadDirective, NotADaemon, BadRanks, PlacedTwice, BadTime, Unplaced, BadPath, DaemonWithoutRank}
 use Rattle.text_lines.specs.declared.text_error.Quantity.TheVariants.{Ranks}
 use Rattle.text_lines.specs.Lines.{pieces, words}
-use Rattle.stat_plan.specs.Names.{number_of}
+use Rattle.overlay_setup.specs.Names.{number_of}
 use Rattle.rank_set.specs.Ranks.{has, those, union, with_rank}
 use Rattle.rank_set.specs.Runs.{ranks_between}
 use Rattle.rank_set.specs.RanksText.{items, item_at, ranks_at}
@@ -17,7 +17,7 @@ use Rattle.std.specs.Str.{is_utf8, chars}
 use Rattle.sample_text.specs.Words.{read_line}
 use Rattle.sample_text.specs.Steps.{daemon_on, ranks_on, time_on, path_on, are_disjoint, sample, with_daemon, with_stack}
 use Rattle.text_lines.specs.Parsing.{parsed_lines}
-use Rattle.stat_plan.specs.Daemons.{daemon_named}
+use Rattle.overlay_setup.specs.Daemons.{daemon_named}
 use Rattle.sample_text.specs.Whole.{samples_of_text}
 
 -- `fe:0 => a:0 b:0 ;`

@@ -11,10 +11,10 @@ use Rattle.call_path.specs.declared.read.PathError.{PathError}
 use Rattle.call_path.specs.declared.read.PathError.TheVariants as path_error
 use Rattle.text_lines.specs.Lines.{number_in}
 use Rattle.text_lines.specs.Parsing.{and_then, some_or}
-use Rattle.stat_plan.specs.Daemons.{daemon_named}
+use Rattle.overlay_setup.specs.Daemons.{daemon_named}
 use Rattle.stat_plan.specs.Plans.{Sampled}
 use Rattle.stat_plan.specs.Samples.{SampleLine, all_ranks}
-use Rattle.stat_plan.specs.Topologies.{Nodes}
+use Rattle.overlay_setup.specs.Topologies.{Nodes}
 use Rattle.stat_plan.specs.declared.samples.TheConstants.{TIME_LIMIT, LINE_LIMIT}
 use Rattle.text_lines.specs.declared.text_error.TextError.{TextError}
 use Rattle.text_lines.specs.declared.text_error.TextError.TheVariants.{Bad, Over, OutOfMemory}

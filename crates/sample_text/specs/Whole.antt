@@ -3,8 +3,8 @@ use Rattle.std.specs.Prelude.{ℕ, zero, suc, Bool, false, ◌&&◌, ◌||◌, n
 use Rattle.rank_set.specs.Ranks.{Ranks, none, is_empty}
 use Rattle.text_lines.specs.Lines.{lines}
 use Rattle.stat_plan.specs.Plans.{Sampled, sampled}
-use Rattle.stat_plan.specs.Topologies.{Nodes}
-use Rattle.stat_plan.specs.Trees.{is_daemon}
+use Rattle.overlay_setup.specs.Topologies.{Nodes}
+use Rattle.overlay_setup.specs.Trees.{is_daemon}
 use Rattle.text_lines.specs.declared.text_error.TextError.{TextError}
 use Rattle.text_lines.specs.declared.text_error.TextError.TheVariants.{Bad}
 use Rattle.text_lines.specs.declared.text_error.Reason.TheVariants.{DaemonWithoutRank}

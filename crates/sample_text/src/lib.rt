@@ -21,8 +21,9 @@ mod paths;
 mod tests;
 mod words;
 
+use overlay_setup::Topology;
 use parser::Parser;
-use stat_plan::{Samples, Topology};
+use stat_plan::Samples;
 use std::alloc::Global;
 use text_lines::{TextError, next_text_line, read_lines};
 

@@ -8,8 +8,9 @@ ghost use Rattle.sample_text.specs.Whole.{empty_sets, lacks_rank};
 
 use crate::paths::Paths;
 use crate::words::{Line, read_line, read_other_line};
+use overlay_setup::Topology;
 use rank_set::{RANK_LIMIT, RankSet, RanksError, read_ranks};
-use stat_plan::{LINE_LIMIT, Samples, StackLine, TIME_LIMIT, Topology};
+use stat_plan::{LINE_LIMIT, Samples, StackLine, TIME_LIMIT};
 use std::alloc::{AllocError, Global};
 use text_lines::{LineParser, Quantity, Reason, TextError, number_in};
 

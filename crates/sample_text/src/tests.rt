@@ -1,7 +1,8 @@
 //! What no clause says: texts as they are written, and that each call succeeds with ample memory.
 
 use crate::read;
-use stat_plan::Topology;
+use overlay_setup::Topology;
+use stat_plan::Lines;
 use std::alloc::{AllocError, Global};
 use std::process::Abort;
 use std::test::Fail;
@@ -33,10 +34,8 @@ fn accepts_samples(rt: HostRuntime) -> Result<(), Fail> {
     Ok(())
 }
 
-// The samples of a text, a line for each: the last digit of its time, its ranks, and the number and the text of its path.
-fn samples_in(alloc: Global, text: &str, job: &Topology) -> Result<Vec<u8>, TextError> {
-    let samples = read(alloc, text.as_bytes(), job)?;
-    let lines = samples.lines();
+// The text of some lines of samples: the last digit of the time, the ranks, and the number and the text of the path.
+fn text_of_lines(alloc: Global, lines: Lines<'_>) -> Result<Vec<u8>, AllocError> {
     let mut out = Vec::new(alloc);
     for line in lines.lines {
         out.push(b'0' + (line.time % 10) as u8)?;
@@ -51,7 +50,14 @@ fn samples_in(alloc: Global, text: &str, job: &Topology) -> Result<Vec<u8>, Text
     Ok(out)
 }
 
-// `stack` lines in the usual form and in others, behind lines that place the ranks 0 to 2, and the samples that they give.
+// The samples of a text.
+fn samples_in(alloc: Global, text: &str, job: &Topology) -> Result<Vec<u8>, TextError> {
+    let samples = read(alloc, text.as_bytes(), job)?;
+    Ok(text_of_lines(alloc, samples.lines())?)
+}
+
+// `stack` lines in the usual form and in others, behind lines that place the ranks 0 to 2, and the samples that they
+// give.
 const FORMS: [(&str, &str); 16] = [
     ("stack 7 0-1 main;a", "7 2:[0-1] 0 main;a\n"),
     ("stack  7 0-1 main;a", "7 2:[0-1] 0 main;a\n"),
@@ -100,6 +106,57 @@ fn reads_lines_in_any_form(rt: HostRuntime) -> Result<(), Fail> {
     for (lines, want) in FORMS {
         assert_samples(&rt, rt.alloc(), lines, want, &job)?;
     }
+    Ok(())
+}
+
+// The samples of a text for one node alone.
+fn own_lines_in(alloc: Global, text: &str, job: &Topology, n: u32) -> Result<Vec<u8>, TextError> {
+    let samples = read(alloc, text.as_bytes(), job)?;
+    if n as usize >= samples.placed().len() {
+        return Ok(Vec::new(alloc));
+    }
+    Ok(text_of_lines(alloc, samples.own_lines(n))?)
+}
+
+const TWO_PATHS_BY_TURNS: &str = "daemon a:0 0-2,6
+daemon b:0 3-5
+stack 0 0,3 main;b
+stack 0 1,4 main;a
+stack 0 2,5-6 main;b
+stack 0 0-6 main;a
+";
+
+#[test]
+fn gives_each_node_one_line_of_a_path_whose_lines_come_by_turns(
+    rt: HostRuntime,
+) -> Result<(), Fail> {
+    let job = job(rt.alloc())?;
+    let a = own_lines_in(rt.alloc(), TWO_PATHS_BY_TURNS, &job, 1)?;
+    assert_eq!(rt;
+        a.as_slice(),
+        b"0 4:[0-2,6] 1 main;a\n0 3:[0,2,6] 0 main;b\n".as_slice()
+    );
+    let b = own_lines_in(rt.alloc(), TWO_PATHS_BY_TURNS, &job, 2)?;
+    assert_eq!(rt;
+        b.as_slice(),
+        b"0 3:[3-5] 1 main;a\n0 2:[3,5] 0 main;b\n".as_slice()
+    );
+    Ok(())
+}
+
+const TWO_TIMES_BY_TURNS: &str = "daemon a:0 0-2
+daemon b:0 3
+stack 7 0,3 m
+stack 8 1,3 m
+stack 7 2-3 m
+stack 8 0 m
+";
+
+#[test]
+fn unites_no_lines_of_two_times(rt: HostRuntime) -> Result<(), Fail> {
+    let job = job(rt.alloc())?;
+    let b = own_lines_in(rt.alloc(), TWO_TIMES_BY_TURNS, &job, 2)?;
+    assert_eq!(rt; b.as_slice(), b"7 1:[3] 0 m\n8 1:[3] 0 m\n".as_slice());
     Ok(())
 }
 

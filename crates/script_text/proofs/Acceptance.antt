@@ -14,18 +14,17 @@ use Rattle.text_lines.specs.declared.text_error.Reason.TheVariants.{BadNumber, N
 use Rattle.text_lines.specs.declared.text_error.Quantity.TheVariants.{Streams, Waves, Faults}
 use Rattle.text_lines.proofs.Parsing.{parsed_none}
 use Rattle.text_lines.proofs.Errors.{then_inv, ok_inj}
-use Rattle.stat_plan.specs.Daemons.{IsDaemonNamed}
-use Rattle.stat_plan.specs.Invariants.{IsMode, IsStream, IsFault}
-use Rattle.stat_plan.specs.Names.{number_of}
-use Rattle.stat_plan.specs.NodeSets.{In, with_number, IsStrictlyIncreasing}
-use Rattle.stat_plan.specs.Plans.{Stream, stream, Scripted, scripted}
-use Rattle.stat_plan.specs.Topologies.{Nodes, IsTopology}
-use Rattle.stat_plan.specs.Trees.{root_of}
-use Rattle.stat_plan.specs.declared.script.Fault.{Fault}
-use Rattle.stat_plan.specs.declared.script.Mode.{Mode}
-use Rattle.stat_plan.specs.declared.script.Mode.TheVariants as mode
-use Rattle.stat_plan.specs.declared.script.TheConstants.{FAULT_LIMIT}
-use Rattle.stat_plan.proofs.DaemonNames.{found_by_name}
+use Rattle.overlay_setup.specs.Daemons.{IsDaemonNamed}
+use Rattle.overlay_setup.specs.Scripts.{IsMode, IsStream, IsFault, Stream, stream, Scripted, scripted}
+use Rattle.overlay_setup.specs.Names.{number_of}
+use Rattle.overlay_setup.specs.NodeSets.{In, with_number, IsStrictlyIncreasing}
+use Rattle.overlay_setup.specs.Topologies.{Nodes, IsTopology}
+use Rattle.overlay_setup.specs.Trees.{root_of}
+use Rattle.overlay_setup.specs.declared.script.Fault.{Fault}
+use Rattle.overlay_setup.specs.declared.script.Mode.{Mode}
+use Rattle.overlay_setup.specs.declared.script.Mode.TheVariants as mode
+use Rattle.overlay_setup.specs.declared.script.TheConstants.{FAULT_LIMIT}
+use Rattle.overlay_setup.proofs.DaemonNames.{found_by_name}
 use Rattle.script_text.specs.Grammar.{IsModeOf, IsNamedDaemon, IsStreamOf, IsLossOf, IsWritten, AreDaemonNames, IsGoodStreamLine, IsGoodLoseLine, IsGoodLine, IsAcceptable, stream_lines, lose_lines}
 use Rattle.script_text.specs.Invariants.{ParserInvariant}
 use Rattle.script_text.specs.Losses.{as_lost, lost_node, fault_of, with_fault}
@@ -188,9 +187,9 @@ module _ (t : Nodes) (is : IsTopology t) (line : ℕ) where
   stream_ok streams text x of names range new =
       let low = range.number in
       let number = number_new streams line of.words_of.number x.number (number_ok line 0 7 (Over line Streams 8) of.words_of.number x.number of.number zero-le (omega (arith, low))) new in
-      let waves = number_ok line 1 16 (Over line Waves 16) of.words_of.waves x.waves of.waves range.waves_some range.waves_few in
-      let samples = number_ok line 1 64 (Bad line BadNumber) of.words_of.samples x.samples of.samples range.samples_some range.samples_few in
-      stream_good t streams line of.words_of x.number number x.mode (mode_ok line of.words_of.mode x.mode of.mode range.mode) x.waves waves x.samples samples x.daemons (daemons_ok of.words_of.names x.daemons names range.daemons_some of.daemons_increase of.daemons)
+      let waves = number_ok line 1 16 (Over line Waves 16) of.words_of.waves x.waves of.waves range.has_waves range.waves_within_limit in
+      let samples = number_ok line 1 64 (Bad line BadNumber) of.words_of.samples x.samples of.samples range.has_samples range.samples_within_limit in
+      stream_good t streams line of.words_of x.number number x.mode (mode_ok line of.words_of.mode x.mode of.mode range.mode) x.waves waves x.samples samples x.daemons (daemons_ok of.words_of.names x.daemons names range.has_daemons of.daemons_increase of.daemons)
       ∙ ap (λ g. Ok (stream x.number x.mode x.waves x.samples g x.daemons)) of.grain
 
   lost_ok : (faults : List Fault) (name : List ℕ) (n : ℕ) → number_of name t.names ≡ Some n → length faults < FAULT_LIMIT → n ≢ root_of t.parents → list_any (λ f. nat_eq f.node n) faults ≡ false → lost_node t faults line name ≡ Ok n
@@ -239,18 +238,18 @@ module _ (t : Nodes) (topology : IsTopology t) (before : List (List ℕ)) (u : S
   loss_from f h = elim (so_far.1.to f h) [ (inl old) ↦ absurd old | (inr new) ↦ new ]
 
   module _ (line : List ℕ) where
-    abbrev Goes : Type 0
-    Goes = (m : Scripted) × ((number : ℕ) → with_line t u number line ≡ Ok m)
+    abbrev IsTaken : Type 0
+    IsTaken = (m : Scripted) × ((number : ℕ) → with_line t u number line ≡ Ok m)
 
-    stream_goes : IsGoodStreamLine t before line → Goes
-    stream_goes g =
+    good_stream_taken : IsGoodStreamLine t before line → IsTaken
+    good_stream_taken g =
         let x = g.defined in
         let new : list_any (λ (y : Stream). nat_eq y.number x.number) u.streams ≡ false =
         no_other (λ (y : Stream). y.number) x.number u.streams (λ y h. let f = stream_from y h in g.new f.0 y f.1 f.2) in
         (scripted (with_stream x u.streams) u.faults, λ number. stream_taken t u number line g.comment x g.is (stream_ok t topology number u.streams line x g.is g.names g.range new))
 
-    loss_goes : IsGoodLoseLine t before line → length (lose_lines before) < FAULT_LIMIT → Goes
-    loss_goes g few =
+    good_loss_taken : IsGoodLoseLine t before line → length (lose_lines before) < FAULT_LIMIT → IsTaken
+    good_loss_taken g few =
         let f = g.loss in
         let count = so_far.1.count in
         let new : list_any (λ (h : Fault). nat_eq h.node f.node) u.faults ≡ false =
@@ -258,10 +257,10 @@ module _ (t : Nodes) (topology : IsTopology t) (before : List (List ℕ)) (u : S
         (scripted u.streams (with_fault f u.faults), λ number. loss_taken t u number line g.comment f g.is (loss_ok t topology number u.faults line f g.is g.range g.not_front (omega (arith, count, few)) new))
 
     -- a good line is taken
-    good_goes : IsGoodLine t before line → (loses line ≡ true → length (lose_lines before) < FAULT_LIMIT) → Goes
-    good_goes (inl quiet) few = (u, λ number. line_skipped t u number line quiet)
-    good_goes (inr (inl g)) few = stream_goes g
-    good_goes (inr (inr g)) few = loss_goes g (few (line_of (codes "lose") line (codes "lose") g.is.rest g.comment g.is.is))
+    good_taken : IsGoodLine t before line → (loses line ≡ true → length (lose_lines before) < FAULT_LIMIT) → IsTaken
+    good_taken (inl quiet) few = (u, λ number. line_skipped t u number line quiet)
+    good_taken (inr (inl g)) few = good_stream_taken g
+    good_taken (inr (inr g)) few = good_loss_taken g (few (line_of (codes "lose") line (codes "lose") g.is.rest g.comment g.is.is))
 
     -- a line that is taken is good
     stream_is_good : (m : Scripted) → AddsStream t u line m → IsGoodStreamLine t before line
@@ -357,7 +356,7 @@ module _ (t : Nodes) (topology : IsTopology t) (text : List ℕ) (c : Scripted) 
   all_taken : IsAcceptable t text c → (after before : List (List ℕ)) (u : Scripted) → parsed_lines (with_line t) (scripted [] []) 1 before ≡ Ok u → lines text ≡ before ++ after → (v : Scripted) × (parsed_lines (with_line t) (scripted [] []) 1 (lines text) ≡ Ok v)
   all_taken a [] before u h is = (u, ap (parsed_lines (with_line t) (scripted [] []) 1) (is ∙ append_none before) ∙ h)
   all_taken a (line ∷ after) before u h is =
-      let next = good_goes t topology before u h line (a.good_lines before after line is) (λ k. let more = fewer before after line k in let same = ap (λ ls. length (filter loses ls)) is in let limit = a.within_limit in omega arith) in
+      let next = good_taken t topology before u h line (a.good_lines before after line is) (λ k. let more = fewer before after line k in let same = ap (λ ls. length (filter loses ls)) is in let limit = a.within_limit in omega arith) in
       all_taken a after (before ++ line ∷ []) next.0 (parsed_then (with_line t) before (scripted [] []) 1 u next.0 line h next.1) (is ∙ append_one before line after)
 
   -- an acceptable text is accepted

@@ -2,8 +2,8 @@
 use Rattle.std.proofs.Common.{◌≡◌, ℕ, ◌<◌, true, false, ◌&&◌, List, [], ◌∷◌, length, Option, None, Some, refl, sym, ap, ◌∙◌, arith, codes}
 use Rattle.std.specs.Option.{MatchOption, is_some}
 use Rattle.std.specs.Str.{bytes_eq}
-use Rattle.stat_plan.specs.declared.script.Grain.{Grain}
-use Rattle.stat_plan.specs.declared.script.Grain.TheVariants.{Line}
+use Rattle.overlay_setup.specs.declared.script.Grain.{Grain}
+use Rattle.overlay_setup.specs.declared.script.Grain.TheVariants.{Line}
 use Rattle.script_text.specs.Words.{ModeWords, WaitForAll, DontWait, are_names, after_by, after_grain, after_mode, after_samples, after_time_out, grain_of, stream_seen, stream_words, with_grain, lose_words}
 
 -- a stream line from `on` on

@@ -8,10 +8,10 @@ use Rattle.text_lines.specs.declared.text_error.TextError.{TextError}
 use Rattle.text_lines.specs.declared.text_error.TextError.TheVariants.{Bad}
 use Rattle.text_lines.specs.declared.text_error.Reason.TheVariants.{NoStream}
 use Rattle.text_lines.proofs.Errors.{then_inv, ok_inj}
-use Rattle.stat_plan.specs.NodeSets.{In}
-use Rattle.stat_plan.specs.Plans.{Stream, Scripted, scripted}
-use Rattle.stat_plan.specs.Topologies.{Nodes, IsTopology}
-use Rattle.stat_plan.specs.declared.script.Fault.{Fault}
+use Rattle.overlay_setup.specs.NodeSets.{In}
+use Rattle.overlay_setup.specs.Scripts.{Stream, Scripted, scripted}
+use Rattle.overlay_setup.specs.Topologies.{Nodes, IsTopology}
+use Rattle.overlay_setup.specs.declared.script.Fault.{Fault}
 use Rattle.script_text.specs.Grammar.{IsStreamOf, IsLossOf, IsWritten}
 use Rattle.script_text.specs.Invariants.{ParserInvariant}
 use Rattle.script_text.specs.Order.{with_item}

@@ -4,24 +4,23 @@ use Rattle.std.specs.Result.{IfOk}
 use Rattle.std.specs.List.{AllByRecursion, list_any}
 use Rattle.std.specs.Str.{bytes_eq}
 use Rattle.std.proofs.lemmas.Bool.{ltb-false, eqb-false}
-use Rattle.stat_plan.specs.Invariants.{IsMode, IsStream, IsFault, IsScript, ScriptFits, IsDaemon}
+use Rattle.overlay_setup.specs.Scripts.{ScriptFits, IsDaemon, IsMode, IsStream, IsFault, IsScript, Stream, Scripted, scripted}
 use Rattle.std.proofs.lemmas.Bool.Decides.{nat_tests}
 use Rattle.text_lines.specs.Lines.{words, says_nothing}
-use Rattle.stat_plan.specs.Names.{number_of}
-use Rattle.stat_plan.specs.NodeSets.{IsStrictlyIncreasing, with_number}
-use Rattle.stat_plan.specs.Plans.{Stream, Scripted, scripted}
-use Rattle.stat_plan.specs.Topologies.{Nodes, IsTopology}
-use Rattle.stat_plan.specs.Trees.{is_daemon, root_of}
-use Rattle.stat_plan.specs.declared.script.Mode.TheVariants as mode
-use Rattle.stat_plan.specs.declared.script.Fault.{Fault}
+use Rattle.overlay_setup.specs.Names.{number_of}
+use Rattle.overlay_setup.specs.NodeSets.{IsStrictlyIncreasing, with_number}
+use Rattle.overlay_setup.specs.Topologies.{Nodes, IsTopology}
+use Rattle.overlay_setup.specs.Trees.{is_daemon, root_of}
+use Rattle.overlay_setup.specs.declared.script.Mode.TheVariants as mode
+use Rattle.overlay_setup.specs.declared.script.Fault.{Fault}
 use Rattle.text_lines.specs.declared.text_error.TextError.{TextError}
 use Rattle.text_lines.specs.declared.text_error.TextError.TheVariants.{Bad, Over}
 use Rattle.text_lines.specs.declared.text_error.Reason.TheVariants.{BadNumber, BadDirective, SecondStream, SecondLoss, LosesFront, NotADaemon}
 use Rattle.text_lines.specs.declared.text_error.Quantity.TheVariants.{Streams, Waves, Faults}
 use Rattle.script_text.specs.Words.{ModeWords, WaitForAll, TimeOut, DontWait, StreamWords, LoseWords, stream_words, lose_words}
 use Rattle.text_lines.specs.Parsing.{and_then, some_or, parsed_lines}
-use Rattle.stat_plan.specs.Daemons.{daemon_named}
-use Rattle.stat_plan.proofs.DaemonNames.{found_by_name, named}
+use Rattle.overlay_setup.specs.Daemons.{daemon_named}
+use Rattle.overlay_setup.proofs.DaemonNames.{found_by_name, named}
 use Rattle.script_text.specs.Invariants.{ParserInvariant}
 use Rattle.script_text.specs.Numbers.{in_range, number_from}
 use Rattle.script_text.specs.Streams.{new_number, stream_number, mode_of, daemon_of, with_named, all_daemons, daemons_of, stream_of, with_stream}
@@ -133,7 +132,7 @@ module _ (t : Nodes) (is : IsTopology t) (streams : List Stream) (line : ℕ) (w
       then_ok (number_from line 1 16 (Over line Waves 16) w.waves) _ _ (IsNewStream t streams) (number_in_range line 1 16 (Over line Waves 16) w.waves) (λ waves c.
       then_ok (number_from line 1 64 (Bad line BadNumber) w.samples) _ _ (IsNewStream t streams) (number_in_range line 1 64 (Bad line BadNumber) w.samples) (λ samples d.
       then_ok (daemons_of t line w.names) _ (AreDaemons t) (IsNewStream t streams) (daemons_holds t is line w.names) (λ daemons e. record {
-        is = record { number = a.0; mode = b; waves_some = c.0; waves_few = c.1; samples_some = d.0; samples_few = d.1; daemons_some = e.some; daemons_increase = e.increasing };
+        is = record { number = a.0; mode = b; has_waves = c.0; waves_within_limit = c.1; has_samples = d.0; samples_within_limit = d.1; has_daemons = e.some; daemons_increase = e.increasing };
         daemons = e.all;
         new = a.1;
       })))))

@@ -11,18 +11,17 @@ use Rattle.text_lines.specs.declared.text_error.TextError.{TextError}
 use Rattle.text_lines.specs.declared.text_error.TextError.TheVariants.{Bad, Over}
 use Rattle.text_lines.specs.declared.text_error.Reason.TheVariants.{BadNumber, BadDirective, SecondStream, SecondLoss, LosesFront, NotADaemon}
 use Rattle.text_lines.specs.declared.text_error.Quantity.TheVariants.{Streams, Waves, Faults}
-use Rattle.stat_plan.specs.Daemons.{daemon_named, IsDaemonNamed}
-use Rattle.stat_plan.specs.Invariants.{IsDaemon}
-use Rattle.stat_plan.specs.Names.{name_of, number_of}
-use Rattle.stat_plan.specs.NodeSets.{In, with_number}
-use Rattle.stat_plan.specs.Plans.{Stream, stream, Scripted, scripted}
-use Rattle.stat_plan.specs.Topologies.{Nodes, IsTopology}
-use Rattle.stat_plan.specs.Trees.{is_daemon, root_of}
-use Rattle.stat_plan.specs.declared.script.Fault.{Fault}
-use Rattle.stat_plan.specs.declared.script.Mode.{Mode}
-use Rattle.stat_plan.specs.declared.script.Mode.TheVariants as mode
-use Rattle.stat_plan.specs.declared.script.TheConstants.{STREAM_LIMIT, WAVE_LIMIT, SAMPLE_LIMIT, TICK_LIMIT, FAULT_LIMIT}
-use Rattle.stat_plan.proofs.DaemonNames.{found_by_name}
+use Rattle.overlay_setup.specs.Daemons.{daemon_named, IsDaemonNamed}
+use Rattle.overlay_setup.specs.Scripts.{IsDaemon, Stream, stream, Scripted, scripted}
+use Rattle.overlay_setup.specs.Names.{name_of, number_of}
+use Rattle.overlay_setup.specs.NodeSets.{In, with_number}
+use Rattle.overlay_setup.specs.Topologies.{Nodes, IsTopology}
+use Rattle.overlay_setup.specs.Trees.{is_daemon, root_of}
+use Rattle.overlay_setup.specs.declared.script.Fault.{Fault}
+use Rattle.overlay_setup.specs.declared.script.Mode.{Mode}
+use Rattle.overlay_setup.specs.declared.script.Mode.TheVariants as mode
+use Rattle.overlay_setup.specs.declared.script.TheConstants.{STREAM_LIMIT, WAVE_LIMIT, SAMPLE_LIMIT, TICK_LIMIT, FAULT_LIMIT}
+use Rattle.overlay_setup.proofs.DaemonNames.{found_by_name}
 use Rattle.script_text.specs.declared.lose_line.TheConstants.{COUNT_LIMIT}
 use Rattle.script_text.specs.Grammar.{IsModeOf, IsNamedDaemon, IsStreamOf, IsLossOf, AreDaemonNames}
 use Rattle.script_text.specs.Losses.{as_lost, lost_node, fault_of, with_fault}

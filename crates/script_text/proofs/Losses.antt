@@ -1,7 +1,7 @@
 -- A lose line, one way out at a time.
 use Rattle.std.proofs.Common.{◌≡◌, ℕ, List, Ok, Err, refl}
-use Rattle.stat_plan.specs.Topologies.{Nodes}
-use Rattle.stat_plan.specs.declared.script.Fault.{Fault}
+use Rattle.overlay_setup.specs.Topologies.{Nodes}
+use Rattle.overlay_setup.specs.declared.script.Fault.{Fault}
 use Rattle.text_lines.specs.declared.text_error.TextError.{TextError}
 use Rattle.text_lines.specs.declared.text_error.TextError.TheVariants.{Bad}
 use Rattle.text_lines.specs.declared.text_error.Reason.TheVariants.{BadNumber}

@@ -1,7 +1,7 @@
 -- Marks on nodes, and the numbers of those that are marked.
 use Rattle.std.proofs.Common.{◌≡◌, ℕ, zero, suc, ◌+◌, ◌<◌, Bool, true, false, List, [], ◌∷◌, length, set, replicate, refl, sym, ap, ◌∙◌, arith}
 use Rattle.std.proofs.lemmas.Bool.{lt-ltb, le-ltb, eq-eqb, ne_eqb}
-use Rattle.stat_plan.specs.NodeSets.{with_number}
+use Rattle.overlay_setup.specs.NodeSets.{with_number}
 use Rattle.script_text.specs.Marks.{marked_from}
 
 -- a number that is less than those that are marked comes first

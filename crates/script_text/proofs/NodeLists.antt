@@ -3,8 +3,7 @@ use Rattle.std.proofs.Common.{◌≡◌, ◌≢◌, ℕ, zero, suc, ◌<◌, ◌
 use Rattle.std.specs.List.{AllByRecursion}
 use Rattle.std.proofs.lemmas.Bool.{ltb-true, ltb-false, eqb-false}
 use Rattle.std.proofs.lemmas.List.Elements.{filter-append}
-use Rattle.stat_plan.specs.NodeSets.{In, with_number, IsStrictlyIncreasing}
-use Rattle.stat_plan.specs.Plans.{up_to}
+use Rattle.overlay_setup.specs.NodeSets.{In, with_number, IsStrictlyIncreasing, up_to}
 
 -- a list that isn't empty
 pub some_first : {X : Type 0} (x : X) (xs : List X) → x ∷ xs ≢ []

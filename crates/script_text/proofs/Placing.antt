@@ -2,7 +2,7 @@
 use Rattle.std.proofs.Common.{◌≡◌, ℕ, suc, ◌+◌, ◌⊎◌, inl, inr, Bool, true, false, ◌||◌, not, cond, nat_lt, nat_eq, List, [], ◌∷◌, length, map, refl, ap, ◌∙◌, arith}
 use Rattle.std.specs.List.{insert, prefix_len, list_any, AllByRecursion}
 use Rattle.std.proofs.lemmas.Bool.{ltb-true, ltb-false, eqb-false}
-use Rattle.stat_plan.specs.NodeSets.{In, IsStrictlyIncreasing}
+use Rattle.overlay_setup.specs.NodeSets.{In, IsStrictlyIncreasing}
 use Rattle.script_text.specs.Order.{with_item}
 
 module _ {X : Type 0} (number : X → ℕ) (x : X) where

@@ -2,7 +2,7 @@
 use Rattle.std.proofs.Common.{◌≡◌, ℕ, zero, suc, ◌+◌, ◌<◌, ◌≤◌, Bool, true, false, not, ◌&&◌, nat_eq, List, [], ◌∷◌, length, Option, None, Some, refl, sym, ap, ◌∙◌, arith}
 use Rattle.std.specs.List.{list_all}
 use Rattle.std.proofs.lemmas.Bool.{eqb-true}
-use Rattle.stat_plan.specs.Trees.{parent_of, climb, ancestors, root_of, is_other, is_daemon, IsTree}
+use Rattle.overlay_setup.specs.Trees.{parent_of, climb, ancestors, root_of, is_other, is_daemon, IsTree}
 
 -- a node that is a parent has a child
 first_child : (n : ℕ) (p : Option ℕ) → is_other n p ≡ false → p ≡ Some n

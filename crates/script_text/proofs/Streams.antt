@@ -2,11 +2,11 @@
 use Rattle.std.proofs.Common.{◌≡◌, ℕ, true, false, nat_eq, List, [], ◌∷◌, Ok, Err, refl, ap, ◌∙◌, codes}
 use Rattle.std.specs.List.{list_any}
 use Rattle.std.specs.Str.{bytes_eq}
-use Rattle.stat_plan.specs.NodeSets.{with_number}
-use Rattle.stat_plan.specs.Plans.{Stream, stream}
-use Rattle.stat_plan.specs.Topologies.{Nodes}
-use Rattle.stat_plan.specs.declared.script.Mode.{Mode}
-use Rattle.stat_plan.specs.declared.script.Mode.TheVariants as mode
+use Rattle.overlay_setup.specs.NodeSets.{with_number}
+use Rattle.overlay_setup.specs.Scripts.{Stream, stream}
+use Rattle.overlay_setup.specs.Topologies.{Nodes}
+use Rattle.overlay_setup.specs.declared.script.Mode.{Mode}
+use Rattle.overlay_setup.specs.declared.script.Mode.TheVariants as mode
 use Rattle.text_lines.specs.declared.text_error.TextError.{TextError}
 use Rattle.text_lines.specs.declared.text_error.TextError.TheVariants.{Bad, Over}
 use Rattle.text_lines.specs.declared.text_error.Reason.TheVariants.{BadDirective, BadNumber, SecondStream}

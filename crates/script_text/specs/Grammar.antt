@@ -3,17 +3,16 @@
 use Rattle.std.specs.Prelude.{◌≡◌, ◌≢◌, ◌↔◌, ◌⊎◌, ◌≤◌, ℕ, true, false, List, [], ◌∷◌, ◌++◌, length, map, filter, Some, codes}
 use Rattle.text_lines.specs.Lines.{lines, words, is_comment, says_nothing, number_in}
 use Rattle.text_lines.specs.Directives.{first_is, is_line_of}
-use Rattle.stat_plan.specs.Daemons.{IsDaemonNamed}
-use Rattle.stat_plan.specs.Invariants.{IsDaemon, IsStream, IsFault}
-use Rattle.stat_plan.specs.Names.{name_of, number_of}
-use Rattle.stat_plan.specs.NodeSets.{In, IsStrictlyIncreasing}
-use Rattle.stat_plan.specs.Plans.{Stream, Scripted}
-use Rattle.stat_plan.specs.Topologies.{Nodes}
-use Rattle.stat_plan.specs.Trees.{root_of}
-use Rattle.stat_plan.specs.declared.script.TheConstants.{FAULT_LIMIT}
-use Rattle.stat_plan.specs.declared.script.Fault.{Fault}
-use Rattle.stat_plan.specs.declared.script.Mode.{Mode}
-use Rattle.stat_plan.specs.declared.script.Mode.TheVariants as mode
+use Rattle.overlay_setup.specs.Daemons.{IsDaemonNamed}
+use Rattle.overlay_setup.specs.Scripts.{IsDaemon, IsStream, IsFault, Stream, Scripted}
+use Rattle.overlay_setup.specs.Names.{name_of, number_of}
+use Rattle.overlay_setup.specs.NodeSets.{In, IsStrictlyIncreasing}
+use Rattle.overlay_setup.specs.Topologies.{Nodes}
+use Rattle.overlay_setup.specs.Trees.{root_of}
+use Rattle.overlay_setup.specs.declared.script.TheConstants.{FAULT_LIMIT}
+use Rattle.overlay_setup.specs.declared.script.Fault.{Fault}
+use Rattle.overlay_setup.specs.declared.script.Mode.{Mode}
+use Rattle.overlay_setup.specs.declared.script.Mode.TheVariants as mode
 use Rattle.script_text.specs.Words.{ModeWords, WaitForAll, TimeOut, DontWait, StreamWords, LoseWords, stream_words, lose_words}
 
 -- a mode is that of its words

@@ -1,12 +1,11 @@
 -- What holds of a script after each line.
 use Rattle.std.specs.Prelude.{◌≢◌, ◌<◌, ◌≤◌, length, map}
 use Rattle.std.specs.List.{AllByRecursion}
-use Rattle.stat_plan.specs.Invariants.{IsStream, IsFault, IsDaemon}
-use Rattle.stat_plan.specs.declared.script.TheConstants.{FAULT_LIMIT}
-use Rattle.stat_plan.specs.NodeSets.{IsStrictlyIncreasing}
-use Rattle.stat_plan.specs.Plans.{Scripted}
-use Rattle.stat_plan.specs.Topologies.{Nodes}
-use Rattle.stat_plan.specs.Trees.{root_of}
+use Rattle.overlay_setup.specs.Scripts.{IsDaemon, IsStream, IsFault, Scripted}
+use Rattle.overlay_setup.specs.declared.script.TheConstants.{FAULT_LIMIT}
+use Rattle.overlay_setup.specs.NodeSets.{IsStrictlyIncreasing}
+use Rattle.overlay_setup.specs.Topologies.{Nodes}
+use Rattle.overlay_setup.specs.Trees.{root_of}
 
 -- streams of daemons, ascending by number, and losses of nodes other than the front end, ascending by node
 pub record ParserInvariant (t : Nodes) (c : Scripted) : Type 0 where

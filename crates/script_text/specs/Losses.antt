@@ -1,11 +1,11 @@
 -- What a lose line says.
 use Rattle.std.specs.Prelude.{ℕ, ◌==◌, nat_le, if◌then◌else◌, List, length, Option, None, Some, Result, Ok, Err}
 use Rattle.std.specs.List.{list_any}
-use Rattle.stat_plan.specs.Names.{number_of}
-use Rattle.stat_plan.specs.Topologies.{Nodes}
-use Rattle.stat_plan.specs.Trees.{root_of}
-use Rattle.stat_plan.specs.declared.script.Fault.{Fault}
-use Rattle.stat_plan.specs.declared.script.TheConstants.{FAULT_LIMIT}
+use Rattle.overlay_setup.specs.Names.{number_of}
+use Rattle.overlay_setup.specs.Topologies.{Nodes}
+use Rattle.overlay_setup.specs.Trees.{root_of}
+use Rattle.overlay_setup.specs.declared.script.Fault.{Fault}
+use Rattle.overlay_setup.specs.declared.script.TheConstants.{FAULT_LIMIT}
 use Rattle.text_lines.specs.declared.text_error.TextError.{TextError}
 use Rattle.text_lines.specs.declared.text_error.TextError.TheVariants.{Bad, Over}
 use Rattle.text_lines.specs.declared.text_error.Reason.TheVariants.{BadNumber, UnknownNode, LosesFront, SecondLoss}

@@ -1,7 +1,7 @@
 -- What the code's words and its parser mean.
 use Rattle.text_lines.specs.Lines.{words}
-use Rattle.stat_plan.specs.Plans.{Scripted, scripted}
-use Rattle.stat_plan.specs.Topologies.{Nodes}
+use Rattle.overlay_setup.specs.Scripts.{Scripted, scripted}
+use Rattle.overlay_setup.specs.Topologies.{Nodes}
 use Rattle.std.specs.Prelude.{ℕ, List, ◌∷◌}
 use Rattle.script_text.specs.declared.words.FiveWords.{FiveWords}
 use Rattle.script_text.specs.declared.words.ModeText.{ModeText}

@@ -2,12 +2,12 @@
 use Rattle.std.specs.Prelude.{◌≡◌, refl, ℕ, List, [], ◌∷◌, ◌++◌, None, Some, Ok, Err, Result, codes}
 use Rattle.text_lines.specs.Lines.{pieces, words}
 use Rattle.text_lines.specs.Parsing.{parsed_lines}
-use Rattle.stat_plan.specs.Daemons.{daemon_named}
-use Rattle.stat_plan.specs.Names.{number_of}
-use Rattle.stat_plan.specs.Plans.{Scripted, stream, scripted}
-use Rattle.stat_plan.specs.Topologies.{Nodes, topology}
-use Rattle.stat_plan.specs.declared.script.Grain.TheVariants.{Line, Function}
-use Rattle.stat_plan.specs.declared.script.Mode.TheVariants as mode
+use Rattle.overlay_setup.specs.Daemons.{daemon_named}
+use Rattle.overlay_setup.specs.Names.{number_of}
+use Rattle.overlay_setup.specs.Scripts.{Scripted, stream, scripted}
+use Rattle.overlay_setup.specs.Topologies.{Nodes, topology}
+use Rattle.overlay_setup.specs.declared.script.Grain.TheVariants.{Line, Function}
+use Rattle.overlay_setup.specs.declared.script.Mode.TheVariants as mode
 use Rattle.text_lines.specs.declared.text_error.TextError.{TextError}
 use Rattle.text_lines.specs.declared.text_error.TextError.TheVariants.{Bad, Over}
 use Rattle.text_lines.specs.declared.text_error.Reason.TheVariants.{BadDirective, BadNumber, SecondStream, NotADaemon, UnknownNode, LosesFront, SecondLoss, NoStream}

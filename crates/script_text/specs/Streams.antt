@@ -2,14 +2,14 @@
 use Rattle.std.specs.Prelude.{ℕ, ◌-◌, ◌==◌, if◌then◌else◌, List, [], ◌∷◌, length, filter, Result, Ok, Err, codes}
 use Rattle.std.specs.List.{list_any}
 use Rattle.std.specs.Str.{bytes_eq}
-use Rattle.stat_plan.specs.Daemons.{daemon_named}
-use Rattle.stat_plan.specs.NodeSets.{with_number}
-use Rattle.stat_plan.specs.Plans.{Stream, stream, up_to}
-use Rattle.stat_plan.specs.Topologies.{Nodes}
-use Rattle.stat_plan.specs.Trees.{is_daemon}
-use Rattle.stat_plan.specs.declared.script.Mode.{Mode}
-use Rattle.stat_plan.specs.declared.script.Mode.TheVariants as mode
-use Rattle.stat_plan.specs.declared.script.TheConstants.{STREAM_LIMIT, WAVE_LIMIT, SAMPLE_LIMIT, TICK_LIMIT}
+use Rattle.overlay_setup.specs.Daemons.{daemon_named}
+use Rattle.overlay_setup.specs.NodeSets.{with_number, up_to}
+use Rattle.overlay_setup.specs.Scripts.{Stream, stream}
+use Rattle.overlay_setup.specs.Topologies.{Nodes}
+use Rattle.overlay_setup.specs.Trees.{is_daemon}
+use Rattle.overlay_setup.specs.declared.script.Mode.{Mode}
+use Rattle.overlay_setup.specs.declared.script.Mode.TheVariants as mode
+use Rattle.overlay_setup.specs.declared.script.TheConstants.{STREAM_LIMIT, WAVE_LIMIT, SAMPLE_LIMIT, TICK_LIMIT}
 use Rattle.text_lines.specs.declared.text_error.TextError.{TextError}
 use Rattle.text_lines.specs.declared.text_error.TextError.TheVariants.{Bad, Over}
 use Rattle.text_lines.specs.declared.text_error.Reason.TheVariants.{BadDirective, BadNumber, SecondStream, NotADaemon}

@@ -6,8 +6,8 @@ use Rattle.text_lines.specs.Parsing.{and_then, parsed_lines}
 use Rattle.text_lines.specs.declared.text_error.TextError.{TextError}
 use Rattle.text_lines.specs.declared.text_error.TextError.TheVariants.{Bad}
 use Rattle.text_lines.specs.declared.text_error.Reason.TheVariants.{BadDirective, NoStream}
-use Rattle.stat_plan.specs.Plans.{Scripted, scripted}
-use Rattle.stat_plan.specs.Topologies.{Nodes}
+use Rattle.overlay_setup.specs.Scripts.{Scripted, scripted}
+use Rattle.overlay_setup.specs.Topologies.{Nodes}
 use Rattle.script_text.specs.Words.{StreamWords, LoseWords, stream_words, lose_words}
 use Rattle.script_text.specs.Streams.{stream_of, with_stream}
 use Rattle.script_text.specs.Losses.{fault_of, with_fault}

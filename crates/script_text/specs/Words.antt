@@ -1,8 +1,8 @@
 -- The words of a script's lines, by the fixed words among them.
 use Rattle.std.specs.Prelude.{ℕ, Bool, false, ◌||◌, ◌&&◌, not, if◌then◌else◌, List, [], ◌∷◌, Option, None, Some, codes}
 use Rattle.std.specs.Str.{bytes_eq}
-use Rattle.stat_plan.specs.declared.script.Grain.{Grain}
-use Rattle.stat_plan.specs.declared.script.Grain.TheVariants.{Line, Function}
+use Rattle.overlay_setup.specs.declared.script.Grain.{Grain}
+use Rattle.overlay_setup.specs.declared.script.Grain.TheVariants.{Line, Function}
 use Rattle.text_lines.specs.Lines.{are_none}
 
 -- how a mode is written: `wait-for-all`, `time-out T` or `dont-wait`

@@ -1,13 +1,12 @@
-//! Reads scripts: lines that define the streams of a job, as `stream 0 wait-for-all waves 1 samples 4 on all`, and lines that
-//! lose its nodes, as `lose a:0 after 3 keep 1`.
+//! Reads scripts: lines that define the streams of a job, as `stream 0 wait-for-all waves 1 samples 4 on all`, and
+//! lines that lose its nodes, as `lose a:0 after 3 keep 1`.
 //!
-//! `script_of` says what a text means: its streams, ascending by number, and its losses, ascending by node, or its first
-//! error. [`read`] gives exactly that.
+//! `script_of` says what a text means: its streams, ascending by number, and its losses, ascending by node, or its
+//! first error. [`read`] gives exactly that.
 #![tactic(auto)]
 
 ghost use Rattle.std.specs.Prelude.{◌≡◌, IfOk, Ok};
-ghost use Rattle.stat_plan.specs.Invariants.{ScriptFits};
-ghost use Rattle.stat_plan.specs.Plans.{Scripted};
+ghost use Rattle.overlay_setup.specs.Scripts.{ScriptFits, Scripted};
 ghost use Rattle.text_lines.specs.Parsing.{IsValueOf, IsErrorOf};
 ghost use Rattle.script_text.specs.Grammar.{IsAcceptable};
 ghost use Rattle.script_text.specs.Whole.{script_of};
@@ -20,8 +19,8 @@ mod stream_line;
 mod tests;
 mod words;
 
+use overlay_setup::{Script, Topology};
 use parser::Parser;
-use stat_plan::{Script, Topology};
 use std::alloc::Global;
 use text_lines::{TextError, read_lines};
 

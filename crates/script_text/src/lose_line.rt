@@ -8,7 +8,7 @@ ghost use Rattle.script_text.specs.Losses.{lost_node, fault_of};
 
 use crate::numbers::number_from;
 use crate::words::LoseLine;
-use stat_plan::{FAULT_LIMIT, Fault, Topology};
+use overlay_setup::{FAULT_LIMIT, Fault, Topology};
 use text_lines::{Quantity, Reason, TextError};
 
 /// The most events of a node, and frames of a link, that a lose line may speak of.

@@ -6,8 +6,8 @@ ghost use Rattle.script_text.specs.Numbers.{number_from};
 
 use text_lines::{Reason, TextError, number_in};
 
-/// The number from `least` to `most` that a word of a line writes. A word that writes no number, or less, is a bad number;
-/// one that writes more has the error that is given.
+/// The number from `least` to `most` that a word of a line writes. A word that writes no number, or less, is a bad
+/// number; one that writes more has the error that is given.
 pub fn number_from(
     line_number: u64,
     least: u32,

@@ -4,14 +4,13 @@ ghost use Rattle.std.specs.Prelude.{◌≡◌, ◌≤◌, OnOk, IfOk, Ok, [], le
 ghost use Rattle.std.specs.List.{prefix_len};
 ghost use Rattle.text_lines.specs.Lines.{words};
 ghost use Rattle.text_lines.specs.Parsing.{IsValueOf, IsErrorOf};
-ghost use Rattle.stat_plan.specs.Invariants.{ScriptFits};
-ghost use Rattle.stat_plan.specs.Plans.{scripted};
-ghost use Rattle.stat_plan.specs.Topologies.{IsTopology};
+ghost use Rattle.overlay_setup.specs.Scripts.{ScriptFits, scripted};
+ghost use Rattle.overlay_setup.specs.Topologies.{IsTopology};
 
 use crate::lose_line::fault_of;
 use crate::stream_line::stream_of;
 use crate::words::{lose_words, stream_words};
-use stat_plan::{Fault, Script, StreamDef, Topology};
+use overlay_setup::{Fault, Script, StreamDef, Topology};
 use std::alloc::Global;
 use text_lines::{LineParser, Reason, TextError, is_word, next_word, says_nothing};
 

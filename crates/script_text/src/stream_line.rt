@@ -3,9 +3,9 @@
 ghost use Rattle.text_lines.specs.Parsing.{IsValueOf, IsErrorOf};
 ghost use Rattle.std.specs.Prelude.{◌≡◌, ◌≢◌, ◌<◌, ◌++◌, [], ◌∷◌, IfErr, OnOk, IfOk, Ok, Err, length, ℕ, nat_eq, ◌^◌};
 ghost use Rattle.std.specs.List.{list_any};
-ghost use Rattle.stat_plan.specs.Invariants.{IsMode, IsStream};
+ghost use Rattle.overlay_setup.specs.Scripts.{IsMode, IsStream};
 ghost use Rattle.text_lines.specs.Lines.{words};
-ghost use Rattle.stat_plan.specs.Topologies.{IsTopology};
+ghost use Rattle.overlay_setup.specs.Topologies.{IsTopology};
 ghost use Rattle.text_lines.specs.declared.text_error.TextError.TheVariants.{OutOfMemory};
 ghost use Rattle.script_text.specs.ParserViews.{mode_view, stream_view};
 ghost use Rattle.script_text.specs.Marks.{marked_from};
@@ -13,7 +13,9 @@ ghost use Rattle.script_text.specs.Streams.{new_number, stream_number, mode_of, 
 
 use crate::numbers::number_from;
 use crate::words::{ModeText, StreamLine};
-use stat_plan::{Mode, SAMPLE_LIMIT, STREAM_LIMIT, StreamDef, TICK_LIMIT, Topology, WAVE_LIMIT};
+use overlay_setup::{
+    Mode, SAMPLE_LIMIT, STREAM_LIMIT, StreamDef, TICK_LIMIT, Topology, WAVE_LIMIT,
+};
 use std::alloc::{AllocError, Global};
 use text_lines::{Quantity, Reason, TextError, is_word, next_word};
 

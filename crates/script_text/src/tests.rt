@@ -1,7 +1,7 @@
 //! What no clause says: texts as they are written, and that each call succeeds with ample memory.
 
 use crate::read;
-use stat_plan::{Fault, Grain, Mode, Script};
+use overlay_setup::{Fault, Grain, Mode, Script};
 use std::alloc::{AllocError, Global};
 use std::process::Abort;
 use std::test::Fail;

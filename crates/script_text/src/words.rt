@@ -1,5 +1,5 @@
-//! The words of a script's lines. The fixed words of a line and the number of its words are checked here, before any number
-//! or name in it.
+//! The words of a script's lines. The fixed words of a line and the number of its words are checked here, before any
+//! number or name in it.
 
 ghost use Rattle.std.specs.Prelude.{◌≡◌, ◌<◌, ◌∷◌, length, IfNone, IfSome, option_map, codes, ◌&&◌};
 ghost use Rattle.std.specs.Str.{bytes_eq};
@@ -7,7 +7,7 @@ ghost use Rattle.text_lines.specs.Lines.{words};
 ghost use Rattle.script_text.specs.Words.{are_names, after_by, after_grain, after_mode, after_samples, grain_of, stream_words, lose_words};
 ghost use Rattle.script_text.specs.ParserViews.{mode_view, five_view, seen_view, stream_view, lose_view};
 
-use stat_plan::Grain;
+use overlay_setup::Grain;
 use text_lines::{is_word, next_word};
 
 /// A stream's mode, as it is written.

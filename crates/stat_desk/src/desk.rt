@@ -31,8 +31,8 @@ pub trait Desk {
     ///
     /// # Errors
     ///
-    /// `Failed` only where the desk counted a fault at this name, `TooLong` only where the file has more than `max` bytes.
-    /// No read changes the contents of a file.
+    /// `Failed` only where the desk counted a fault at this name, `TooLong` only where the file has more than `max`
+    /// bytes. No read changes the contents of a file.
     fn read(&mut self, name: &str, max: u64) -> Result<Vec<u8>, DeskError>
         ensures whole { IfOk result (λ bytes. IsWhole (contents self.old name.now) max bytes.items) }
         ensures too_long { IsErrOf result DeskError.TooLong → IsLonger (contents self.old name.now) max }

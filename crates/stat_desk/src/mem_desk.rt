@@ -17,8 +17,8 @@ struct StoredFile {
     bytes: Vec<u8>,
 }
 
-/// Files in memory. Its contents are what was put. Its reads fail where they are told to, and at names that were not put. A
-/// contract sees its files, and how its reads have gone.
+/// Files in memory. Its contents are what was put. Its reads fail where they are told to, and at names that were not
+/// put. A contract sees its files, and how its reads have gone.
 #[derive(Drop)]
 pub struct MemDesk {
     alloc: Global,
@@ -126,8 +126,8 @@ impl Desk for MemDesk {
 
     ghost contents = { λ d name. file_of d.files name };
 
-    // `exactly` says what each read returns, and `state` what the desk is afterwards. A read that runs out of memory leaves
-    // the desk unchanged, and has no number.
+    // `exactly` says what each read returns, and `state` what the desk is afterwards. A read that runs out of memory
+    // leaves the desk unchanged, and has no number.
     fn read(&mut self, name: &str, max: u64) -> Result<Vec<u8>, DeskError>
         ensures whole { IfOk result (λ bytes. IsWhole (file_of self.old.files name.now) max bytes.items) }
         ensures too_long { IsErrOf result DeskError.TooLong → IsLonger (file_of self.old.files name.now) max }

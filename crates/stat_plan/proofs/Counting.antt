@@ -19,7 +19,7 @@ use Rattle.call_path.specs.Path.{Path, path_cmp, path_cmp_total, is_path, is_pre
 use Rattle.call_path.specs.Pairs.{is_below, prefixes}
 use Rattle.call_path.proofs.PathLemmas.{and_false, any-prefixes, any-under, is_path-exact, none-under}
 use Rattle.stat_plan.specs.PathOrder.{IsOrderOf, IsPathOrder, numbered, seen_paths}
-use Rattle.stat_plan.specs.NodeSets.{In}
+use Rattle.overlay_setup.specs.NodeSets.{In}
 use Rattle.stat_plan.proofs.InLists.{in_at}
 
 -- the order of frames

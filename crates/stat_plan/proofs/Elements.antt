@@ -1,7 +1,7 @@
 -- What holds of all elements of a list.
 use Rattle.std.proofs.Common.{ℕ, suc, zero, ◌<◌, List, [], ◌∷◌, get_or, length, arith, inl, inr, refl}
 use Rattle.std.specs.List.{AllByRecursion}
-use Rattle.stat_plan.specs.NodeSets.{In}
+use Rattle.overlay_setup.specs.NodeSets.{In}
 
 -- what holds of all holds of an element
 pub all_element : {X : Type 0} (P : X → Type 0) (xs : List X) (i : ℕ) (d : X) → AllByRecursion P xs → i < length xs → P (get_or xs i d)

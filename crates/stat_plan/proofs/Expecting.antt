@@ -4,9 +4,9 @@ use Rattle.std.proofs.lemmas.Bool.{cases_Bool, eqb-false}
 use Rattle.std.proofs.lemmas.List.{take_more, map-append, append-nil, length-set, get_or_default, length-map, get_or-set_same, get_or-set_other}
 use Rattle.std.proofs.lemmas.List.Elements.{filter-append}
 use Rattle.rank_set.specs.Ranks.{Ranks, none, has, union, has-union, same_ranks}
-use Rattle.stat_plan.specs.NodeSets.{member}
+use Rattle.overlay_setup.specs.NodeSets.{member, up_to}
 use Rattle.stat_plan.specs.Samples.{ranks_with, all_ranks}
-use Rattle.stat_plan.specs.Plans.{Plan, nodes, up_to, ranks, ancestors, is_under, is_within, those_within, ranks_on}
+use Rattle.stat_plan.specs.Plans.{Plan, nodes, ranks, ancestors, is_under, is_within, those_within, ranks_on}
 use Rattle.stat_plan.specs.Tables.{GainRanks, AreExpected}
 use Rattle.stat_plan.proofs.InLists.{member-append, eqb_self}
 use Rattle.stat_plan.proofs.TableLemmas.{length-up_to, at_table}

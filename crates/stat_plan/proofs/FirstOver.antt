@@ -4,12 +4,13 @@ use Rattle.std.specs.Prelude.{find}
 use Rattle.std.specs.List.{AllByRecursion}
 use Rattle.std.proofs.lemmas.Bool.{cases_Bool, cases_lt}
 use Rattle.std.proofs.lemmas.List.{take_more, append_assoc, append-nil}
-use Rattle.stat_plan.specs.NodeSets.{In, IsStrictlyIncreasing}
+use Rattle.overlay_setup.specs.NodeSets.{In, IsStrictlyIncreasing, up_to}
 use Rattle.stat_plan.specs.Samples.{samples_of, seen_by, wave_lines}
-use Rattle.stat_plan.specs.declared.script.Grain.{Grain}
-use Rattle.stat_plan.specs.declared.script.Grain.TheVariants.{Line}
-use Rattle.stat_plan.specs.Invariants.{IsJob, IsDaemon}
-use Rattle.stat_plan.specs.Plans.{Plan, Stream, nodes, nodes_of, samples, sample_count, grain, daemons, stream_of, stream_ranks, ranks_on, up_to, waves_of}
+use Rattle.overlay_setup.specs.declared.script.Grain.{Grain}
+use Rattle.overlay_setup.specs.declared.script.Grain.TheVariants.{Line}
+use Rattle.stat_plan.specs.Invariants.{IsJob}
+use Rattle.overlay_setup.specs.Scripts.{IsDaemon, Stream}
+use Rattle.stat_plan.specs.Plans.{Plan, nodes, nodes_of, samples, sample_count, grain, daemons, stream_of, stream_ranks, ranks_on, waves_of}
 use Rattle.stat_plan.specs.Limits.{RefusesAt, first_over, is_over, is_within_limit, stream_waves, wave_is_within}
 use Rattle.stat_plan.specs.declared.plan_error.PlanError.{PlanError}
 use Rattle.stat_plan.specs.declared.plan_error.PlanError.TheVariants.{TooManyPrefixes, OutOfMemory}

@@ -5,8 +5,7 @@ use Rattle.std.specs.Prelude.{slice_get}
 use Rattle.std.specs.List.Sorted.{IsPermutation}
 use Rattle.std.proofs.lemmas.List.Sorted.{Contains-permutation}
 use Rattle.std.proofs.lemmas.Bool.{true≢false, cases_lt, or_cases, or_left, or_right, and_parts, and_from}
-use Rattle.stat_plan.specs.NodeSets.{In, member}
-use Rattle.stat_plan.specs.Plans.{up_to}
+use Rattle.overlay_setup.specs.NodeSets.{In, member, up_to}
 
 pub in_member : (x : ℕ) (xs : List ℕ) → In x xs → member x xs ≡ true
 in_member x [] h = absurd h

@@ -6,9 +6,8 @@ use Rattle.std.specs.Ordering.{is_lt}
 use Rattle.std.proofs.lemmas.List.{get_or-map, length-map}
 use Rattle.std.proofs.lemmas.List.Sorted.{IsPermutation-map, IsPermutation-sym, length_permutation}
 use Rattle.call_path.specs.Path.{Path, path_cmp}
-use Rattle.stat_plan.specs.NodeSets.{In}
+use Rattle.overlay_setup.specs.NodeSets.{In, up_to}
 use Rattle.stat_plan.specs.PathOrder.{AreInOrder, IsOrderOf, numbered}
-use Rattle.stat_plan.specs.Plans.{up_to}
 use Rattle.stat_plan.proofs.InLists.{in_from_map, in_map, in_permuted, up_to_below, up_to_in}
 
 -- a list that is sorted by what f gives is sorted where f gave it

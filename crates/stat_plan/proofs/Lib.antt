@@ -1,6 +1,3 @@
-pub mod NameNumbers
-pub mod DaemonNames
-pub mod Leaves
 pub mod InLists
 pub mod Expecting
 pub mod Indexing

@@ -11,10 +11,11 @@ use Rattle.std.proofs.lemmas.List.{drop_all, take_more, length-append, get_or_ap
 use Rattle.std.proofs.lemmas.Option.{none-some, slice_get-get_or, slice_get_within, get_or_from_slice_get}
 use Rattle.rank_set.specs.Ranks.{Ranks, none, has, Has, in_order, union, has-union, has-none, has-in_order}
 use Rattle.rank_set.proofs.SomeMember.{some_member}
-use Rattle.stat_plan.specs.NodeSets.{In, member}
+use Rattle.overlay_setup.specs.NodeSets.{In, member}
 use Rattle.stat_plan.specs.Samples.{ranks_with, prefix_count, IsWithinLimit}
-use Rattle.stat_plan.specs.Invariants.{IsJob, IsPlan, IsDaemon}
-use Rattle.stat_plan.specs.Plans.{Plan, Stream, nodes, nodes_of, ranks, daemons, stream_of, serves, is_within, those_within, ranks_on, expected, waves_of, samples as wave_samples}
+use Rattle.stat_plan.specs.Invariants.{IsJob, IsPlan}
+use Rattle.overlay_setup.specs.Scripts.{IsDaemon, Stream}
+use Rattle.stat_plan.specs.Plans.{Plan, nodes, nodes_of, ranks, daemons, stream_of, serves, is_within, those_within, ranks_on, expected, waves_of, samples as wave_samples}
 use Rattle.stat_plan.specs.Limits.{first_over, is_over, wave_is_within}
 use Rattle.stat_plan.specs.Tables.{AreExpected, AreAllExpected}
 use Rattle.stat_plan.proofs.InLists.{in_filter, in_from_filter, any_from_in, in_from_any, in_map, in_from_map}

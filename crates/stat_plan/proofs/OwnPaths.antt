@@ -5,7 +5,7 @@ use Rattle.rank_set.specs.Ranks.{Ranks, none, has, Has}
 use Rattle.rank_set.proofs.SomeMember.{some_member}
 use Rattle.call_path.specs.Path.{Path, is_path}
 use Rattle.stat_plan.specs.Invariants.{AreSamples, IsSampleLine}
-use Rattle.stat_plan.specs.NodeSets.{In}
+use Rattle.overlay_setup.specs.NodeSets.{In}
 use Rattle.stat_plan.specs.OwnLines.{AreOwnLines, AreOwnRows, ListPlacedRanks, is_in, is_listed, lists, ranks_at, row_at}
 use Rattle.stat_plan.specs.Plans.{sampled}
 use Rattle.stat_plan.specs.Samples.{SampleLine}

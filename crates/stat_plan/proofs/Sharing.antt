@@ -1,22 +1,26 @@
 -- Rows that gain their parts of lines.
 use Rattle.std.proofs.Common.{◌≡◌, ◌≢◌, ℕ, suc, zero, ◌+◌, ◌<◌, ◌≤◌, Bool, true, false, ◌&&◌, ◌||◌, nat_eq, List, [], ◌∷◌, ◌++◌, map, take, get_or, set, length, refl, sym, ap, subst, ◌∙◌, arith, eqb-true, eq-eqb, inl, inr}
+use Rattle.std.specs.Prelude.{nat_lt, not, if◌then◌else◌, slice_get, Option, Some, unwrap_or, Result, Ok, Err, OnOk}
 use Rattle.std.specs.List.{list_any}
 use Rattle.std.specs.List.Sorted.{IsPermutation}
-use Rattle.std.proofs.lemmas.Bool.{true≢false, cases_Bool, cases_lt, eqb-false, and_parts, and_from, or_cases, or_left, or_right, false_from_ne_true}
-use Rattle.std.proofs.lemmas.List.{get_or_default, length-set, length-map, take_more}
+use Rattle.std.proofs.lemmas.Bool.{true≢false, cases_Bool, cases_lt, eqb-false, le-ltb, lt-ltb, and_parts, and_from, or_cases, or_left, or_right, false_from_ne_true}
+use Rattle.std.proofs.lemmas.List.{get_or_default, length-set, length-map, map-append, map-set, set-get_or, take_more}
 use Rattle.std.proofs.lemmas.List.Folds.{list_any-append}
 use Rattle.std.proofs.lemmas.List.Sorted.{IsPermutation-refl, IsPermutation-sym, IsPermutation-trans}
-use Rattle.rank_set.specs.Ranks.{Ranks, none, has, Has, IsSubset, those, has-those, union, has-union, has-none}
-use Rattle.rank_set.specs.Runs.{IsRun}
+use Rattle.std.proofs.lemmas.Option.{none-some}
+use Rattle.indexmap.specs.IndexSet.{insert_key}
+use Rattle.rank_set.specs.Ranks.{Ranks, none, has, Has, IsSubset, union, has-union, has-none}
+use Rattle.rank_set.specs.Runs.{ranks_between}
+use Rattle.rank_set.proofs.RunSets.{between_high, between_in, between_low}
 use Rattle.rank_set.proofs.SomeMember.{some_member}
 use Rattle.stat_plan.specs.Invariants.{ArePlacedOnce}
-use Rattle.stat_plan.specs.OwnLines.{AreNotEmpty, AreOwnRows, AreReordered, GainLine, GainParts, GainsPart, GainsRanks, is_in, lists, ranks_at, row_at}
-use Rattle.stat_plan.specs.Plans.{up_to}
-use Rattle.stat_plan.specs.Tables.{AreRankNodes}
+use Rattle.stat_plan.specs.OwnLines.{AreKeysOf, AreNotEmpty, AreOwnRows, AreParted, AreReordered, GainLines, GainParts, GainsRanks, ListPlacedRanks, is_in, key_of, lists, ranks_at, row_at}
+use Rattle.stat_plan.specs.Samples.{all_ranks}
+use Rattle.overlay_setup.specs.NodeSets.{up_to}
 use Rattle.stat_plan.specs.declared.samples.StackLine.{StackLine}
 use Rattle.stat_plan.proofs.Elements.{all_from}
 use Rattle.stat_plan.proofs.FirstOver.{all_in}
-use Rattle.stat_plan.proofs.Indexing.{IsRankNode, other_row, same_row}
+use Rattle.stat_plan.proofs.Indexing.{other_row, same_row}
 use Rattle.stat_plan.proofs.InLists.{any_from_in, in_from_any, in_permuted}
 use Rattle.stat_plan.proofs.TableLemmas.{at_table, length-up_to}
 
@@ -28,6 +32,11 @@ both_ways false false there back = refl
 or_none : (b : Bool) → (b || false) ≡ b
 or_none true = refl
 or_none false = refl
+
+-- what follows from what holds where a result is `Ok`
+pub on_ok : {A E P Q : Type 0} (result : Result A E) → (P → Q) → OnOk result P → OnOk result Q
+on_ok (Ok x) follows p = follows p
+on_ok (Err e) follows p = p
 
 -- ---- one row
 
@@ -84,158 +93,81 @@ gains_at line new d ranks (x ∷ xs) (suc k) lt time path was_time was_path is =
     regroup true b c = refl
     regroup false b c = refl
 
+-- an entry gains ranks, where it is at a line's time in its path
+pub entry_gains : (line was : StackLine) (ranks gained : Ranks) (old : List StackLine) (k : ℕ) → k < length old → was ≡ get_or old k was → was.time ≡ line.time → was.path ≡ line.path
+    → gained ≡ union was.ranks ranks → GainsRanks line ranks old (set old k (record { time = was.time; ranks = gained; path = was.path }))
+entry_gains line was ranks gained old k lt was_is time path is =
+    gains_at line (record { time = was.time; ranks = gained; path = was.path }) was ranks old k lt time path (ap (λ (l : StackLine). l.time) (sym was_is) ∙ time) (ap (λ (l : StackLine). l.path) (sym was_is) ∙ path)
+    (is ∙ ap (λ (l : StackLine). union l.ranks ranks) was_is)
+
 -- the last line gains ranks, where it is at a line's time in its path
 pub last_gains : (line seen was : StackLine) (ranks gained : Ranks) (old : List StackLine) (k : ℕ) → k < length old → seen ≡ get_or old k seen → was ≡ get_or old k was → (nat_eq seen.time line.time && nat_eq seen.path line.path) ≡ true
     → gained ≡ union was.ranks ranks → GainsRanks line ranks old (set old k (record { time = was.time; ranks = gained; path = was.path }))
 last_gains line seen was ranks gained old k lt seen_is was_is at is =
     let parts = and_parts (nat_eq seen.time line.time) (nat_eq seen.path line.path) at in
     let same : was ≡ seen = was_is ∙ get_or_default old k was seen lt ∙ sym seen_is in
-    let time : was.time ≡ line.time = ap (λ (l : StackLine). l.time) same ∙ eqb-true seen.time line.time parts.0 in
-    let path : was.path ≡ line.path = ap (λ (l : StackLine). l.path) same ∙ eqb-true seen.path line.path parts.1 in
-    gains_at line (record { time = was.time; ranks = gained; path = was.path }) was ranks old k lt time path (ap (λ (l : StackLine). l.time) (sym was_is) ∙ time) (ap (λ (l : StackLine). l.path) (sym was_is) ∙ path)
-    (is ∙ ap (λ (l : StackLine). union l.ranks ranks) was_is)
-
--- some of the ranks are all of a part
-pub part_gained : (line : StackLine) (own : Ranks) (old new : List StackLine) → GainsRanks line (those (has own) line.ranks) old new → GainsPart line own old new
-part_gained line own old new gain = record {
-  kept = λ r t i there. gain.each r t i ∙ or_left (is_in old r t i) _ there;
-  only = λ r t i there. elim (or_cases (is_in old r t i) (has (those (has own) line.ranks) r && (nat_eq line.time t && nat_eq line.path i)) (sym (gain.each r t i) ∙ there)) [
-    | (inl before) ↦ inl before
-    | (inr now) ↦
-        let parts = and_parts (has (those (has own) line.ranks) r) (nat_eq line.time t && nat_eq line.path i) now in
-        let both = and_parts (has line.ranks r) (has own r) (sym (has-those (has own) line.ranks r) ∙ parts.0) in
-        inr (both.1, and_from (has line.ranks r) (nat_eq line.time t && nat_eq line.path i) both.0 parts.1)
-  ];
-  not_empty = gain.not_empty;
-}
-
-pub part_same : (line : StackLine) (own : Ranks) (row : List StackLine) → GainsPart line own row row
-part_same line own row = record { kept = λ r t i there. there; only = λ r t i there. inl there; not_empty = λ all. all }
-
-part_then : (line : StackLine) (own : Ranks) (old mid new : List StackLine) → GainsPart line own old mid → GainsPart line own mid new → GainsPart line own old new
-part_then line own old mid new one two = record {
-  kept = λ r t i there. two.kept r t i (one.kept r t i there);
-  only = λ r t i there. elim (two.only r t i there) [ (inl before) ↦ one.only r t i before | (inr now) ↦ inr now ];
-  not_empty = λ all. two.not_empty (one.not_empty all);
-}
+    entry_gains line was ranks gained old k lt was_is (ap (λ (l : StackLine). l.time) same ∙ eqb-true seen.time line.time parts.0) (ap (λ (l : StackLine). l.path) same ∙ eqb-true seen.path line.path parts.1) is
 
 -- a rank that a line lists is listed
 pub lists_itself : (line : StackLine) (r : ℕ) → Has r line.ranks → lists line r line.time line.path ≡ true
 lists_itself line r there = and_from (has line.ranks r) (nat_eq line.time line.time && nat_eq line.path line.path) there (and_from (nat_eq line.time line.time) (nat_eq line.path line.path) (eq-eqb line.time line.time refl) (eq-eqb line.path line.path refl))
 
--- the ranks that a part gives a row are listed
-pub part_listed : (line : StackLine) (own : Ranks) (old new : List StackLine) (r : ℕ) → GainsRanks line (those (has own) line.ranks) old new → Has r line.ranks → Has r own → is_in new r line.time line.path ≡ true
-part_listed line own old new r gain in_line in_own =
-    gain.each r line.time line.path
-    ∙ or_right (is_in old r line.time line.path) _
-    (and_from (has (those (has own) line.ranks) r) (nat_eq line.time line.time && nat_eq line.path line.path) (has-those (has own) line.ranks r ∙ and_from (has line.ranks r) (has own r) in_line in_own)
-    (and_from (nat_eq line.time line.time) (nat_eq line.path line.path) (eq-eqb line.time line.time refl) (eq-eqb line.path line.path refl)))
+-- ---- the parts of one line
 
--- a set that has a rank of a line has some part of it
-pub part_some : (line own : Ranks) (r : ℕ) → Has r line → Has r own → those (has own) line ≢ none
-part_some line own r in_line in_own e = true≢false (sym (has-those (has own) line r ∙ and_from (has line r) (has own r) in_line in_own) ∙ ap (λ s. has s r) e ∙ has-none r)
+and_none : (a : Bool) → (a && false) ≡ false
+and_none true = refl
+and_none false = refl
 
--- ---- rows by node number
-
--- rows list ranks of their nodes alone
-abbrev pub ListOwnRanks : List Ranks → List (List StackLine) → Type 0
-ListOwnRanks placed rows = (n r t i : ℕ) → is_in (row_at rows n) r t i ≡ true → Has r (ranks_at placed n)
-
-pub still_own : (placed : List Ranks) (line : StackLine) (first past : ℕ) (old new : List (List StackLine)) → ListOwnRanks placed old → GainParts placed line first past old new → ListOwnRanks placed new
-still_own placed line first past old new own gain n r t i there = elim ((gain.rows n).only r t i there) [ (inl before) ↦ own n r t i before | (inr now) ↦ now.0 ]
-
--- nothing is gained yet
-pub parts_none : (placed : List Ranks) (line : StackLine) (first past : ℕ) (old : List (List StackLine)) → past ≤ first → GainParts placed line first past old old
-parts_none placed line first past old le = record {
+-- no rank passes the test
+pub parts_none : (placed : List Ranks) (line : StackLine) (test : ℕ → Bool) (rows : List (List StackLine)) → ((r : ℕ) → test r ≡ false) → GainParts placed line test rows rows
+parts_none placed line test rows fails = record {
   paired = refl;
-  rows = λ n. part_same line (ranks_at placed n) (row_at old n);
-  listed = λ n r below from before in_line in_own. absurd (omega (arith, le, from, before));
+  each = λ n r t i below. sym (ap (λ b. is_in (row_at rows n) r t i || (has (ranks_at placed n) r && (b && (nat_eq line.time t && nat_eq line.path i)))) (fails r) ∙ ap (λ b. is_in (row_at rows n) r t i || b) (and_none (has (ranks_at placed n) r)) ∙ or_none (is_in (row_at rows n) r t i));
+  not_empty = λ n below all. all;
 }
 
--- the row of the node of a rank gains its part
-pub parts_more : (placed : List Ranks) (rank_to_node : List ℕ) (line : StackLine) (first r past node : ℕ) (old new : List (List StackLine)) (row : List StackLine)
-    → AreRankNodes placed rank_to_node → length old ≡ length placed → IsRankNode placed r node → ListOwnRanks placed old
-    → GainsPart line (ranks_at placed node) (row_at new node) row → ((q : ℕ) → r ≤ q → q < past → is_in row q line.time line.path ≡ true)
-    → GainParts placed line first r old new → GainParts placed line first past old (set new node row)
-parts_more placed rank_to_node line first r past node old new row are paired home own part listed so_far = record {
-  paired = length-set new node row ∙ so_far.paired;
-  rows = λ n. part_then line (ranks_at placed n) (row_at old n) (row_at new n) (row_at (set new node row) n) (so_far.rows n) (step n);
-  listed = λ n q below from before in_line in_own. elim (cases_lt q r) [
-    | (inl earlier) ↦ (step n).kept q line.time line.path (so_far.listed n q below from earlier in_line in_own)
-    | (inr later) ↦
-        let here = listed q later before in
-        let in_node : Has q (ranks_at placed node) = elim (part.only q line.time line.path here) [ (inl was) ↦ still_own placed line first r old new own so_far node q line.time line.path was | (inr now) ↦ now.0 ] in
-        let same : n ≡ node = sym (are.each n q in_own).1 ∙ (are.each node q in_node).1 in
-        subst (λ m. is_in (row_at (set new node row) m) q line.time line.path ≡ true) (sym same) (ap (λ xs. is_in xs q line.time line.path) (same_row new node row inside) ∙ here)
-  ];
+-- ranks that pass one test, and then those that pass another
+pub parts_more : (placed : List Ranks) (line : StackLine) (before now after : ℕ → Bool) (old mid new : List (List StackLine)) → ((r : ℕ) → (before r || now r) ≡ after r)
+    → GainParts placed line before old mid → GainParts placed line now mid new → GainParts placed line after old new
+parts_more placed line before now after old mid new is one two = record {
+  paired = two.paired ∙ one.paired;
+  each = λ n r t i below.
+      let own = has (ranks_at placed n) r in
+      let at = nat_eq line.time t && nat_eq line.path i in
+      two.each n r t i (inside n below)
+      ∙ ap (λ b. b || (own && (now r && at))) (one.each n r t i below)
+      ∙ both (is_in (row_at old n) r t i) own (before r) (now r) at
+      ∙ ap (λ b. is_in (row_at old n) r t i || (own && (b && at))) (is r);
+  not_empty = λ n below all. two.not_empty n (inside n below) (one.not_empty n below all);
 }
   where
-    inside : node < length new
-    inside = let a = home.inside in let b = so_far.paired in omega (arith, a, b, paired)
+    inside : (n : ℕ) → n < length old → n < length mid
+    inside n below = subst (λ k. n < k) (sym one.paired) below
 
-    step : (n : ℕ) → GainsPart line (ranks_at placed n) (row_at new n) (row_at (set new node row) n)
-    step n = elim (cases_Bool (nat_eq n node)) [
-      | (inl same) ↦
-          let e : n ≡ node = eqb-true n node same in
-          subst (λ m. GainsPart line (ranks_at placed m) (row_at new m) (row_at (set new node row) m)) (sym e) (subst (GainsPart line (ranks_at placed node) (row_at new node)) (sym (same_row new node row inside)) part)
-      | (inr other) ↦ subst (GainsPart line (ranks_at placed n) (row_at new n)) (sym (other_row new node row inside n (eqb-false n node other))) (part_same line (ranks_at placed n) (row_at new n))
-    ]
+    both : (o w b n a : Bool) → ((o || (w && (b && a))) || (w && (n && a))) ≡ (o || (w && ((b || n) && a)))
+    both true w b n a = refl
+    both false false b n a = refl
+    both false true true true true = refl
+    both false true true false true = refl
+    both false true true true false = refl
+    both false true true false false = refl
+    both false true false n a = refl
 
--- past the last rank of a run all of its parts are gained
-pub parts_to : (placed : List Ranks) (line : StackLine) (first past last : ℕ) (old new : List (List StackLine)) → last ≤ past → GainParts placed line first past old new → GainParts placed line first last old new
-parts_to placed line first past last old new le gain = record { paired = gain.paired; rows = gain.rows; listed = λ n r below from before in_line in_own. gain.listed n r below from (omega (arith, before, le)) in_line in_own }
-
--- the parts of a further run
-pub parts_run : (placed : List Ranks) (line : StackLine) (from first last : ℕ) (old mid new : List (List StackLine)) → IsRun line.ranks from first last → GainParts placed line 0 from old mid → GainParts placed line first (last + 1) mid new → GainParts placed line 0 (last + 1) old new
-parts_run placed line from first last old mid new run so_far gain = record {
-  paired = gain.paired ∙ so_far.paired;
-  rows = λ n. part_then line (ranks_at placed n) (row_at old n) (row_at mid n) (row_at new n) (so_far.rows n) (gain.rows n);
-  listed = λ n r below start before in_line in_own. elim (cases_lt r from) [
-    | (inl earlier) ↦ (gain.rows n).kept r line.time line.path (so_far.listed n r below start earlier in_line in_own)
-    | (inr later) ↦ elim (cases_lt r first) [
-      | (inl between) ↦ absurd (true≢false (sym in_line ∙ run.passed r later between))
-      | (inr begun) ↦ gain.listed n r (subst (λ k. n < k) (sym so_far.paired) below) begun before in_line in_own
-    ]
-  ];
-}
-
--- where no rank is left, the line is gained
-pub line_gained : (placed : List Ranks) (line : StackLine) (from : ℕ) (old new : List (List StackLine)) → ((q : ℕ) → from ≤ q → has line.ranks q ≡ false) → GainParts placed line 0 from old new → GainLine placed line old new
-line_gained placed line from old new none_left gain = record {
-  paired = gain.paired;
-  each = λ n r t i below. both_ways _ _
-      (λ there. elim ((gain.rows n).only r t i there) [
-        | (inl before) ↦ or_left (is_in (row_at old n) r t i) _ before
-        | (inr now) ↦ or_right (is_in (row_at old n) r t i) _ (and_from (has (ranks_at placed n) r) (lists line r t i) now.0 now.1)
-      ])
-      (λ there. elim (or_cases (is_in (row_at old n) r t i) (has (ranks_at placed n) r && lists line r t i) there) [
-        | (inl before) ↦ (gain.rows n).kept r t i before
-        | (inr now) ↦
-            let parts = and_parts (has (ranks_at placed n) r) (lists line r t i) now in
-            let more = and_parts (has line.ranks r) (nat_eq line.time t && nat_eq line.path i) parts.1 in
-            let at = and_parts (nat_eq line.time t) (nat_eq line.path i) more.1 in
-            let lt : r < from = elim (cases_lt r from) [ (inl before) ↦ before | (inr after) ↦ absurd (true≢false (sym more.0 ∙ none_left r after)) ] in
-            (λ j. is_in (row_at new n) r (sym (eqb-true line.time t at.0) j) (sym (eqb-true line.path i at.1) j))
-            ∙ gain.listed n r below (omega arith) lt more.0 parts.0
-      ]);
-  not_empty = λ n below. (gain.rows n).not_empty;
-}
-
--- a line of which all ranks are one node's is that node's
-pub whole_line : (placed : List Ranks) (line : StackLine) (node : ℕ) (old : List (List StackLine)) (row : List StackLine) → ArePlacedOnce placed → node < length old → IsSubset line.ranks (ranks_at placed node)
-    → GainsRanks line line.ranks (row_at old node) row → GainLine placed line old (set old node row)
-whole_line placed line node old row once inside lies gain = record {
+-- the ranks of one node
+pub parts_of_node : (placed : List Ranks) (line : StackLine) (ranks : Ranks) (node : ℕ) (old : List (List StackLine)) (row : List StackLine) → ArePlacedOnce placed → node < length old → IsSubset ranks (ranks_at placed node)
+    → GainsRanks line ranks (row_at old node) row → GainParts placed line (has ranks) old (set old node row)
+parts_of_node placed line ranks node old row once inside lies gain = record {
   paired = length-set old node row;
   each = λ n r t i below. elim (cases_Bool (nat_eq n node)) [
     | (inl same) ↦
         let e : n ≡ node = eqb-true n node same in
-        subst (λ m. is_in (row_at (set old node row) m) r t i ≡ (is_in (row_at old m) r t i || (has (ranks_at placed m) r && lists line r t i))) (sym e)
-        (ap (λ xs. is_in xs r t i) (same_row old node row inside) ∙ gain.each r t i ∙ ap (λ b. is_in (row_at old node) r t i || b) (within (has (ranks_at placed node) r) (has line.ranks r) (nat_eq line.time t && nat_eq line.path i) (lies r)))
+        subst (λ m. is_in (row_at (set old node row) m) r t i ≡ (is_in (row_at old m) r t i || (has (ranks_at placed m) r && (has ranks r && (nat_eq line.time t && nat_eq line.path i))))) (sym e)
+        (ap (λ xs. is_in xs r t i) (same_row old node row inside) ∙ gain.each r t i ∙ ap (λ b. is_in (row_at old node) r t i || b) (within (has (ranks_at placed node) r) (has ranks r) (nat_eq line.time t && nat_eq line.path i) (lies r)))
     | (inr other) ↦
         ap (λ xs. is_in xs r t i) (other_row old node row inside n (eqb-false n node other))
-        ∙ sym (ap (λ b. is_in (row_at old n) r t i || b) (false_from_ne_true (has (ranks_at placed n) r && lists line r t i) (λ both.
-        let parts = and_parts (has (ranks_at placed n) r) (lists line r t i) both in
-        eqb-false n node other (once n node r parts.0 (lies r (and_parts (has line.ranks r) (nat_eq line.time t && nat_eq line.path i) parts.1).0)))) ∙ or_none (is_in (row_at old n) r t i))
+        ∙ sym (ap (λ b. is_in (row_at old n) r t i || b) (false_from_ne_true (has (ranks_at placed n) r && (has ranks r && (nat_eq line.time t && nat_eq line.path i))) (λ both.
+        let parts = and_parts (has (ranks_at placed n) r) ((has ranks r && (nat_eq line.time t && nat_eq line.path i))) both in
+        eqb-false n node other (once n node r parts.0 (lies r (and_parts (has ranks r) (nat_eq line.time t && nat_eq line.path i) parts.1).0)))) ∙ or_none (is_in (row_at old n) r t i))
   ];
   not_empty = λ n below all. elim (cases_Bool (nat_eq n node)) [
     | (inl same) ↦
@@ -250,15 +182,80 @@ whole_line placed line node old row once inside lies gain = record {
     within false true c sub = absurd (true≢false (sym (sub refl)))
     within false false c sub = refl
 
+-- ---- the runs of a line
+
+-- whether a rank of a set is below another rank
+abbrev pub has_below : Ranks → ℕ → ℕ → Bool
+has_below ranks past r = has ranks r && nat_lt r past
+
+-- a rank between two
+pub between_from : (first last r : ℕ) → Has r (ranks_between first last) → (first ≤ r) × (r ≤ last)
+between_from first last r there = (
+  elim (cases_lt r first) [ (inl low) ↦ absurd (true≢false (sym there ∙ between_low first last r low)) | (inr from) ↦ from ],
+  elim (cases_lt last r) [ (inl high) ↦ absurd (true≢false (sym there ∙ between_high first last r high)) | (inr up) ↦ up ],
+)
+
+module _ (ranks : Ranks) where
+  -- no rank is below 0
+  pub below_none : (r : ℕ) → has_below ranks 0 r ≡ false
+  below_none r = ap (λ b. has ranks r && b) (le-ltb r 0 (omega arith)) ∙ and_none (has ranks r)
+
+  -- up to the next run nothing comes
+  pub below_run : (from first : ℕ) → from ≤ first → ((q : ℕ) → from ≤ q → q < first → has ranks q ≡ false) → (r : ℕ) → has_below ranks from r ≡ has_below ranks first r
+  below_run from first le passed r = elim (cases_lt r from) [
+    | (inl before) ↦ ap (λ b. has ranks r && b) (lt-ltb r from before ∙ sym (lt-ltb r first (omega (arith, before, le))))
+    | (inr later) ↦ elim (cases_lt r first) [
+      | (inl between) ↦ ap (λ b. b && nat_lt r from) (passed r later between) ∙ sym (ap (λ b. b && nat_lt r first) (passed r later between))
+      | (inr begun) ↦ ap (λ b. has ranks r && b) (le-ltb r from later ∙ sym (le-ltb r first begun))
+    ]
+  ]
+
+  -- a part of a run comes
+  pub below_part : (from last : ℕ) → from ≤ last → ((q : ℕ) → from ≤ q → q ≤ last → Has q ranks) → (r : ℕ) → (has_below ranks from r || has (ranks_between from last) r) ≡ has_below ranks (last + 1) r
+  below_part from last le within r = elim (cases_lt r from) [
+    | (inl before) ↦ (λ i. (has ranks r && lt-ltb r from before i) || between_low from last r before i) ∙ or_none (has ranks r && true) ∙ ap (λ b. has ranks r && b) (sym (lt-ltb r (last + 1) (omega (arith, before, le))))
+    | (inr later) ↦ elim (cases_lt r (last + 1)) [
+      | (inl inside) ↦
+          or_right (has_below ranks from r) (has (ranks_between from last) r) (between_in from last r later (omega (arith, inside)))
+          ∙ sym (and_from (has ranks r) (nat_lt r (last + 1)) (within r later (omega (arith, inside))) (lt-ltb r (last + 1) inside))
+      | (inr past) ↦ (λ i. (has ranks r && le-ltb r from later i) || between_high from last r (omega (arith, past)) i) ∙ or_none (has ranks r && false) ∙ ap (λ b. has ranks r && b) (sym (le-ltb r (last + 1) past))
+    ]
+  ]
+
+  -- where no rank is left, all have come
+  pub below_all : (from : ℕ) → ((q : ℕ) → from ≤ q → has ranks q ≡ false) → (r : ℕ) → has_below ranks from r ≡ has ranks r
+  below_all from none_left r = elim (cases_lt r from) [
+    | (inl before) ↦ ap (λ b. has ranks r && b) (lt-ltb r from before) ∙ and_all (has ranks r)
+    | (inr later) ↦ ap (λ b. b && nat_lt r from) (none_left r later) ∙ sym (none_left r later)
+  ]
+    where
+      and_all : (b : Bool) → (b && true) ≡ b
+      and_all true = refl
+      and_all false = refl
+
 -- ---- all lines
 
 and_or : (a b c : Bool) → ((a && b) || (a && c)) ≡ (a && (b || c))
 and_or true b c = refl
 and_or false b c = refl
 
-and_none : (a : Bool) → (a && false) ≡ false
-and_none true = refl
-and_none false = refl
+or_swap : (a b c : Bool) → ((a || b) || c) ≡ ((a || c) || b)
+or_swap true b c = refl
+or_swap false true true = refl
+or_swap false true false = refl
+or_swap false false true = refl
+or_swap false false false = refl
+
+or_group : (a b c : Bool) → (a || (b || c)) ≡ ((a || b) || c)
+or_group true b c = refl
+or_group false b c = refl
+
+-- one line more
+one_more : (lines : List StackLine) (k : ℕ) (line : StackLine) → k < length lines → line ≡ get_or lines k line → (r t i : ℕ) → is_in (take (k + 1) lines) r t i ≡ (is_in (take k lines) r t i || lists line r t i)
+one_more lines k line lt is r t i =
+    ap (λ xs. is_in xs r t i) (take_more lines k line lt ∙ ap (λ l. take k lines ++ l ∷ []) (sym is))
+    ∙ list_any-append (λ l. lists l r t i) (take k lines) (line ∷ [])
+    ∙ ap (λ b. is_in (take k lines) r t i || b) (or_none (lists line r t i))
 
 -- no line is shared yet
 pub rows_none : (placed : List Ranks) (rows : List (List StackLine)) → rows ≡ map (λ (_ : ℕ). []) (up_to (length placed)) → AreOwnRows placed [] rows
@@ -271,39 +268,150 @@ rows_none placed rows is = record {
     empty : (n : ℕ) → n < length placed → row_at rows n ≡ []
     empty n below = ap (λ xs. row_at xs n) is ∙ at_table (λ _. []) (length placed) n [] below
 
--- rows list ranks of their nodes alone; past the last row there is nothing
-pub rows_own : (placed : List Ranks) (lines : List StackLine) (rows : List (List StackLine)) → AreOwnRows placed lines rows → ListOwnRanks placed rows
-rows_own placed lines rows are n r t i there = elim (cases_lt n (length placed)) [
-  | (inl below) ↦ (and_parts (has (ranks_at placed n) r) (is_in lines r t i) (sym (are.each n r t i below) ∙ there)).0
-  | (inr past) ↦ absurd (true≢false (sym there ∙ ap (λ xs. is_in xs r t i) (get_or-past rows n [] (subst (λ k. k ≤ n) (sym are.paired) past))))
-]
+pub parted_none : (placed : List Ranks) (spread : List StackLine) (rows : List (List StackLine)) → spread ≡ [] → AreOwnRows placed [] rows → AreParted placed [] spread rows
+parted_none placed spread rows is are = subst (λ xs. AreParted placed [] xs rows) (sym is) (record {
+  paired = are.paired;
+  each = λ n r t i below. ap (λ b. b || (has (ranks_at placed n) r && false)) (are.each n r t i below) ∙ twice (has (ranks_at placed n) r && false);
+  not_empty = are.not_empty;
+  spread_within = λ r t i there. there;
+  spread_not_empty = tt;
+})
   where
-    get_or-past : {X : Type 0} (xs : List X) (n : ℕ) (d : X) → length xs ≤ n → get_or xs n d ≡ d
-    get_or-past [] n d le = refl
-    get_or-past (x ∷ xs) zero d le = absurd (omega arith)
-    get_or-past (x ∷ xs) (suc n) d le = get_or-past xs n d (omega (arith, le))
+    twice : (a : Bool) → (a || a) ≡ a
+    twice true = refl
+    twice false = refl
 
--- a line more is shared
-pub rows_more : (placed : List Ranks) (lines : List StackLine) (k : ℕ) (line : StackLine) (old new : List (List StackLine)) → k < length lines → line ≡ get_or lines k line → AreOwnRows placed (take k lines) old → GainLine placed line old new → AreOwnRows placed (take (k + 1) lines) new
-rows_more placed lines k line old new lt is so_far gain = record {
-  paired = gain.paired ∙ so_far.paired;
-  each = λ n r t i below.
-      let own = has (ranks_at placed n) r in
-      gain.each n r t i (inside n below)
-      ∙ ap (λ b. b || (own && lists line r t i)) (so_far.each n r t i below)
-      ∙ and_or own (is_in (take k lines) r t i) (lists line r t i)
-      ∙ ap (λ b. own && b) (sym (one_more r t i));
-  not_empty = λ n below. gain.not_empty n (inside n below) (so_far.not_empty n below);
+-- a line more is taken
+module _ (placed : List Ranks) (lines : List StackLine) (k : ℕ) (line : StackLine) (lt : k < length lines) (is : line ≡ get_or lines k line) where
+  -- by the rows
+  pub parted_by_rows : (spread : List StackLine) (old new : List (List StackLine)) → AreParted placed (take k lines) spread old → GainParts placed line (has line.ranks) old new → AreParted placed (take (k + 1) lines) spread new
+  parted_by_rows spread old new so_far gain = record {
+    paired = gain.paired ∙ so_far.paired;
+    each = λ n r t i below.
+        let own = has (ranks_at placed n) r in
+        ap (λ b. b || (own && is_in spread r t i)) (gain.each n r t i (inside n below))
+        ∙ or_swap (is_in (row_at old n) r t i) (own && lists line r t i) (own && is_in spread r t i)
+        ∙ ap (λ b. b || (own && lists line r t i)) (so_far.each n r t i below)
+        ∙ and_or own (is_in (take k lines) r t i) (lists line r t i)
+        ∙ ap (λ b. own && b) (sym (one_more lines k line lt is r t i));
+    not_empty = λ n below. gain.not_empty n (inside n below) (so_far.not_empty n below);
+    spread_within = λ r t i there. one_more lines k line lt is r t i ∙ or_left (is_in (take k lines) r t i) (lists line r t i) (so_far.spread_within r t i there);
+    spread_not_empty = so_far.spread_not_empty;
+  }
+    where
+      inside : (n : ℕ) → n < length placed → n < length old
+      inside n below = subst (λ k. n < k) (sym so_far.paired) below
+
+  -- by the spread lines
+  pub parted_by_spread : (old new : List StackLine) (rows : List (List StackLine)) → AreParted placed (take k lines) old rows → GainsRanks line line.ranks old new → AreParted placed (take (k + 1) lines) new rows
+  parted_by_spread old new rows so_far gain = record {
+    paired = so_far.paired;
+    each = λ n r t i below.
+        let own = has (ranks_at placed n) r in
+        ap (λ b. is_in (row_at rows n) r t i || (own && b)) (gain.each r t i)
+        ∙ ap (λ b. is_in (row_at rows n) r t i || b) (sym (and_or own (is_in old r t i) (lists line r t i)))
+        ∙ or_group (is_in (row_at rows n) r t i) (own && is_in old r t i) (own && lists line r t i)
+        ∙ ap (λ b. b || (own && lists line r t i)) (so_far.each n r t i below)
+        ∙ and_or own (is_in (take k lines) r t i) (lists line r t i)
+        ∙ ap (λ b. own && b) (sym (one_more lines k line lt is r t i));
+    not_empty = so_far.not_empty;
+    spread_within = λ r t i there. one_more lines k line lt is r t i ∙ elim (or_cases (is_in old r t i) (lists line r t i) (sym (gain.each r t i) ∙ there)) [
+      | (inl before) ↦ or_left (is_in (take k lines) r t i) (lists line r t i) (so_far.spread_within r t i before)
+      | (inr now) ↦ or_right (is_in (take k lines) r t i) (lists line r t i) now
+    ];
+    spread_not_empty = gain.not_empty so_far.spread_not_empty;
+  }
+
+  -- a line more is shared out
+  pub lines_more : (old mid new : List (List StackLine)) → GainLines placed (take k lines) old mid → GainParts placed line (has line.ranks) mid new → GainLines placed (take (k + 1) lines) old new
+  lines_more old mid new so_far gain = record {
+    paired = gain.paired ∙ so_far.paired;
+    each = λ n r t i below.
+        let own = has (ranks_at placed n) r in
+        gain.each n r t i (inside n below)
+        ∙ ap (λ b. b || (own && lists line r t i)) (so_far.each n r t i below)
+        ∙ sym (or_group (is_in (row_at old n) r t i) (own && is_in (take k lines) r t i) (own && lists line r t i))
+        ∙ ap (λ b. is_in (row_at old n) r t i || b) (and_or own (is_in (take k lines) r t i) (lists line r t i) ∙ ap (λ b. own && b) (sym (one_more lines k line lt is r t i)));
+    not_empty = λ n below all. gain.not_empty n (inside n below) (so_far.not_empty n below all);
+  }
+    where
+      inside : (n : ℕ) → n < length old → n < length mid
+      inside n below = subst (λ k. n < k) (sym so_far.paired) below
+
+-- no line is shared out yet
+pub lines_none : (placed : List Ranks) (rows : List (List StackLine)) → GainLines placed [] rows rows
+lines_none placed rows = record {
+  paired = refl;
+  each = λ n r t i below. sym (ap (λ b. is_in (row_at rows n) r t i || b) (and_none (has (ranks_at placed n) r)) ∙ or_none (is_in (row_at rows n) r t i));
+  not_empty = λ n below all. all;
+}
+
+-- spread lines list placed ranks
+pub spread_placed : (placed : List Ranks) (lines spread : List StackLine) (rows : List (List StackLine)) → ListPlacedRanks placed lines → AreParted placed lines spread rows → ListPlacedRanks placed spread
+spread_placed placed lines spread rows placed_ranks are = all_from _ spread (λ line there. (
+  all_in (λ (l : StackLine). l.ranks ≢ none) spread line are.spread_not_empty there,
+  λ r rank.
+      let here = any_from_in (λ (l : StackLine). lists l r line.time line.path) line spread there (lists_itself line r rank) in
+      let from = in_from_any (λ (l : StackLine). lists l r line.time line.path) lines (are.spread_within r line.time line.path here) in
+      (all_in (λ (l : StackLine). (l.ranks ≢ none) × IsSubset l.ranks (all_ranks placed)) lines from.0 placed_ranks from.1.0).1 r (and_parts (has from.0.ranks r) (nat_eq from.0.time line.time && nat_eq from.0.path line.path) from.1.1).0,
+))
+
+-- all spread lines are shared out
+pub rows_all : (placed : List Ranks) (lines spread : List StackLine) (old new : List (List StackLine)) → AreParted placed lines spread old → GainLines placed spread old new → AreOwnRows placed lines new
+rows_all placed lines spread old new are gain = record {
+  paired = gain.paired ∙ are.paired;
+  each = λ n r t i below. gain.each n r t i (inside n below) ∙ are.each n r t i below;
+  not_empty = λ n below. gain.not_empty n (inside n below) (are.not_empty n below);
 }
   where
     inside : (n : ℕ) → n < length placed → n < length old
-    inside n below = subst (λ k. n < k) (sym so_far.paired) below
+    inside n below = subst (λ k. n < k) (sym are.paired) below
 
-    one_more : (r t i : ℕ) → is_in (take (k + 1) lines) r t i ≡ (is_in (take k lines) r t i || lists line r t i)
-    one_more r t i =
-        ap (λ xs. is_in xs r t i) (take_more lines k line lt ∙ ap (λ l. take k lines ++ l ∷ []) (sym is))
-        ∙ list_any-append (λ l. lists l r t i) (take k lines) (line ∷ [])
-        ∙ ap (λ b. is_in (take k lines) r t i || b) (or_none (lists line r t i))
+-- ---- the keys of lines
+
+-- a new line's key goes last
+pub keys_new : (keys new : List (ℕ × ℕ)) (old : List StackLine) (line : StackLine) → AreKeysOf keys old → new ≡ keys ++ key_of line ∷ [] → AreKeysOf new (old ++ line ∷ [])
+keys_new keys new old line are is = is ∙ ap (λ ks. ks ++ key_of line ∷ []) are ∙ sym (map-append key_of old (line ∷ []))
+
+-- a line that gains ranks keeps its key
+pub keys_kept : (keys new : List (ℕ × ℕ)) (old : List StackLine) (k : ℕ) (was : StackLine) (gained : Ranks) → AreKeysOf keys old → new ≡ keys → was ≡ get_or old k was → AreKeysOf new (set old k (record { time = was.time; ranks = gained; path = was.path }))
+keys_kept keys new old k was gained are same is =
+    same
+    ∙ are
+    ∙ sym (set-get_or (map key_of old) k (key_of was))
+    ∙ ap (set (map key_of old) k) (get_or-map-same old k was ∙ ap key_of (sym is))
+    ∙ sym (map-set key_of old k (record { time = was.time; ranks = gained; path = was.path }))
+  where
+    get_or-map-same : (xs : List StackLine) (k : ℕ) (d : StackLine) → get_or (map key_of xs) k (key_of d) ≡ key_of (get_or xs k d)
+    get_or-map-same [] k d = refl
+    get_or-map-same (x ∷ xs) zero d = refl
+    get_or-map-same (x ∷ xs) (suc k) d = get_or-map-same xs k d
+
+-- whether two keys are the same
+abbrev pub key_eq : ℕ × ℕ → ℕ × ℕ → Bool
+key_eq a b = nat_eq a.0 b.0 && nat_eq a.1 b.1
+
+-- a key that is there is not added
+pub keys_same : (keys new : List (ℕ × ℕ)) (key : ℕ × ℕ) (added : Bool) → new ≡ insert_key key_eq keys key → added ≡ not (list_any (key_eq key) keys) → added ≡ false → new ≡ keys
+keys_same keys new key added is by not_added = is ∙ stays (list_any (key_eq key) keys) (sym by ∙ not_added)
+  where
+    stays : (b : Bool) → not b ≡ false → (if b then keys else keys ++ key ∷ []) ≡ keys
+    stays true e = refl
+    stays false e = absurd (true≢false e)
+
+key_at : (lines : List StackLine) (k : ℕ) (key : ℕ × ℕ) (d : StackLine) → slice_get (map key_of lines) k ≡ Some key → (k < length lines) × (key_of (get_or lines k d) ≡ key)
+key_at [] k key d is = absurd (none-some key is)
+key_at (l ∷ lines) zero key d is = (omega arith, ap (λ (o : Option (ℕ × ℕ)). unwrap_or o (key_of l)) is)
+key_at (l ∷ lines) (suc k) key d is = let rest = key_at lines k key d is in let lt = rest.0 in (omega (arith, lt), rest.1)
+
+-- the line with the key of a line gains its ranks
+pub key_gains : (line was : StackLine) (gained : Ranks) (keys new : List (ℕ × ℕ)) (old : List StackLine) (k : ℕ) (key : ℕ × ℕ) → AreKeysOf keys old → new ≡ keys → slice_get new k ≡ Some key → key_eq (key_of line) key ≡ true
+    → was ≡ get_or old k was → gained ≡ union was.ranks line.ranks → GainsRanks line line.ranks old (set old k (record { time = was.time; ranks = gained; path = was.path }))
+key_gains line was gained keys new old k key are same found equal was_is is =
+    let at = key_at old k key was (ap (λ ks. slice_get ks k) (sym (same ∙ are)) ∙ found) in
+    let parts = and_parts (nat_eq line.path key.0) (nat_eq line.time key.1) equal in
+    let here : key_of was ≡ key = ap key_of was_is ∙ at.1 in
+    entry_gains line was line.ranks gained old k at.0 was_is (ap (λ (p : ℕ × ℕ). p.1) here ∙ sym (eqb-true line.time key.1 parts.1)) (ap (λ (p : ℕ × ℕ). p.0) here ∙ sym (eqb-true line.path key.0 parts.0)) is
 
 -- ---- rows in another order
 

@@ -6,10 +6,10 @@ use Rattle.std.proofs.lemmas.Bool.{cases_lt}
 use Rattle.std.proofs.Common.{inl, inr}
 use Rattle.std.proofs.Common.{Vec, Global}
 use Rattle.std.proofs.lemmas.List.{get_or-map}
-use Rattle.stat_plan.specs.NodeSets.{In}
+use Rattle.overlay_setup.specs.NodeSets.{In, up_to}
 use Rattle.stat_plan.specs.Tables.{rows_view, ancestors_table}
-use Rattle.stat_plan.specs.Plans.{Plan, nodes, ancestors, up_to}
-use Rattle.stat_plan.specs.Trees.{parent_of, climb}
+use Rattle.stat_plan.specs.Plans.{Plan, nodes, ancestors}
+use Rattle.overlay_setup.specs.Trees.{parent_of, climb}
 
 pub length-up_to : (n : ℕ) → length (up_to n) ≡ n
 length-up_to zero = refl

@@ -16,14 +16,14 @@ use Rattle.call_path.specs.Pairs.{Pairs, is_below, pairs_at, prefixes, prefixes_
 use Rattle.call_path.specs.Path.{Path, is_path, is_prefix, path_cmp_total}
 use Rattle.call_path.proofs.PathLemmas.{any-prefixes, is_path-itself}
 use Rattle.stat_plan.specs.Limits.{first_over, is_over, is_within_limit, wave_is_within}
-use Rattle.stat_plan.specs.NodeSets.{In}
+use Rattle.overlay_setup.specs.NodeSets.{In}
 use Rattle.stat_plan.specs.PathOrder.{AreSeen, IsOrderOf, numbered, seen_paths, share_rank}
 use Rattle.stat_plan.specs.Plans.{Plan, grain, sample_count, samples, stream_ranks, waves_of}
 use Rattle.stat_plan.specs.Samples.{SampleLine, is_in_wave, path_by, prefix_count, samples_of, seen_by, wave_lines}
 use Rattle.stat_plan.specs.StackLines.{PathIndicesInRange, line_of, lines_of}
 use Rattle.stat_plan.specs.declared.samples.StackLine.{StackLine}
-use Rattle.stat_plan.specs.declared.script.Grain.{Grain}
-use Rattle.stat_plan.specs.declared.script.Grain.TheVariants.{Line, Function}
+use Rattle.overlay_setup.specs.declared.script.Grain.{Grain}
+use Rattle.overlay_setup.specs.declared.script.Grain.TheVariants.{Line, Function}
 use Rattle.stat_plan.proofs.Counting.{any-all_prefixes, dedup, frame_itself, same_frame}
 use Rattle.stat_plan.proofs.FirstOver.{all_in}
 use Rattle.stat_plan.proofs.InLists.{any_from_in, append_left, append_right, in_append, in_at, in_filter, in_from_any, in_from_filter, in_from_map, in_map, place_of}

@@ -1,50 +1,13 @@
 -- How the parts of a plan are stored as values.
-use Rattle.std.specs.Prelude.{◌≡◌, ℕ, zero, suc, List, Option, refl}
-use Rattle.std.specs.Coded.{Coded, code_by, coded×, coded_list, coded_option, coded_ℕ}
+use Rattle.std.specs.Prelude.{ℕ, List, Option, refl}
+use Rattle.std.specs.Coded.{Coded, code_by, coded×, coded_list, coded_ℕ}
 use Rattle.rank_set.specs.Ranks.{Ranks, coded_ranks}
 use Rattle.call_path.specs.Path.{Path}
 use Rattle.stat_plan.specs.Samples.{SampleLine}
-use Rattle.stat_plan.specs.Plans.{Plan, Stream, Sampled}
-use Rattle.stat_plan.specs.declared.script.Grain.{Grain}
-use Rattle.stat_plan.specs.declared.script.Grain.TheVariants.{Line, Function}
-use Rattle.stat_plan.specs.declared.script.Mode.{Mode}
-use Rattle.stat_plan.specs.declared.script.Mode.TheVariants.{WaitForAll, TimeOut, DontWait}
-use Rattle.stat_plan.specs.declared.script.Fault.{Fault}
-
--- a mode as a number, and back
-abbrev pub mode_number : Mode → ℕ
-mode_number WaitForAll = 0
-mode_number DontWait = 1
-mode_number (TimeOut t) = suc (suc t)
-
-abbrev pub mode_of_number : ℕ → Mode
-mode_of_number zero = WaitForAll
-mode_of_number (suc zero) = DontWait
-mode_of_number (suc (suc t)) = TimeOut t
-
-pub same_mode : (m : Mode) → mode_of_number (mode_number m) ≡ m
-same_mode WaitForAll = refl
-same_mode DontWait = refl
-same_mode (TimeOut t) = refl
-
-abbrev pub coded_mode : Coded Mode
-coded_mode = code_by ℕ coded_ℕ mode_number mode_of_number same_mode
-
--- a grain as a number, and back
-abbrev pub grain_number : Grain → ℕ
-grain_number Line = 0
-grain_number Function = 1
-
-abbrev pub grain_of_number : ℕ → Grain
-grain_of_number zero = Line
-grain_of_number (suc n) = Function
-
-pub same_grain : (g : Grain) → grain_of_number (grain_number g) ≡ g
-same_grain Line = refl
-same_grain Function = refl
-
-abbrev pub coded_grain : Coded Grain
-coded_grain = code_by ℕ coded_ℕ grain_number grain_of_number same_grain
+use Rattle.stat_plan.specs.Plans.{Plan, Sampled}
+use Rattle.overlay_setup.specs.Codes.{coded_fault, coded_nodes, coded_stream}
+use Rattle.overlay_setup.specs.Scripts.{Stream}
+use Rattle.overlay_setup.specs.declared.script.Fault.{Fault}
 
 abbrev pub coded_path : Coded Path
 coded_path = coded_list (coded_list coded_ℕ)
@@ -56,20 +19,6 @@ coded_line =
 abbrev pub coded_sampled : Coded Sampled
 coded_sampled =
     code_by (List Ranks × List SampleLine) (coded× (coded_list coded_ranks) (coded_list coded_line)) (λ s. (s.placed, s.lines)) (λ c. record { placed = c.0; lines = c.1 }) (λ _. refl)
-
-abbrev pub coded_stream : Coded Stream
-coded_stream =
-    code_by (ℕ × (Mode × (ℕ × (ℕ × (Grain × List ℕ))))) (coded× coded_ℕ (coded× coded_mode (coded× coded_ℕ (coded× coded_ℕ (coded× coded_grain (coded_list coded_ℕ))))))
-    (λ x. (x.number, (x.mode, (x.waves, (x.samples, (x.grain, x.daemons))))))
-    (λ c. record { number = c.0; mode = c.1.0; waves = c.1.1.0; samples = c.1.1.1.0; grain = c.1.1.1.1.0; daemons = c.1.1.1.1.1 })
-    (λ _. refl)
-
-abbrev pub coded_fault : Coded Fault
-coded_fault =
-    code_by (ℕ × (ℕ × ℕ)) (coded× coded_ℕ (coded× coded_ℕ coded_ℕ)) (λ f. (f.node, (f.after, f.keep))) (λ c. record { node = c.0; after = c.1.0; keep = c.1.1 }) (λ _. refl)
-
-abbrev pub coded_nodes : Coded (List (List ℕ) × List (Option ℕ))
-coded_nodes = coded× (coded_list (coded_list coded_ℕ)) (coded_list (coded_option coded_ℕ))
 
 -- a plan is stored as its nodes, its samples and its script
 abbrev pub coded_plan : Coded Plan

@@ -2,7 +2,9 @@
 use Rattle.std.specs.Prelude.{ℕ, ◌≡◌, ⊤, Bool, not, nat_le, find, map, List, Option, Some}
 use Rattle.call_path.specs.Pairs.{Pairs}
 use Rattle.stat_plan.specs.Samples.{prefix_count}
-use Rattle.stat_plan.specs.Plans.{Plan, Stream, samples, up_to, waves_of}
+use Rattle.stat_plan.specs.Plans.{Plan, samples, waves_of}
+use Rattle.overlay_setup.specs.NodeSets.{up_to}
+use Rattle.overlay_setup.specs.Scripts.{Stream}
 use Rattle.stat_plan.specs.declared.plan_error.PlanError.{PlanError}
 use Rattle.stat_plan.specs.declared.plan_error.PlanError.TheVariants.{TooManyPrefixes, OutOfMemory}
 

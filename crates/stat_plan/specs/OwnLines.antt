@@ -1,8 +1,8 @@
 -- The lines of a node alone.
-use Rattle.std.specs.Prelude.{◌≡◌, ◌≢◌, ◌⊎◌, ◌<◌, ◌≤◌, ℕ, Bool, true, ◌&&◌, ◌||◌, nat_eq, List, [], length, slice_index_or}
+use Rattle.std.specs.Prelude.{◌≡◌, ◌≢◌, ◌<◌, ℕ, Bool, true, ◌&&◌, ◌||◌, nat_eq, List, [], length, map, slice_index_or}
 use Rattle.std.specs.List.{list_any, AllByRecursion}
 use Rattle.std.specs.List.Sorted.{IsPermutation}
-use Rattle.rank_set.specs.Ranks.{Ranks, none, has, Has, IsSubset}
+use Rattle.rank_set.specs.Ranks.{Ranks, none, has, IsSubset}
 use Rattle.call_path.specs.Path.{Path, is_path}
 use Rattle.stat_plan.specs.Samples.{SampleLine, all_ranks}
 use Rattle.stat_plan.specs.declared.samples.StackLine.{StackLine}
@@ -49,33 +49,38 @@ pub record AreOwnRows (placed : List Ranks) (lines : List StackLine) (rows : Lis
   pub each : (n r time path : ℕ) → n < length placed → is_in (row_at rows n) r time path ≡ (has (ranks_at placed n) r && is_in lines r time path)
   pub not_empty : (n : ℕ) → n < length placed → AreNotEmpty (row_at rows n)
 
--- a line is at the time of another, in its path
-pub record IsAt (line other : StackLine) : Type 0 where
-  pub time : other.time ≡ line.time
-  pub path : other.path ≡ line.path
-
 -- a row lists these ranks besides, at the time of a line and in its path
 pub record GainsRanks (line : StackLine) (ranks : Ranks) (old new : List StackLine) : Type 0 where
   pub each : (r time path : ℕ) → is_in new r time path ≡ (is_in old r time path || (has ranks r && (nat_eq line.time time && nat_eq line.path path)))
   pub not_empty : AreNotEmpty old → AreNotEmpty new
 
--- a row has gained no other ranks than those of a line that are the node's
-pub record GainsPart (line : StackLine) (own : Ranks) (old new : List StackLine) : Type 0 where
-  pub kept : (r time path : ℕ) → is_in old r time path ≡ true → is_in new r time path ≡ true
-  pub only : (r time path : ℕ) → is_in new r time path ≡ true → (is_in old r time path ≡ true) ⊎ (Has r own × (lists line r time path ≡ true))
-  pub not_empty : AreNotEmpty old → AreNotEmpty new
-
--- each row has gained its part of a line, as far as its ranks from `first` on and before `past` go
-pub record GainParts (placed : List Ranks) (line : StackLine) (first past : ℕ) (old new : List (List StackLine)) : Type 0 where
+-- of the ranks that pass a test, each row has gained its node's, at the time of a line and in its path
+pub record GainParts (placed : List Ranks) (line : StackLine) (test : ℕ → Bool) (old new : List (List StackLine)) : Type 0 where
   pub paired : length new ≡ length old
-  pub rows : (n : ℕ) → GainsPart line (ranks_at placed n) (row_at old n) (row_at new n)
-  pub listed : (n r : ℕ) → n < length old → first ≤ r → r < past → Has r line.ranks → Has r (ranks_at placed n) → is_in (row_at new n) r line.time line.path ≡ true
-
--- each row has gained its part of a line
-pub record GainLine (placed : List Ranks) (line : StackLine) (old new : List (List StackLine)) : Type 0 where
-  pub paired : length new ≡ length old
-  pub each : (n r time path : ℕ) → n < length old → is_in (row_at new n) r time path ≡ (is_in (row_at old n) r time path || (has (ranks_at placed n) r && lists line r time path))
+  pub each : (n r time path : ℕ) → n < length old → is_in (row_at new n) r time path ≡ (is_in (row_at old n) r time path || (has (ranks_at placed n) r && (test r && (nat_eq line.time time && nat_eq line.path path))))
   pub not_empty : (n : ℕ) → n < length old → AreNotEmpty (row_at old n) → AreNotEmpty (row_at new n)
+
+-- each row has gained its parts of some lines
+pub record GainLines (placed : List Ranks) (lines : List StackLine) (old new : List (List StackLine)) : Type 0 where
+  pub paired : length new ≡ length old
+  pub each : (n r time path : ℕ) → n < length old → is_in (row_at new n) r time path ≡ (is_in (row_at old n) r time path || (has (ranks_at placed n) r && is_in lines r time path))
+  pub not_empty : (n : ℕ) → n < length old → AreNotEmpty (row_at old n) → AreNotEmpty (row_at new n)
+
+-- of the lines of the samples those whose ranks are one node's stand in the rows, and the spread lines say what the others do
+pub record AreParted (placed : List Ranks) (lines spread : List StackLine) (rows : List (List StackLine)) : Type 0 where
+  pub paired : length rows ≡ length placed
+  pub each : (n r time path : ℕ) → n < length placed → (is_in (row_at rows n) r time path || (has (ranks_at placed n) r && is_in spread r time path)) ≡ (has (ranks_at placed n) r && is_in lines r time path)
+  pub not_empty : (n : ℕ) → n < length placed → AreNotEmpty (row_at rows n)
+  pub spread_within : (r time path : ℕ) → is_in spread r time path ≡ true → is_in lines r time path ≡ true
+  pub spread_not_empty : AreNotEmpty spread
+
+-- the path and the time of a line
+abbrev pub key_of : StackLine → ℕ × ℕ
+key_of line = (line.path, line.time)
+
+-- the paths and the times of lines, in their order
+abbrev pub AreKeysOf : List (ℕ × ℕ) → List StackLine → Type 0
+AreKeysOf keys lines = keys ≡ map key_of lines
 
 -- each row in another order
 pub record AreReordered (old new : List (List StackLine)) : Type 0 where

@@ -6,7 +6,7 @@ use Rattle.std.specs.List.Sorted.{IsSortedBy}
 use Rattle.std.specs.Ordering.{is_lt}
 use Rattle.rank_set.specs.Ranks.{Ranks, has, in_order}
 use Rattle.call_path.specs.Path.{Path, path_cmp}
-use Rattle.stat_plan.specs.NodeSets.{In}
+use Rattle.overlay_setup.specs.NodeSets.{In}
 use Rattle.stat_plan.specs.Samples.{is_in_wave}
 use Rattle.stat_plan.specs.declared.samples.StackLine.{StackLine}
 

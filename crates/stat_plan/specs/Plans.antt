@@ -1,38 +1,18 @@
 -- A plan: what the three files of a job say together, and what is looked up there.
-use Rattle.std.specs.Prelude.{ℕ, zero, suc, Bool, ◌||◌, ◌==◌, List, [], ◌∷◌, ◌++◌, map, filter, length, slice_index_or, find, Option, Some, None}
+use Rattle.std.specs.Prelude.{ℕ, Bool, ◌||◌, ◌==◌, List, [], ◌∷◌, ◌++◌, map, filter, length, slice_index_or, find, Option, Some, None}
 use Rattle.std.specs.List.{list_any}
 use Rattle.rank_set.specs.Ranks.{Ranks, none}
 use Rattle.call_path.specs.Pairs.{Pairs}
-use Rattle.stat_plan.specs.NodeSets.{In, member}
+use Rattle.overlay_setup.specs.NodeSets.{In, member, up_to}
 use Rattle.stat_plan.specs.Samples.{SampleLine, all_ranks, samples_of, seen_by, wave_lines}
-use Rattle.stat_plan.specs.Topologies.{Nodes}
-use Rattle.stat_plan.specs.Trees as tree
-use Rattle.stat_plan.specs.declared.script.Grain.{Grain}
-use Rattle.stat_plan.specs.declared.script.Grain.TheVariants.{Line}
-use Rattle.stat_plan.specs.declared.script.Mode.{Mode}
-use Rattle.stat_plan.specs.declared.script.Mode.TheVariants.{WaitForAll}
-use Rattle.stat_plan.specs.declared.script.Fault.{Fault}
-
--- a stream: its number, when its nodes pass a wave on, how many waves it has and how many sample times each, how it sees
--- paths, and its daemons
-pub record Stream : Type 0 where
-  pub number : ℕ
-  pub mode : Mode
-  pub waves : ℕ
-  pub samples : ℕ
-  pub grain : Grain
-  pub daemons : List ℕ  -- ascending
-
--- the stream of these parts
-abbrev pub stream : ℕ → Mode → ℕ → ℕ → Grain → List ℕ → Stream
-stream number mode waves samples grain daemons = record {
-  number = number;
-  mode = mode;
-  waves = waves;
-  samples = samples;
-  grain = grain;
-  daemons = daemons;
-}
+use Rattle.overlay_setup.specs.Scripts.{Scripted, Stream}
+use Rattle.overlay_setup.specs.Topologies.{Nodes}
+use Rattle.overlay_setup.specs.Trees as tree
+use Rattle.overlay_setup.specs.declared.script.Grain.{Grain}
+use Rattle.overlay_setup.specs.declared.script.Grain.TheVariants.{Line}
+use Rattle.overlay_setup.specs.declared.script.Mode.{Mode}
+use Rattle.overlay_setup.specs.declared.script.Mode.TheVariants.{WaitForAll}
+use Rattle.overlay_setup.specs.declared.script.Fault.{Fault}
 
 -- what a samples text says: each node's ranks, by node number, and the samples in the order of the text
 pub record Sampled : Type 0 where
@@ -42,15 +22,6 @@ pub record Sampled : Type 0 where
 -- samples of these parts
 abbrev pub sampled : List Ranks → List SampleLine → Sampled
 sampled placed lines = record { placed = placed; lines = lines }
-
--- what a script says: the streams, ascending, and the nodes that are to be lost, ascending
-pub record Scripted : Type 0 where
-  pub streams : List Stream
-  pub faults : List Fault
-
--- a script of these parts
-abbrev pub scripted : List Stream → List Fault → Scripted
-scripted streams faults = record { streams = streams; faults = faults }
 
 -- the nodes' names and parents, their ranks, the samples, the streams, and the nodes that are to be lost
 pub record Plan : Type 0 where
@@ -85,11 +56,6 @@ scripted_of p = record { streams = p.streams; faults = p.faults }
 -- how many nodes there are
 abbrev pub nodes : Plan → ℕ
 nodes p = length p.parents
-
--- the numbers 0 to n - 1
-abbrev pub up_to : ℕ → List ℕ
-up_to zero = []
-up_to (suc n) = up_to n ++ n ∷ []
 
 -- the front end
 unfoldable pub front : Plan → ℕ

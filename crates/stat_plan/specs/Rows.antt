@@ -1,11 +1,12 @@
 -- What a stream sees of two ranks that stand at different lines of one function, and how many distinct prefixes that has.
 use Rattle.std.specs.Prelude.{◌≡◌, refl, List, [], ◌∷◌, Some, codes}
 use Rattle.rank_set.specs.Ranks.{has, set_of, those, union, with_rank}
-use Rattle.stat_plan.specs.Plans.{Plan, daemons, grain, ranks, sample_count, samples, stream, stream_of, stream_ranks}
+use Rattle.stat_plan.specs.Plans.{Plan, daemons, grain, ranks, sample_count, samples, stream_of, stream_ranks}
+use Rattle.overlay_setup.specs.Scripts.{stream}
 use Rattle.stat_plan.specs.Samples.{SampleLine, prefix_count}
-use Rattle.stat_plan.specs.declared.script.Grain.{Grain}
-use Rattle.stat_plan.specs.declared.script.Grain.TheVariants.{Line, Function}
-use Rattle.stat_plan.specs.declared.script.Mode.TheVariants.{WaitForAll}
+use Rattle.overlay_setup.specs.declared.script.Grain.{Grain}
+use Rattle.overlay_setup.specs.declared.script.Grain.TheVariants.{Line, Function}
+use Rattle.overlay_setup.specs.declared.script.Mode.TheVariants.{WaitForAll}
 use Rattle.std.specs.Prelude.{None}
 
 -- rank 0 at line 10 of main, and rank 1 at line 12; and rank 2, which is placed on no daemon of the stream

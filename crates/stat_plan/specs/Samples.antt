@@ -6,8 +6,8 @@ use Rattle.rank_set.specs.Ranks.{Ranks, has, in_order, none, those, union}
 use Rattle.call_path.specs.Functions.{func}
 use Rattle.call_path.specs.Pairs.{Pairs, pairs_at, prefixes_of}
 use Rattle.call_path.specs.Path.{Path, is_path}
-use Rattle.stat_plan.specs.declared.script.Grain.{Grain}
-use Rattle.stat_plan.specs.declared.script.Grain.TheVariants.{Line, Function}
+use Rattle.overlay_setup.specs.declared.script.Grain.{Grain}
+use Rattle.overlay_setup.specs.declared.script.Grain.TheVariants.{Line, Function}
 
 -- at a time, each of some ranks was seen in a path
 pub record SampleLine : Type 0 where

@@ -2,7 +2,8 @@
 use Rattle.std.specs.Prelude.{◌≡◌, ℕ, List, Option, Some, None}
 use Rattle.stat_plan.specs.Samples.{SampleLine}
 use Rattle.std.specs.Borrow.{Bor}
-use Rattle.stat_plan.specs.Plans.{Plan, Stream, stream_of}
+use Rattle.stat_plan.specs.Plans.{Plan, stream_of}
+use Rattle.overlay_setup.specs.Scripts.{Stream}
 use Rattle.stat_plan.specs.StackLines.{lines_of}
 use Rattle.stat_plan.specs.declared.samples.Lines.{Lines}
 

@@ -1,9 +1,10 @@
 -- Tables by node number.
 use Rattle.std.specs.Prelude.{ℕ, ◌≡◌, ◌<◌, cond, List, [], map, slice_get, slice_index_or, Vec, length, Option, Some}
 use Rattle.rank_set.specs.Ranks.{Ranks, none, union, Has}
-use Rattle.stat_plan.specs.NodeSets.{member}
-use Rattle.stat_plan.specs.Plans.{Plan, Stream, nodes, up_to, ranks_on, those_within}
-use Rattle.stat_plan.specs.Trees.{climb}
+use Rattle.overlay_setup.specs.NodeSets.{member, up_to}
+use Rattle.stat_plan.specs.Plans.{Plan, nodes, ranks_on, those_within}
+use Rattle.overlay_setup.specs.Scripts.{Stream}
+use Rattle.overlay_setup.specs.Trees.{climb}
 
 -- the rows of a table
 abbrev pub rows_view : {X A : Type 0} → List (Vec X A) → List (List X)

@@ -2,9 +2,9 @@
 
 ghost use Rattle.std.specs.Prelude.{◌≡◌, ◌<◌, IfOk, length};
 ghost use Rattle.stat_plan.specs.Tables.{ancestors_table, rows_view};
-ghost use Rattle.stat_plan.specs.Trees.{climb};
+ghost use Rattle.overlay_setup.specs.Trees.{climb};
 
-use crate::topology::Topology;
+use overlay_setup::Topology;
 use std::alloc::{AllocError, Global};
 
 // A node's ancestors, nearest first.

@@ -2,8 +2,8 @@
 
 ghost use Rattle.std.specs.Prelude.{◌≡◌, ◌<◌, ℕ, IfOk, OnOk, [], ◌∷◌, length, map};
 ghost use Rattle.rank_set.specs.Ranks.{none};
-ghost use Rattle.stat_plan.specs.NodeSets.{In};
-ghost use Rattle.stat_plan.specs.Plans.{nodes, up_to};
+ghost use Rattle.overlay_setup.specs.NodeSets.{In, up_to};
+ghost use Rattle.stat_plan.specs.Plans.{nodes};
 ghost use Rattle.stat_plan.specs.Tables.{AreExpected, GainRanks, ancestors_table, rows_view};
 
 use crate::job::Job;
@@ -59,8 +59,8 @@ fn empty_sets(alloc: Global, n: u32) -> Result<Vec<RankSet>, AllocError>
     Ok(sets)
 }
 
-/// By node number, the ranks of those of some daemons that are the node or its descendants, where `above` has each node's
-/// ancestors.
+/// By node number, the ranks of those of some daemons that are the node or its descendants, where `above` has each
+/// node's ancestors.
 pub fn expected_sets(
     alloc: Global,
     job: &Job,

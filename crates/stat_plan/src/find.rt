@@ -2,7 +2,7 @@
 
 ghost use Rattle.std.specs.Prelude.{◌≡◌, ◌<◌, ◌==◌, MatchOption, None, find, length, slice_get};
 
-use crate::script::StreamDef;
+use overlay_setup::StreamDef;
 
 /// The index of the stream with a number, if there is one.
 pub fn stream_index(streams: &[StreamDef], s: u8) -> Option<usize>

@@ -3,18 +3,18 @@
 ghost use Rattle.std.specs.Prelude.{◌≡◌, ◌<◌, length, map, slice_index_or};
 ghost use Rattle.rank_set.specs.Ranks.{none};
 ghost use Rattle.call_path.specs.Functions.{func};
-ghost use Rattle.stat_plan.specs.Invariants.{IsJob, SamplesFit, ScriptFits};
+ghost use Rattle.stat_plan.specs.Invariants.{IsJob, SamplesFit};
+ghost use Rattle.overlay_setup.specs.Scripts.{ScriptFits};
 ghost use Rattle.stat_plan.specs.OwnLines.{AreOwnLines};
 ghost use Rattle.stat_plan.specs.PathOrder.{IsOrderOf};
 ghost use Rattle.stat_plan.specs.Plans.{plan_of, nodes, front, ranks};
-ghost use Rattle.stat_plan.specs.Names.{name_of};
+ghost use Rattle.overlay_setup.specs.Names.{name_of};
 ghost use Rattle.stat_plan.specs.Shown.{lines_view};
 ghost use Rattle.stat_plan.specs.StackLines.{PathIndicesInRange};
-ghost use Rattle.stat_plan.specs.Trees.{parent_of, is_daemon};
+ghost use Rattle.overlay_setup.specs.Trees.{parent_of, is_daemon};
 
 use crate::samples::{Lines, Samples};
-use crate::script::{Fault, Script, StreamDef};
-use crate::topology::Topology;
+use overlay_setup::{Fault, Script, StreamDef, Topology};
 use rank_set::RankSet;
 use std::marker::Model;
 
@@ -34,7 +34,8 @@ impl Model for Job {
 
     ghost coded = { coded_plan };
 
-    ghost use Rattle.stat_plan.specs.Invariants.{SamplesFit, ScriptFits};
+    ghost use Rattle.stat_plan.specs.Invariants.{SamplesFit};
+    ghost use Rattle.overlay_setup.specs.Scripts.{ScriptFits};
 
     ghost view = { λ a. plan_of a.topology a.samples a.script };
 

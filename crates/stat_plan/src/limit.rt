@@ -1,8 +1,8 @@
 //! The limit of distinct prefixes in each wave.
 //!
-//! Paths are gone through in their order. There, the prefixes of a path that some earlier path has, too, are those that it
-//! shares with the path just before it. So the number of distinct prefixes is the sum of each path's frames, less the frames
-//! that it shares with the path before.
+//! Paths are gone through in their order. There, the prefixes of a path that some earlier path has, too, are those that
+//! it shares with the path just before it. So the number of distinct prefixes is the sum of each path's frames, less
+//! the frames that it shares with the path before.
 
 ghost use Rattle.std.specs.Prelude.{◌≡◌, ◌<◌, ◌≤◌, ℕ, IfOk, IfErr, OnOk, length, map, nat_le, ◌&&◌, None, Some, find};
 ghost use Rattle.std.specs.List.{AllByRecursion, flat_map};
@@ -11,7 +11,7 @@ ghost use Rattle.call_path.specs.Functions.{func};
 ghost use Rattle.call_path.specs.Pairs.{prefixes};
 ghost use Rattle.call_path.specs.Path.{is_path, shared_len};
 ghost use Rattle.stat_plan.specs.Limits.{RefusesAt, first_over, is_over, is_within_limit, stream_waves};
-ghost use Rattle.stat_plan.specs.NodeSets.{In};
+ghost use Rattle.overlay_setup.specs.NodeSets.{In};
 ghost use Rattle.stat_plan.specs.PathOrder.{AreSeen, IsOrderOf, last_path, numbered, seen_paths, share_rank};
 ghost use Rattle.stat_plan.specs.Plans.{nodes, ranks_on, stream_of};
 ghost use Rattle.stat_plan.specs.Samples.{is_in_wave, path_by, samples_of, seen_by, wave_lines};
@@ -22,8 +22,8 @@ use crate::job::Job;
 use crate::path_order::in_order;
 use crate::plan_error::PlanError;
 use crate::samples::{Lines, StackLine, is_in_wave};
-use crate::script::{Grain, StreamDef};
 use call_path::CallPath;
+use overlay_setup::{Grain, StreamDef};
 use rank_set::RankSet;
 use std::alloc::{AllocError, Global};
 
@@ -46,7 +46,9 @@ fn is_within(paths: &[CallPath], order: &[usize], seen: &[bool]) -> bool
     requires paths { IsOrderOf paths.now order.now }
     requires seen { length seen.now ≡ length paths.now }
     ensures { result
-        ≡ nat_le (distinct_count is_path (flat_map prefixes (seen_paths (numbered paths.now order.now) seen.now))) 2048 }
+        ≡ nat_le
+        (distinct_count is_path (flat_map prefixes (seen_paths (numbered paths.now order.now) seen.now)))
+        2048 }
 {
     let mut count = 0;
     let mut last: Option<&CallPath> = None;

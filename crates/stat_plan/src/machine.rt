@@ -1,7 +1,7 @@
 //! Words of the overlay's machine: what a node may do about a wave, and the timer of a wave.
 //!
-//! They say nothing of a plan's files. They stand here because the filters, the machine and its nodes all use them, and this is
-//! the lowest crate under all of these. Their definitions are in `specs/Machine/`.
+//! They say nothing of a plan's files. They stand here because the filters, the machine and its nodes all use them, and
+//! this is the lowest crate under all of these. Their definitions are in `specs/Machine/`.
 
 /// The timer of a wave that a node works on.
 #[derive(Clone, Copy, Debug, PartialEq, Eq)]

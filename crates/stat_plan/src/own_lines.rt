@@ -1,20 +1,23 @@
 //! The lines of each node alone.
 //!
-//! A line of samples may list ranks of many nodes. Each of them gets its part of the line: a line of its own, or none where
-//! its last one is at the same time in the same path, and takes these ranks up. So there are few of them. Nearly always all
-//! ranks of a line are one node's, which then takes the line as it is.
+//! Nearly always all ranks of a line of samples are one node's, which then gets the line: a line of its own, or none
+//! where its last one is at the same time in the same path, and takes these ranks up. Other lines list ranks of several
+//! nodes. Those of one path and time are first united, and then each of the nodes gets its part: one line at most,
+//! however many the text has.
 
-ghost use Rattle.std.specs.Prelude.{◌≡◌, ◌≢◌, ◌<◌, ◌≤◌, ◌+◌, ◌&&◌, ℕ, true, false, nat_eq, IfOk, OnOk, [], length, map, slice_index_or};
+ghost use Rattle.std.specs.Prelude.{◌≡◌, ◌≢◌, ◌<◌, ◌≤◌, ◌&&◌, ℕ, false, nat_eq, IfOk, IfSome, OnOk, [], length, map, slice_index_or};
 ghost use Rattle.std.specs.List.Sorted.{IsPermutation};
 ghost use Rattle.rank_set.specs.declared.TheConstants.{RANK_LIMIT};
-ghost use Rattle.rank_set.specs.Ranks.{Ranks, none, has, Has, IsSubset, those};
+ghost use Rattle.rank_set.specs.Ranks.{Ranks, none, has, Has, IsSubset, union};
+ghost use Rattle.rank_set.specs.Runs.{ranks_between};
 ghost use Rattle.stat_plan.specs.Invariants.{ArePlacedOnce};
-ghost use Rattle.stat_plan.specs.OwnLines.{AreOwnRows, AreReordered, GainLine, GainParts, GainsPart, GainsRanks, ListPlacedRanks, is_in, ranks_at, row_at};
-ghost use Rattle.stat_plan.specs.Plans.{up_to};
+ghost use Rattle.stat_plan.specs.OwnLines.{AreKeysOf, AreOwnRows, AreReordered, GainParts, GainsRanks, ListPlacedRanks, ranks_at};
+ghost use Rattle.overlay_setup.specs.NodeSets.{up_to};
 ghost use Rattle.stat_plan.specs.Samples.{all_ranks};
 ghost use Rattle.stat_plan.specs.Tables.{AreRankNodes, rows_view};
 
 use crate::samples::StackLine;
+use indexmap::IndexSet;
 use rank_set::{RANK_LIMIT, RankSet};
 use std::alloc::{AllocError, Global};
 
@@ -58,7 +61,8 @@ fn assign(rank_to_node: &mut [u32], ranks: &RankSet, node: u32)
     }
 }
 
-// Notes the node of each placed rank. Nodes past the last that a number stands for are as if there were no memory for them.
+// Notes the node of each placed rank. Nodes past the last that a number stands for are as if there were no memory for
+// them.
 fn assign_all(rank_to_node: &mut [u32], placed: &[RankSet]) -> Result<(), AllocError>
     requires within { (n r : ℕ) → Has r (slice_index_or placed.now n none) → r < length rank_to_node.old }
     requires once { ArePlacedOnce placed.now }
@@ -83,16 +87,26 @@ fn rank_to_node_of(alloc: Global, placed: &[RankSet]) -> Result<Vec<u32>, AllocE
     Ok(rank_to_node)
 }
 
-// The end of the run of neighbours that contains a rank.
-fn after_run(ranks: &RankSet, r: u32) -> u32
+// The last rank of the run of neighbours that a rank is in.
+fn last_of_run(ranks: &RankSet, r: u32) -> u32
     requires { Has r ranks.now }
-    ensures advances { r < result }
-    ensures within { (q : ℕ) → r ≤ q → q < result → Has q ranks.now }
-    ensures below_limit { result ≤ RANK_LIMIT }
+    ensures not_before { r ≤ result }
+    ensures within { (q : ℕ) → r ≤ q → q ≤ result → Has q ranks.now }
+    ensures below_limit { result < RANK_LIMIT }
 {
     match ranks.next_run(r) {
-        Some(run) => run.last + 1,
+        Some(run) => run.last,
         None => unreachable!(),
+    }
+}
+
+// Adds the ranks from the first to the last.
+fn add_run(ranks: &mut RankSet, first: u32, last: u32) -> Result<(), AllocError>
+    ensures { OnOk result (ranks.new ≡ union ranks.old (ranks_between first last)) }
+{
+    match ranks.insert_run(first, last) {
+        Ok(()) => Ok(()),
+        Err(_) => Err(AllocError),
     }
 }
 
@@ -103,152 +117,48 @@ fn is_at(line: &StackLine, other: &StackLine) -> bool
     other.time == line.time && other.path == line.path
 }
 
-// Unites ranks of a line with the last line of a row, where that is at the same time in the same path. Tells whether it is.
-fn unite_with_last(
-    row: &mut Vec<StackLine>,
-    line: &StackLine,
-    ranks: &RankSet,
-) -> Result<bool, AllocError>
-    ensures united { IfOk result (λ united. united ≡ true → GainsRanks line.now ranks.now row.old.items row.new.items) }
-    ensures other { IfOk result (λ united. united ≡ false → row.new.items ≡ row.old.items) }
+// Gives a row ranks at the time of a line, in its path: its last line takes them up, if it is there too.
+fn add_ranks(row: &mut Vec<StackLine>, line: &StackLine, ranks: &RankSet) -> Result<(), AllocError>
+    requires { ranks.now ≢ none }
+    ensures { OnOk result (GainsRanks line.now ranks.now row.old.items row.new.items) }
 {
     let count = row.len();
-    if count == 0 || !is_at(line, &row[count - 1]) {
-        return Ok(false);
+    if count > 0 && is_at(line, &row[count - 1]) {
+        return row[count - 1].ranks.union_into(ranks);
     }
-    row[count - 1].ranks.union_into(ranks)?;
-    Ok(true)
-}
-
-// Gives a row a line of which all ranks are the node's.
-fn add_line(row: &mut Vec<StackLine>, line: &StackLine) -> Result<(), AllocError>
-    requires { line.now.ranks ≢ none }
-    ensures { OnOk result (GainsRanks line.now line.now.ranks row.old.items row.new.items) }
-{
-    if !unite_with_last(row, line, &line.ranks)? {
-        row.push(StackLine {
-            time: line.time,
-            ranks: line.ranks.copy()?,
-            path: line.path,
-        })?;
-    }
+    row.push(StackLine {
+        time: line.time,
+        ranks: ranks.copy()?,
+        path: line.path,
+    })?;
     Ok(())
 }
 
-// The ranks of a line that are the node's. A node has few ranks where a line has many, so its set is the one that is cut.
-fn own_part(line: &StackLine, own: &RankSet) -> Result<RankSet, AllocError>
-    ensures { IfOk result (λ ranks. ranks ≡ those (has own.now) line.now.ranks) }
-{
-    let mut ranks = own.copy()?;
-    ranks.intersect_with(&line.ranks);
-    Ok(ranks)
-}
-
-// Gives a row the ranks of a line that are the node's.
-fn add_part(row: &mut Vec<StackLine>, line: &StackLine, own: &RankSet) -> Result<(), AllocError>
-    requires { those (has own.now) line.now.ranks ≢ none }
-    ensures { OnOk result (GainsRanks line.now (those (has own.now) line.now.ranks) row.old.items row.new.items) }
-{
-    let ranks = own_part(line, own)?;
-    if !unite_with_last(row, line, &ranks)? {
-        row.push(StackLine {
-            time: line.time,
-            ranks,
-            path: line.path,
-        })?;
-    }
-    Ok(())
-}
-
-// The end of the run of neighbours from `r` on that the last line of a row lists, where that is at the time of a line in its
-// path; else `r`.
-fn listed_to(row: &[StackLine], line: &StackLine, r: u32) -> u32
-    requires { r < RANK_LIMIT }
-    ensures listed { (q : ℕ) → r ≤ q → q < result → is_in row.now q line.now.time line.now.path ≡ true }
-    ensures not_before { r ≤ result }
-    ensures below_limit { result ≤ RANK_LIMIT }
-{
-    match row.last() {
-        Some(last) if is_at(line, last) && last.ranks.contains(r) => after_run(&last.ranks, r),
-        _ => r,
-    }
-}
-
-// Gives a row its part of a line, unless it lists `r` already. Up to the result it lists the part's ranks from `r` on.
-fn take_from(
+// Gives a row the ranks of a run at the time of a line, in its path.
+fn give_run(
     row: &mut Vec<StackLine>,
-    line: &StackLine,
-    own: &RankSet,
-    r: u32,
-) -> Result<u32, AllocError>
-    requires line { Has r line.now.ranks }
-    requires own { Has r own.now }
-    requires below_limit { r < RANK_LIMIT }
-    ensures part { OnOk result (GainsPart line.now own.now row.old.items row.new.items) }
-    ensures listed { IfOk result
-        (λ end. (q : ℕ) → r ≤ q → q < end → is_in row.new.items q line.now.time line.now.path ≡ true) }
-    ensures advances { IfOk result (λ end. r < end) }
-    ensures within { IfOk result (λ end. end ≤ RANK_LIMIT) }
-{
-    let listed = listed_to(row, line, r);
-    if r < listed {
-        return Ok(listed);
-    }
-    add_part(row, line, own)?;
-    Ok(r + 1)
-}
-
-// Gives each row its part of a line, for the ranks from the first to the last.
-fn share_run(
-    rows: &mut [Vec<StackLine>],
-    rank_to_node: &[u32],
-    placed: &[RankSet],
     line: &StackLine,
     first: u32,
     last: u32,
 ) -> Result<(), AllocError>
-    requires rank_to_node { AreRankNodes placed.now rank_to_node.now }
-    requires own { (n r time path : ℕ)
-        → is_in (row_at (rows_view rows.old) n) r time path ≡ true → Has r (ranks_at placed.now n) }
-    requires same_length { length rows.old ≡ length placed.now }
-    requires run { (r : ℕ) → first ≤ r → r ≤ last → Has r line.now.ranks }
-    requires placed { IsSubset line.now.ranks (all_ranks placed.now) }
-    requires not_empty { first ≤ last }
-    requires below_limit { last < RANK_LIMIT }
-    ensures { OnOk result
-        (GainParts placed.now line.now first (last + 1) (rows_view rows.old) (rows_view rows.new)) }
+    requires { first ≤ last }
+    ensures { OnOk result (GainsRanks line.now (ranks_between first last) row.old.items row.new.items) }
 {
-    let mut r = first;
-    while r <= last {
-        let node = rank_to_node[r as usize] as usize;
-        r = take_from(&mut rows[node], line, &placed[node], r)?;
+    let count = row.len();
+    if count > 0 && is_at(line, &row[count - 1]) {
+        return add_run(&mut row[count - 1].ranks, first, last);
     }
+    let mut ranks = RankSet::new(*row.allocator());
+    add_run(&mut ranks, first, last)?;
+    row.push(StackLine {
+        time: line.time,
+        ranks,
+        path: line.path,
+    })?;
     Ok(())
 }
 
 // Gives each row its part of a line. It goes by runs, of the line and of the nodes.
-fn share_runs(
-    rows: &mut [Vec<StackLine>],
-    rank_to_node: &[u32],
-    placed: &[RankSet],
-    line: &StackLine,
-) -> Result<(), AllocError>
-    requires rank_to_node { AreRankNodes placed.now rank_to_node.now }
-    requires own { (n r time path : ℕ)
-        → is_in (row_at (rows_view rows.old) n) r time path ≡ true → Has r (ranks_at placed.now n) }
-    requires same_length { length rows.old ≡ length placed.now }
-    requires placed { IsSubset line.now.ranks (all_ranks placed.now) }
-    ensures { OnOk result (GainLine placed.now line.now (rows_view rows.old) (rows_view rows.new)) }
-{
-    let mut from = 0;
-    while let Some(run) = line.ranks.next_run(from) {
-        share_run(rows, rank_to_node, placed, line, run.first, run.last)?;
-        from = run.last + 1;
-    }
-    Ok(())
-}
-
-// Gives each row its part of a line: the whole line, where all its ranks are one node's.
 fn share_line(
     rows: &mut [Vec<StackLine>],
     rank_to_node: &[u32],
@@ -256,28 +166,86 @@ fn share_line(
     line: &StackLine,
 ) -> Result<(), AllocError>
     requires rank_to_node { AreRankNodes placed.now rank_to_node.now }
-    requires own { (n r time path : ℕ)
-        → is_in (row_at (rows_view rows.old) n) r time path ≡ true → Has r (ranks_at placed.now n) }
-    requires same_length { length rows.old ≡ length placed.now }
     requires once { ArePlacedOnce placed.now }
-    requires not_empty { line.now.ranks ≢ none }
+    requires same_length { length rows.old ≡ length placed.now }
     requires placed { IsSubset line.now.ranks (all_ranks placed.now) }
-    ensures { OnOk result (GainLine placed.now line.now (rows_view rows.old) (rows_view rows.new)) }
+    ensures { OnOk result
+        (GainParts placed.now line.now (has line.now.ranks) (rows_view rows.old) (rows_view rows.new)) }
 {
-    let first = match line.ranks.first() {
-        Some(first) => first,
-        None => unreachable!(),
-    };
-    let node = rank_to_node[first as usize] as usize;
-    if line.ranks.is_subset(&placed[node]) {
-        add_line(&mut rows[node], line)?;
-        return Ok(());
+    let mut from = 0;
+    while let Some(run) = line.ranks.next_run(from) {
+        from = run.first;
+        while from <= run.last {
+            let node = rank_to_node[from as usize] as usize;
+            let last = last_of_run(&placed[node], from).min(run.last);
+            give_run(&mut rows[node], line, from, last)?;
+            from = last + 1;
+        }
     }
-    share_runs(rows, rank_to_node, placed, line)
+    Ok(())
 }
 
-// Gives each row its parts of the lines, in their order.
+// The node that has all of some ranks, if one has.
+fn only_node(rank_to_node: &[u32], placed: &[RankSet], ranks: &RankSet) -> Option<usize>
+    requires rank_to_node { AreRankNodes placed.now rank_to_node.now }
+    requires placed { IsSubset ranks.now (all_ranks placed.now) }
+    ensures inside { IfSome result (λ n. n < length placed.now) }
+    ensures subset { IfSome result (λ n. IsSubset ranks.now (ranks_at placed.now n)) }
+{
+    let first = ranks.first()?;
+    let node = rank_to_node[first as usize] as usize;
+    if ranks.is_subset(&placed[node]) {
+        Some(node)
+    } else {
+        None
+    }
+}
+
+// Lines that list ranks of several nodes: one for each path and time.
+#[derive(Drop)]
+struct SpreadLines {
+    // The path and the time of each line.
+    keys: IndexSet<(u32, u32)>,
+    lines: Vec<StackLine>,
+}
+
+impl SpreadLines {
+    // No lines.
+    fn new(alloc: Global) -> SpreadLines
+        ensures keys { AreKeysOf result.keys.keys result.lines.items }
+        ensures empty { result.lines.items ≡ [] }
+    {
+        SpreadLines {
+            keys: IndexSet::new(alloc),
+            lines: Vec::new(alloc),
+        }
+    }
+
+    // Adds a line: the earlier one of its path and time takes its ranks up, if there is one.
+    fn add(&mut self, line: &StackLine) -> Result<(), AllocError>
+        requires keys { AreKeysOf self.old.keys.keys self.old.lines.items }
+        requires not_empty { line.now.ranks ≢ none }
+        ensures keys { OnOk result (AreKeysOf self.new.keys.keys self.new.lines.items) }
+        ensures gained { OnOk result
+            (GainsRanks line.now line.now.ranks self.old.lines.items self.new.lines.items) }
+    {
+        let (i, added) = self.keys.insert_full((line.path, line.time))?;
+        if !added {
+            return self.lines[i].ranks.union_into(&line.ranks);
+        }
+        self.lines.push(StackLine {
+            time: line.time,
+            ranks: line.ranks.copy()?,
+            path: line.path,
+        })?;
+        Ok(())
+    }
+}
+
+// Gives each row its parts of the lines. A line of which all ranks are one node's goes to that node's row. The others
+// are united by path and time before they are shared out.
 fn share_lines(
+    alloc: Global,
     rows: &mut [Vec<StackLine>],
     rank_to_node: &[u32],
     placed: &[RankSet],
@@ -289,7 +257,14 @@ fn share_lines(
     requires empty { AreOwnRows placed.now [] (rows_view rows.old) }
     ensures { OnOk result (AreOwnRows placed.now lines.now (rows_view rows.new)) }
 {
+    let mut spread = SpreadLines::new(alloc);
     for line in lines {
+        match only_node(rank_to_node, placed, &line.ranks) {
+            Some(node) => add_ranks(&mut rows[node], line, &line.ranks)?,
+            None => spread.add(line)?,
+        }
+    }
+    for line in &spread.lines {
         share_line(rows, rank_to_node, placed, line)?;
     }
     Ok(())
@@ -331,8 +306,8 @@ fn place_of(places: &[usize], path: u32) -> usize {
     }
 }
 
-/// By node number, the lines of each node. Each node's come in the order of their paths, which have these places: so rows of a
-/// tree are appended at its end. That order is for speed alone, and no clause fixes it.
+/// By node number, the lines of each node. Each node's come in the order of their paths, which have these places: so
+/// rows of a tree are appended at its end. That order is for speed alone, and no clause fixes it.
 pub fn own_lines(
     alloc: Global,
     placed: &[RankSet],
@@ -345,7 +320,7 @@ pub fn own_lines(
 {
     let rank_to_node = rank_to_node_of(alloc, placed)?;
     let mut rows = empty_rows(alloc, placed.len())?;
-    share_lines(&mut rows, rank_to_node.as_slice(), placed, lines)?;
+    share_lines(alloc, &mut rows, rank_to_node.as_slice(), placed, lines)?;
     sort_rows(&mut rows, places)?;
     Ok(rows)
 }

@@ -3,16 +3,17 @@
 ghost use Rattle.std.specs.Prelude.{◌≡◌, ◌<◌, ℕ, IfErr, IfOk, IsSome, None, Some, [], length, map, slice_index_or};
 ghost use Rattle.call_path.specs.Functions.{func};
 ghost use Rattle.rank_set.specs.Ranks.{none};
-ghost use Rattle.stat_plan.specs.Invariants.{IsPlan, SamplesFit, ScriptFits};
+ghost use Rattle.stat_plan.specs.Invariants.{IsPlan, SamplesFit};
+ghost use Rattle.overlay_setup.specs.Scripts.{ScriptFits};
 ghost use Rattle.stat_plan.specs.Limits.{RefusesAt, first_over};
-ghost use Rattle.stat_plan.specs.Names.{name_of};
+ghost use Rattle.overlay_setup.specs.Names.{name_of};
 ghost use Rattle.stat_plan.specs.OwnLines.{AreOwnLines};
 ghost use Rattle.stat_plan.specs.PathOrder.{IsOrderOf};
 ghost use Rattle.stat_plan.specs.Plans.{ancestors, expected, fault, front, is_under, nodes, plan_of, ranks, serves, stream_of};
 ghost use Rattle.stat_plan.specs.Shown.{IsStreamOf, lines_view};
 ghost use Rattle.stat_plan.specs.StackLines.{PathIndicesInRange};
 ghost use Rattle.stat_plan.specs.Tables.{AreAllExpected, ancestors_table, rows_view};
-ghost use Rattle.stat_plan.specs.Trees.{is_daemon};
+ghost use Rattle.overlay_setup.specs.Trees.{is_daemon};
 
 use crate::ancestors::ancestors_table;
 use crate::expected::expected_sets;
@@ -21,8 +22,7 @@ use crate::job::Job;
 use crate::limit::check_limit;
 use crate::plan_error::PlanError;
 use crate::samples::{Lines, Samples};
-use crate::script::{Fault, Script, StreamDef};
-use crate::topology::Topology;
+use overlay_setup::{Fault, Script, StreamDef, Topology};
 use rank_set::RankSet;
 use std::alloc::{AllocError, Global};
 use std::marker::Model;
@@ -50,7 +50,8 @@ impl Model for Plan {
 
     ghost view = { λ a. a.job };
 
-    ghost invariant = { λ a. IsPlan a.job × AreTables a.job (rows_view a.ancestors.items) (rows_view a.expected.items) };
+    ghost invariant = { λ a.
+        IsPlan a.job × AreTables a.job (rows_view a.ancestors.items) (rows_view a.expected.items) };
 }
 
 // By index of the stream, the ranks that each node expects of it.
@@ -93,7 +94,8 @@ impl Plan {
     ///
     /// # Errors
     ///
-    /// `TooManyPrefixes` names the first wave, by stream and wave, whose samples have more than 2,048 distinct prefixes.
+    /// `TooManyPrefixes` names the first wave, by stream and wave, whose samples have more than 2,048 distinct
+    /// prefixes.
     pub fn build(
         alloc: Global,
         topology: Topology,
@@ -257,8 +259,8 @@ impl Plan {
         None
     }
 
-    /// The lines of a node alone, in the order of their paths: they list the node's ranks, at the times and in the paths in
-    /// which the lines of the samples list them.
+    /// The lines of a node alone, in the order of their paths: they list the node's ranks, at the times and in the
+    /// paths in which the lines of the samples list them.
     pub fn own_lines(&self, n: u32) -> Lines<'_>
         requires { n < nodes self.now }
         ensures own { AreOwnLines (ranks self.now n) self.now.lines (lines_view result) }

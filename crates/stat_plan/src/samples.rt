@@ -12,8 +12,8 @@ ghost use Rattle.stat_plan.specs.Plans.{sampled};
 
 use crate::own_lines::own_lines;
 use crate::path_order::{in_order, path_places};
-use crate::script::Grain;
 use call_path::CallPath;
+use overlay_setup::Grain;
 use rank_set::RankSet;
 use std::alloc::{AllocError, Global};
 use std::marker::Model;
@@ -111,7 +111,12 @@ impl Model for Samples {
 
     ghost view = { λ a. sampled a.placed.items (lines_of a.paths.items a.lines.items) };
 
-    ghost invariant = { λ a. PathIndicesInRange a.paths.items a.lines.items × AreSamples (sampled a.placed.items (lines_of a.paths.items a.lines.items)) × (a.functions.items ≡ map (map func) a.paths.items) × IsOrderOf a.paths.items a.order.items × AreOwnRows a.placed.items a.lines.items (rows_view a.own_lines.items) };
+    ghost invariant = { λ a.
+        PathIndicesInRange a.paths.items a.lines.items
+        × AreSamples (sampled a.placed.items (lines_of a.paths.items a.lines.items))
+        × (a.functions.items ≡ map (map func) a.paths.items)
+        × IsOrderOf a.paths.items a.order.items
+        × AreOwnRows a.placed.items a.lines.items (rows_view a.own_lines.items) };
 }
 
 impl Samples {

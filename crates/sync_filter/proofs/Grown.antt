@@ -12,9 +12,9 @@ same_self s = and_from (is_subset s s) (is_subset s s) (subset_from s s (λ r h.
 equal_from_same : (s t : Ranks) → is_same s t ≡ true → s ≡ t
 equal_from_same s t e = let a = and_parts (is_subset s t) (is_subset t s) e in same_ranks s t (λ r. both_ways (has s r) (has t r) (subset_has s t a.0 r) (subset_has t s a.1 r))
 
-pub grown_where_unequal : (b : Bool) (cov sent : Ranks) → (b ≡ true) ↔ (cov ≡ sent) → not b ≡ has_grown cov sent
-grown_where_unequal true cov sent h = let e : cov ≡ sent = h.0 refl in ap not (sym (subst (λ t. is_same cov t ≡ true) e (same_self cov)))
-grown_where_unequal false cov sent h = elim (cases_Bool (is_same cov sent)) [
-  | inl t ↦ absurd (true≢false (sym (h.1 (equal_from_same cov sent t))))
+pub grown_where_unequal : (b : Bool) (covered sent : Ranks) → (b ≡ true) ↔ (covered ≡ sent) → not b ≡ has_grown covered sent
+grown_where_unequal true covered sent h = let e : covered ≡ sent = h.0 refl in ap not (sym (subst (λ t. is_same covered t ≡ true) e (same_self covered)))
+grown_where_unequal false covered sent h = elim (cases_Bool (is_same covered sent)) [
+  | inl t ↦ absurd (true≢false (sym (h.1 (equal_from_same covered sent t))))
   | inr f ↦ ap not (sym f)
 ]

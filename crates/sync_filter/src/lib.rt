@@ -8,22 +8,23 @@ ghost use Rattle.std.specs.Prelude.{◌≡◌};
 #[cfg(test)]
 mod tests;
 
+use overlay_setup::Mode;
 use rank_set::RankSet;
-use stat_plan::{Act, Mode, Timer};
+use stat_plan::{Act, Timer};
 
-/// What is due for a wave. `complete` says whether all has come in that still can, `cov` are the ranks that have come in,
-/// `sent` those that were passed on, and `is_front` says whether the node is the front end.
+/// What is due for a wave. `complete` says whether all has come in that still can, `covered` are the ranks that have
+/// come in, `sent` those that were passed on, and `is_front` says whether the node is the front end.
 pub fn due(
     mode: Mode,
     complete: bool,
-    cov: &RankSet,
+    covered: &RankSet,
     sent: &RankSet,
     timer: Timer,
     is_front: bool,
 ) -> Act
-    ensures { result ≡ due_act mode complete (has_grown cov.now sent.now) is_front timer }
+    ensures { result ≡ due_act mode complete (has_grown covered.now sent.now) is_front timer }
 {
-    let grown = is_grown(cov, sent);
+    let grown = is_grown(covered, sent);
     let passed_on = if is_front { Act::Partial } else { Act::Send };
     match mode {
         _ if complete && is_front => Act::Final,
@@ -40,8 +41,8 @@ pub fn due(
 }
 
 /// Whether something has come in that wasn't passed on.
-fn is_grown(cov: &RankSet, sent: &RankSet) -> bool
-    ensures { result ≡ has_grown cov.now sent.now }
+fn is_grown(covered: &RankSet, sent: &RankSet) -> bool
+    ensures { result ≡ has_grown covered.now sent.now }
 {
-    !cov.equals(sent)
+    !covered.equals(sent)
 }

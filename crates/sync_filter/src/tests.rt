@@ -1,8 +1,9 @@
 //! What is due, case by case.
 
 use crate::due;
+use overlay_setup::Mode;
 use rank_set::{RankError, RankSet};
-use stat_plan::{Act, Mode, Timer};
+use stat_plan::{Act, Timer};
 use std::alloc::Global;
 use std::test::Fail;
 

@@ -1,8 +1,8 @@
 //! The lines of a text, the words of a line, and the numbers that words write.
 //!
 //! A line ends at a line feed or at the end of the text, and a carriage return directly before it belongs to the line's
-//! end. A text that ends with a line feed has no line after it. Words are the longest runs of bytes other than spaces and
-//! tabs.
+//! end. A text that ends with a line feed has no line after it. Words are the longest runs of bytes other than spaces
+//! and tabs.
 
 ghost use Rattle.std.specs.Prelude.{◌≡◌, ◌<◌, ◌≤◌, ◌+◌, ◌^◌, ◌⊎◌, length, min, MatchOption, IfSome, [], ◌∷◌, option_map};
 ghost use Rattle.std.specs.Char.{is_ascii_digit};

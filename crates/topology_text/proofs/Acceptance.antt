@@ -6,13 +6,13 @@ use Rattle.std.proofs.lemmas.List.{ext_get_or}
 use Rattle.std.proofs.lemmas.Map.Keys.{IsDistinct-tail, IsDistinct-head}
 use Rattle.std.proofs.lemmas.Slice.Eq.{bytes_eq-Decides}
 use Rattle.text_lines.specs.declared.text_error.TextError.{TextError}
-use Rattle.stat_plan.specs.Names.{name_of, number_of}
-use Rattle.stat_plan.specs.NodeSets.{In}
-use Rattle.stat_plan.specs.Topologies.{Nodes, topology}
-use Rattle.stat_plan.specs.Trees.{parent_of, climb, ancestors, root_of, IsTree}
-use Rattle.stat_plan.proofs.NameNumbers.{length-map}
+use Rattle.overlay_setup.specs.Names.{name_of, number_of}
+use Rattle.overlay_setup.specs.NodeSets.{In}
+use Rattle.overlay_setup.specs.Topologies.{Nodes, topology}
+use Rattle.overlay_setup.specs.Trees.{parent_of, climb, ancestors, root_of, IsTree}
+use Rattle.overlay_setup.proofs.NameNumbers.{length-map}
 use Rattle.text_lines.specs.Parsing.{and_then}
-use Rattle.stat_plan.proofs.DaemonNames.{named}
+use Rattle.overlay_setup.proofs.DaemonNames.{named}
 use Rattle.topology_text.specs.declared.parser.Node.{Node}
 use Rattle.topology_text.specs.declared.parser.ParserState.{ParserState}
 use Rattle.topology_text.specs.declared.parser.ParserState.TheVariants.{Outside, AfterParent, AfterArrow, AfterChild}
@@ -98,7 +98,7 @@ child_kept (x ∷ nodes) (suc n) (suc k) e = child_kept nodes n k e
 record Ahead (parsed : List (List ℕ)) (nodes : List Node) (parents children names : List (List ℕ)) : Type 0 where
   parents_new : (k : ℕ) → is_parent (slice_get nodes k) ≡ true → In (name_of parsed k) parents → ⊥
   children_new : (k : ℕ) → is_child (slice_get nodes k) ≡ true → In (name_of parsed k) children → ⊥
-  few : length (with_names parsed names) ≤ 512
+  within_limit : length (with_names parsed names) ≤ 512
   paired : length parsed ≡ length nodes
 
 -- a name appears
@@ -125,7 +125,7 @@ module _ (s : Parsed) (line : ℕ) (name : List ℕ) (parents children names : L
         ahead = record {
           parents_new = a.parents_new;
           children_new = a.children_new;
-          few = subst (λ ns. length ns ≤ 512) (with_one s.names name names ∙ ap (λ ns. with_names ns names) (sym k.names)) a.few;
+          within_limit = subst (λ ns. length ns ≤ 512) (with_one s.names name names ∙ ap (λ ns. with_names ns names) (sym k.names)) a.within_limit;
           paired = a.paired;
         };
       }
@@ -133,7 +133,7 @@ module _ (s : Parsed) (line : ℕ) (name : List ℕ) (parents children names : L
   arrives_new : number_of name s.names ≡ None → Arrives s line name parents children names
   arrives_new e =
       let k = new_appears s s line name e in
-      let few : length (with_names (s.names ++ name ∷ []) names) ≤ 512 = subst (λ ns. length ns ≤ 512) (with_one s.names name names ∙ ap (λ ns. with_names ns names) (sym k.names)) a.few in
+      let few : length (with_names (s.names ++ name ∷ []) names) ≤ 512 = subst (λ ns. length ns ≤ 512) (with_one s.names name names ∙ ap (λ ns. with_names ns names) (sym k.names)) a.within_limit in
       let more = names_more (s.names ++ name ∷ []) names in
       let len = length-append s.names (name ∷ []) in
       let room : length s.names < 512 = omega arith in
@@ -147,7 +147,7 @@ module _ (s : Parsed) (line : ℕ) (name : List ℕ) (parents children names : L
         ahead = record {
           parents_new = λ i e there. (let o = old_parent line s.nodes i e in let lt = o.0 in let p = a.paired in a.parents_new i o.1 (subst (λ x. In x parents) (k.stay i (omega arith)) there));
           children_new = λ i e there. (let o = old_child line s.nodes i e in let lt = o.0 in let p = a.paired in a.children_new i o.1 (subst (λ x. In x children) (k.stay i (omega arith)) there));
-          few = few;
+          within_limit = few;
           paired = k.paired a.paired;
         };
       }
@@ -210,7 +210,7 @@ module _ (s : Parsed) (name : List ℕ) (qs : List Piece) (parents children name
                 | (inr old) ↦ r.ahead.parents_new k old (inr there)
               ]);
               children_new = λ k e there. r.ahead.children_new k (child_kept t.nodes n k e) there;
-              few = r.ahead.few;
+              within_limit = r.ahead.within_limit;
               paired = r.ahead.paired ∙ sym (length-at_node n t.nodes as_parent);
             }),
             ap (λ ns. with_names ns (piece_names qs)) r.known ∙ sym (with_one s.names name (piece_names qs)),
@@ -239,7 +239,7 @@ module _ (s : Parsed) (name : List ℕ) (qs : List Piece) (parents children name
                 | (inl same) ↦ once name children distinct (subst (λ x. In x children) (ap (name_of t.names) same ∙ is_name) there)
                 | (inr old) ↦ r.ahead.children_new k old (inr there)
               ]);
-              few = r.ahead.few;
+              within_limit = r.ahead.within_limit;
               paired = r.ahead.paired ∙ sym (length-at_node n t.nodes (child_of p));
             }),
             ap (λ ns. with_names ns (piece_names qs)) r.known ∙ sym (with_one s.names name (piece_names qs)),
@@ -280,7 +280,7 @@ statements_parse (x ∷ statements) s e a one_statement one_parent =
 -- the tokens of a text as these statements have no error, where at most 512 nodes are named
 pub tokens_parse : (text : List ℕ) (statements : List Statement) → map (λ p. p.1) (pieces 1 0 text) ≡ written statements → IsDistinct bytes_eq (parents_in statements) → IsDistinct bytes_eq (children_in statements) → length (with_names [] (names_in statements)) ≤ 512 → (u : Parsed) × (with_pieces nothing_parsed (pieces 1 0 text) ≡ Ok u) × (u.names ≡ with_names [] (piece_names (written statements)))
 tokens_parse text statements is one_statement one_parent few =
-    statements_parse statements nothing_parsed refl (record { parents_new = λ k e there. no_mark k e; children_new = λ k e there. no_mark k e; few = few; paired = refl }) one_statement one_parent (pieces 1 0 text) is
+    statements_parse statements nothing_parsed refl (record { parents_new = λ k e there. no_mark k e; children_new = λ k e there. no_mark k e; within_limit = few; paired = refl }) one_statement one_parent (pieces 1 0 text) is
   where
     no_mark : (k : ℕ) → false ≡ true → ⊥
     no_mark k e = cc
@@ -371,7 +371,7 @@ acceptable text t a =
     let f = a.form in
     let size = ap length f.names in
     let paired = a.topology.paired in
-    let many = a.topology.few in
+    let many = a.topology.within_limit in
     let read = tokens_parse text f.statements f.is a.one_statement a.one_parent (omega arith) in
     let s : Parsed = read.0 in
     let same : s.names ≡ t.names = read.2 ∙ ap (with_names []) (statements_names f.statements) ∙ sym f.names in

@@ -1,6 +1,6 @@
 -- Bytes from the front of a text, and links from a node to the root.
 use Rattle.std.proofs.Common.{◌≡◌, ℕ, zero, suc, ◌+◌, ◌-◌, ◌<◌, ◌≤◌, true, false, not, nat_eq, List, [], ◌∷◌, length, drop, Option, None, Some, refl, sym, ap, ◌∙◌, arith, is_some, add-one}
-use Rattle.stat_plan.specs.Trees.{parent_of}
+use Rattle.overlay_setup.specs.Trees.{parent_of}
 use Rattle.topology_text.specs.Whole.{is_within}
 use Rattle.topology_text.specs.Tokens.{End, piece_at, piece_len, pieces, is_space, StopsAt}
 use Rattle.text_lines.specs.Lines.{line_len}

@@ -1,6 +1,6 @@
 -- A text without an error is written as statements.
 use Rattle.std.proofs.Common.{◌≡◌, ℕ, zero, suc, ◌+◌, ◌-◌, Bool, true, false, cond, nat_eq, List, [], ◌∷◌, ◌++◌, map, length, drop, take, Option, None, Some, Ok, Err, Result, refl, sym, ap, ◌∙◌, subst, ◌⊎◌, inl, inr, ◌<◌, ◌≤◌, rules, slice_get}
-use Rattle.stat_plan.specs.Names.{number_of, begins}
+use Rattle.overlay_setup.specs.Names.{number_of, begins}
 use Rattle.text_lines.specs.declared.text_error.TextError.{TextError}
 use Rattle.topology_text.specs.declared.parser.ParserState.{ParserState}
 use Rattle.topology_text.specs.declared.parser.ParserState.TheVariants.{Outside, AfterParent, AfterArrow, AfterChild}
@@ -11,10 +11,10 @@ use Rattle.topology_text.specs.Statements.{Parsed, nothing_parsed, appear, numbe
 use Rattle.topology_text.specs.Grammar.{Statement, written, names_in, with_names, IsLink, IsWritten}
 use Rattle.std.specs.List.{IsDistinct}
 use Rattle.std.specs.Str.{bytes_eq}
-use Rattle.stat_plan.specs.Names.{name_of}
-use Rattle.stat_plan.specs.NodeSets.{In}
-use Rattle.stat_plan.specs.Topologies.{Nodes}
-use Rattle.stat_plan.specs.Trees.{parent_of}
+use Rattle.overlay_setup.specs.Names.{name_of}
+use Rattle.overlay_setup.specs.NodeSets.{In}
+use Rattle.overlay_setup.specs.Topologies.{Nodes}
+use Rattle.overlay_setup.specs.Trees.{parent_of}
 use Rattle.topology_text.specs.Whole.{topology_of}
 use Rattle.topology_text.proofs.InvariantLemmas.{nothing_holds}
 use Rattle.topology_text.proofs.Links.{piece_names, Links, reads}

@@ -3,9 +3,9 @@ use Rattle.std.proofs.Common.{◌≡◌, ℕ, zero, suc, ◌+◌, ◌-◌, ◌<�
 use Rattle.std.specs.List.{AllByRecursion, IsDistinct}
 use Rattle.std.specs.Str.{bytes_eq}
 use Rattle.text_lines.specs.declared.text_error.TextError.{TextError}
-use Rattle.stat_plan.specs.Names.{IsName, number_of}
-use Rattle.stat_plan.specs.Topologies.{IsTopology, topology}
-use Rattle.stat_plan.proofs.NameNumbers.{length-map}
+use Rattle.overlay_setup.specs.Names.{IsName, number_of}
+use Rattle.overlay_setup.specs.Topologies.{IsTopology, topology}
+use Rattle.overlay_setup.proofs.NameNumbers.{length-map}
 use Rattle.topology_text.specs.declared.parser.Node.{Node}
 use Rattle.topology_text.specs.declared.parser.ParserState.{ParserState}
 use Rattle.topology_text.specs.declared.parser.ParserState.TheVariants.{Outside, AfterParent, AfterArrow, AfterChild}
@@ -269,7 +269,7 @@ is_topology s kept outside distinct few none =
     record {
       paired = kept.paired ∙ sym len;
       some = two_nodes s.nodes (child_left s.nodes s.state outside kept.state one) one;
-      few = omega (arith, kept.paired);
+      within_limit = omega (arith, kept.paired);
       tree = is_tree s.nodes one kept.parents
           (λ n lt. all_within (parents_of s.nodes) (length s.nodes - 1) (length s.nodes) 0 checks.1 n (omega arith) (omega arith))
           (λ n lt. all_within (parents_of s.nodes) 8 (length s.nodes) 0 checks.2 n (omega arith) (omega arith));

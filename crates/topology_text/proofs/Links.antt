@@ -4,9 +4,9 @@ use Rattle.std.specs.List.{AllByRecursion, IsDistinct}
 use Rattle.std.specs.Str.{bytes_eq}
 use Rattle.text_lines.specs.declared.text_error.TextError.{TextError}
 use Rattle.text_lines.proofs.Errors.{ok_inj}
-use Rattle.stat_plan.specs.Names.{name_of, number_of}
-use Rattle.stat_plan.specs.Trees.{parent_of}
-use Rattle.stat_plan.proofs.DaemonNames.{named, number_of_name}
+use Rattle.overlay_setup.specs.Names.{name_of, number_of}
+use Rattle.overlay_setup.specs.Trees.{parent_of}
+use Rattle.overlay_setup.proofs.DaemonNames.{named, number_of_name}
 use Rattle.topology_text.specs.declared.parser.Node.{Node}
 use Rattle.topology_text.specs.declared.parser.ParserState.{ParserState}
 use Rattle.topology_text.specs.declared.parser.ParserState.TheVariants.{Outside, AfterParent, AfterArrow, AfterChild}

@@ -7,7 +7,7 @@ use Rattle.std.proofs.lemmas.Str.Ascii.{IsAscii-from_reads}
 use Rattle.std.proofs.lemmas.List.{get_or-drop, get_or-take, length-take}
 use Rattle.std.proofs.lemmas.List.Sums.{prefix_len_passes}
 use Rattle.std.proofs.lemmas.Bool.Decides.{nat_tests}
-use Rattle.stat_plan.specs.Names.{is_host_byte}
+use Rattle.overlay_setup.specs.Names.{is_host_byte}
 use Rattle.topology_text.specs.Tokens.{host_len}
 use Rattle.rank_set.specs.Digits.{digits_len}
 

@@ -5,7 +5,7 @@ use Rattle.std.specs.List.{prefix_len, list_all, AllByRecursion}
 use Rattle.std.proofs.lemmas.List.{length-take}
 use Rattle.std.proofs.lemmas.List.Sums.{prefix_len-le-length}
 use Rattle.std.proofs.lemmas.Bool.Decides.{nat_tests}
-use Rattle.stat_plan.specs.Names.{IsName, is_host_byte, begins}
+use Rattle.overlay_setup.specs.Names.{IsName, is_host_byte, begins}
 use Rattle.topology_text.specs.Tokens.{Piece, Arrow, Semicolon, Name, End, NoToken, host_len, is_space, is_name, name_after, name_at, piece_at, piece_len, pieces}
 use Rattle.rank_set.specs.Digits.{digits_len}
 use Rattle.text_lines.specs.Lines.{line_len}
@@ -45,20 +45,20 @@ begins_take c (suc n) (b ∷ rest) some = refl
 
 -- the parts of a name
 module _ (host colon digits : ℕ) (index : List ℕ) (e : is_name host colon index digits ≡ true) where
-  host_some : 1 ≤ host
-  host_some = grind (arith, nat_tests)
+  has_host : 1 ≤ host
+  has_host = grind (arith, nat_tests)
 
-  host_few : host ≤ 63
-  host_few = grind (arith, nat_tests)
+  host_within_limit : host ≤ 63
+  host_within_limit = grind (arith, nat_tests)
 
   colon_is : colon ≡ 58
   colon_is = grind (arith, nat_tests)
 
-  digits_some : 1 ≤ digits
-  digits_some = grind (arith, nat_tests)
+  has_digits : 1 ≤ digits
+  has_digits = grind (arith, nat_tests)
 
-  digits_few : digits ≤ 5
-  digits_few = grind (arith, nat_tests)
+  digits_within_limit : digits ≤ 5
+  digits_within_limit = grind (arith, nat_tests)
 
   no_zero : (nat_eq digits 1 || not (begins 48 index)) ≡ true
   no_zero = grind (arith, nat_tests)
@@ -83,14 +83,14 @@ module _ (text : List ℕ) (colon : ℕ) (index : List ℕ) (at : drop (host_len
     index = take (digits_len index) index;
     parts = parts_are;
     host_bytes = all_front is_host_byte text;
-    host_some = omega (arith, host_is, host_some (host_len text) colon (digits_len index) index e);
-    host_few = omega (arith, host_is, host_few (host_len text) colon (digits_len index) index e);
+    has_host = omega (arith, host_is, has_host (host_len text) colon (digits_len index) index e);
+    host_within_limit = omega (arith, host_is, host_within_limit (host_len text) colon (digits_len index) index e);
     digits = all_front is_ascii_digit index;
-    digits_some = omega (arith, index_is, digits_some (host_len text) colon (digits_len index) index e);
-    digits_few = omega (arith, index_is, digits_few (host_len text) colon (digits_len index) index e);
+    has_digits = omega (arith, index_is, has_digits (host_len text) colon (digits_len index) index e);
+    digits_within_limit = omega (arith, index_is, digits_within_limit (host_len text) colon (digits_len index) index e);
     no_leading_zero =
         ap (λ n. nat_eq n 1 || not (begins 48 (take (digits_len index) index))) index_is
-        ∙ ap (λ b. nat_eq (digits_len index) 1 || not b) (begins_take 48 (digits_len index) index (digits_some (host_len text) colon (digits_len index) index e))
+        ∙ ap (λ b. nat_eq (digits_len index) 1 || not b) (begins_take 48 (digits_len index) index (has_digits (host_len text) colon (digits_len index) index e))
         ∙ no_zero (host_len text) colon (digits_len index) index e;
   }
 

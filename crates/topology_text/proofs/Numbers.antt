@@ -9,7 +9,7 @@ use Rattle.std.proofs.lemmas.List.Sums.{prefix_len-le-length}
 use Rattle.std.proofs.lemmas.Slice.Eq.{bytes_eq-Decides}
 use Rattle.std.proofs.lemmas.Bool.{eq-eqb, lt-ltb, ltb-true, ltb-false, le-leb, lt-leb}
 use Rattle.std.proofs.lemmas.List.Folds.{position_or_len_push}
-use Rattle.stat_plan.specs.Names.{number_of}
+use Rattle.overlay_setup.specs.Names.{number_of}
 use Rattle.text_lines.specs.declared.text_error.TextError.TheVariants.{Over}
 use Rattle.text_lines.specs.declared.text_error.Quantity.TheVariants.{Nodes}
 use Rattle.topology_text.specs.Statements.{Parsed, appear}

@@ -2,8 +2,8 @@
 use Rattle.std.proofs.Common.{◌≡◌, ℕ, zero, suc, ◌-◌, ◌<◌, ◌≤◌, ◌⊎◌, inl, inr, true, false, ◌||◌, is_some, List, [], ◌∷◌, length, Option, None, Some, refl, sym, ap, ◌∙◌, subst, arith, rules}
 use Rattle.std.specs.List.{list_any, AllByRecursion}
 use Rattle.std.proofs.lemmas.List.{get_or_past}
-use Rattle.stat_plan.specs.Trees.{parent_of, climb, ancestors, root_of, IsTree}
-use Rattle.stat_plan.proofs.NameNumbers.{length-map}
+use Rattle.overlay_setup.specs.Trees.{parent_of, climb, ancestors, root_of, IsTree}
+use Rattle.overlay_setup.proofs.NameNumbers.{length-map}
 use Rattle.topology_text.specs.declared.parser.Node.{Node}
 use Rattle.topology_text.specs.Invariants.{IsBelow, has_child}
 use Rattle.topology_text.specs.Whole.{is_within, roots_from, parents_of}

@@ -6,10 +6,10 @@ use Rattle.std.proofs.lemmas.Map.Keys.{IsDistinct-cons}
 use Rattle.std.proofs.lemmas.Slice.Eq.{bytes_eq-Decides}
 use Rattle.text_lines.specs.declared.text_error.TextError.{TextError}
 use Rattle.text_lines.proofs.Errors.{ok_inj}
-use Rattle.stat_plan.specs.Names.{name_of, number_of}
-use Rattle.stat_plan.specs.NodeSets.{In}
-use Rattle.stat_plan.specs.Topologies.{Nodes, IsTopology}
-use Rattle.stat_plan.proofs.DaemonNames.{named}
+use Rattle.overlay_setup.specs.Names.{name_of, number_of}
+use Rattle.overlay_setup.specs.NodeSets.{In}
+use Rattle.overlay_setup.specs.Topologies.{Nodes, IsTopology}
+use Rattle.overlay_setup.proofs.DaemonNames.{named}
 use Rattle.topology_text.specs.declared.parser.Node.{Node}
 use Rattle.topology_text.specs.declared.parser.ParserState.{ParserState}
 use Rattle.topology_text.specs.declared.parser.ParserState.TheVariants.{Outside, AfterParent, AfterArrow, AfterChild}

@@ -1,6 +1,6 @@
 -- Roots and reach, one node at a time.
 use Rattle.std.proofs.Common.{◌≡◌, ℕ, zero, suc, ◌+◌, ◌-◌, ◌<◌, ◌≤◌, true, false, is_some, List, [], ◌∷◌, length, drop, Option, None, Some, refl, sym, ap, ◌∙◌, arith}
-use Rattle.stat_plan.specs.Trees.{parent_of}
+use Rattle.overlay_setup.specs.Trees.{parent_of}
 use Rattle.topology_text.specs.Whole.{first_beyond, is_within, roots_from}
 
 root_at : (ps : List (Option ℕ)) (n m : ℕ) → n < length ps → parent_of ps n ≡ None → roots_from m (drop n ps) ≡ m ∷ roots_from (suc m) (drop (suc n) ps)

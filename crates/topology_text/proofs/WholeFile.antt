@@ -7,11 +7,11 @@ use Rattle.topology_text.specs.Tokens.{pieces, End}
 use Rattle.topology_text.specs.Statements.{Parsed, nothing_parsed, take_end, with_pieces}
 use Rattle.topology_text.proofs.Nodes.{piece_bad, piece_good, none_left}
 use Rattle.text_lines.specs.declared.text_error.Reason.TheVariants.{NoRoot, TwoRoots, Unreached}
-use Rattle.stat_plan.specs.Topologies.{Nodes, topology}
-use Rattle.stat_plan.specs.declared.topology.TheConstants.{DEPTH_LIMIT}
+use Rattle.overlay_setup.specs.Topologies.{Nodes, topology}
+use Rattle.overlay_setup.specs.declared.topology.TheConstants.{DEPTH_LIMIT}
 use Rattle.topology_text.specs.declared.parser.Node.{Node}
 use Rattle.topology_text.specs.Whole.{roots_from, parents_of, line_of, first_beyond, depth_error, reach_error, roots_error, whole_error, unless, whole, nodes_of, topology_of}
-use Rattle.stat_plan.proofs.NameNumbers.{length-map}
+use Rattle.overlay_setup.proofs.NameNumbers.{length-map}
 
 module _ (nodes : List Node) (parents : List (Option ℕ)) (is : parents ≡ parents_of nodes) where
   error_by_roots : (roots : List ℕ) → roots_from 0 parents ≡ roots → whole_error nodes ≡ roots_error nodes roots

@@ -1,11 +1,11 @@
 -- What a topology text says in the words of its format: statements, each a parent and its children.
 use Rattle.std.specs.Prelude.{◌≡◌, ◌↔◌, ◌<◌, ℕ, List, [], ◌∷◌, ◌++◌, length, map, None, Some}
-use Rattle.stat_plan.specs.Names.{name_of, number_of}
-use Rattle.stat_plan.specs.NodeSets.{In}
+use Rattle.overlay_setup.specs.Names.{name_of, number_of}
+use Rattle.overlay_setup.specs.NodeSets.{In}
 use Rattle.std.specs.List.{IsDistinct}
 use Rattle.std.specs.Str.{bytes_eq}
-use Rattle.stat_plan.specs.Topologies.{Nodes, IsTopology}
-use Rattle.stat_plan.specs.Trees.{parent_of}
+use Rattle.overlay_setup.specs.Topologies.{Nodes, IsTopology}
+use Rattle.overlay_setup.specs.Trees.{parent_of}
 use Rattle.topology_text.specs.Tokens.{Piece, Arrow, Semicolon, Name, End, pieces}
 
 -- a parent, its first child, and its other children

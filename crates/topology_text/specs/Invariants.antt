@@ -1,7 +1,7 @@
 -- What holds after each token.
 use Rattle.std.specs.Prelude.{◌≡◌, ◌<◌, ◌⊎◌, ℕ, Bool, true, List, length, Option, None, Some, is_some}
 use Rattle.std.specs.List.{AllByRecursion, list_any}
-use Rattle.stat_plan.specs.Names.{IsName}
+use Rattle.overlay_setup.specs.Names.{IsName}
 use Rattle.topology_text.specs.declared.parser.Node.{Node}
 use Rattle.topology_text.specs.declared.parser.ParserState.{ParserState}
 use Rattle.topology_text.specs.declared.parser.ParserState.TheVariants.{Outside, AfterParent, AfterArrow, AfterChild}

@@ -5,8 +5,8 @@ use Rattle.text_lines.specs.declared.text_error.Reason.TheVariants.{SecondLine, 
 use Rattle.topology_text.specs.Tokens.{pieces, Arrow, Semicolon, Name, End, NoToken}
 use Rattle.text_lines.specs.Parsing.{and_then}
 use Rattle.text_lines.specs.declared.text_error.TextError.{TextError}
-use Rattle.stat_plan.specs.Names.{number_of}
-use Rattle.stat_plan.specs.Topologies.{topology}
+use Rattle.overlay_setup.specs.Names.{number_of}
+use Rattle.overlay_setup.specs.Topologies.{topology}
 use Rattle.topology_text.specs.Statements.{Parsed, nothing_parsed, appear, add_parent, add_child, with_pieces}
 use Rattle.topology_text.specs.Grammar.{Statement, written, names_in, parents_in, children_in}
 use Rattle.topology_text.specs.Whole.{whole, nodes_of, whole_error, first_beyond, is_within}

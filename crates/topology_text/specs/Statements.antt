@@ -1,7 +1,7 @@
 -- What the tokens of a topology text are parsed as, and the first error in them.
 use Rattle.std.specs.Prelude.{ℕ, zero, suc, Bool, true, false, nat_le, cond, List, [], ◌∷◌, ◌++◌, length, Option, None, Some, Result, Ok, Err, is_some, slice_get}
-use Rattle.stat_plan.specs.Names.{number_of}
-use Rattle.stat_plan.specs.declared.topology.TheConstants.{NODE_LIMIT}
+use Rattle.overlay_setup.specs.Names.{number_of}
+use Rattle.overlay_setup.specs.declared.topology.TheConstants.{NODE_LIMIT}
 use Rattle.text_lines.specs.declared.text_error.TextError.{TextError}
 use Rattle.text_lines.specs.declared.text_error.TextError.TheVariants.{Bad, Over}
 use Rattle.text_lines.specs.declared.text_error.Reason.TheVariants.{BadToken, SecondLine, NoArrow, NoChild, SecondParent, NoSemicolon}

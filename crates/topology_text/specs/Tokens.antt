@@ -3,7 +3,7 @@ use Rattle.std.specs.Prelude.{ℕ, ◌≡◌, zero, suc, ◌+◌, ◌-◌, Bool,
 use Rattle.rank_set.specs.Digits.{digits_len}
 use Rattle.text_lines.specs.Lines.{line_len}
 use Rattle.std.specs.List.{prefix_len}
-use Rattle.stat_plan.specs.Names.{is_host_byte, begins}
+use Rattle.overlay_setup.specs.Names.{is_host_byte, begins}
 
 -- a token, the end of the text, or bytes that are no token
 pub data Piece : Type 0 where

@@ -5,9 +5,9 @@ use Rattle.text_lines.specs.declared.text_error.TextError.TheVariants.{Bad, Over
 use Rattle.text_lines.specs.declared.text_error.Reason.TheVariants.{NoRoot, TwoRoots, Unreached}
 use Rattle.text_lines.specs.declared.text_error.Quantity.TheVariants.{Depth}
 use Rattle.text_lines.specs.Parsing.{and_then}
-use Rattle.stat_plan.specs.Trees.{parent_of}
-use Rattle.stat_plan.specs.Topologies.{Nodes, topology}
-use Rattle.stat_plan.specs.declared.topology.TheConstants.{DEPTH_LIMIT}
+use Rattle.overlay_setup.specs.Trees.{parent_of}
+use Rattle.overlay_setup.specs.Topologies.{Nodes, topology}
+use Rattle.overlay_setup.specs.declared.topology.TheConstants.{DEPTH_LIMIT}
 use Rattle.topology_text.specs.declared.parser.Node.{Node}
 use Rattle.topology_text.specs.Tokens.{pieces}
 use Rattle.topology_text.specs.Statements.{Parsed, nothing_parsed, with_pieces}

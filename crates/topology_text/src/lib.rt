@@ -10,7 +10,7 @@ ghost use Rattle.topology_text.specs.ParserViews.{parser_view};
 ghost use Rattle.topology_text.specs.Statements.{with_pieces};
 ghost use Rattle.topology_text.specs.Grammar.{IsAcceptable};
 ghost use Rattle.topology_text.specs.Whole.{topology_of};
-ghost use Rattle.stat_plan.specs.Topologies.{Nodes};
+ghost use Rattle.overlay_setup.specs.Topologies.{Nodes};
 ghost use Rattle.text_lines.specs.Parsing.{IsValueOf, IsErrorOf};
 
 mod parser;
@@ -19,8 +19,8 @@ mod tests;
 mod tokens;
 mod whole;
 
+use overlay_setup::Topology;
 use parser::Parser;
-use stat_plan::Topology;
 use std::alloc::Global;
 use text_lines::{Reason, TextError};
 use tokens::{skipped, token_at, token_len};

@@ -1,7 +1,7 @@
 //! What is parsed of a topology text so far, and which token may come next.
 
 ghost use Rattle.std.specs.Prelude.{slice_get, Ok, Err, ◌≡◌, ◌<◌, ◌≤◌, ◌+◌, length, Some, OnOk, IfOk, IfErr, map, string_bytes};
-ghost use Rattle.stat_plan.specs.declared.topology.TheConstants.{NODE_LIMIT};
+ghost use Rattle.overlay_setup.specs.declared.topology.TheConstants.{NODE_LIMIT};
 ghost use Rattle.std.proofs.Props.{props};
 ghost use Rattle.std.specs.Result.{ForOk};
 ghost use Rattle.std.specs.List.{IsDistinct};
@@ -12,7 +12,7 @@ ghost use Rattle.text_lines.specs.Parsing.{and_then, IsErrorOf};
 use crate::tokens::Token;
 use crate::whole::{parents_of, whole_error};
 use indexmap::IndexSet;
-use stat_plan::{NODE_LIMIT, Topology};
+use overlay_setup::{NODE_LIMIT, Topology};
 use std::alloc::Global;
 use text_lines::{Quantity, Reason, TextError};
 
@@ -53,13 +53,13 @@ pub struct Parser {
 impl Parser {
     ghost use Rattle.topology_text.specs.ParserViews.{parser_view};
     ghost use Rattle.topology_text.specs.TokenViews.{token_view};
-    ghost use Rattle.stat_plan.specs.Names.{number_of};
+    ghost use Rattle.overlay_setup.specs.Names.{number_of};
     ghost use Rattle.topology_text.specs.declared.parser.ParserState.TheVariants.{Outside};
     ghost use Rattle.topology_text.specs.Statements.{nothing_parsed, appear, with_piece, take_end, take_arrow};
     ghost use Rattle.topology_text.specs.Statements.{take_semicolon, take_name, add_parent, add_child};
     ghost use Rattle.topology_text.specs.Invariants.{ParserInvariant};
     ghost use Rattle.topology_text.specs.Whole.{whole, nodes_of};
-    ghost use Rattle.stat_plan.specs.Topologies.{IsTopology};
+    ghost use Rattle.overlay_setup.specs.Topologies.{IsTopology};
 
     /// A parser before the first token.
     pub fn new(alloc: Global) -> Parser

@@ -1,7 +1,7 @@
 //! What no clause says: texts as they are written, and that each call succeeds with ample memory.
 
 use crate::read;
-use stat_plan::Topology;
+use overlay_setup::Topology;
 use std::alloc::{AllocError, Global};
 use std::process::Abort;
 use std::test::Fail;

@@ -1,7 +1,7 @@
 //! The tokens of a topology text: `=>`, `;` and names, parted by blanks, line feeds and comments.
 
 ghost use Rattle.std.specs.Prelude.{◌≡◌, ◌<◌, ◌≤◌, ◌+◌, ◌^◌, length, IfSome};
-ghost use Rattle.stat_plan.specs.Names.{is_host_byte, begins};
+ghost use Rattle.overlay_setup.specs.Names.{is_host_byte, begins};
 ghost use Rattle.topology_text.specs.Tokens.{host_len, is_space, pieces, StopsAt, piece_at, is_name, name_at};
 ghost use Rattle.topology_text.specs.TokenViews.{token_view_at, token_bytes, named};
 

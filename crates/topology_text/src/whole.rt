@@ -1,11 +1,11 @@
 //! The checks of a whole topology: one root, and each node within reach of it.
 
 ghost use Rattle.std.specs.Prelude.{◌≡◌, ◌<◌, ◌+◌, ◌^◌, length, drop, IfSome, Some, IfOk, MatchOption, [], ◌∷◌};
-ghost use Rattle.stat_plan.specs.Trees.{parent_of};
+ghost use Rattle.overlay_setup.specs.Trees.{parent_of};
 ghost use Rattle.topology_text.specs.Whole.{is_within, roots_from, parents_of, line_of, first_beyond, whole_error};
 
 use crate::parser::Node;
-use stat_plan::DEPTH_LIMIT;
+use overlay_setup::DEPTH_LIMIT;
 use std::alloc::{AllocError, Global};
 use text_lines::{Quantity, Reason, TextError};
 

@@ -1,7 +1,7 @@
 use Rattle.std.proofs.Common.{sym, ap, subst, ◌∙◌, get_or, take}
 use Rattle.std.proofs.lemmas.List.{take_all, take_more}
 use Rattle.rank_set.specs.Ranks.{union}
-use Rattle.stat_plan.specs.NodeSets.{In}
+use Rattle.overlay_setup.specs.NodeSets.{In}
 use Rattle.stat_plan.specs.Plans.{ranks_on}
 use Rattle.stat_plan.proofs.Expecting.{ranks_on-push}
 use Rattle.stat_plan.proofs.InLists.{in_at}

@@ -1,6 +1,5 @@
 use Rattle.std.proofs.Common.{◌≡◌, ◌≢◌, sym, subst, Err, IfOk, []}
-use Rattle.stat_plan.specs.Invariants.{ScriptFits}
-use Rattle.stat_plan.specs.Plans.{scripted}
+use Rattle.overlay_setup.specs.Scripts.{ScriptFits, scripted}
 use Rattle.text_lines.specs.Lines.{lines}
 use Rattle.text_lines.specs.Parsing.{IsValueOf, IsErrorOf}
 use Rattle.text_lines.specs.declared.text_error.TextError.TheVariants.{OutOfMemory}

@@ -1,7 +1,7 @@
 -- The due table: what is to be done for an open wave.
 use Rattle.std.specs.Prelude.{Bool, true, false, if◌then◌else◌}
-use Rattle.stat_plan.specs.declared.script.Mode.{Mode}
-use Rattle.stat_plan.specs.declared.script.Mode.TheVariants.{WaitForAll, TimeOut, DontWait}
+use Rattle.overlay_setup.specs.declared.script.Mode.{Mode}
+use Rattle.overlay_setup.specs.declared.script.Mode.TheVariants.{WaitForAll, TimeOut, DontWait}
 use Rattle.stat_plan.specs.declared.machine.Timer.{Timer}
 use Rattle.stat_plan.specs.declared.machine.Timer.TheVariants.{Off, Running, Fired}
 use Rattle.stat_plan.specs.declared.machine.Act.{Act}

@@ -2,7 +2,7 @@
 use Rattle.rank_set.specs.Ranks.{Ranks, is_subset}
 use Rattle.std.specs.Prelude.{ℕ, Bool, false, ◌||◌, not, ◌==◌, cond, List, [], ◌∷◌, Option, None, Some}
 use Rattle.std.specs.List.{list_all}
-use Rattle.stat_plan.specs.NodeSets.{member, with_number, without_number}
+use Rattle.overlay_setup.specs.NodeSets.{member, with_number, without_number}
 use Rattle.stat_plan.specs.Plans.{Plan, ancestors, is_within, ranks, daemons}
 
 -- the parent, none at the front end; the children and the nodes that are known to be lost, ascending
@@ -11,9 +11,9 @@ pub record Kin : Type 0 where
   pub children : List ℕ
   pub lost : List ℕ
 
--- each daemon of the stream that is n or under n has its ranks in cov, or is known to be lost
+-- each daemon of the stream that is n or under n has its ranks in covered, or is known to be lost
 unfoldable pub complete : Plan → ℕ → List ℕ → ℕ → Ranks → Bool
-complete p n lost s cov = list_all (λ d. not (is_within p d n) || is_subset (ranks p d) cov || member d lost) (daemons p s)
+complete p n lost s covered = list_all (λ d. not (is_within p d n) || is_subset (ranks p d) covered || member d lost) (daemons p s)
 
 -- the nearest of the ancestors that isn't known to be lost
 abbrev pub nearest : List ℕ → List ℕ → Option ℕ

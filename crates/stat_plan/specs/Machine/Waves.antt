@@ -1,14 +1,14 @@
 -- What a node knows of each of its waves.
 use Rattle.rank_set.specs.Ranks.{Ranks, none, union, is_same}
 use Rattle.std.specs.Prelude.{ℕ, zero, suc, Bool, true, false, not, cond, ◌==◌}
-use Rattle.stat_plan.specs.declared.script.Mode.{Mode}
-use Rattle.stat_plan.specs.declared.script.Mode.TheVariants.{WaitForAll, TimeOut, DontWait}
+use Rattle.overlay_setup.specs.declared.script.Mode.{Mode}
+use Rattle.overlay_setup.specs.declared.script.Mode.TheVariants.{WaitForAll, TimeOut, DontWait}
 use Rattle.stat_plan.specs.declared.machine.Timer.{Timer}
 use Rattle.stat_plan.specs.declared.machine.Timer.TheVariants.{Off, Running, Fired}
 
 -- a wave that a node works on: the ranks that it covers, those that it sent, and its timer; or one that has ended
 pub data Wave : Type 0 where
-  Open : (cov sent : Ranks) (timer : Timer) → Wave
+  Open : (covered sent : Ranks) (timer : Timer) → Wave
   Closed : Wave
 
 -- each wave, by stream and wave
@@ -25,7 +25,7 @@ set_wave book s w v = put_at book s (put_at (book s) w v)
 
 -- a coverage has grown where it isn't what was sent
 abbrev pub has_grown : Ranks → Ranks → Bool
-has_grown cov sent = not (is_same cov sent)
+has_grown covered sent = not (is_same covered sent)
 
 -- how many ticks a timer of the mode runs
 abbrev pub ticks : Mode → ℕ
@@ -34,41 +34,41 @@ ticks (TimeOut t) = t
 ticks DontWait = 0
 
 abbrev pub is_fired : Wave → Bool
-is_fired (Open cov sent Off) = false
-is_fired (Open cov sent (Running t)) = false
-is_fired (Open cov sent Fired) = true
+is_fired (Open covered sent Off) = false
+is_fired (Open covered sent (Running t)) = false
+is_fired (Open covered sent Fired) = true
 is_fired Closed = false
 
 abbrev pub is_running : Wave → Bool
-is_running (Open cov sent Off) = false
-is_running (Open cov sent (Running t)) = true
-is_running (Open cov sent Fired) = false
+is_running (Open covered sent Off) = false
+is_running (Open covered sent (Running t)) = true
+is_running (Open covered sent Fired) = false
 is_running Closed = false
 
 abbrev pub is_closed : Wave → Bool
-is_closed (Open cov sent timer) = false
+is_closed (Open covered sent timer) = false
 is_closed Closed = true
 
 abbrev pub is_open : Wave → Bool
-is_open (Open cov sent timer) = true
+is_open (Open covered sent timer) = true
 is_open Closed = false
 
 -- the coverage, and what was sent of it; empty for a closed wave
-abbrev pub cov_of : Wave → Ranks
-cov_of (Open cov sent timer) = cov
-cov_of Closed = none
+abbrev pub coverage_of : Wave → Ranks
+coverage_of (Open covered sent timer) = covered
+coverage_of Closed = none
 
 abbrev pub sent_of : Wave → Ranks
-sent_of (Open cov sent timer) = sent
+sent_of (Open covered sent timer) = sent
 sent_of Closed = none
 
 -- a wave with this coverage, or with these ranks besides
 abbrev pub covering : Ranks → Wave → Wave
-covering set (Open cov sent timer) = Open set sent timer
+covering set (Open covered sent timer) = Open set sent timer
 covering set Closed = Closed
 
 abbrev pub growing : Ranks → Wave → Wave
-growing set (Open cov sent timer) = Open (union cov set) sent timer
+growing set (Open covered sent timer) = Open (union covered set) sent timer
 growing set Closed = Closed
 
 -- a timer one tick later
@@ -80,10 +80,10 @@ ticked_timer (Running (suc (suc t))) = Running (suc t)
 ticked_timer Fired = Fired
 
 abbrev pub ticked : Wave → Wave
-ticked (Open cov sent timer) = Open cov sent (ticked_timer timer)
+ticked (Open covered sent timer) = Open covered sent (ticked_timer timer)
 ticked Closed = Closed
 
 -- a wave of which nothing was sent yet and whose timer is off, as for a new parent
 abbrev pub unsent : Wave → Wave
-unsent (Open cov sent timer) = Open cov none Off
+unsent (Open covered sent timer) = Open covered none Off
 unsent Closed = Closed

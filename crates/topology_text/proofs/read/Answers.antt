@@ -1,5 +1,5 @@
 use Rattle.std.proofs.Common.{◌≡◌, ◌≢◌, sym, subst, Err, Result, Ok, IfOk}
-use Rattle.stat_plan.specs.Topologies.{Nodes, IsTopology}
+use Rattle.overlay_setup.specs.Topologies.{Nodes, IsTopology}
 use Rattle.text_lines.specs.declared.text_error.TextError.{TextError}
 use Rattle.text_lines.specs.Parsing.{IsValueOf, IsErrorOf}
 use Rattle.text_lines.specs.declared.text_error.TextError.TheVariants.{OutOfMemory}

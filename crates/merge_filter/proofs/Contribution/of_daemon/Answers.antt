@@ -4,14 +4,14 @@ use Rattle.call_path.specs.Path.{Path}
 use Rattle.prefix_tree.specs.Tree.{Tree, count_below, tree_of}
 use Rattle.prefix_tree.proofs.TreeLaws.{tree_of-same_pairs}
 use Rattle.stat_plan.specs.Invariants.{IsPlan}
-use Rattle.stat_plan.specs.NodeSets.{In}
+use Rattle.overlay_setup.specs.NodeSets.{In}
 use Rattle.stat_plan.specs.OwnLines.{AreOwnLines, is_listed}
 use Rattle.stat_plan.specs.Plans.{Plan, daemons, grain, ranks, sample_count, samples, stream_ranks}
 use Rattle.stat_plan.specs.Samples.{samples_of, path_by, wave_lines}
 use Rattle.stat_plan.specs.StackLines.{PathIndicesInRange, lines_of}
 use Rattle.stat_plan.specs.declared.samples.StackLine.{StackLine}
-use Rattle.stat_plan.specs.declared.script.Grain.{Grain}
-use Rattle.merge_filter.specs.Contributions.{HasWave, IsPartialMerge, cov_of}
+use Rattle.overlay_setup.specs.declared.script.Grain.{Grain}
+use Rattle.merge_filter.specs.Contributions.{HasWave, IsPartialMerge, coverage_of}
 use Rattle.merge_filter.proofs.Daemons.{daemon_is_node, daemon_lies, stream_some}
 use Rattle.merge_filter.proofs.Prefixes.{rows_within}
 use Rattle.merge_filter.proofs.Standing.{covers, stands_from}
@@ -58,7 +58,7 @@ own_tree-requires-clause-within g c lifetimes outlives =
 
 pub returns-clause-coverage : goal.returns-clause-coverage
 returns-clause-coverage g c =
-    ap cov_of c.of_tree.ensures
+    ap coverage_of c.of_tree.ensures
     ∙ covers (g.T.PrefixTree.tree c.in_ok-tree.tree) (samples_of (wave_lines c.sample_count-samples.result c.args.w (lines_of c.paths_by-paths.result.now c.own_lines-own.result.lines.now))) c.ranks.result.now c.in_ok-tree.ensures
     ∙ c.ranks.ensures
 

@@ -1,5 +1,5 @@
 use Rattle.std.proofs.Common.{◌∙◌, ◌&&◌, ℕ, List, sym, ap}
-use Rattle.stat_plan.specs.NodeSets.{member}
+use Rattle.overlay_setup.specs.NodeSets.{member}
 use Rattle.overlay_core.specs.Machine.{is_wave, next_sample}
 use Rattle.overlay_node.specs.NodeViews.{node_of}
 use Rattle.overlay_net.proofs.Offers.{found_stream, found_test, no_daemons}

@@ -1,6 +1,6 @@
 use Rattle.std.proofs.Common.{◌≡◌, ◌∙◌, ℕ, true, false, option_map, sym, ap}
 use Rattle.stat_plan.specs.Plans.{serves}
-use Rattle.stat_plan.specs.Trees.{is_daemon}
+use Rattle.overlay_setup.specs.Trees.{is_daemon}
 use Rattle.overlay_core.specs.Machine.{next_sample}
 use Rattle.overlay_node.specs.NodeViews.{node_of}
 use Rattle.overlay_net.proofs.Offers.{next_is_sample, no_daemon, no_sample, samples_it, serves_not}

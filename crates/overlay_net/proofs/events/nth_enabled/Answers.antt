@@ -2,7 +2,7 @@ use Rattle.std.proofs.Common.{◌≡◌, ◌∙◌, ◌<◌, List, [], ◌∷◌
 use Rattle.std.specs.List.{flat_map}
 use Rattle.std.specs.Map.Iter.{deref}
 use Rattle.std.proofs.lemmas.Map.Iter.{rest_more, rest_all}
-use Rattle.stat_plan.specs.NodeSets.{In}
+use Rattle.overlay_setup.specs.NodeSets.{In}
 use Rattle.stat_plan.specs.Plans.{nodes}
 use Rattle.stat_desk.specs.declared.event.Event.{Event}
 use Rattle.overlay_net.proofs.Listed.{increasing_from_sorted}

@@ -1,6 +1,6 @@
 use Rattle.std.proofs.Common.{◌≡◌, ℕ, slice_get}
 use Rattle.std.specs.List.{flat_map}
-use Rattle.stat_plan.specs.NodeSets.{In}
+use Rattle.overlay_setup.specs.NodeSets.{In}
 use Rattle.overlay_net.proofs.Offers.{events_at}
 use Rattle.overlay_net.proofs.events.nth_enabled.Given as goal
 

@@ -6,7 +6,7 @@ use Rattle.overlay_net.specs.Events.{IsNet}
 use Rattle.overlay_net.specs.Handled.{ExtendsBy}
 use Rattle.overlay_net.specs.Sends.{AreSent}
 use Rattle.overlay_net.proofs.Handing.{handed_same}
-use Rattle.overlay_net.proofs.Happening.{can_deliver, extends_by, is_marked, is_net, may_hand_over, may_mark, ok_then, releases_more, same_inboxes}
+use Rattle.overlay_net.proofs.WholeEvents.{can_deliver, extends_by, is_marked, is_net, may_hand_over, may_mark, ok_then, releases_more, same_inboxes}
 use Rattle.overlay_net.proofs.state.do_event.Goals as goal
 
 pub hand_over-requires-after_bounds : goal.hand_over-requires-after_bounds

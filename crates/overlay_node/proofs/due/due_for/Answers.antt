@@ -9,4 +9,4 @@ pub returns : goal.returns
 unfolding due_at is_front
 returns c =
     c.due.ensures
-    ∙ (λ i. due_act (c.mode_of.ensures i) (c.is_complete-complete.ensures i) (has_grown c.args.cov.now c.args.sent.now) (c.args.context.now.node == c.front.ensures.value i) c.args.timer)
+    ∙ (λ i. due_act (c.mode_of.ensures i) (c.is_complete-complete.ensures i) (has_grown c.args.covered.now c.args.sent.now) (c.args.context.now.node == c.front.ensures.value i) c.args.timer)

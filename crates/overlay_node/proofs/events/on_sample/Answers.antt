@@ -1,6 +1,6 @@
 use Rattle.std.proofs.Common.{◌≡◌, ap, get_or, sym, subst, ◌∙◌, true}
 use Rattle.stat_plan.specs.Machine.Waves.{covering}
-use Rattle.merge_filter.specs.Contributions.{cov_of}
+use Rattle.merge_filter.specs.Contributions.{coverage_of}
 use Rattle.overlay_core.specs.Machine.{is_empty_open}
 use Rattle.overlay_node.specs.Acting.{act_changed}
 use Rattle.overlay_node.specs.Contexts.{kin_of}
@@ -43,4 +43,4 @@ returns g c =
     let kin = kin_of c.args.context.now in
     let found = finds p c.args.s c.args.w es i (get_or es i c.index-entries-i.result) c.requires.has_entry c.entry_index-i.ensures.index (ap (get_or es i) c.index-entries-i.is) in
     steps_as p _ _ _ _ _ _ (ap (λ set. act_changed p c.args.context.now.node kin c.args.s c.args.w (covering set)) c.in_ok-own.ensures.coverage)
-    (steps_found p (λ s w. act_changed p c.args.context.now.node kin s w (covering (cov_of c.in_ok-own.own))) c.args.s c.args.w es i (get_or es i c.index-entries-i.result) c.take_sample.new.entry _ _ c.requires.fits found c.in_ok-take_sample.ensures)
+    (steps_found p (λ s w. act_changed p c.args.context.now.node kin s w (covering (coverage_of c.in_ok-own.own))) c.args.s c.args.w es i (get_or es i c.index-entries-i.result) c.take_sample.new.entry _ _ c.requires.fits found c.in_ok-take_sample.ensures)

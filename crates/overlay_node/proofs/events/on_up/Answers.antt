@@ -1,6 +1,6 @@
 use Rattle.std.proofs.Common.{ap, get_or, sym, ◌∙◌}
 use Rattle.stat_plan.specs.Machine.Waves.{growing}
-use Rattle.merge_filter.specs.Contributions.{Contrib, cov_of}
+use Rattle.merge_filter.specs.Contributions.{Contrib, coverage_of}
 use Rattle.overlay_node.specs.Acting.{act_changed}
 use Rattle.overlay_node.specs.Contexts.{kin_of}
 use Rattle.overlay_node.proofs.Stepping.{finds, fits_found, steps_as, steps_found}
@@ -34,5 +34,5 @@ returns g c =
     let i = c.entry_index-i.result in
     let kin = kin_of c.args.context.now in
     let found = finds p c.args.s c.args.w es i (get_or es i c.index-entries-i.result) c.requires.has_entry c.entry_index-i.ensures.index (ap (get_or es i) c.index-entries-i.is) in
-    steps_as p _ _ _ _ _ _ (ap (λ (x : Contrib). act_changed p c.args.context.now.node kin c.args.s c.args.w (growing (cov_of x))) c.of_tree-received.ensures)
-    (steps_found p (λ s w. act_changed p c.args.context.now.node kin s w (growing (cov_of c.of_tree-received.result))) c.args.s c.args.w es i (get_or es i c.index-entries-i.result) c.take_up.new.entry _ _ c.requires.fits found c.in_ok-take_up.ensures)
+    steps_as p _ _ _ _ _ _ (ap (λ (x : Contrib). act_changed p c.args.context.now.node kin c.args.s c.args.w (growing (coverage_of x))) c.of_tree-received.ensures)
+    (steps_found p (λ s w. act_changed p c.args.context.now.node kin s w (growing (coverage_of c.of_tree-received.result))) c.args.s c.args.w es i (get_or es i c.index-entries-i.result) c.take_up.new.entry _ _ c.requires.fits found c.in_ok-take_up.ensures)

@@ -12,7 +12,7 @@ loop-i-preserved g c =
     ticked_more c.args.entries.now now i e _ c.loop-i.invariant
     (subst (λ k. i < k) (sym c.loop-i.auto.entries) c.loop-i-test.true)
     (ap (get_or now i) c.index-entries-i.is)
-    ((λ j. entry c.entry.inside.stream c.entry.inside.wave c.entry.inside.part c.entry.inside.sent (c.ticked-entry-inside.ensures j) c.entry.inside.given) ∙ ap ticked_entry c.entry.view_is)
+    ((λ j. entry c.entry.inside.stream c.entry.inside.wave c.entry.inside.part c.entry.inside.sent (c.ticked-entry-inside.ensures j) c.entry.inside.release_count) ∙ ap ticked_entry c.entry.view_is)
 
 pub returns : goal.returns
 returns g c =

@@ -1,6 +1,7 @@
 use Rattle.std.proofs.Common.{◌≡◌, ◌++◌, map}
 use Rattle.std.specs.List.{AllByRecursion}
-use Rattle.stat_plan.specs.Plans.{Plan, up_to}
+use Rattle.stat_plan.specs.Plans.{Plan}
+use Rattle.overlay_setup.specs.NodeSets.{up_to}
 use Rattle.overlay_node.specs.NodeViews.{keys_of}
 use Rattle.overlay_node.specs.Starts.{HasWaves, IsUntouched}
 use Rattle.overlay_node.proofs.init.add_waves.Given as goal

@@ -1,6 +1,6 @@
 use Rattle.std.proofs.Common.{◌≡◌, filter}
-use Rattle.stat_plan.specs.Plans.{up_to}
-use Rattle.stat_plan.specs.Trees.{is_daemon}
+use Rattle.overlay_setup.specs.NodeSets.{up_to}
+use Rattle.overlay_setup.specs.Trees.{is_daemon}
 use Rattle.script_text.proofs.stream_line.all_daemons.Given as goal
 
 abbrev pub invariant-loop-n : goal.invariant-loop-n

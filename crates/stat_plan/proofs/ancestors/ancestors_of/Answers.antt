@@ -1,6 +1,6 @@
 use Rattle.std.proofs.Common.{◌≡◌, ◌<◌, ◌+◌, ◌-◌, ◌++◌, length, sym, ap, ◌∙◌, arith, Some}
 use Rattle.std.proofs.lemmas.List.{append-nil}
-use Rattle.stat_plan.specs.Trees.{climb, parent_of}
+use Rattle.overlay_setup.specs.Trees.{climb, parent_of}
 use Rattle.stat_plan.proofs.TableLemmas.{climb-on, climb-end}
 use Rattle.stat_plan.proofs.ancestors.ancestors_of.Goals as goal
 use Rattle.stat_plan.proofs.ancestors.ancestors_of.Goals.{else-loop-test, then-loop-test+in_default}

@@ -1,5 +1,5 @@
 use Rattle.std.proofs.Common.{◌≡◌, ◌-◌, ◌<◌, ◌++◌, length}
-use Rattle.stat_plan.specs.Trees.{climb}
+use Rattle.overlay_setup.specs.Trees.{climb}
 use Rattle.stat_plan.proofs.ancestors.ancestors_of.Given as goal
 
 abbrev pub invariant-loop : goal.invariant-loop

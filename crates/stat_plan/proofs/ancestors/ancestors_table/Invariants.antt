@@ -1,7 +1,7 @@
 use Rattle.std.proofs.Common.{◌≡◌, length, map}
-use Rattle.stat_plan.specs.Plans.{up_to}
+use Rattle.overlay_setup.specs.NodeSets.{up_to}
 use Rattle.stat_plan.specs.Tables.{rows_view}
-use Rattle.stat_plan.specs.Trees.{climb}
+use Rattle.overlay_setup.specs.Trees.{climb}
 use Rattle.stat_plan.proofs.ancestors.ancestors_table.Given as goal
 
 abbrev pub invariant-loop-n : goal.invariant-loop-n

@@ -1,5 +1,5 @@
 use Rattle.std.proofs.Common.{◌<◌, refl, sym, ap, subst, ◌∙◌, inl, inr, ◌∷◌, get_or, length}
-use Rattle.stat_plan.specs.NodeSets.{In}
+use Rattle.overlay_setup.specs.NodeSets.{In}
 use Rattle.stat_plan.specs.Tables.{GainRanks}
 use Rattle.stat_plan.specs.Plans.{nodes, ranks}
 use Rattle.stat_plan.proofs.InLists.{in_at}

@@ -1,6 +1,6 @@
 use Rattle.std.proofs.Common.{ℕ, ap, ◌∙◌, map, length}
 use Rattle.rank_set.specs.Ranks.{none}
-use Rattle.stat_plan.specs.Plans.{up_to}
+use Rattle.overlay_setup.specs.NodeSets.{up_to}
 use Rattle.stat_plan.proofs.Expecting.{expect_none}
 use Rattle.stat_plan.proofs.expected.expected_sets.Goals as goal
 

@@ -1,6 +1,6 @@
 use Rattle.std.proofs.Common.{◌==◌, sym, ap, ◌∙◌, eq-eqb, get_or}
 use Rattle.std.proofs.lemmas.Option.{slice_get-get_or}
-use Rattle.stat_plan.specs.Plans.{Stream}
+use Rattle.overlay_setup.specs.Scripts.{Stream}
 use Rattle.stat_plan.proofs.LookupLemmas.{find-here}
 use Rattle.stat_plan.proofs.find.stream_index.Goals as goal
 

@@ -1,6 +1,6 @@
 use Rattle.std.proofs.Common.{◌≡◌, ◌==◌, drop}
 use Rattle.std.specs.Prelude.{find}
-use Rattle.stat_plan.specs.Plans.{Stream}
+use Rattle.overlay_setup.specs.Scripts.{Stream}
 use Rattle.stat_plan.proofs.find.stream_index.Given as goal
 
 abbrev pub invariant-loop-i : goal.invariant-loop-i

@@ -1,9 +1,10 @@
 use Rattle.std.proofs.Common.{◌≡◌, ◌<◌, ◌+◌, ℕ, List, Bool, suc, None, Some, sym, ap, subst, ◌∙◌, arith, map}
 use Rattle.std.specs.Prelude.{find}
-use Rattle.stat_plan.specs.NodeSets.{In}
+use Rattle.overlay_setup.specs.NodeSets.{In, up_to}
 use Rattle.stat_plan.specs.Limits.{is_over, is_within_limit}
 use Rattle.rank_set.specs.Ranks.{Ranks}
-use Rattle.stat_plan.specs.Plans.{Plan, Stream, up_to, ranks_on}
+use Rattle.stat_plan.specs.Plans.{Plan, ranks_on}
+use Rattle.overlay_setup.specs.Scripts.{Stream}
 use Rattle.stat_plan.specs.Samples.{SampleLine, samples_of, seen_by, wave_lines}
 use Rattle.stat_plan.proofs.FirstOver.{wave_value, none_over_more, over_found}
 use Rattle.stat_plan.proofs.limit.check_stream.Goals as goal

@@ -1,7 +1,7 @@
 use Rattle.std.proofs.Common.{◌≡◌, ℕ, None, map}
 use Rattle.std.specs.Prelude.{find}
 use Rattle.stat_plan.specs.Limits.{is_over}
-use Rattle.stat_plan.specs.Plans.{up_to}
+use Rattle.overlay_setup.specs.NodeSets.{up_to}
 use Rattle.stat_plan.proofs.limit.check_stream.Given as goal
 
 abbrev pub invariant-loop-wave : goal.invariant-loop-wave

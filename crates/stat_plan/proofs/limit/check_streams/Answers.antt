@@ -1,13 +1,14 @@
 use Rattle.std.proofs.Common.{◌≡◌, ◌<◌, ℕ, None, Some, sym, ap, subst, ◌∙◌, length, map, take, get_or, List}
 use Rattle.std.specs.Prelude.{find}
 use Rattle.std.specs.Borrow.{Bor}
-use Rattle.stat_plan.specs.NodeSets.{In}
+use Rattle.overlay_setup.specs.NodeSets.{In}
 use Rattle.stat_plan.specs.Limits.{RefusesAt, is_over, stream_waves}
-use Rattle.stat_plan.specs.Plans.{Stream, nodes, stream_of, waves_of}
+use Rattle.stat_plan.specs.Plans.{nodes, stream_of, waves_of}
+use Rattle.overlay_setup.specs.Scripts.{Stream}
 use Rattle.stat_plan.proofs.FirstOver.{none_over_streams, refuses, stream_found, daemons_are_nodes}
 use Rattle.stat_plan.specs.PathOrder.{IsOrderOf}
 use Rattle.stat_plan.specs.Samples.{path_by}
-use Rattle.stat_plan.specs.declared.script.Grain.TheVariants.{Line, Function}
+use Rattle.overlay_setup.specs.declared.script.Grain.TheVariants.{Line, Function}
 use Rattle.stat_plan.proofs.WavePrefixes.{by_line}
 use Rattle.stat_plan.proofs.limit.check_streams.Goals as goal
 use Rattle.stat_plan.proofs.limit.check_streams.Goals.{in-Line, in-Function}

@@ -1,5 +1,5 @@
 use Rattle.std.proofs.Common.{◌≡◌, [], map}
-use Rattle.stat_plan.specs.Plans.{up_to}
+use Rattle.overlay_setup.specs.NodeSets.{up_to}
 use Rattle.stat_plan.specs.Tables.{rows_view}
 use Rattle.stat_plan.proofs.own_lines.empty_rows.Given as goal
 

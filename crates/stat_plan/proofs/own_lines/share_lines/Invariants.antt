@@ -1,7 +1,13 @@
 use Rattle.std.proofs.Common.{take}
-use Rattle.stat_plan.specs.OwnLines.{AreOwnRows}
+use Rattle.stat_plan.specs.OwnLines.{AreKeysOf, AreParted, GainLines}
 use Rattle.stat_plan.specs.Tables.{rows_view}
 use Rattle.stat_plan.proofs.own_lines.share_lines.Given as goal
 
 abbrev pub invariant-loop-line : goal.invariant-loop-line
-invariant-loop-line l = AreOwnRows l.placed (take l.line-index l.lines) (rows_view l.rows)
+invariant-loop-line l = record {
+  keys : AreKeysOf l.spread.keys.keys l.spread.lines.items;
+  parted : AreParted l.placed (take l.line-index l.lines) l.spread.lines.items (rows_view l.rows);
+}
+
+abbrev pub invariant-loop-line-2 : goal.invariant-loop-line-2
+invariant-loop-line-2 l = GainLines l.placed (take l.line-index l.line-items) (rows_view l.initial.rows) (rows_view l.rows)

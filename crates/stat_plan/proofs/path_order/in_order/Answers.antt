@@ -5,7 +5,7 @@ use Rattle.std.proofs.lemmas.List.{take_all}
 use Rattle.std.proofs.lemmas.List.MinMax.{ranks_by}
 use Rattle.std.proofs.lemmas.List.Sorted.{answers_always}
 use Rattle.call_path.specs.Path.{Path, path_cmp, path_cmp_total}
-use Rattle.stat_plan.specs.Plans.{up_to}
+use Rattle.overlay_setup.specs.NodeSets.{up_to}
 use Rattle.stat_plan.proofs.InOrder.{in_order_from, path_at}
 use Rattle.stat_plan.proofs.path_order.in_order.Goals as goal
 

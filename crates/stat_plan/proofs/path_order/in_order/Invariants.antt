@@ -1,7 +1,7 @@
 use Rattle.std.proofs.Common.{◌≡◌, ℕ, map, take}
 use Rattle.std.specs.Borrow.{Bor}
 use Rattle.call_path.specs.Path.{Path}
-use Rattle.stat_plan.specs.Plans.{up_to}
+use Rattle.overlay_setup.specs.NodeSets.{up_to}
 use Rattle.stat_plan.proofs.InOrder.{numbered_view, path_at}
 use Rattle.stat_plan.proofs.path_order.in_order.Given as goal
 

@@ -1,8 +1,9 @@
 use Rattle.std.proofs.Common.{◌≡◌, ◌<◌, ◌++◌, ◌∷◌, [], ℕ, sym, ap, subst, ◌∙◌, length, get_or, Vec, Global}
 use Rattle.std.proofs.lemmas.List.{map-append}
 use Rattle.rank_set.specs.Ranks.{Ranks}
-use Rattle.stat_plan.specs.NodeSets.{In}
-use Rattle.stat_plan.specs.Plans.{Stream, nodes}
+use Rattle.overlay_setup.specs.NodeSets.{In}
+use Rattle.stat_plan.specs.Plans.{nodes}
+use Rattle.overlay_setup.specs.Scripts.{Stream}
 use Rattle.stat_plan.specs.Tables.{AreExpected, AreAllExpected, rows_view}
 use Rattle.stat_plan.proofs.FirstOver.{daemons_are_nodes}
 use Rattle.stat_plan.proofs.LookupLemmas.{expected_more}

@@ -3,7 +3,7 @@ use Rattle.std.specs.Prelude.{◌↔◌, true, false}
 use Rattle.overlay_core.specs.Runs.{IsQuiet}
 use Rattle.overlay_net.specs.Nets.{NetView, state_of}
 use Rattle.overlay_net.specs.States.{net_view}
-use Rattle.overlay_net.proofs.Happening.{quiet_where_none}
+use Rattle.overlay_net.proofs.WholeEvents.{quiet_where_none}
 use Rattle.overlay_net.proofs.net.Net.is_quiet.Goals as goal
 
 pub returns-clause-quiet : goal.returns-clause-quiet

@@ -8,7 +8,7 @@ use Rattle.overlay_node.specs.NodeViews.{NodeView}
 use Rattle.overlay_node.specs.Packets.{packet_view, sends_view}
 use Rattle.overlay_node.proofs.Handling.{Handles, handles_by, may_by, context_fits}
 use Rattle.overlay_node.proofs.Ticking.{length_keys}
-use Rattle.overlay_node.proofs.node.Node.handle.Given as given
+use Rattle.overlay_node.proofs.node.Node.handle.Given as release_count
 use Rattle.overlay_node.proofs.node.Node.handle.Goals as goal
 
 pub step-requires-clause-context : goal.step-requires-clause-context
@@ -25,7 +25,7 @@ step-requires-clause-event g c κs within =
     (c.as_mut_slice.ensures.value ∙ ap (λ (v : NodeView). v.entries) c.self.view_is) c.requires.event
 
 -- the node and the output after the event
-after : (g : given.Over) (c : goal.After-self-2-1 g)
+after : (g : release_count.Over) (c : goal.After-self-2-1 g)
     → Handles c.args.plan.now c.args.self.now
     (record {
       number = c.self.inside.number;

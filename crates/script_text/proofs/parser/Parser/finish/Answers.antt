@@ -1,6 +1,6 @@
 use Rattle.std.proofs.Common.{◌≡◌, ◌<◌, ◌∙◌, sym, ap, subst, Ok, Err, length, nat_eq, true, false, ℕ, vec_len, arith}
 use Rattle.std.proofs.lemmas.Bool.{eqb-true, eqb-false}
-use Rattle.stat_plan.specs.Invariants.{ScriptFits}
+use Rattle.overlay_setup.specs.Scripts.{ScriptFits}
 use Rattle.script_text.specs.ParserViews.{parser_view, parser_nodes}
 use Rattle.script_text.proofs.InvariantLemmas.{script_from_invariant, fits_from_invariant}
 use Rattle.script_text.proofs.WholeScript.{whole_none, whole_some, not_empty}

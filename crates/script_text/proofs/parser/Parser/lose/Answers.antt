@@ -1,7 +1,7 @@
 use Rattle.std.proofs.Common.{◌∙◌, sym, ap, not, nat_lt}
 use Rattle.std.specs.List.{insert, prefix_len}
 use Rattle.text_lines.specs.Lines.{words}
-use Rattle.stat_plan.specs.declared.script.Fault.{Fault}
+use Rattle.overlay_setup.specs.declared.script.Fault.{Fault}
 use Rattle.script_text.specs.ParserViews.{parser_view, lose_view}
 use Rattle.script_text.specs.Words.{lose_words}
 use Rattle.script_text.specs.Losses.{fault_of}

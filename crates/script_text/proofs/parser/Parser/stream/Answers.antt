@@ -1,7 +1,7 @@
 use Rattle.std.proofs.Common.{◌∙◌, sym, ap, not, nat_lt}
 use Rattle.std.specs.List.{insert, prefix_len}
 use Rattle.text_lines.specs.Lines.{words}
-use Rattle.stat_plan.specs.Plans.{Stream}
+use Rattle.overlay_setup.specs.Scripts.{Stream}
 use Rattle.script_text.specs.ParserViews.{parser_view, stream_view}
 use Rattle.script_text.specs.Words.{stream_words}
 use Rattle.script_text.specs.Streams.{stream_of}

@@ -2,7 +2,8 @@ use Rattle.std.proofs.Common.{◌≡◌, ◌==◌, ◌<◌, Some, sym, ap, subst
 use Rattle.std.specs.Prelude.{find, slice_get, IsSome}
 use Rattle.std.proofs.lemmas.Bool.{true≢false}
 use Rattle.rank_set.specs.Ranks.{none}
-use Rattle.stat_plan.specs.Plans.{Plan, Stream, stream_of, nodes, expected}
+use Rattle.stat_plan.specs.Plans.{Plan, stream_of, nodes, expected}
+use Rattle.overlay_setup.specs.Scripts.{Stream}
 use Rattle.stat_plan.specs.Tables.{rows_view}
 use Rattle.stat_plan.proofs.LookupLemmas.{expected_at, element_at}
 use Rattle.stat_plan.proofs.plan.Plan.expected.Goals as goal

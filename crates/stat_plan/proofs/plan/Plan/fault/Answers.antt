@@ -2,7 +2,7 @@ use Rattle.std.proofs.Common.{◌==◌, sym, ap, ◌∙◌, eq-eqb, get_or, arit
 use Rattle.std.specs.Prelude.{find}
 use Rattle.std.proofs.lemmas.List.{drop_all}
 use Rattle.stat_plan.specs.Plans.{Plan, fault}
-use Rattle.stat_plan.specs.declared.script.Fault.{Fault}
+use Rattle.overlay_setup.specs.declared.script.Fault.{Fault}
 use Rattle.stat_plan.proofs.LookupLemmas.{find-here}
 use Rattle.stat_plan.proofs.plan.Plan.fault.Goals as goal
 

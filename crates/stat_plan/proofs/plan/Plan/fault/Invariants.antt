@@ -1,6 +1,6 @@
 use Rattle.std.proofs.Common.{◌≡◌, ◌==◌, drop}
 use Rattle.std.specs.Prelude.{find}
-use Rattle.stat_plan.specs.declared.script.Fault.{Fault}
+use Rattle.overlay_setup.specs.declared.script.Fault.{Fault}
 use Rattle.stat_plan.proofs.plan.Plan.fault.Given as goal
 
 abbrev pub invariant-loop-f : goal.invariant-loop-f

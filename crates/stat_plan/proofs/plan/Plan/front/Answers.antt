@@ -1,6 +1,6 @@
 use Rattle.std.proofs.Common.{ap, ◌∙◌}
 use Rattle.stat_plan.specs.Plans.{Plan, front}
-use Rattle.stat_plan.specs.Trees.{root_of}
+use Rattle.overlay_setup.specs.Trees.{root_of}
 use Rattle.stat_plan.proofs.plan.Plan.front.Goals as goal
 
 pub returns-clause-value : goal.returns-clause-value

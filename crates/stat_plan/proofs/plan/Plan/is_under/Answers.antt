@@ -1,5 +1,5 @@
 use Rattle.std.proofs.Common.{ap, ◌∙◌}
-use Rattle.stat_plan.specs.NodeSets.{member}
+use Rattle.overlay_setup.specs.NodeSets.{member}
 use Rattle.stat_plan.specs.Plans.{is_under}
 use Rattle.stat_plan.proofs.LookupLemmas.{member-contains}
 use Rattle.stat_plan.proofs.plan.Plan.is_under.Goals as goal

@@ -1,7 +1,8 @@
 use Rattle.std.proofs.Common.{◌<◌, ◌==◌, sym, ap, subst, ◌∙◌, length, refl}
 use Rattle.std.specs.Prelude.{find, slice_get}
 use Rattle.std.proofs.lemmas.Option.{slice_get_read}
-use Rattle.stat_plan.specs.Plans.{Stream, stream_of}
+use Rattle.stat_plan.specs.Plans.{stream_of}
+use Rattle.overlay_setup.specs.Scripts.{Stream}
 use Rattle.stat_plan.proofs.plan.Plan.stream.Goals as goal
 
 pub returns-in-Some : goal.returns-in-Some

@@ -1,6 +1,6 @@
 use Rattle.std.proofs.Common.{◌≡◌, ◌∙◌, ◌≤◌, sym, ap, subst, map, string_bytes, String, Global, List, length, None, arith}
-use Rattle.stat_plan.specs.Topologies.{IsTopology, topology}
-use Rattle.stat_plan.proofs.NameNumbers.{length-map}
+use Rattle.overlay_setup.specs.Topologies.{IsTopology, topology}
+use Rattle.overlay_setup.proofs.NameNumbers.{length-map}
 use Rattle.topology_text.specs.ParserViews.{parser_view}
 use Rattle.topology_text.specs.Whole.{parents_of, whole_error}
 use Rattle.topology_text.proofs.Numbers.{distinct_names}

@@ -1,6 +1,6 @@
 use Rattle.std.proofs.Common.{◌≡◌, ◌∙◌, sym, ap, None, Some, Ok, Err, String, Global, ◌<◌, ◌++◌, [], ◌∷◌, List, length, ◌≤◌, map, string_bytes, arith}
-use Rattle.stat_plan.specs.Names.{number_of}
-use Rattle.stat_plan.proofs.NameNumbers.{length-map, number_of_keys}
+use Rattle.overlay_setup.specs.Names.{number_of}
+use Rattle.overlay_setup.proofs.NameNumbers.{length-map, number_of_keys}
 use Rattle.topology_text.specs.ParserViews.{parser_view}
 use Rattle.topology_text.proofs.Numbers.{number_of_last, appear_known, appear_over, appear_new, inserted}
 use Rattle.topology_text.proofs.parser.Parser.number.Goals as goal

@@ -1,0 +1,3 @@
+pub mod NameNumbers
+pub mod DaemonNames
+pub mod Leaves

@@ -1,0 +1,7 @@
+pub mod Names
+pub mod NodeSets
+pub mod Trees
+pub mod Topologies
+pub mod Daemons
+pub mod Scripts
+pub mod Codes

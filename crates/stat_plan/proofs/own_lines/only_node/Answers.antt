@@ -1,0 +1,27 @@
+use Rattle.std.specs.Prelude.{slice_get}
+use Rattle.std.proofs.Common.{◌≡◌, ℕ, List, Some, get_or, sym, ap, ◌∙◌}
+use Rattle.std.proofs.lemmas.List.{get_or_default}
+use Rattle.rank_set.specs.Ranks.{Ranks, IsSubset, has, in_order, none, subset_has}
+use Rattle.stat_plan.specs.Samples.{all_ranks}
+use Rattle.stat_plan.specs.Tables.{AreRankNodes}
+use Rattle.stat_plan.proofs.Indexing.{IsRankNode, rank_has_entry, rank_node_is}
+use Rattle.stat_plan.proofs.LookupLemmas.{has_first}
+use Rattle.stat_plan.proofs.own_lines.only_node.Goals as goal
+
+node_of : (placed : List Ranks) (rank_to_node : List ℕ) (ranks : Ranks) (first : ℕ) → AreRankNodes placed rank_to_node → IsSubset ranks (all_ranks placed) → slice_get (in_order ranks) 0 ≡ Some first → IsRankNode placed first (get_or rank_to_node first 0)
+node_of placed rank_to_node ranks first are lies is = rank_node_is placed rank_to_node first are (lies first (has_first ranks first is))
+
+pub bounds-rank_to_node-first : goal.bounds-rank_to_node-first
+bounds-rank_to_node-first c = rank_has_entry c.args.placed.now c.args.rank_to_node.now c.in_ok-first.first c.requires.rank_to_node (c.requires.placed c.in_ok-first.first (has_first c.args.ranks.now c.in_ok-first.first c.in_ok-first.ensures.least))
+
+pub bounds-placed-node : goal.bounds-placed-node
+bounds-placed-node c = (node_of c.args.placed.now c.args.rank_to_node.now c.args.ranks.now c.in_ok-first.first c.requires.rank_to_node c.requires.placed c.in_ok-first.ensures.least).inside
+
+pub returns-then-is_subset-clause-inside : goal.returns-then-is_subset-clause-inside
+returns-then-is_subset-clause-inside c = (node_of c.args.placed.now c.args.rank_to_node.now c.args.ranks.now c.in_ok-first.first c.requires.rank_to_node c.requires.placed c.in_ok-first.ensures.least).inside
+
+pub returns-then-is_subset-clause-subset : goal.returns-then-is_subset-clause-subset
+returns-then-is_subset-clause-subset c r there =
+    let at = node_of c.args.placed.now c.args.rank_to_node.now c.args.ranks.now c.in_ok-first.first c.requires.rank_to_node c.requires.placed c.in_ok-first.ensures.least in
+    ap (λ s. has s r) (sym (c.index-placed-node.is ∙ get_or_default c.args.placed.now (get_or c.args.rank_to_node.now c.in_ok-first.first 0) c.index-placed-node.result none at.inside))
+    ∙ subset_has c.args.ranks.now c.index-placed-node.result (sym c.if-is_subset.ensures) r there

@@ -1,9 +1,0 @@
-use Rattle.std.proofs.Common.{◌≡◌, ◌<◌, ℕ, false, length, get_or, take}
-use Rattle.stat_plan.specs.Trees.{is_daemon}
-use Rattle.stat_plan.proofs.topology.daemon_flags.Given as goal
-
-abbrev pub invariant-loop-parent : goal.invariant-loop-parent
-invariant-loop-parent l = record {
-  paired : length l.flags.items ≡ length l.parents;
-  each : (n : ℕ) → n < length l.flags.items → get_or l.flags.items n false ≡ is_daemon (take l.parent-index l.parents) n;
-}
