@@ -66,7 +66,7 @@ below_more r (x ∷ xs) h =
           let n : ◌≡◌ {A = ℕ} (cond (mem r xs) 1 0) 0 = ap (λ t. cond t 1 0) gone in
           let m : ◌≡◌ {A = ℕ} (cond (eq_by_cmp nat_cmp r x || mem r xs) 1 0) 1 = ap (λ t. cond (t || mem r xs) 1 0) (same r x (sym e)) in
           ap more (lt-ltb x (suc r) (omega arith)) ∙ omega (arith, later, n, m, ap few (le-ltb x r (omega arith)))
-      | inr apart ↦ elim apart [
+      | inr differ ↦ elim differ [
         | inl lt ↦
             let m : ◌≡◌ {A = ℕ} (cond (eq_by_cmp nat_cmp r x || mem r xs) 1 0) (cond (mem r xs) 1 0) = ap (λ t. cond (t || mem r xs) 1 0) (other r x (λ e. omega arith)) in
             ap more (lt-ltb x (suc r) (omega arith)) ∙ omega (arith, later, m, ap few (lt-ltb x r lt))
@@ -125,7 +125,7 @@ module _ (cover : Ranks) where
   pub place-injective : (a b : ℕ) → has cover a ≡ true → has cover b ≡ true → place cover a ≡ place cover b → a ≡ b
   place-injective a b one two e = elim (cases_order a b) [
     | inl is ↦ is
-    | inr apart ↦ elim apart [
+    | inr differ ↦ elim differ [
       | inl lt ↦ absurd (omega (arith, e, place-increases a b one lt))
       | inr gt ↦ absurd (omega (arith, e, place-increases b a two gt))
     ]

@@ -1,5 +1,5 @@
 -- Words that are trimmed at both ends, and words that reach further.
-use Rattle.std.proofs.Common.{◌≡◌, ℕ, ◌+◌, ◌-◌, ◌<◌, ◌≤◌, max, min, List, ◌++◌, length, get_or, take, drop, replicate, length-append, refl, sym, ap, ◌∙◌, inl, inr, arith}
+use Rattle.std.proofs.Common.{[], ◌∷◌, ◌≡◌, ℕ, ◌+◌, ◌-◌, ◌<◌, ◌≤◌, max, min, List, ◌++◌, length, get_or, take, drop, replicate, length-append, refl, sym, ap, ◌∙◌, inl, inr, arith}
 use Rattle.std.specs.Prelude.{bit_or}
 use Rattle.std.proofs.lemmas.Bool.{cases_lt}
 use Rattle.std.proofs.lemmas.List.{get_or_past, get_or_append_left, get_or-append_right, get_or-replicate, length-replicate, get_or-take, get_or-drop, length-take, length-drop, take-append-le}
@@ -100,6 +100,19 @@ covers_longer o ws low high xs h order within_limit some begins short is =
       first = λ _. omega (arith, same o, first_word o ws, h.first some);
       last = λ lt. absurd (omega arith);
     }
+
+-- zeros where there were no words
+pub covers_new : (o : ℕ) (ws : List ℕ) (low high : ℕ) (xs : List ℕ) → AreWords o ws → low < high → high ≤ WORD_LIMIT → length ws ≡ 0 → xs ≡ ws ++ replicate (high - low - length ws) 0 → ExtendsTo o ws low high low xs
+covers_new o [] low high xs h order within_limit none is =
+    let n : ℕ = high - low - 0 in
+    let zero_word : ℕ = 0 in
+    let at : o ≡ 0 = h.nothing refl in
+    let z : o - low ≡ 0 = omega arith in
+    let same : (k : ℕ) → word_at low xs k ≡ word_at o [] k =
+    λ k. ap (λ ys. word_at low ys k) (is ∙ ap (λ m. (replicate m 0 ++ []) ++ replicate n 0) (sym z)) ∙ padded_word o [] low n (λ more. absurd (omega (arith, more))) k in
+    let long : length xs ≡ n = ap length is ∙ length-replicate n zero_word in
+    covers_wider o [] low high low high xs h order within_limit (λ _. refl) (λ more. absurd (omega (arith, more))) (omega arith) same (omega arith)
+covers_new o (w ∷ ws) low high xs h order within_limit none is = absurd (omega (arith, none))
 
 -- words that reach far enough are trimmed once bits are set in the first and in the last that is asked for
 pub covered_trimmed : (o : ℕ) (ws : List ℕ) (low high a : ℕ) (xs new : List ℕ) (f : ℕ → ℕ) → ExtendsTo o ws low high a xs → low < high → length new ≡ length xs → ((k : ℕ) → word_at a new k ≡ bit_or (word_at a xs k) (f k)) → 0 < f low → 0 < f (high - 1) → AreWords a new

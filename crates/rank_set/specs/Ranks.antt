@@ -188,8 +188,8 @@ mem_below x (y ∷ ys) h =
 mem_head : (x : ℕ) (xs : List ℕ) → mem x (x ∷ xs) ≡ true
 mem_head x xs = ap (λ b. b || mem x xs) (ap is_eq (tied_itself nat_cmp_total x))
 
-apart : (x y : ℕ) (xs ys : List ℕ) → x < y → list_all (λ z. nat_lt y z) ys ≡ true → mem x (x ∷ xs) ≡ mem x (y ∷ ys) → ⊥
-apart x y xs ys lt h e = true≢false (sym (mem_head x xs) ∙ e ∙ mem_below x (y ∷ ys) (and_from (nat_lt x y) _ (lt-ltb x y lt) (all_above x y ys lt h)))
+heads_differ : (x y : ℕ) (xs ys : List ℕ) → x < y → list_all (λ z. nat_lt y z) ys ≡ true → mem x (x ∷ xs) ≡ mem x (y ∷ ys) → ⊥
+heads_differ x y xs ys lt h e = true≢false (sym (mem_head x xs) ∙ e ∙ mem_below x (y ∷ ys) (and_from (nat_lt x y) _ (lt-ltb x y lt) (all_above x y ys lt h)))
 
 tails : (x y : ℕ) (xs ys : List ℕ) → x ≡ y → list_all (λ z. nat_lt x z) xs ≡ true → list_all (λ z. nat_lt y z) ys ≡ true → ((r : ℕ) → mem r (x ∷ xs) ≡ mem r (y ∷ ys)) → (r : ℕ) → mem r xs ≡ mem r ys
 tails x y xs ys e ax ay is r = elim (cases_Bool (eq_by_cmp nat_cmp r x)) [
@@ -209,9 +209,9 @@ same_members (x ∷ xs) (y ∷ ys) hx hy is =
     let a = and_parts (list_all (λ z. nat_lt x z) xs) (is_strictly_increasing xs) hx in
     let b = and_parts (list_all (λ z. nat_lt y z) ys) (is_strictly_increasing ys) hy in
     let e : x ≡ y = elim (cases_lt x y) [
-      | inl lt ↦ absurd (apart x y xs ys lt b.0 (is x))
+      | inl lt ↦ absurd (heads_differ x y xs ys lt b.0 (is x))
       | inr ge ↦ elim (cases_lt y x) [
-        | inl lt ↦ absurd (apart y x ys xs lt a.0 (sym (is y)))
+        | inl lt ↦ absurd (heads_differ y x ys xs lt a.0 (sym (is y)))
         | inr le ↦ omega (arith, ge, le)
       ]
     ] in

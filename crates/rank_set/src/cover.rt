@@ -9,8 +9,8 @@ use crate::words::next_run;
 use crate::{RANK_LIMIT, RankSet, WORD_LIMIT};
 use std::alloc::AllocError;
 
-// Adds the ranks of the words from the first to the last to a set, moved so that the first becomes the target. Only the words
-// from the first's to the last's are read.
+// Adds the ranks of the words from the first to the last to a set, moved so that the first becomes the target. Only the
+// words from the first's to the last's are read.
 pub(crate) fn add_moved(
     offset: u32,
     words: &[u64],

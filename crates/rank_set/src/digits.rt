@@ -11,7 +11,8 @@ pub fn digits_len(text: &[u8]) -> usize
     text.iter().take_while(|b| b.is_ascii_digit()).count()
 }
 
-/// The number that digits write, or the limit where it is more. A text of any length is read, and zeros in front mean nothing.
+/// The number that digits write, or the limit where it is more. A text of any length is read, and zeros in front mean
+/// nothing.
 pub fn capped_value(digits: &[u8], limit: u32) -> u32
     requires { limit < 2 ^ 28 }
     ensures { result ≡ min limit (value_after 0 digits.now) }
@@ -23,7 +24,8 @@ pub fn capped_value(digits: &[u8], limit: u32) -> u32
     number
 }
 
-/// The number that a text begins with, or the limit where it is more, and how many digits it has. Without a digit both are 0.
+/// The number that a text begins with, or the limit where it is more, and how many digits it has. Without a digit both
+/// are 0.
 pub fn capped_number(text: &[u8], limit: u32) -> (u32, usize)
     requires { limit < 2 ^ 28 }
     ensures value { result.0 ≡ min limit (value_after 0 (take (digits_len text.now) text.now)) }

@@ -1,7 +1,7 @@
 //! Sets of ranks, held as words of 64 bits that are trimmed at both ends.
 //!
-//! A contract sees a `RankSet` as a value of `Ranks`: the members in ascending order. Two sets with the same members are
-//! equal. A union of two full sets takes one operation a word, and at most one allocation.
+//! A contract sees a `RankSet` as a value of `Ranks`: the members in ascending order. Two sets with the same members
+//! are equal. A union of two full sets takes one operation a word, and at most one allocation.
 #![tactic(auto)]
 
 ghost use Rattle.std.specs.Prelude.{◌≡◌, ℕ, ◌<◌, ◌≤◌, ◌↔◌, true, false, OnOk, OnErr, IfOk, IfSome, IfNone, Some, slice_get, not, ◌++◌};
@@ -177,8 +177,8 @@ impl RankSet {
         Ok(RankSet { offset, words })
     }
 
-    /// Whether the other set has no rank outside the words (64 ranks each, from 0 on) from that of the least rank to that of the
-    /// greatest: then `unite_within` adds the other's ranks.
+    /// Whether the other set has no rank outside the words (64 ranks each, from 0 on) from that of the least rank to
+    /// that of the greatest: then `unite_within` adds the other's ranks.
     pub fn spans(&self, other: &RankSet) -> bool
         ensures { result ≡ spans self.now other.now }
     {
@@ -286,7 +286,8 @@ impl RankSet {
         words::least(self.offset, self.words.as_slice())
     }
 
-    /// The longest run of neighbours that begins with the least rank at or above `from`, `None` where there is no such rank.
+    /// The longest run of neighbours that begins with the least rank at or above `from`, `None` where there is no such
+    /// rank.
     pub fn next_run(&self, from: u32) -> Option<Run>
         ensures none { IfNone result ((q : ℕ) → from ≤ q → has self.now q ≡ false) }
         ensures run { IfSome result (λ run. IsRun self.now from run.first run.last) }
@@ -295,8 +296,8 @@ impl RankSet {
         words::next_run(self.offset, self.words.as_slice(), from)
     }
 
-    /// The places of the ranks in a cover, a set that has them all: the place of a rank is the number of lesser ranks of the
-    /// cover. The cost is that of the words and runs of both sets.
+    /// The places of the ranks in a cover, a set that has them all: the place of a rank is the number of lesser ranks
+    /// of the cover. The cost is that of the words and runs of both sets.
     pub fn to_places(&self, cover: &RankSet) -> Result<RankSet, AllocError>
         requires { is_subset self.now cover.now ≡ true }
         ensures places { IfOk result (λ places. places ≡ to_places cover.now self.now) }
@@ -315,8 +316,8 @@ impl RankSet {
         Ok(places)
     }
 
-    /// The ranks of a cover whose places are in the set, each place below the cover's count: the way back from `to_places`. The
-    /// cost is that of the words and runs of both sets.
+    /// The ranks of a cover whose places are in the set, each place below the cover's count: the way back from
+    /// `to_places`. The cost is that of the words and runs of both sets.
     pub fn from_places(&self, cover: &RankSet) -> Result<RankSet, AllocError>
         requires { (p : ℕ) → Has p self.now → p < size cover.now }
         ensures ranks { IfOk result (λ ranks. ranks ≡ from_places cover.now self.now) }

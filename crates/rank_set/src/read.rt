@@ -90,8 +90,8 @@ fn item_len(text: &[u8]) -> usize
     text.iter().take_while(|b| **b != b',').count()
 }
 
-// Adds the ranks of a run. They are kept back in the pending run, which takes what overlaps or touches it, and are put into the
-// set once another run comes.
+// Adds the ranks of a run. They are kept back in the pending run, which takes what overlaps or touches it, and are put
+// into the set once another run comes.
 fn add_run(ranks: &mut RankSet, pending: &mut Option<Run>, run: Run) -> Result<(), AllocError>
     requires pending { IfSome pending.old (λ p. IsRunInRange p.first p.last) }
     requires run { IsRunInRange run.first run.last }
@@ -149,8 +149,9 @@ fn read_items(text: &[u8], ranks: &mut RankSet) -> Result<(), RanksError>
     }
 }
 
-/// The ranks of a text, as `7,0-2,1`: in any order, with overlaps, with any number of leading zeros. It is read from the left
-/// and refused at its first error. Items that overlap or touch what came right before cost no more than their digits.
+/// The ranks of a text, as `7,0-2,1`: in any order, with overlaps, with any number of leading zeros. It is read from
+/// the left and refused at its first error. Items that overlap or touch what came right before cost no more than their
+/// digits.
 pub fn read_ranks(alloc: Global, text: &[u8]) -> Result<RankSet, RanksError>
     ensures ok { IfOk result (λ ranks. ranks_text text.now ≡ Ok ranks) }
     ensures err { IfErr result (λ e. e ≢ OutOfMemory → ranks_text text.now ≡ Err e) }

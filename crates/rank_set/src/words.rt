@@ -78,8 +78,8 @@ fn reaching(
     Ok((start, all))
 }
 
-// Extends the words to reach from one index up to another. On failure they are unchanged. At the end they grow with room for
-// more.
+// Extends the words to reach from one index up to another. On failure they are unchanged. At the end they grow with
+// room for more.
 fn extend_to(offset: &mut u32, words: &mut Words, low: u32, high: u32) -> Result<(), AllocError>
     requires trimmed { AreWords offset.old words.old.items }
     requires not_empty { low < high }
@@ -88,7 +88,12 @@ fn extend_to(offset: &mut u32, words: &mut Words, low: u32, high: u32) -> Result
     ensures err_offset { OnErr result (offset.new ≡ offset.old) }
     ensures err_words { OnErr result (words.new.items ≡ words.old.items) }
 {
-    if words.is_empty() || low < *offset {
+    if words.is_empty() {
+        pad(words, (high - low) as usize)?;
+        *offset = low;
+        return Ok(());
+    }
+    if low < *offset {
         let (start, all) = reaching(*words.allocator(), *offset, words.as_slice(), low, high)?;
         *offset = start;
         *words = all;

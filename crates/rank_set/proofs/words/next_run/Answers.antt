@@ -18,8 +18,8 @@ returns-in_err-first-clause-none c = told_none c.from_residual.result _ (λ q le
   | inr past ↦ no_bit_past c.args.offset c.args.words.now q past
 ])
 
-apart : (t : ℕ → Bool) (p q : ℕ) → p ≤ q → t p ≡ true → t q ≡ false → p < q
-apart t p q le one none = elim (cases_lt p q) [ inl lt ↦ lt | inr ge ↦ let e : p ≡ q = omega arith in absurd (true≢false (sym one ∙ ap t e ∙ none)) ]
+differ : (t : ℕ → Bool) (p q : ℕ) → p ≤ q → t p ≡ true → t q ≡ false → p < q
+differ t p q le one none = elim (cases_lt p q) [ inl lt ↦ lt | inr ge ↦ let e : p ≡ q = omega arith in absurd (true≢false (sym one ∙ ap t e ∙ none)) ]
 
 pub returns-clause-run : goal.returns-clause-run
 returns-clause-run c =
@@ -31,7 +31,7 @@ returns-clause-run c =
       | in-Some w ↦
           let gap = w.in-Some.ensures.run in
           subst (λ e. IsRun (ranks_in c.args.offset c.args.words.now) c.args.from first (e - 1)) (sym w.end-is)
-          (run_from c.args.offset c.args.words.now c.args.from first w.in-Some.gap next (apart t first w.in-Some.gap gap.start next.bit gap.bit) gap.before gap.bit)
+          (run_from c.args.offset c.args.words.now c.args.from first w.in-Some.gap next (differ t first w.in-Some.gap gap.start next.bit gap.bit) gap.before gap.bit)
       | in-None w ↦
           subst (λ e. IsRun (ranks_in c.args.offset c.args.words.now) c.args.from first (e - 1)) (sym w.end-is)
           (run_from c.args.offset c.args.words.now c.args.from first n next next.end (λ q le lt. w.in-None.ensures.none q le lt) (no_bit_past c.args.offset c.args.words.now n (omega arith)))
