@@ -100,10 +100,10 @@ module _ (P : Pairs) (C : Ranks) (r : ℕ) (rest : List ℕ) (is : in_order C �
   -- the block of a rank that is left is the same in what is left
   same_block : (s : ℕ) → has others s ≡ true → block s ≡ block_later s
   same_block s there =
-      let apart : not (equivalent P r s) ≡ true = (and_parts (has C s) (not (equivalent P r s)) (sym (in_others s) ∙ there)).1 in
+      let distinct : not (equivalent P r s) ≡ true = (and_parts (has C s) (not (equivalent P r s)) (sym (in_others s) ∙ there)).1 in
       ap (λ (b : Ranks). let x : Ranks × List Path = (b, paths_of P s) in x) (same_ranks _ _ (λ q.
       has-those (equivalent P s) C q
-      ∙ both_if (has C q) (equivalent P r q) (equivalent P s q) (λ sq. false_from_ne_true (equivalent P r q) (λ f. true≢false (sym apart ∙ ap not (equivalent_chain P r q s f (equivalent_turned P s q sq)))))
+      ∙ both_if (has C q) (equivalent P r q) (equivalent P s q) (λ sq. false_from_ne_true (equivalent P r q) (λ f. true≢false (sym distinct ∙ ap not (equivalent_chain P r q s f (equivalent_turned P s q sq)))))
       ∙ sym (has-those (equivalent P s) others q ∙ ap (λ b. b && equivalent P s q) (in_others q))))
     where
       both_if : (c a b : Bool) → (b ≡ true → a ≡ false) → (c && b) ≡ ((c && not a) && b)

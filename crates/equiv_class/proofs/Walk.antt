@@ -39,7 +39,7 @@ row_entry t i row d le lt h =
     at (x ∷ es) (suc k) l s = at es k (omega arith) s
 
 -- and for the frames
-pub frames_step : (t : Tree) → IsTree t → (i : ℕ) (row : Row) (before after : Path) → 1 ≤ i → i < length (rows_of t) → IfSome (slice_get (rows_of t) i) (Shows row) → 0 < row.depth
+frames_step : (t : Tree) → IsTree t → (i : ℕ) (row : Row) (before after : Path) → 1 ≤ i → i < length (rows_of t) → IfSome (slice_get (rows_of t) i) (Shows row) → 0 < row.depth
     → before ≡ (get_or (rows_of t) (i - 1) ([], (none, none))).0 → after ≡ take (row.depth - 1) before ++ row.frame.now ∷ []
     → (after ≡ (get_or (rows_of t) ((i + 1) - 1) ([], (none, none))).0) × (after ≡ (get_or (finmap.entries t.below) (i - 1) ([], (none, none))).0)
 frames_step t tree i row before after le lt h some so_far is =
@@ -65,7 +65,7 @@ pub no_ends-count : (n : ℕ) → n ≤ 0 → not (n == 0) ≡ false
 no_ends-count n le = ap not (eq-eqb n 0 (omega (arith, le)))
 
 -- one row's step for the paths in which ranks were seen
-pub seen_step : (t : Tree) (i : ℕ) (row : Row) (path : Path) (before after : List (Path × Ranks)) → 1 ≤ i → i < length (rows_of t) → IfSome (slice_get (rows_of t) i) (Shows row)
+seen_step : (t : Tree) (i : ℕ) (row : Row) (path : Path) (before after : List (Path × Ranks)) → 1 ≤ i → i < length (rows_of t) → IfSome (slice_get (rows_of t) i) (Shows row)
     → path ≡ (get_or (finmap.entries t.below) (i - 1) ([], (none, none))).0 → after ≡ before ++ cond (not (size row.ends.now == 0)) ((path, row.ends.now) ∷ []) []
     → before ++ map ends_at (filter has_ends (drop (i - 1) (finmap.entries t.below))) ≡ seen_in t → after ++ map ends_at (filter has_ends (drop ((i + 1) - 1) (finmap.entries t.below))) ≡ seen_in t
 seen_step t i row path before after le lt h own is so_far =
@@ -84,3 +84,15 @@ seen_step t i row path before after le lt h own is so_far =
     one : (b : Bool) (e : Path × Marks) (kept : List (Path × Marks)) → cond b (ends_at e ∷ []) [] ++ map ends_at kept ≡ map ends_at (cond b (e ∷ kept) kept)
     one true e kept = refl
     one false e kept = refl
+
+-- one step of a walk: the frames, and the paths in which ranks were seen
+pub walk_step : (t : Tree) → IsTree t → (i next : ℕ) (row : Row) (before path : Path) (seen after : List (Path × Ranks)) → 1 ≤ i → i < length (rows_of t) → next ≡ i + 1
+    → IfSome (slice_get (rows_of t) i) (Shows row) → 0 < row.depth
+    → before ≡ (get_or (rows_of t) (i - 1) ([], (none, none))).0 → path ≡ take (row.depth - 1) before ++ row.frame.now ∷ []
+    → seen ++ map ends_at (filter has_ends (drop (i - 1) (finmap.entries t.below))) ≡ seen_in t → after ≡ seen ++ cond (not (size row.ends.now == 0)) ((path, row.ends.now) ∷ []) []
+    → (path ≡ (get_or (rows_of t) (next - 1) ([], (none, none))).0) × (after ++ map ends_at (filter has_ends (drop (next - 1) (finmap.entries t.below))) ≡ seen_in t)
+walk_step t tree i next row before path seen after le lt e h some is_before is_path so_far is_after =
+    let frames = frames_step t tree i row before path le lt h some is_before is_path in (
+      frames.0 ∙ ap (λ n. (get_or (rows_of t) (n - 1) ([], (none, none))).0) (sym e),
+      ap (λ n. after ++ map ends_at (filter has_ends (drop (n - 1) (finmap.entries t.below)))) e ∙ seen_step t i row path seen after le lt h frames.1 is_after so_far,
+    )

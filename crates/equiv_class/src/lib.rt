@@ -89,8 +89,8 @@ fn seen_paths<'a, T: PrefixTree>(
     ensures { IfOk result (λ seen. entries_view seen.items ≡ seen_in (T.tree tree.now)) }
 {
     let mut seen = Vec::new(alloc);
-    for i in 1..tree.rows() {
-        let row = tree.row(i);
+    let mut at = tree.cursor(alloc)?;
+    while let Some(row) = tree.next_row(&mut at) {
         frames.cut(row.depth - 1);
         frames.push(row.frame)?;
         if row.ends.count() > 0 {

@@ -1,8 +1,9 @@
 -- The daemons of a stream.
 use Rattle.std.proofs.Common.{◌≡◌, ℕ, ◌<◌, ◌==◌, List, [], ◌∷◌, Option, Some, None, sym, ap}
 use Rattle.std.specs.List.{AllByRecursion}
-use Rattle.stat_plan.specs.Invariants.{IsPlan, IsDaemon}
-use Rattle.stat_plan.specs.Plans.{Plan, Stream, daemons, nodes, nodes_of, stream_of}
+use Rattle.stat_plan.specs.Invariants.{IsPlan}
+use Rattle.overlay_setup.specs.Scripts.{IsDaemon, Stream}
+use Rattle.stat_plan.specs.Plans.{Plan, daemons, nodes, nodes_of, stream_of}
 use Rattle.stat_plan.proofs.FirstOver.{all_in, found_in}
 
 pub daemons_at : (p : Plan) (s : ℕ) (x : Stream) → stream_of p s ≡ Some x → x.daemons ≡ daemons p s

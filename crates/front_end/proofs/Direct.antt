@@ -11,8 +11,9 @@ use Rattle.std.proofs.lemmas.List.Elements.{filter-append}
 use Rattle.std.proofs.lemmas.List.Sorted.{IsPermutation-refl, IsPermutation-sym}
 use Rattle.prefix_tree.specs.Tree.{tree_of}
 use Rattle.stat_plan.specs.Invariants.{IsPlan}
-use Rattle.stat_plan.specs.NodeSets.{In, IsStrictlyIncreasing}
-use Rattle.stat_plan.specs.Plans.{Plan, Stream, samples, stream_ranks, up_to, waves_of}
+use Rattle.overlay_setup.specs.NodeSets.{In, IsStrictlyIncreasing, up_to}
+use Rattle.stat_plan.specs.Plans.{Plan, samples, stream_ranks, waves_of}
+use Rattle.overlay_setup.specs.Scripts.{Stream}
 use Rattle.stat_plan.proofs.FirstOver.{all_in}
 use Rattle.stat_plan.proofs.InLists.{in_append, in_filter, in_from_filter, in_from_map, in_map}
 use Rattle.stat_desk.specs.declared.event.Event.{Event}
@@ -138,7 +139,7 @@ module _ (p : Plan) (journal : List Event) (releases : List TreeRelease) (plan :
       (and_from (r.stream == r.stream) (r.wave == r.wave) (eq-eqb r.stream r.stream refl) (eq-eqb r.wave r.wave refl)) in
       let is : bare_release r ≡ one.only = only_one (bare_release r) one.only (subst (λ (qs : List Release). In (bare_release r) qs) one.all among) in
       let kind : r.kind ≡ Final = ap (λ (q : Release). q.kind) is ∙ one.kind in
-      let coverage : r.tree.coverage ≡ stream_ranks p r.stream = ap (λ (q : Release). q.cov) is ∙ one.covers in
+      let coverage : r.tree.coverage ≡ stream_ranks p r.stream = ap (λ (q : Release). q.covered) is ∙ one.covers in
       let tree : r.tree ≡ tree_of (samples p r.stream r.wave) (stream_ranks p r.stream) = (all_in (IsDirect p) releases r run.direct there).tree ∙ ap (tree_of (samples p r.stream r.wave)) coverage in
       let lost : r.lost ≡ [] = names_none p journal (bare_release r) facts no_faults run.whole.0 bare in
       let number : r.number ≡ 1 = only_number [] releases r run.numbered there (ap (λ (qs : List Release). length (of_wave r.stream r.wave qs)) run.reached ∙ ap (λ (qs : List Release). length qs) one.all) in

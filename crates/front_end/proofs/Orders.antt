@@ -14,7 +14,7 @@ use Rattle.std.proofs.lemmas.List.{get_or-map, length-map}
 use Rattle.std.proofs.lemmas.Simd.{map-map}
 use Rattle.std.specs.Borrow.{Bor}
 use Rattle.prefix_tree.specs.Tree.{Tree}
-use Rattle.stat_plan.specs.NodeSets.{In}
+use Rattle.overlay_setup.specs.NodeSets.{In}
 use Rattle.stat_plan.specs.Plans.{Plan}
 use Rattle.stat_plan.proofs.FirstOver.{all_in}
 use Rattle.overlay_core.specs.TreeReleases.{TreeRelease, release_view, releases_view}

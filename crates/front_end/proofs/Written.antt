@@ -6,10 +6,10 @@ use Rattle.std.proofs.lemmas.Bool.{cases_Bool}
 use Rattle.rank_set.specs.Ranks.{Ranks, size, is_empty}
 use Rattle.rank_set.specs.Text.{text_of}
 use Rattle.call_path.specs.Path.{Path}
-use Rattle.stat_plan.specs.Names.{name_of}
-use Rattle.stat_plan.specs.NodeSets.{member}
+use Rattle.overlay_setup.specs.Names.{name_of}
+use Rattle.overlay_setup.specs.NodeSets.{member}
 use Rattle.stat_plan.specs.Plans.{Plan, daemons}
-use Rattle.stat_plan.specs.declared.script.Fault.{Fault}
+use Rattle.overlay_setup.specs.declared.script.Fault.{Fault}
 use Rattle.overlay_core.specs.TreeReleases.{TreeRelease}
 use Rattle.front_end.specs.TreeText.{tree_text}
 use Rattle.front_end.specs.ClassText.{classes_text}

@@ -7,8 +7,8 @@ use Rattle.rank_set.specs.Text.{text_of}
 use Rattle.call_path.specs.Path.{Path}
 use Rattle.prefix_tree.specs.Tree.{Tree, pairs_of}
 use Rattle.equiv_class.specs.Classes.{classes_of}
-use Rattle.stat_plan.specs.Names.{name_of}
-use Rattle.stat_plan.specs.NodeSets.{member}
+use Rattle.overlay_setup.specs.Names.{name_of}
+use Rattle.overlay_setup.specs.NodeSets.{member}
 use Rattle.stat_plan.specs.Plans.{Plan, daemons, ranks}
 use Rattle.overlay_core.specs.TreeReleases.{TreeRelease}
 use Rattle.overlay_core.specs.declared.release.Kind.{Kind}

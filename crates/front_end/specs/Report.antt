@@ -7,11 +7,11 @@ use Rattle.std.specs.Ordering.{nat_cmp, ordering_then, eq_by_cmp}
 use Rattle.std.specs.declared.cmp.Ordering.{Ordering}
 use Rattle.prefix_tree.specs.Tree.{tree_of}
 use Rattle.equiv_class.specs.Classes.{classes_of}
-use Rattle.stat_plan.specs.Names.{name_of}
-use Rattle.stat_plan.specs.NodeSets.{In, member}
+use Rattle.overlay_setup.specs.Names.{name_of}
+use Rattle.overlay_setup.specs.NodeSets.{In, member}
 use Rattle.stat_plan.specs.Plans.{Plan, mode, samples, stream_ranks, waves_of}
-use Rattle.stat_plan.specs.declared.script.Fault.{Fault}
-use Rattle.stat_plan.specs.declared.script.Mode.TheVariants.{WaitForAll}
+use Rattle.overlay_setup.specs.declared.script.Fault.{Fault}
+use Rattle.overlay_setup.specs.declared.script.Mode.TheVariants.{WaitForAll}
 use Rattle.stat_desk.specs.declared.event.Event.{Event}
 use Rattle.overlay_core.specs.declared.release.Kind.TheVariants.{Final}
 use Rattle.overlay_core.specs.Runs.{IsWhole, after}

@@ -11,10 +11,11 @@ use Rattle.call_path.specs.Path.{Path, path_cmp, path_cmp_total}
 use Rattle.call_path.specs.Pairs.{Pairs, pairs_at, prefixes_of}
 use Rattle.prefix_tree.specs.Tree.{Tree, Marks, rows_at, tree_of}
 use Rattle.equiv_class.specs.Classes.{classes_of}
-use Rattle.stat_plan.specs.Plans.{Plan, stream, daemons, ranks, samples, sample_count, grain, stream_of, stream_ranks}
-use Rattle.stat_plan.specs.declared.script.Grain.TheVariants.{Line}
-use Rattle.stat_plan.specs.declared.script.Fault.{Fault}
-use Rattle.stat_plan.specs.declared.script.Mode.TheVariants.{WaitForAll}
+use Rattle.stat_plan.specs.Plans.{Plan, daemons, ranks, samples, sample_count, grain, stream_of, stream_ranks}
+use Rattle.overlay_setup.specs.Scripts.{stream}
+use Rattle.overlay_setup.specs.declared.script.Grain.TheVariants.{Line}
+use Rattle.overlay_setup.specs.declared.script.Fault.{Fault}
+use Rattle.overlay_setup.specs.declared.script.Mode.TheVariants.{WaitForAll}
 use Rattle.overlay_core.specs.TreeReleases.{TreeRelease}
 use Rattle.overlay_core.specs.declared.release.Kind.{Kind}
 use Rattle.overlay_core.specs.declared.release.Kind.TheVariants.{Partial, Final}

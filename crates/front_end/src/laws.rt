@@ -1,5 +1,5 @@
-//! Laws of reports. The bodies are empty: what a law says is its contract. A crate above calls its function, or imports the
-//! lemma that is its answer.
+//! Laws of reports. The bodies are empty: what a law says is its contract. A crate above calls its function, or imports
+//! the lemma that is its answer.
 ghost use Rattle.std.specs.Prelude.{◌≡◌, ℕ, List, []};
 ghost use Rattle.std.specs.List.Sorted.{IsStrictlySortedBy};
 ghost use Rattle.rank_set.specs.Ranks.{Ranks};

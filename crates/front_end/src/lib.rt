@@ -1,5 +1,5 @@
-//! Writes reports: the releases of a run, each with its merged tree and the classes of ranks of like behaviour, and what
-//! came of the faults of the script.
+//! Writes reports: the releases of a run, each with its merged tree and the classes of ranks of like behaviour, and
+//! what came of the faults of the script.
 #![tactic(auto)]
 
 mod class_text;

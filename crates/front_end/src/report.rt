@@ -9,12 +9,14 @@ ghost use Rattle.front_end.specs.Shown.{shown_releases};
 
 use crate::release_text::{write_numbered, write_release};
 use overlay_core::Release;
+use overlay_setup::Fault;
 use prefix_tree::PrefixTree;
-use stat_plan::{Fault, Plan};
+use stat_plan::Plan;
 use std::alloc::{AllocError, Global};
 
-/// The report of a run: its releases, by stream, wave and number, and then each fault of the plan's script with what came of
-/// it. The releases may be given in any order, and `lost` are the nodes that the run lost. Each line ends with a line feed.
+/// The report of a run: its releases, by stream, wave and number, and then each fault of the plan's script with what
+/// came of it. The releases may be given in any order, and `lost` are the nodes that the run lost. Each line ends with
+/// a line feed.
 pub fn report_text<T: PrefixTree>(
     alloc: Global,
     plan: &Plan,

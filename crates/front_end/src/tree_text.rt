@@ -1,5 +1,7 @@
-//! The text of a tree.
+//! The text of a tree. Mostly the ranks of a row are those of the row before it, and the ranks that end there are all of
+//! them. So the text of the last label is kept, and written again where it is the text of the next ranks.
 ghost use Rattle.std.specs.Prelude.{◌≡◌, ◌++◌, OnOk};
+ghost use Rattle.rank_set.specs.Text.{text_of};
 ghost use Rattle.front_end.specs.TreeText.{ends_text, indent, line_of, tree_text as text_of_tree};
 
 use prefix_tree::{PrefixTree, Row};
@@ -10,27 +12,41 @@ use std::alloc::AllocError;
 pub fn write_tree<T: PrefixTree>(tree: &T, out: &mut Vec<u8>) -> Result<(), AllocError>
     ensures { OnOk result (out.new.items ≡ out.old.items ++ text_of_tree (T.tree tree.now)) }
 {
-    for i in 0..tree.rows() {
-        write_row(&tree.row(i), out)?;
+    let root = tree.row(0);
+    let mut label = root.label;
+    let mut label_text = Vec::new(*out.allocator());
+    label.write_text(&mut label_text)?;
+    write_row(&root, &label_text, out)?;
+    let mut at = tree.cursor(*out.allocator())?;
+    while let Some(row) = tree.next_row(&mut at) {
+        if !row.label.equals(label) {
+            label = row.label;
+            label_text.clear();
+            label.write_text(&mut label_text)?;
+        }
+        write_row(&row, &label_text, out)?;
     }
     Ok(())
 }
 
-fn write_row(row: &Row<'_>, out: &mut Vec<u8>) -> Result<(), AllocError>
+// Appends the line of a row, the text of whose label is at hand.
+fn write_row(row: &Row<'_>, label_text: &[u8], out: &mut Vec<u8>) -> Result<(), AllocError>
+    requires { label_text.now ≡ text_of row.now.label.now }
     ensures { OnOk result
         (out.new.items
         ≡ out.old.items ++ line_of row.now.depth row.now.label.now row.now.ends.now row.now.frame.now) }
 {
     write_indent(row.depth, out)?;
-    row.label.write_text(out)?;
+    out.extend_from_slice(label_text)?;
     out.push(b' ')?;
-    write_ends(row.ends, out)?;
+    write_ends(row, label_text, out)?;
     out.push(b' ')?;
     out.extend_from_slice(row.frame.as_bytes())?;
     out.push(b'\n')?;
     Ok(())
 }
 
+// Appends two spaces for each frame.
 fn write_indent(depth: usize, out: &mut Vec<u8>) -> Result<(), AllocError>
     ensures { OnOk result (out.new.items ≡ out.old.items ++ indent depth) }
 {
@@ -40,13 +56,17 @@ fn write_indent(depth: usize, out: &mut Vec<u8>) -> Result<(), AllocError>
     Ok(())
 }
 
-fn write_ends(ends: &RankSet, out: &mut Vec<u8>) -> Result<(), AllocError>
-    ensures { OnOk result (out.new.items ≡ out.old.items ++ ends_text ends.now) }
+// Appends the ranks of which a path ends at a row, or a dash.
+fn write_ends(row: &Row<'_>, label_text: &[u8], out: &mut Vec<u8>) -> Result<(), AllocError>
+    requires { label_text.now ≡ text_of row.now.label.now }
+    ensures { OnOk result (out.new.items ≡ out.old.items ++ ends_text row.now.ends.now) }
 {
-    if ends.count() == 0 {
+    if row.ends.count() == 0 {
         out.push(b'-')?;
+    } else if row.ends.equals(row.label) {
+        out.extend_from_slice(label_text)?;
     } else {
-        ends.write_text(out)?;
+        row.ends.write_text(out)?;
     }
     Ok(())
 }

@@ -29,7 +29,7 @@ abbrev pub AreDistinct : List (Path × Marks) → Type 0
 AreDistinct [] = Unit {0}
 AreDistinct (e ∷ es) = (in_rows any_marks es e.0 ≡ false) × AreDistinct es
 
--- rows in order are apart
+-- rows in order are distinct
 pub apart_from_order : (es : List (Path × Marks)) → T (finmap.is_sorted path_cmp es) → AreDistinct es
 apart_from_order [] up = tt
 apart_from_order (e ∷ es) up = (none_after any_marks e.0 e es (tied_itself path_cmp_total e.0) up, apart_from_order es (second _ _ up))
@@ -45,7 +45,7 @@ rootless : (C : Ranks) (p : Path) → in_rows any_marks (path_rows C p) [] ≡ f
 rootless C [] = refl
 rootless C (f ∷ p) = no_root any_marks f (path_rows C p)
 
--- the rows of a path are apart
+-- the rows of a path are distinct
 pub apart_path_rows : (C : Ranks) (p : Path) → AreDistinct (path_rows C p)
 apart_path_rows C [] = tt
 apart_path_rows C (f ∷ p) = (
@@ -78,7 +78,7 @@ module _ (b : Below) (q : Path) (w : Marks) where
       bare true e = e
       bare false e = refl
 
--- rows that are apart, put as they will stand, are united
+-- rows that are distinct, put as they will stand, are united
 abbrev put_all : Below → List (Path × Marks) → Below
 put_all b [] = b
 put_all b (c ∷ cs) = put_all (finmap.insert b c.0 c.1) cs
@@ -100,15 +100,15 @@ puts_below es (c ∷ cs) up = puts_below (finmap.put path_cmp c.0 c.1 es) cs (pu
 
 -- rows put as they will stand are united into the rows
 pub puts_united : (es others : List (Path × Marks)) → T (finmap.is_sorted path_cmp es) → AreDistinct others → finmap.from_sorted {R = path_cmp} (inserted es (map (changed (finmap.from_sorted es)) others)) ≡ insert_rows (finmap.from_sorted es) others
-puts_united es others up apart = puts_below es (map (changed (finmap.from_sorted es)) others) up ∙ put_all_changed others (finmap.from_sorted es) apart
+puts_united es others up distinct = puts_below es (map (changed (finmap.from_sorted es)) others) up ∙ put_all_changed others (finmap.from_sorted es) distinct
 
 -- there are as many rows then as before, and the new ones
 pub len-insert_rows : (others : List (Path × Marks)) (b : Below) → AreDistinct others → finmap.len (insert_rows b others) ≡ finmap.len b + new_among b others
-len-insert_rows [] b apart = omega arith
-len-insert_rows (e ∷ es) b apart =
+len-insert_rows [] b distinct = omega arith
+len-insert_rows (e ∷ es) b distinct =
     let w = both_marks (finmap.get b e.0) e.1 in
-    let rest = len-insert_rows es (finmap.insert b e.0 w) apart.1 in
-    let later = new_later b e.0 w es apart.0 in
+    let rest = len-insert_rows es (finmap.insert b e.0 w) distinct.1 in
+    let later = new_later b e.0 w es distinct.0 in
     rest ∙ (λ i. finmap.len-insert path_cmp_total b e.0 w i + later i) ∙ counted (finmap.contains_key b e.0) (finmap.len b) (new_among b es)
   where
     counted : (t : Bool) (n m : ℕ) → cond t n (n + 1) + m ≡ n + (cond (not t) 1 0 + m)

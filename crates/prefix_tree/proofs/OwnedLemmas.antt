@@ -31,7 +31,7 @@ count_rows C rows up = finmap.len-entries (below_in rows) ∙ ap length (entries
 
 -- rows that make a tree of any pairs are a tree's
 pub tree_rows : (C : Ranks) (rows : List TreeRow) (P : Pairs) (D : Ranks) → HasIncreasingPaths rows → tree_in C rows ≡ tree_of P D → length rows ≤ 2048 → All (λ e. IsGoodPath e.0) (entries_view rows) → AreTreeRows C rows
-tree_rows C rows P D up is few good = record { in_order = up; tree = subst IsTree (sym is) (IsTree-tree_of P D); few = few; good = good }
+tree_rows C rows P D up is few good = record { in_order = up; tree = subst IsTree (sym is) (IsTree-tree_of P D); within_limit = few; good = good }
 
 -- rows united with those of another tree make the merged tree
 pub merged_rows : (A B : Ranks) (rows others all : List TreeRow) → AreTreeRows A rows → AreTreeRows B others → below_in all ≡ insert_rows (below_in rows) (entries_view others) → tree_in (union A B) all ≡ merged (tree_in A rows) (tree_in B others)
@@ -73,10 +73,10 @@ good_rows rows all es up up_all good more is =
 -- what holds of the tree of rows that are a tree's
 pub rows_lawful : (C : Ranks) (rows : List TreeRow) (t : Tree) → tree_in C rows ≡ t → AreTreeRows C rows → IsLawful t
 rows_lawful C rows t is h =
-    let few = h.few in
+    let few = h.within_limit in
     subst IsLawful is (record {
       tree = h.tree;
-      few = omega (arith, count_rows C rows h.in_order);
+      within_limit = omega (arith, count_rows C rows h.in_order);
       good = subst (All (λ e. IsGoodPath e.0)) (sym (entries_below rows h.in_order)) h.good;
     })
 
@@ -112,16 +112,16 @@ makes_covered A C rows self seen mine =
     makes_tree (union A C) rows (pairs_of self) (union self.coverage C) mine.in_order mine.good (covered_rows A C rows mine ∙ ap (λ t. covered t C) seen)
 
 -- rows after changes that were made to them
-module _ (rows all changes : List TreeRow) (others : List (Path × Marks)) (up : HasIncreasingPaths rows) (apart : AreDistinct others) (are : entries_view changes ≡ map (changed (below_in rows)) others) where
+module _ (rows all changes : List TreeRow) (others : List (Path × Marks)) (up : HasIncreasingPaths rows) (distinct : AreDistinct others) (are : entries_view changes ≡ map (changed (below_in rows)) others) where
   -- how many there are
   pub puts_count : length (inserted (entries_view rows) (entries_view changes)) ≡ length rows + new_among (below_in rows) others
   puts_count =
-      let united = puts_united (entries_view rows) others up apart in
+      let united = puts_united (entries_view rows) others up distinct in
       let sorted = puts_sorted (entries_view rows) (map (changed (below_in rows)) others) up in
       ap (λ cs. length (inserted (entries_view rows) cs)) are
       ∙ sym (ap length (finmap.entries-from_sorted path_cmp _ sorted))
       ∙ sym (finmap.len-entries _) ∙ ap (λ (b : Below). finmap.len b) united
-      ∙ len-insert_rows others (below_in rows) apart
+      ∙ len-insert_rows others (below_in rows) distinct
       ∙ ap (λ n. n + new_among (below_in rows) others) (finmap.len-entries (below_in rows) ∙ ap length (entries_below rows up) ∙ length-map rows entry_of)
 
   module _ (is : entries_view all ≡ inserted (entries_view rows) (entries_view changes)) where
@@ -131,11 +131,11 @@ module _ (rows all changes : List TreeRow) (others : List (Path × Marks)) (up :
 
     -- and united with the others
     pub puts_are_united : below_in all ≡ insert_rows (below_in rows) others
-    puts_are_united = ap (λ es. finmap.from_sorted {R = path_cmp} es) (is ∙ ap (inserted (entries_view rows)) are) ∙ puts_united (entries_view rows) others up apart
+    puts_are_united = ap (λ es. finmap.from_sorted {R = path_cmp} es) (is ∙ ap (inserted (entries_view rows)) are) ∙ puts_united (entries_view rows) others up distinct
 
 count_united : (rows : List TreeRow) (others : List (Path × Marks)) (t : Tree) (C : Ranks) → HasIncreasingPaths rows → AreDistinct others → record { coverage = C; below = insert_rows (below_in rows) others } ≡ t → count_below t ≡ length rows + new_among (below_in rows) others
-count_united rows others t C up apart is =
-    ap count_below (sym is) ∙ len-insert_rows others (below_in rows) apart
+count_united rows others t C up distinct is =
+    ap count_below (sym is) ∙ len-insert_rows others (below_in rows) distinct
     ∙ ap (λ n. n + new_among (below_in rows) others) (finmap.len-entries (below_in rows) ∙ ap length (entries_below rows up) ∙ length-map rows entry_of)
 
 -- how many rows a tree has with a path

@@ -75,8 +75,8 @@ tree_of-more P C L D p both = tree_of-same_pairs _ _ C (λ q r.
 
 -- ranks outside the coverage add nothing
 pub tree_of-none_more : (P : Pairs) (C L : Ranks) (p : Path) → ((r : ℕ) → (has L r && has C r) ≡ false) → tree_of P C ≡ tree_of (P ++ pairs_at (in_order L) p) C
-tree_of-none_more P C L p apart = tree_of-same_pairs _ _ C (λ q r.
-    under (is_below q) (has C r) (is_pair P r q) (has L r) (is_path q p) (apart r)
+tree_of-none_more P C L p distinct = tree_of-same_pairs _ _ C (λ q r.
+    under (is_below q) (has C r) (is_pair P r q) (has L r) (is_path q p) (distinct r)
     ∙ ap (λ b. is_below q && (has C r && b)) (sym (is_pair-append P (pairs_at (in_order L) p) r q ∙ ap (λ b. is_pair P r q || b) (any-pairs_of_set (is_path q) L p r))))
   where
     under : (b c x l y : Bool) → (l && c) ≡ false → (b && (c && x)) ≡ (b && (c && (x || (l && y))))

@@ -35,7 +35,7 @@ tree_in C rows = record { coverage = C; below = below_in rows }
 pub record AreTreeRows (C : Ranks) (rows : List TreeRow) : Type 0 where
   pub in_order : HasIncreasingPaths rows
   pub tree : IsTree (tree_in C rows)
-  pub few : length rows ≤ 2048
+  pub within_limit : length rows ≤ 2048
   pub good : All (λ e. IsGoodPath e.0) (entries_view rows)
 
 -- one of three, by an order

@@ -15,5 +15,5 @@ pub record Shows (row : Row) (e : Path × Marks) : Type 0 where
 -- a row below the root ends with a good frame, not too deep
 pub record IsGoodRow (row : Row) : Type 0 where
   pub some : 0 < row.depth
-  pub few : row.depth ≤ 128
+  pub within_limit : row.depth ≤ 128
   pub frame : IsTrue (is_good_frame row.frame.now)

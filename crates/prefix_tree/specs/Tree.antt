@@ -89,5 +89,5 @@ Adds t C p v = (P : Pairs) (A : Ranks) → t ≡ tree_of P A → v ≡ tree_of (
 -- what holds of every tree that a program holds: it is that of its own pairs, it has at most 2,048 rows below the root, and their prefixes are good paths
 pub record IsLawful (t : Tree) : Type 0 where
   pub tree : IsTree t
-  pub few : count_below t ≤ 2048
+  pub within_limit : count_below t ≤ 2048
   pub good : All (λ e. IsGoodPath e.0) (finmap.entries t.below)

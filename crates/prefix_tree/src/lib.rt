@@ -5,7 +5,7 @@
 //! it, and its ends have those whose path it is.
 #![tactic(auto)]
 
-ghost use Rattle.std.specs.Prelude.{ℕ, ◌&&◌, ◌≡◌, ◌≢◌, ◌<◌, ◌≤◌, IsTrue, OnOk, OnErr, IfOk, IfSome, slice_get, length, []};
+ghost use Rattle.std.specs.Prelude.{ℕ, ◌+◌, ◌&&◌, ◌≡◌, ◌≢◌, ◌<◌, ◌≤◌, IsTrue, OnOk, OnErr, IfOk, IfSome, slice_get, length, []};
 ghost use Rattle.rank_set.specs.Ranks.{Ranks, none, has, is_subset};
 ghost use Rattle.call_path.specs.Path.{Path};
 ghost use Rattle.prefix_tree.specs.Joined.{IsTreeOf};
@@ -14,6 +14,7 @@ ghost use Rattle.prefix_tree.specs.Tree.{Tree, tree_of, merged, covered, added, 
 ghost use Rattle.std.specs.FinMap as finmap;
 ghost use Rattle.prefix_tree.specs.Shown.{Shows, IsGoodRow};
 ghost use Rattle.prefix_tree.specs.Walk.{Follows};
+ghost use Rattle.prefix_tree.specs.declared.Cursor.{Cursor};
 
 use call_path::CallPath;
 pub use owned::OwnedTree;
@@ -60,10 +61,36 @@ pub struct Row<'a> {
     pub ends: &'a RankSet,
 }
 
+/// A node that waits to be read, in a tree that is made of nodes.
+#[derive(Debug, Clone, Copy)]
+pub struct WaitingNode {
+    /// Where the node is in its tree.
+    pub place: u32,
+    /// The depth of its first row.
+    pub depth: u32,
+}
+
+/// A position among a tree's rows: the next row to read is row `row`. [`PrefixTree::cursor`] returns one, and
+/// [`PrefixTree::next_row`] moves it.
+///
+/// The other fields are the tree's own: a tree that goes from node to node keeps there what it has still to read.
+#[derive(Drop)]
+pub struct Cursor {
+    /// The number of the next row, or the number of all rows if none is left.
+    pub row: usize,
+    /// The nodes that wait to be read, the next one last.
+    pub waiting: Vec<WaitingNode>,
+    /// The number of the next row within the last of them.
+    pub frame: u32,
+}
+
 /// A tree of ranks and the call paths that they were seen in.
 pub trait PrefixTree: Sized + Drop + Send {
     /// The coverage, and the label and the ends of each prefix below the root.
     ghost tree: { Self → Tree };
+
+    /// The cursor belongs to the tree as it is: it stands before row `row` of it, or past the last.
+    ghost is_cursor: { Self → Cursor → Type 0 };
 
     /// The root alone, with no ranks.
     fn empty(alloc: Global) -> Self
@@ -110,10 +137,28 @@ pub trait PrefixTree: Sized + Drop + Send {
         requires { i < length (rows_of (tree self.now)) }
         ensures shows { IfSome (slice_get (rows_of (tree self.now)) i) (Shows result) }
         ensures good { 0 < i → IsGoodRow result };
+
+    /// A cursor before row 1, the first below the root.
+    fn cursor(&self, alloc: Global) -> Result<Cursor, AllocError>
+        ensures cursor { IfOk result (λ at. is_cursor self.now at) }
+        ensures first { IfOk result (λ at. at.row ≡ 1) }
+        ensures lawful { IsLawful (tree self.now) };
+
+    /// Returns the row before which the cursor stands, as `row` does, and moves the cursor to the next one. None past
+    /// the last row. It takes no memory.
+    fn next_row(&self, at: &mut Cursor) -> Option<Row<'_>>
+        requires { is_cursor self.now at.old }
+        ensures within { IfSome result (λ _. at.old.row < length (rows_of (tree self.now))) }
+        ensures shows { IfSome result (λ row. IfSome (slice_get (rows_of (tree self.now)) at.old.row) (Shows row)) }
+        ensures good { IfSome result (λ row. 0 < at.old.row → IsGoodRow row) }
+        ensures next { IfSome result (λ _. at.new.row ≡ at.old.row + 1) }
+        ensures end { result ≡ None → length (rows_of (tree self.now)) ≤ at.old.row }
+        ensures stays { result ≡ None → at.new.row ≡ at.old.row }
+        ensures cursor { is_cursor self.now at.new };
 }
 
-/// A law of trees: each row's prefix is a prefix of the row before, with one frame more, so that depths and frames alone
-/// determine all prefixes.
+/// A law of trees: each row's prefix is a prefix of the row before, with one frame more, so that depths and frames
+/// alone determine all prefixes.
 pub fn rows_follow()
     ensures { (t : Tree) → IsTree t → Follows [] (finmap.entries t.below) }
 {}

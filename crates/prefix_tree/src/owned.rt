@@ -1,5 +1,5 @@
 //! A tree as one vector of rows.
-ghost use Rattle.std.specs.Prelude.{◌≡◌, ◌≤◌, ◌<◌, ◌+◌, ◌-◌, ◌++◌, [], ◌∷◌, OnOk, OnErr, IfOk, IfErr, IfSome, slice_get, length, map, take, drop, reverse, nat_le};
+ghost use Rattle.std.specs.Prelude.{⊤, ◌≡◌, ◌≤◌, ◌<◌, ◌+◌, ◌-◌, ◌++◌, [], ◌∷◌, OnOk, OnErr, IfOk, IfErr, IfSome, slice_get, length, map, take, drop, reverse, nat_le};
 ghost use Rattle.std.specs.Vec.{vec_capacity};
 ghost use Rattle.rank_set.specs.Ranks.{none, union};
 ghost use Rattle.call_path.specs.Good.{IsGoodPath};
@@ -8,7 +8,7 @@ ghost use Rattle.prefix_tree.specs.Shown.{Shows, IsGoodRow};
 ghost use Rattle.prefix_tree.specs.Owned.{HasIncreasingPaths, entries_view, below_in, place_of};
 ghost use Rattle.prefix_tree.specs.Changes.{changed, is_new, new_among, inserted};
 
-use crate::{PREFIX_LIMIT, PrefixTree, Row, TreeError};
+use crate::{Cursor, PREFIX_LIMIT, PrefixTree, Row, TreeError};
 use call_path::CallPath;
 use rank_set::RankSet;
 use std::alloc::{AllocError, Global};
@@ -51,6 +51,9 @@ impl Model for OwnedTree {
 impl PrefixTree for OwnedTree {
     ghost tree = { λ t. t };
 
+    // Any cursor, since a row is found by its number.
+    ghost is_cursor = { λ _ _. ⊤ };
+
     fn empty(alloc: Global) -> OwnedTree {
         OwnedTree {
             coverage: RankSet::new(alloc),
@@ -85,7 +88,7 @@ impl PrefixTree for OwnedTree {
         if !has_room(&self.rows, changes.added) {
             return Err(TreeError::TooManyPrefixes);
         }
-        let coverage = united(&self.coverage, &other.coverage)?;
+        let coverage = self.coverage.united(&other.coverage)?;
         apply_changes(&mut self.rows, changes)?;
         self.coverage = coverage;
         Ok(())
@@ -113,6 +116,25 @@ impl PrefixTree for OwnedTree {
             };
         }
         shown(&self.rows, i - 1)
+    }
+
+    fn cursor(&self, alloc: Global) -> Result<Cursor, AllocError> {
+        // for the proof: the invariant of the value
+        let _ = &self.rows;
+        Ok(Cursor {
+            row: 1,
+            waiting: Vec::new(alloc),
+            frame: 0,
+        })
+    }
+
+    fn next_row(&self, at: &mut Cursor) -> Option<Row<'_>> {
+        let i = at.row;
+        if i >= self.rows() {
+            return None;
+        }
+        at.row = i + 1;
+        Some(self.row(i))
     }
 }
 
@@ -189,16 +211,8 @@ fn copy_rows(alloc: Global, rows: &[TreeRow]) -> Result<Vec<TreeRow>, AllocError
     Ok(all)
 }
 
-fn united(set: &RankSet, more: &RankSet) -> Result<RankSet, AllocError>
-    ensures { IfOk result (λ all. all ≡ union set.now more.now) }
-{
-    let mut all = set.copy()?;
-    all.union_into(more)?;
-    Ok(all)
-}
-
-// The marks of a path once these are united into them, and whether its row is new. The hint is where its row may be, and
-// afterwards where that of the next path may be.
+// The marks of a path once these are united into them, and whether its row is new. The hint is where its row may be,
+// and afterwards where that of the next path may be.
 fn united_marks(
     rows: &[TreeRow],
     hint: &mut usize,
@@ -215,7 +229,9 @@ fn united_marks(
         Ok(at) => {
             *hint = at + 1;
             let row = &rows[at];
-            Ok((united(&row.label, label)?, united(&row.ends, ends)?, false))
+            let label = row.label.united(label)?;
+            let ends = row.ends.united(ends)?;
+            Ok((label, ends, false))
         }
         Err(at) => {
             *hint = at;

@@ -14,20 +14,42 @@ fn path(rt: &impl Abort, alloc: Global, text: &str) -> CallPath {
     CallPath::read(alloc, text).expect(rt, "good")
 }
 
-// Each row as a line: its depth, its frame, its label and its ends.
+// A row as a line: its depth, its frame, its label and its ends.
+fn write_row(alloc: Global, row: &Row<'_>, text: &mut Vec<u8>) -> Result<(), AllocError> {
+    text.extend_from_slice(row.depth.to_string(alloc)?.as_bytes())?;
+    text.push(b' ')?;
+    text.extend_from_slice(row.frame.as_bytes())?;
+    text.push(b' ')?;
+    row.label.write_text(text)?;
+    text.push(b' ')?;
+    row.ends.write_text(text)?;
+    text.push(b'\n')?;
+    Ok(())
+}
+
+// The rows by their numbers.
 fn rows_text<T: PrefixTree>(alloc: Global, tree: &T) -> Result<Vec<u8>, AllocError> {
     let mut text = Vec::new(alloc);
     for i in 0..tree.rows() {
-        let row = tree.row(i);
-        text.extend_from_slice(row.depth.to_string(alloc)?.as_bytes())?;
-        text.push(b' ')?;
-        text.extend_from_slice(row.frame.as_bytes())?;
-        text.push(b' ')?;
-        row.label.write_text(&mut text)?;
-        text.push(b' ')?;
-        row.ends.write_text(&mut text)?;
-        text.push(b'\n')?;
+        write_row(alloc, &tree.row(i), &mut text)?;
     }
+    Ok(text)
+}
+
+// The root, and the rows that a cursor comes to.
+fn walk_text<T: PrefixTree>(
+    rt: &impl Abort,
+    alloc: Global,
+    tree: &T,
+) -> Result<Vec<u8>, AllocError> {
+    let mut text = Vec::new(alloc);
+    write_row(alloc, &tree.row(0), &mut text)?;
+    let mut at = tree.cursor(alloc)?;
+    while let Some(row) = tree.next_row(&mut at) {
+        write_row(alloc, &row, &mut text)?;
+    }
+    assert_eq!(rt; at.row, tree.rows());
+    assert!(rt; tree.next_row(&mut at).is_none());
     Ok(text)
 }
 
@@ -39,6 +61,8 @@ fn assert_rows<T: PrefixTree>(
 ) -> Result<(), AllocError> {
     let text = rows_text(alloc, tree)?;
     assert_eq!(rt; text.as_slice(), want);
+    let walked = walk_text(rt, alloc, tree)?;
+    assert_eq!(rt; walked.as_slice(), want);
     Ok(())
 }
 

@@ -6,4 +6,4 @@ pub returns-clause-covered : goal.returns-clause-covered
 returns-clause-covered c = λ P C r there. classes_with-classes_of P C r ∙ ap (λ b. cond b 1 0) there
 
 pub returns-clause-others : goal.returns-clause-others
-returns-clause-others c = λ P C r apart. classes_with-classes_of P C r ∙ ap (λ b. cond b 1 0) apart
+returns-clause-others c = λ P C r distinct. classes_with-classes_of P C r ∙ ap (λ b. cond b 1 0) distinct

@@ -28,7 +28,7 @@ loop-depth-preserved c =
           let left = ap (new_among b) step in
           let all = c.loop-depth.invariant.added in
           omega (arith, now, left, all);
-      few = c.in_ok-note.ensures.added_within;
+      within_limit = c.in_ok-note.ensures.added_within;
     }
 
 pub returns-clause-rows : goal.returns-clause-rows

@@ -8,5 +8,5 @@ abbrev pub invariant-loop-depth : goal.invariant-loop-depth
 invariant-loop-depth l = record {
   rows : entries_view l.changes.rows.items ++ map (changed (below_in l.rows)) (drop (l.depth - 1) (path_rows l.ranks l.path)) ≡ map (changed (below_in l.rows)) (path_rows l.ranks l.path);
   added : l.changes.added + new_among (below_in l.rows) (drop (l.depth - 1) (path_rows l.ranks l.path)) ≡ new_among (below_in l.rows) (path_rows l.ranks l.path);
-  few : l.changes.added ≤ length l.changes.rows.items;
+  within_limit : l.changes.added ≤ length l.changes.rows.items;
 }

@@ -20,5 +20,5 @@ loop-row-preserved c =
           c.in_ok-note.ensures.added
           ∙ (λ k. c.loop-row.invariant.added k + new_among b ((c.in_ok-copy.ensures k, (row.label, row.ends)) ∷ []))
           ∙ sym (ap (new_among b) more ∙ new_among-append b before (entry_of row ∷ []));
-      few = c.in_ok-note.ensures.added_within;
+      within_limit = c.in_ok-note.ensures.added_within;
     }

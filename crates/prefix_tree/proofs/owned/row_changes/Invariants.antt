@@ -7,5 +7,5 @@ abbrev pub invariant-loop-row : goal.invariant-loop-row
 invariant-loop-row l = record {
   rows : entries_view l.changes.rows.items ≡ map (changed (below_in l.rows)) (entries_view (take l.row-index l.others));
   added : l.changes.added ≡ new_among (below_in l.rows) (entries_view (take l.row-index l.others));
-  few : l.changes.added ≤ length l.changes.rows.items;
+  within_limit : l.changes.added ≤ length l.changes.rows.items;
 }

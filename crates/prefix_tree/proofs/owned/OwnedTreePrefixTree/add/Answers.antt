@@ -33,7 +33,7 @@ pub returns-clause-fits : goal.returns-clause-fits
 returns-clause-fits c =
     let count = count_added c.self.inside.coverage c.args.ranks.now c.args.path.now c.self.inside.rows.items c.args.self.now c.self.view_is c.self.invariant.tree c.requires.not_empty c.requires.in_coverage in
     let new = c.in_ok-changes.ensures.added ∙ ap (λ rows. new_among (below_in rows) (path_rows c.args.ranks.now c.args.path.now)) c.deref.ensures.value in
-    let few = c.self.invariant.tree.few in
+    let few = c.self.invariant.tree.within_limit in
     omega (arith, count, new, few, ap length c.deref-2.ensures.value, leb-true _ _ (sym c.has_room.ensures ∙ c.if-not-has_room.false))
 
 pub invariant_of-self-2 : goal.invariant_of-self-2
@@ -41,7 +41,7 @@ invariant_of-self-2 c =
     let size = (makes c).size in
     let count = count_added c.self.inside.coverage c.args.ranks.now c.args.path.now c.self.inside.rows.items c.args.self.now c.self.view_is c.self.invariant.tree c.requires.not_empty c.requires.in_coverage in
     let new = c.in_ok-changes.ensures.added ∙ ap (λ rows. new_among (below_in rows) (path_rows c.args.ranks.now c.args.path.now)) c.deref.ensures.value in
-    let few = c.self.invariant.tree.few in
+    let few = c.self.invariant.tree.within_limit in
     record { tree = (makes c).tree (omega (arith, size, count, new, few, ap length c.deref-2.ensures.value, leb-true _ _ (sym c.has_room.ensures ∙ c.if-not-has_room.false))); no_ranks = c.self.invariant.no_ranks }
 
 pub returns-clause-ok : goal.returns-clause-ok

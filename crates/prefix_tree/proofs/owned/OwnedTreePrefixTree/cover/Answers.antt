@@ -8,7 +8,7 @@ makes : (c : goal.In_ok-union_into) → MakesTree c.union_into.new.self c.self.i
 makes c = from_equal_ranks _ _ _ _ c.in_ok-union_into.ensures.ok (makes_covered c.self.inside.coverage c.args.ranks.now c.self.inside.rows.items c.args.self.now c.self.view_is c.self.invariant.tree)
 
 pub invariant_of-self-2 : goal.invariant_of-self-2
-invariant_of-self-2 c = record { tree = (makes c).tree c.self.invariant.tree.few; no_ranks = c.self.invariant.no_ranks }
+invariant_of-self-2 c = record { tree = (makes c).tree c.self.invariant.tree.within_limit; no_ranks = c.self.invariant.no_ranks }
 
 pub returns-clause-ok : goal.returns-clause-ok
 returns-clause-ok c = (makes c).is

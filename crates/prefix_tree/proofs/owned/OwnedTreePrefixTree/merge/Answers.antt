@@ -41,7 +41,7 @@ pub returns-clause-fits : goal.returns-clause-fits
 returns-clause-fits c =
     let count = count_merged c.self.inside.coverage c.other.inside.coverage c.self.inside.rows.items c.other.inside.rows.items c.args.self.now c.args.other.now c.self.view_is c.other.view_is c.self.invariant.tree c.other.invariant.tree in
     let new = c.in_ok-changes.ensures.added ∙ (λ i. new_among (below_in (c.deref.ensures.value i)) (entries_view (c.deref-2.ensures.value i))) in
-    let few = c.self.invariant.tree.few in
+    let few = c.self.invariant.tree.within_limit in
     omega (arith, count, new, few, ap length c.deref-3.ensures.value, leb-true _ _ (sym c.has_room.ensures ∙ c.if-not-has_room.false))
 
 pub invariant_of-self-2 : goal.invariant_of-self-2
@@ -49,7 +49,7 @@ invariant_of-self-2 c =
     let size = (makes c).size in
     let count = count_merged c.self.inside.coverage c.other.inside.coverage c.self.inside.rows.items c.other.inside.rows.items c.args.self.now c.args.other.now c.self.view_is c.other.view_is c.self.invariant.tree c.other.invariant.tree in
     let new = c.in_ok-changes.ensures.added ∙ (λ i. new_among (below_in (c.deref.ensures.value i)) (entries_view (c.deref-2.ensures.value i))) in
-    let few = c.self.invariant.tree.few in
+    let few = c.self.invariant.tree.within_limit in
     record { tree = (makes c).tree (omega (arith, size, count, new, few, ap length c.deref-3.ensures.value, leb-true _ _ (sym c.has_room.ensures ∙ c.if-not-has_room.false))); no_ranks = c.self.invariant.no_ranks }
 
 pub returns-clause-ok : goal.returns-clause-ok
