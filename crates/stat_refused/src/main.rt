@@ -1,12 +1,13 @@
-//! The program `stat`, with the line of a refusal on standard output, so that a stored run shows it: a refused job's line and
-//! exit status.
+//! The program `stat`, with the line of a refusal on standard output, so that a stored run shows it: a refused job's
+//! line and exit status.
 #![tactic(auto)]
 
+use prefix_tree::OwnedTree;
 use stat_tool::run_program;
 use std::process::ExitCode;
 
 fn main(rt: HostRuntime) -> ExitCode {
-    let ending = run_program(&rt);
+    let ending = run_program::<OwnedTree, _>(&rt);
     if let Some(status) = ending.refusal {
         let _ = println!(rt; "stat: {status}");
     }

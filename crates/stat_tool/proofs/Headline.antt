@@ -6,7 +6,7 @@ use Rattle.std.proofs.lemmas.Bool.{and_parts}
 use Rattle.rank_set.specs.Ranks.{Ranks, none}
 use Rattle.equiv_class.proofs.SamePairs.{classes_of_tree}
 use Rattle.stat_plan.specs.Invariants.{IsPlan}
-use Rattle.stat_plan.specs.NodeSets.{In}
+use Rattle.overlay_setup.specs.NodeSets.{In}
 use Rattle.stat_plan.specs.Plans.{Plan, daemons, front, samples, waves_of}
 use Rattle.stat_desk.specs.declared.event.Event.{Event}
 use Rattle.merge_filter.proofs.WaveSamples.{samples_have_paths}
@@ -45,7 +45,7 @@ ends_with_all p journal plan no_faults whole s w wave =
       all = ended.all;
       partial = ended.partial;
       final = ended.kind;
-      covers = all_of_stream p s ended.final.cov
+      covers = all_of_stream p s ended.final.covered
           (λ r has. let from = sound.whole r has in (from.daemon, subst (λ (s : ℕ). In from.daemon (daemons p s)) own from.place.listed, from.holds))
           (λ d there. ended.covers d there (none_is_lost p journal no_faults whole.0 d));
     }
@@ -66,11 +66,11 @@ final_is_not_partial e = absurd (subst (λ (k : Kind). ByKind k ⊥ (Unit {0})) 
 
 coverages_grow : (p : Plan) (alive : ℕ → Bool) (s : ℕ) (last : Ranks) (rs : List Release) (v : Wave) → IsHistory p alive s last rs v → CoveragesGrow last rs
 coverages_grow p alive s last [] v h = tt
-coverages_grow p alive s last (r ∷ rs) v h = by r.kind refl h.1 (λ more. coverages_grow p alive s r.cov rs v more)
+coverages_grow p alive s last (r ∷ rs) v h = by r.kind refl h.1 (λ more. coverages_grow p alive s r.covered rs v more)
   where
-    by : (k : Kind) → r.kind ≡ k → ByKind k ((last ≢ r.cov) × IsHistory p alive s r.cov rs v) (MissesOnlyLost p alive s r.cov r.lost × (rs ≡ []) × (is_open v ≡ false)) → (IsHistory p alive s r.cov rs v → CoveragesGrow r.cov rs) → CoveragesGrow last (r ∷ rs)
+    by : (k : Kind) → r.kind ≡ k → ByKind k ((last ≢ r.covered) × IsHistory p alive s r.covered rs v) (MissesOnlyLost p alive s r.covered r.lost × (rs ≡ []) × (is_open v ≡ false)) → (IsHistory p alive s r.covered rs v → CoveragesGrow r.covered rs) → CoveragesGrow last (r ∷ rs)
     by Partial is more rest = (h.0, (λ _. more.0), rest more.1)
-    by Final is more rest = (h.0, (λ e. absurd (final_is_not_partial (sym is ∙ e))), subst (λ (qs : List Release). CoveragesGrow r.cov qs) (sym more.1) tt)
+    by Final is more rest = (h.0, (λ e. absurd (final_is_not_partial (sym is ∙ e))), subst (λ (qs : List Release). CoveragesGrow r.covered qs) (sym more.1) tt)
 
 -- ---- the run
 

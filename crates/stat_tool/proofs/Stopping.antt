@@ -5,8 +5,9 @@ use Rattle.std.proofs.lemmas.List.{append_assoc}
 use Rattle.stat_desk.specs.Desk.{FailedAt, IsLonger, IsWhole}
 use Rattle.text_lines.specs.declared.text_error.TextError.{TextError}
 use Rattle.text_lines.specs.declared.text_error.TextError.TheVariants.{Bad, Over, OutOfMemory as NoMemory}
-use Rattle.stat_plan.specs.Topologies.{Nodes}
-use Rattle.stat_plan.specs.Plans.{Plan, Sampled, Scripted, plan_of}
+use Rattle.overlay_setup.specs.Topologies.{Nodes}
+use Rattle.stat_plan.specs.Plans.{Plan, Sampled, plan_of}
+use Rattle.overlay_setup.specs.Scripts.{Scripted}
 use Rattle.topology_text.specs.Whole.{topology_of}
 use Rattle.sample_text.specs.Whole.{samples_of_text}
 use Rattle.script_text.specs.Whole.{script_of}

@@ -2,8 +2,9 @@
 use Rattle.std.specs.Prelude.{ℕ, List, [], ◌∷◌, Bool, true, false, Option, Some, None, Result, Ok, Err, if◌then◌else◌}
 use Rattle.stat_desk.specs.Desk.{IsLonger, IsWhole}
 use Rattle.stat_plan.specs.Limits.{first_over}
-use Rattle.stat_plan.specs.Plans.{Plan, Sampled, Scripted, plan_of}
-use Rattle.stat_plan.specs.Topologies.{Nodes}
+use Rattle.stat_plan.specs.Plans.{Plan, Sampled, plan_of}
+use Rattle.overlay_setup.specs.Scripts.{Scripted}
+use Rattle.overlay_setup.specs.Topologies.{Nodes}
 use Rattle.text_lines.specs.declared.text_error.TextError.{TextError}
 use Rattle.text_lines.specs.declared.text_error.Quantity.TheVariants.{Bytes as TheBytes, Prefixes}
 use Rattle.topology_text.specs.Whole.{topology_of}

@@ -2,10 +2,10 @@
 use Rattle.std.specs.Prelude.{◌≡◌, ◌≢◌, ⊤, ℕ, List, [], ◌∷◌, ◌++◌, slice_get, Some}
 use Rattle.std.specs.List.{AllByRecursion}
 use Rattle.stat_plan.specs.Invariants.{IsPlan}
-use Rattle.stat_plan.specs.NodeSets.{In}
+use Rattle.overlay_setup.specs.NodeSets.{In}
 use Rattle.rank_set.specs.Ranks.{Ranks, none, IsSubset}
 use Rattle.stat_plan.specs.Plans.{Plan, mode, waves_of}
-use Rattle.stat_plan.specs.declared.script.Mode.TheVariants.{WaitForAll}
+use Rattle.overlay_setup.specs.declared.script.Mode.TheVariants.{WaitForAll}
 use Rattle.stat_desk.specs.declared.event.Event.{Event}
 use Rattle.overlay_core.specs.declared.release.Kind.TheVariants.{Partial, Final}
 use Rattle.overlay_core.specs.Nodes.{Release}
@@ -43,12 +43,12 @@ pub record EndsWithAll (p : Plan) (s : ℕ) (rs : List Release) : Type 0 where
   pub all : rs ≡ before ++ last ∷ []
   pub partial : (r : Release) → In r before → r.kind ≡ Partial
   pub final : last.kind ≡ Final
-  pub covers : CoversAll p s last.cov
+  pub covers : CoversAll p s last.covered
 
 -- from a coverage on, each release of a wave covers what the one before covers, and a partial one more than that
 abbrev pub CoveragesGrow : Ranks → List Release → Type 0
 CoveragesGrow last [] = ⊤
-CoveragesGrow last (r ∷ rs) = IsSubset last r.cov × (r.kind ≡ Partial → last ≢ r.cov) × CoveragesGrow r.cov rs
+CoveragesGrow last (r ∷ rs) = IsSubset last r.covered × (r.kind ≡ Partial → last ≢ r.covered) × CoveragesGrow r.covered rs
 
 -- The headline: what a run of a plan without losses returns, its journal and its report.
 pub record HasRun (p : Plan) (journal : List Event) (report : List ℕ) : Type 0 where

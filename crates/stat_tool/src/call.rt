@@ -8,18 +8,24 @@ use crate::read::read_plan;
 use crate::run::{Ran, run_plan};
 use crate::status::{Outcome, Status, Target, WordFault};
 use crate::words::{Files, read_words};
-use prefix_tree::OwnedTree;
+use prefix_tree::PrefixTree;
 use stat_desk::{Desk, Journal, Sink, write_all_to};
 use std::alloc::Global;
 
-/// Reads the files that the words name, runs the overlay on their samples, and writes the report to the sink.
+/// Reads the files that the words name, runs the overlay on their samples, and writes the report to the sink. `T` is
+/// how the overlay keeps its trees.
 ///
-/// The words are `run --topology T --samples S --script C`. The files are read each once, in this order, and each is tested
-/// before the next is read. The report is built whole before its first byte is written.
+/// The words are `run --topology T --samples S --script C`. The files are read each once, in this order, and each is
+/// tested before the next is read. The report is built whole before its first byte is written.
 ///
-/// `answered` has the headline: where the status is Done, or the sink's fault, the files lead to a plan, and the journal and the
-/// report are a run of it, `HasRun`. Every other status has its cause there, too.
-pub fn stat<D: Desk, O: Sink>(alloc: Global, words: &[String], desk: &mut D, out: &mut O) -> Outcome
+/// `answered` has the headline: where the status is Done, or the sink's fault, the files lead to a plan, and the
+/// journal and the report are a run of it, `HasRun`. Every other status has its cause there, too.
+pub fn stat<T: PrefixTree, D: Desk, O: Sink>(
+    alloc: Global,
+    words: &[String],
+    desk: &mut D,
+    out: &mut O,
+) -> Outcome
     ensures answered { Answered (asked (map string_bytes words.now))
         (desk_change D.faults D.last_fault D.contents desk.old desk.new)
         (sink_change O.faults O.contents out.old out.new) result.journal result.status }
@@ -36,11 +42,16 @@ pub fn stat<D: Desk, O: Sink>(alloc: Global, words: &[String], desk: &mut D, out
     ensures journal { result.status ≢ Status.Done → result.status ≢ Status.SinkFault Target.Report
         → result.journal ≡ [] }
 {
-    run(alloc, words, desk, out)
+    run::<T, D, O>(alloc, words, desk, out)
 }
 
 // The call; `stat` derives from its answer what the texts determine.
-fn run<D: Desk, O: Sink>(alloc: Global, words: &[String], desk: &mut D, out: &mut O) -> Outcome
+fn run<T: PrefixTree, D: Desk, O: Sink>(
+    alloc: Global,
+    words: &[String],
+    desk: &mut D,
+    out: &mut O,
+) -> Outcome
     ensures answered { Answered (asked (map string_bytes words.now))
         (desk_change D.faults D.last_fault D.contents desk.old desk.new)
         (sink_change O.faults O.contents out.old out.new) result.journal result.status }
@@ -57,7 +68,7 @@ fn run<D: Desk, O: Sink>(alloc: Global, words: &[String], desk: &mut D, out: &mu
     let Some(files) = read_words(words) else {
         return stopped(alloc, Status::BadWords(WordFault::Options));
     };
-    match prepare(alloc, files, desk) {
+    match prepare::<T, D>(alloc, files, desk) {
         Ok(ran) => Outcome {
             status: deliver(ran.report.as_slice(), out),
             journal: ran.journal,
@@ -78,7 +89,11 @@ fn stopped(alloc: Global, status: Status) -> Outcome
 }
 
 // The run of what the files say, before anything is written.
-fn prepare<D: Desk>(alloc: Global, files: Files<'_>, desk: &mut D) -> Result<Ran, Status>
+fn prepare<T: PrefixTree, D: Desk>(
+    alloc: Global,
+    files: Files<'_>,
+    desk: &mut D,
+) -> Result<Ran, Status>
     ensures ok { IfOk result (λ ran. Prepared (names_of files.entry) (D.contents desk.old) (run_output ran)) }
     ensures err { IfErr result (Prevented (names_of files.entry)
         (desk_change D.faults D.last_fault D.contents desk.old desk.new)) }
@@ -88,7 +103,7 @@ fn prepare<D: Desk>(alloc: Global, files: Files<'_>, desk: &mut D) -> Result<Ran
         Ok(plan) => plan,
         Err(status) => return Err(status),
     };
-    match run_plan::<OwnedTree>(alloc, &plan) {
+    match run_plan::<T>(alloc, &plan) {
         Ok(ran) => Ok(ran),
         Err(_) => Err(Status::OutOfMemory),
     }

@@ -6,6 +6,8 @@ pub const TWO_TOP: &str = "fe:0 => a:0 b:0 ;\n";
 
 pub const INNER_TOP: &str = "fe:0 => c0:0 ;\nc0:0 => a:0 b:0 ;\n";
 
+pub const TWO_INNER_TOP: &str = "fe:0 => c0:0 c1:0 ;\nc0:0 => n0:0 n1:0 ;\nc1:0 => n2:0 n3:0 ;\n";
+
 pub const ONE_TOP: &str = "fe:0 => a:0 ;\n";
 
 pub const ALL_SCR: &str = "stream 0 wait-for-all waves 1 samples 1 on all\n";
@@ -32,7 +34,7 @@ end
 ";
 
 // 64 ranks of which one waits for a message.
-const SOLVER_SMP: &str = "daemon n0:0 0-15
+pub const SOLVER_SMP: &str = "daemon n0:0 0-15
 daemon n1:0 16-31
 daemon n2:0 32-47
 daemon n3:0 48-63
@@ -269,7 +271,7 @@ end
     },
     // an inner node for two daemons each
     Worked {
-        topology: "fe:0 => c0:0 c1:0 ;\nc0:0 => n0:0 n1:0 ;\nc1:0 => n2:0 n3:0 ;\n",
+        topology: TWO_INNER_TOP,
         samples: SOLVER_SMP,
         script: ALL_SCR,
         report: SOLVER_REPORT,

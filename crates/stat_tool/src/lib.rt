@@ -17,4 +17,6 @@ mod fixtures;
 #[cfg(test)]
 mod net_tests;
 #[cfg(test)]
+mod shy_tree;
+#[cfg(test)]
 mod tests;

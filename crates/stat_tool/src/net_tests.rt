@@ -101,8 +101,8 @@ fn seven_events_release_a_part_and_the_whole(rt: HostRuntime) {
     assert_eq!(rt; report.as_slice(), REPORT.as_bytes());
 }
 
-// Events that may not come next at the start: a tick where no timer runs, a receipt where nothing waits, samples at the front
-// end, a second wave, a loss, and events of nodes, streams and waves that the plan doesn't have.
+// Events that may not come next at the start: a tick where no timer runs, a receipt where nothing waits, samples at the
+// front end, a second wave, a loss, and events of nodes, streams and waves that the plan doesn't have.
 const NOT_NEXT: [Event; 9] = [
     Event::Tick { node: 1 },
     Event::Recv { node: 0, from: 1 },

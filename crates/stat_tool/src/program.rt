@@ -5,6 +5,7 @@ ghost use Rattle.stat_tool.specs.Status.{number_of, refusal_of_status};
 
 use crate::call::stat;
 use crate::status::{Status, WordFault};
+use prefix_tree::PrefixTree;
 use stat_desk::{FileDesk, StdSink};
 use std::env;
 use std::rt::{Env, Files};
@@ -33,16 +34,16 @@ pub fn ending_of(status: Status) -> Ending
     }
 }
 
-/// The call with the program's words, the real files and standard output. Words that can't be had are bad words. What the
-/// outside gives and takes no clause can say; that the number and the line are those of one status, it says.
-pub fn run_program<R: Env + Files + Print + AllocGlobal>(rt: &R) -> Ending
+/// The call with the program's words, the real files and standard output. Words that can't be had are bad words. What
+/// the outside gives and takes no clause can say; that the number and the line are those of one status, it says.
+pub fn run_program<T: PrefixTree, R: Env + Files + Print + AllocGlobal>(rt: &R) -> Ending
     ensures { IsEnding result }
 {
-    ending_of(status_of_run(rt))
+    ending_of(status_of_run::<T, R>(rt))
 }
 
 // The status of that call.
-fn status_of_run<R: Env + Files + Print + AllocGlobal>(rt: &R) -> Status {
+fn status_of_run<T: PrefixTree, R: Env + Files + Print + AllocGlobal>(rt: &R) -> Status {
     let alloc = rt.alloc();
     let Ok(args) = env::args(rt) else {
         return Status::BadWords(WordFault::Options);
@@ -52,5 +53,5 @@ fn status_of_run<R: Env + Files + Print + AllocGlobal>(rt: &R) -> Status {
     };
     let mut desk = FileDesk::new(alloc, rt);
     let mut out = StdSink::new(rt);
-    stat(alloc, words.as_slice(), &mut desk, &mut out).status
+    stat::<T, _, _>(alloc, words.as_slice(), &mut desk, &mut out).status
 }

@@ -1,7 +1,8 @@
 //! Reads the files that the words name, each whole, and tests each before the next is read.
 ghost use Rattle.std.specs.Prelude.{◌≡◌, ◌≤◌, ◌++◌, ◌∷◌, [], IfErr, IfOk, OnOk};
 ghost use Rattle.stat_desk.specs.Desk.{IsWhole};
-ghost use Rattle.stat_plan.specs.Invariants.{SamplesFit, ScriptFits};
+ghost use Rattle.stat_plan.specs.Invariants.{SamplesFit};
+ghost use Rattle.overlay_setup.specs.Scripts.{ScriptFits};
 ghost use Rattle.stat_plan.specs.Plans.{plan_of};
 ghost use Rattle.topology_text.specs.Whole.{topology_of};
 ghost use Rattle.sample_text.specs.Whole.{samples_of_text};
@@ -14,9 +15,10 @@ ghost use Rattle.stat_tool.specs.RunOutput.{RunJob};
 
 use crate::status::{FileRole, Status};
 use crate::words::Files;
+use overlay_setup::{Script, Topology};
 use prefix_tree::PREFIX_LIMIT;
 use stat_desk::{Desk, DeskError};
-use stat_plan::{Plan, PlanError, Samples, Script, Topology};
+use stat_plan::{Plan, PlanError, Samples};
 use std::alloc::Global;
 use text_lines::{Quantity, TextError};
 

@@ -1,9 +1,11 @@
 //! Whole calls over a desk and a sink in memory, with worked jobs, and one over the real files.
 use crate::fixtures::{
-    ALL_SCR, DONT_WAIT_SCR, FOUR_SMP, INNER_TOP, ONE_TOP, TWO_TOP, WORKED, desk_of, desk_of_bytes,
-    put,
+    ALL_SCR, DONT_WAIT_SCR, FOUR_SMP, INNER_TOP, ONE_TOP, SOLVER_SMP, TWO_INNER_TOP, TWO_TOP,
+    WORKED, desk_of, desk_of_bytes, put,
 };
+use crate::shy_tree::ShyTree;
 use crate::{FileRole, Status, Target, WordFault, stat};
+use prefix_tree::OwnedTree;
 use stat_desk::{Event, FileDesk, MemDesk, MemSink, StdSink};
 use std::alloc::{AllocError, Global};
 use std::fs;
@@ -132,8 +134,22 @@ fn words_of(alloc: Global, texts: &[&str]) -> Result<Vec<String>, AllocError> {
 fn run_on(alloc: Global, desk: &mut MemDesk) -> Result<(Status, MemSink), AllocError> {
     let words = words_of(alloc, WORDS.as_slice())?;
     let mut out = MemSink::new(alloc, 16, 20_000)?;
-    let outcome = stat(alloc, words.as_slice(), desk, &mut out);
+    let outcome = stat::<OwnedTree, _, _>(alloc, words.as_slice(), desk, &mut out);
     Ok((outcome.status, out))
+}
+
+// The front end merges the parts of two inner nodes, of 32 ranks each. A program that merged the daemons' samples at the
+// end would never merge as many at once.
+#[test]
+fn merges_the_parts_of_inner_nodes(rt: HostRuntime) -> Result<(), AllocError> {
+    let alloc = rt.alloc();
+    let mut desk = desk_of(alloc, TWO_INNER_TOP, SOLVER_SMP, ALL_SCR)?;
+    let words = words_of(alloc, WORDS.as_slice())?;
+    let mut out = MemSink::new(alloc, 16, 20_000)?;
+    let outcome = stat::<ShyTree, _, _>(alloc, words.as_slice(), &mut desk, &mut out);
+    assert_eq!(rt; outcome.status, Status::OutOfMemory);
+    assert_eq!(rt; out.bytes(), b"".as_slice());
+    Ok(())
 }
 
 #[test]
@@ -290,7 +306,7 @@ fn events_of(alloc: Global, topology: &str, script: &str) -> Result<Vec<Event>, 
     let mut desk = desk_of(alloc, topology, FOUR_SMP, script)?;
     let words = words_of(alloc, WORDS.as_slice())?;
     let mut out = MemSink::new(alloc, 16, 10_000)?;
-    let outcome = stat(alloc, words.as_slice(), &mut desk, &mut out);
+    let outcome = stat::<OwnedTree, _, _>(alloc, words.as_slice(), &mut desk, &mut out);
     let mut events = Vec::new(alloc);
     for i in 0..outcome.journal.len() {
         events.push(outcome.journal.at(i))?;
@@ -372,7 +388,7 @@ fn counts_the_prefixes_of_a_wave(rt: HostRuntime) -> Result<(), AllocError> {
         let mut desk = desk_of(alloc, ONE_TOP, samples.as_str(), ALL_SCR)?;
         let words = words_of(alloc, WORDS.as_slice())?;
         let mut out = MemSink::new(alloc, 1_000, 1_000_000)?;
-        let outcome = stat(alloc, words.as_slice(), &mut desk, &mut out);
+        let outcome = stat::<OwnedTree, _, _>(alloc, words.as_slice(), &mut desk, &mut out);
         assert_eq!(rt; outcome.status, status);
         assert_eq!(rt; out.bytes().is_empty(), status != Status::Done);
     }
@@ -399,7 +415,7 @@ fn counts_the_prefixes_that_a_stream_sees(rt: HostRuntime) -> Result<(), AllocEr
         let mut desk = desk_of(alloc, ONE_TOP, samples.as_str(), script)?;
         let words = words_of(alloc, WORDS.as_slice())?;
         let mut out = MemSink::new(alloc, 1_000, 1_000_000)?;
-        let outcome = stat(alloc, words.as_slice(), &mut desk, &mut out);
+        let outcome = stat::<OwnedTree, _, _>(alloc, words.as_slice(), &mut desk, &mut out);
         assert_eq!(rt; outcome.status == Status::Done, *grain == "function");
     }
     Ok(())
@@ -471,7 +487,7 @@ fn tells_a_fault_of_the_sink(rt: HostRuntime) -> Result<(), AllocError> {
     let mut desk = desk_of(alloc, TWO_TOP, FOUR_SMP, ALL_SCR)?;
     let mut out = MemSink::new(alloc, 16, 10_000)?;
     out.fail_at(2)?;
-    let outcome = stat(alloc, words.as_slice(), &mut desk, &mut out);
+    let outcome = stat::<OwnedTree, _, _>(alloc, words.as_slice(), &mut desk, &mut out);
     assert_eq!(rt; outcome.status, Status::SinkFault(Target::Report));
     assert_eq!(rt; out.bytes(), b"stream 0 wave 0 ".as_slice());
     assert_eq!(rt; outcome.journal.len(), 6);
@@ -508,7 +524,7 @@ fn status_of_words(alloc: Global, texts: &[&str]) -> Result<(Status, bool), Allo
     let words = words_of(alloc, texts)?;
     let mut desk = desk_of(alloc, TWO_TOP, FOUR_SMP, ALL_SCR)?;
     let mut out = MemSink::new(alloc, 16, 10_000)?;
-    let outcome = stat(alloc, words.as_slice(), &mut desk, &mut out);
+    let outcome = stat::<OwnedTree, _, _>(alloc, words.as_slice(), &mut desk, &mut out);
     Ok((outcome.status, out.bytes().is_empty()))
 }
 
@@ -588,7 +604,7 @@ fn reads_real_files_and_writes_to_standard_output(rt: HostRuntime) -> anyhow::Re
     let words = words_of(alloc, WORDS.as_slice())?;
     let mut desk = FileDesk::new(alloc, &rt);
     let mut out = StdSink::new(&rt);
-    let outcome = stat(alloc, words.as_slice(), &mut desk, &mut out);
+    let outcome = stat::<OwnedTree, _, _>(alloc, words.as_slice(), &mut desk, &mut out);
     assert_eq!(rt; outcome.status, Status::Done);
     Ok(())
 }

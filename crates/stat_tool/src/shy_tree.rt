@@ -1,0 +1,63 @@
+//! A tree for one test. It keeps an [`OwnedTree`], but won't merge a tree of more than 16 ranks where it has some already.
+
+ghost use Rattle.std.specs.Prelude.{⊤};
+
+use call_path::CallPath;
+use prefix_tree::{Cursor, OwnedTree, PrefixTree, Row, TreeError};
+use rank_set::RankSet;
+use std::alloc::{AllocError, Global};
+
+#[derive(Drop)]
+pub struct ShyTree {
+    tree: OwnedTree,
+}
+
+impl PrefixTree for ShyTree {
+    ghost tree = { λ t. t.tree };
+
+    ghost is_cursor = { λ _ _. ⊤ };
+
+    fn empty(alloc: Global) -> ShyTree {
+        ShyTree {
+            tree: OwnedTree::empty(alloc),
+        }
+    }
+
+    fn cover(&mut self, ranks: &RankSet) -> Result<(), AllocError> {
+        self.tree.cover(ranks)
+    }
+
+    fn add(&mut self, ranks: &RankSet, path: &CallPath) -> Result<(), TreeError> {
+        self.tree.add(ranks, path)
+    }
+
+    fn merge(&mut self, other: &ShyTree) -> Result<(), TreeError> {
+        let own = self.tree.row(0).label.count();
+        if own > 0 && other.tree.row(0).label.count() > 16 {
+            return Err(TreeError::OutOfMemory);
+        }
+        self.tree.merge(&other.tree)
+    }
+
+    fn copy(&self) -> Result<ShyTree, AllocError> {
+        Ok(ShyTree {
+            tree: self.tree.copy()?,
+        })
+    }
+
+    fn rows(&self) -> usize {
+        self.tree.rows()
+    }
+
+    fn row(&self, i: usize) -> Row<'_> {
+        self.tree.row(i)
+    }
+
+    fn cursor(&self, alloc: Global) -> Result<Cursor, AllocError> {
+        self.tree.cursor(alloc)
+    }
+
+    fn next_row(&self, at: &mut Cursor) -> Option<Row<'_>> {
+        self.tree.next_row(at)
+    }
+}
