@@ -1,0 +1,10 @@
+use Rattle.std.proofs.Common.{slice_set, ◌∙◌, ap, arith}
+use Rattle.arena_tree.specs.Links.{with_first}
+use Rattle.arena_tree.proofs.Changes.{with_change-set, change_past}
+use Rattle.arena_tree.proofs.apply.set_first.Goals as goal
+
+pub returns-then-at-len-clause-items : goal.returns-then-at-len-clause-items
+returns-then-at-len-clause-items c = ap (slice_set c.args.nodes.now.items c.args.at) c.set_first.ensures ∙ with_change-set c.args.nodes.now.items c.args.at (with_first c.args.to) c.get_mut.result.now c.get_mut.ensures.value
+
+pub returns-else-at-len-clause-items : goal.returns-else-at-len-clause-items
+returns-else-at-len-clause-items c = change_past c.args.nodes.now.items c.args.at (with_first c.args.to) (omega (arith, c.len.ensures, c.if-at-len.false))

@@ -1,0 +1,16 @@
+pub mod NodeViews
+pub mod RowForest
+pub mod RowMerge
+pub mod RunForest
+pub mod RunMerge
+pub mod Placement
+pub mod Links
+pub mod Steps
+pub mod Laws
+pub mod Reading
+pub mod Targets
+pub mod Plans
+pub mod TreeView
+pub mod ReadingOrder
+pub mod Cursors
+pub mod Trail

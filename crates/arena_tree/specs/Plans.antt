@@ -1,0 +1,73 @@
+-- Steps that are planned, and what it means that they plan a run.
+use Rattle.std.specs.Prelude.{◌≡◌, ℕ, ◌+◌, ◌≤◌, List, [], ◌∷◌, ◌++◌, length, Some, slice_get}
+use Rattle.std.specs.declared.cmp.Ordering.TheVariants.{Equal}
+use Rattle.call_path.specs.Path.{Path}
+use Rattle.prefix_tree.specs.Tree.{Marks}
+use Rattle.arena_tree.specs.declared.node.Link.TheVariants.{FirstOf}
+use Rattle.arena_tree.specs.declared.node.Step.{Step}
+use Rattle.arena_tree.specs.declared.node.Step.TheVariants.{Old, Cut}
+use Rattle.arena_tree.specs.declared.target.Target.{Target}
+use Rattle.arena_tree.specs.NodeViews.{NodeView, view_of}
+use Rattle.arena_tree.specs.RunForest.{RunForest}
+use Rattle.arena_tree.specs.RunMerge.{new_nodes}
+use Rattle.arena_tree.specs.Steps.{nodes_added_by, nodes_added, rows_added_by, rows_added, rest_over, merge_steps}
+use Rattle.arena_tree.specs.Reading.{run_of, frame_side}
+use Rattle.arena_tree.specs.Targets.{target_forest, IsTarget}
+
+-- how many nodes there are before the steps, and the steps
+pub record PlanView : Type 0 where
+  pub base : ℕ
+  pub steps : List Step
+
+-- with more steps
+abbrev pub plan_with : PlanView → List Step → PlanView
+plan_with p ss = record { base = p.base; steps = p.steps ++ ss }
+
+-- the place that the next new node gets
+abbrev pub next_place : PlanView → ℕ
+next_place p = p.base + nodes_added p.steps
+
+-- so many nodes and rows more can be counted
+pub record HasRoom (p : PlanView) (k : ℕ) : Type 0 where
+  pub places : next_place p + k ≤ 8192
+  pub rows : rows_added p.steps + k ≤ 8192
+
+-- the step of a node that keeps its upper frames and gets other marks, where its lower ones, if it has any, go to a new node with the old marks
+abbrev pub step_at : ℕ → Path → Path → Marks → Marks → ℕ → Step
+step_at a upper [] v m first = Old a v.0 v.1
+step_at a upper (g ∷ gs) v m first = Cut a upper v.0 v.1 (view_of (g ∷ gs) m first 4294967295)
+
+-- the target below a node then
+abbrev pub target_below : Target → Path → ℕ → ℕ → ℕ → Target
+target_below into [] kept place first = record { link = FirstOf into.place; node = first; skip = 0; place = first }
+target_below into (g ∷ gs) kept place first = record { link = FirstOf into.place; node = into.node; skip = kept; place = place }
+
+-- the target begins with that frame of a path
+pub record BeginsAt (cs : List NodeView) (into : Target) (p : Path) (skip : ℕ) : Type 0 where
+  pub frame : List ℕ
+  pub is : slice_get p skip ≡ Some frame
+  pub side : frame_side frame (target_forest cs into) ≡ Equal
+
+-- one step plans the first frames of a run; then come those of the frames behind them, in the target below, and then those of the run's siblings
+pub record SharesRun (cs : List NodeView) (into rest below : Target) (fs gs : Path) (w : Marks) (old new : PlanView) : Type 0 where
+  pub step : Step
+  pub plan : new ≡ plan_with old (step ∷ [])
+  pub rest_leads : IsTarget cs rest
+  pub below_leads : IsTarget cs below
+  pub places : nodes_added_by step ≤ 1
+  pub rows : rows_added_by step ≡ 0
+  pub same : (x : ℕ) (c t : RunForest) → merge_steps into.link (next_place old) (target_forest cs into) (run_of x fs w c t)
+      ≡ step ∷ merge_steps below.link (next_place old + nodes_added_by step) (target_forest cs below) (rest_over 0 gs w c)
+      ++ merge_steps rest.link (next_place old + nodes_added_by step + new_nodes [] (target_forest cs below) [] (rest_over 0 gs w c)) (target_forest cs rest) t
+
+-- steps plan a run; then come those of the nodes below it, and then those of its siblings
+pub record PlansRun (cs : List NodeView) (into rest below : Target) (fs : Path) (w : Marks) (old new : PlanView) : Type 0 where
+  pub steps : List Step
+  pub plan : new ≡ plan_with old steps
+  pub rest_leads : IsTarget cs rest
+  pub below_leads : IsTarget cs below
+  pub places : nodes_added steps ≤ length fs
+  pub rows : rows_added steps ≤ length fs
+  pub same : (x : ℕ) (c t : RunForest) → merge_steps into.link (next_place old) (target_forest cs into) (run_of x fs w c t)
+      ≡ steps ++ merge_steps below.link (next_place old + nodes_added steps) (target_forest cs below) c
+      ++ merge_steps rest.link (next_place old + nodes_added steps + new_nodes [] (target_forest cs below) [] c) (target_forest cs rest) t

@@ -1,0 +1,99 @@
+//! Steps done in an arena of nodes, which can't fail.
+
+ghost use Rattle.std.specs.Prelude.{◌≡◌, ◌≤◌, ◌<◌, ◌+◌, length};
+ghost use Rattle.arena_tree.specs.Links.{with_change, with_first, with_next, relink, first_after, linked};
+ghost use Rattle.arena_tree.specs.Steps.{with_marks, with_frames, apply_step, apply_steps, nodes_added, nodes_added_by};
+
+use crate::node::{Link, Node, Step};
+use call_path::CallPath;
+use node_arena::{Arena, Place};
+use rank_set::RankSet;
+
+// Gives the node at a place other marks, if there is one.
+fn mark(nodes: &mut Arena<Node>, at: Place, label: RankSet, ends: RankSet)
+    ensures items { nodes.new.items ≡ with_change at (with_marks label ends) nodes.old.items }
+    ensures spare { nodes.new.spare ≡ nodes.old.spare }
+{
+    if at < nodes.len() {
+        nodes.get_mut(at).set_marks(label, ends);
+    }
+}
+
+// Leaves the node at a place fewer frames, if there is one, above the node at another.
+fn cut(
+    nodes: &mut Arena<Node>,
+    at: Place,
+    frames: CallPath,
+    label: RankSet,
+    ends: RankSet,
+    below: Place,
+)
+    ensures items { nodes.new.items ≡ with_change at (with_frames frames label ends below) nodes.old.items }
+    ensures spare { nodes.new.spare ≡ nodes.old.spare }
+{
+    if at < nodes.len() {
+        nodes.get_mut(at).set_frames(frames, label, ends, below);
+    }
+}
+
+fn set_first(nodes: &mut Arena<Node>, at: Place, to: Place)
+    ensures items { nodes.new.items ≡ with_change at (with_first to) nodes.old.items }
+    ensures spare { nodes.new.spare ≡ nodes.old.spare }
+{
+    if at < nodes.len() {
+        nodes.get_mut(at).set_first(to);
+    }
+}
+
+fn set_next(nodes: &mut Arena<Node>, at: Place, to: Place)
+    ensures items { nodes.new.items ≡ with_change at (with_next to) nodes.old.items }
+    ensures spare { nodes.new.spare ≡ nodes.old.spare }
+{
+    if at < nodes.len() {
+        nodes.get_mut(at).set_next(to);
+    }
+}
+
+// Leads a link to a place.
+fn relink(first: &mut Place, nodes: &mut Arena<Node>, link: Link, to: Place)
+    ensures first { first.new ≡ first_after link to first.old }
+    ensures items { nodes.new.items ≡ relink link to nodes.old.items }
+    ensures spare { nodes.new.spare ≡ nodes.old.spare }
+{
+    match link {
+        Link::Top => *first = to,
+        Link::FirstOf(at) => set_first(nodes, at, to),
+        Link::NextOf(at) => set_next(nodes, at, to),
+    }
+}
+
+// Does one step.
+fn apply_one(first: &mut Place, nodes: &mut Arena<Node>, one: Step)
+    requires { nodes_added_by one ≤ nodes.old.spare }
+    ensures held { linked first.new nodes.new.items ≡ apply_step (linked first.old nodes.old.items) one }
+    ensures spare { nodes.new.spare + nodes_added_by one ≡ nodes.old.spare }
+{
+    match one {
+        Step::Old(at, label, ends) => mark(nodes, at, label, ends),
+        Step::Cut(at, frames, label, ends, node) => {
+            let place = nodes.len();
+            cut(nodes, at, frames, label, ends, place);
+            nodes.put(node);
+        }
+        Step::New(link, node) => {
+            let place = nodes.len();
+            relink(first, nodes, link, place);
+            nodes.put(node);
+        }
+    }
+}
+
+/// Does steps one after another, for whose new nodes there is room.
+pub(crate) fn apply(first: &mut Place, nodes: &mut Arena<Node>, steps: Vec<Step>)
+    requires { nodes_added steps.items ≤ nodes.old.spare }
+    ensures { linked first.new nodes.new.items ≡ apply_steps (linked first.old nodes.old.items) steps.items }
+{
+    for one in steps {
+        apply_one(first, nodes, one);
+    }
+}

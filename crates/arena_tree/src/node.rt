@@ -1,0 +1,162 @@
+//! Nodes by first child and next sibling, each for a run of rows.
+
+ghost use Rattle.std.specs.Prelude.{◌≡◌, ◌<◌, slice_get, Some, IfOk, IsTrue, length, drop};
+ghost use Rattle.call_path.specs.Good.{is_good_frame};
+ghost use Rattle.arena_tree.specs.NodeViews.{view_of, view_behind};
+ghost use Rattle.arena_tree.specs.Links.{with_first, with_next};
+ghost use Rattle.arena_tree.specs.Steps.{with_marks, with_frames};
+
+use call_path::CallPath;
+use node_arena::Place;
+use rank_set::RankSet;
+use std::alloc::AllocError;
+use std::marker::Model;
+use std::mem;
+
+/// A link that leads nowhere.
+pub(crate) const NO_PLACE: Place = 4_294_967_295;
+
+/// The frames of rows one below the other, the ranks that pass them, and those whose path ends at the last.
+#[derive(Drop)]
+pub(crate) struct Node {
+    frames: CallPath,
+    label: RankSet,
+    ends: RankSet,
+    first: Place,
+    next: Place,
+}
+
+impl Model for Node {
+    ghost use Rattle.arena_tree.specs.NodeViews.{NodeView};
+
+    ghost Value = { NodeView };
+
+    ghost view = { λ a. record { frames = a.frames; label = a.label; ends = a.ends; first = a.first; next = a.next } };
+}
+
+/// Where a place is written.
+#[derive(Clone, Copy)]
+pub(crate) enum Link {
+    /// Where the tree begins.
+    Top,
+    /// The first child of a node.
+    FirstOf(Place),
+    /// The next sibling of a node.
+    NextOf(Place),
+}
+
+/// A step of a change.
+#[derive(Drop)]
+pub(crate) enum Step {
+    /// The node at a place gets these marks.
+    Old(Place, RankSet, RankSet),
+    /// The node at a place keeps these frames, gets these marks, and stands above a node more.
+    Cut(Place, CallPath, RankSet, RankSet, Node),
+    /// A node more, to which the link leads.
+    New(Link, Node),
+}
+
+impl Node {
+    /// Frame `i` of its rows.
+    pub(crate) fn frame(&self, i: usize) -> &str
+        requires { i < length self.now.frames }
+        ensures frame { slice_get self.now.frames i ≡ Some result.now }
+        ensures good { IsTrue (is_good_frame result.now) }
+    {
+        self.frames.frame(i)
+    }
+
+    pub(crate) fn frames(&self) -> &CallPath
+        ensures { result.now ≡ self.now.frames }
+    {
+        &self.frames
+    }
+
+    pub(crate) fn label(&self) -> &RankSet
+        ensures { result.now ≡ self.now.label }
+    {
+        &self.label
+    }
+
+    pub(crate) fn ends(&self) -> &RankSet
+        ensures { result.now ≡ self.now.ends }
+    {
+        &self.ends
+    }
+
+    pub(crate) fn first(&self) -> Place
+        ensures { result ≡ self.now.first }
+    {
+        self.first
+    }
+
+    pub(crate) fn next(&self) -> Place
+        ensures { result ≡ self.now.next }
+    {
+        self.next
+    }
+
+    /// A node with the frames behind the first `skip`, the same marks, and other links.
+    pub(crate) fn behind(&self, skip: usize, first: Place, next: Place) -> Result<Node, AllocError>
+        requires { skip < length self.now.frames }
+        ensures { IfOk result (λ node. node ≡ view_behind skip first next self.now) }
+    {
+        Node::new(&self.frames, skip, &self.label, &self.ends, first, next)
+    }
+
+    /// A node with the frames of a path behind the first `skip`.
+    pub(crate) fn new(
+        frames: &CallPath,
+        skip: usize,
+        label: &RankSet,
+        ends: &RankSet,
+        first: Place,
+        next: Place,
+    ) -> Result<Node, AllocError>
+        requires { skip < length frames.now }
+        ensures { IfOk result (λ node. node ≡ view_of (drop skip frames.now) (label.now, ends.now) first next) }
+    {
+        Ok(Node {
+            frames: frames.behind(skip)?,
+            label: label.copy()?,
+            ends: ends.copy()?,
+            first,
+            next,
+        })
+    }
+
+    pub(crate) fn set_marks(&mut self, label: RankSet, ends: RankSet)
+        ensures { self.new ≡ with_marks label ends self.old }
+    {
+        drop(mem::replace(&mut self.label, label));
+        drop(mem::replace(&mut self.ends, ends));
+    }
+
+    /// Keeps these frames, above the node at a place.
+    pub(crate) fn set_frames(
+        &mut self,
+        frames: CallPath,
+        label: RankSet,
+        ends: RankSet,
+        below: Place,
+    )
+        ensures { self.new ≡ with_frames frames label ends below self.old }
+    {
+        drop(mem::replace(&mut self.frames, frames));
+        drop(mem::replace(&mut self.label, label));
+        drop(mem::replace(&mut self.ends, ends));
+        self.first = below;
+    }
+
+    pub(crate) fn set_first(&mut self, to: Place)
+        ensures { self.new ≡ with_first to self.old }
+    {
+        self.first = to;
+    }
+
+    pub(crate) fn set_next(&mut self, to: Place)
+        ensures { self.new ≡ with_next to self.old }
+    {
+        self.next = to;
+    }
+}

@@ -1,0 +1,187 @@
+//! The steps of a change, planned before anything is changed.
+
+ghost use Rattle.std.specs.Prelude.{◌≡◌, ◌≢◌, ◌+◌, ◌<◌, ◌≤◌, [], ◌∷◌, IfOk, OnOk, length, drop, take};
+ghost use Rattle.rank_set.specs.Ranks.{none, union};
+ghost use Rattle.arena_tree.specs.declared.node.Step.TheVariants.{Old, Cut, New};
+ghost use Rattle.arena_tree.specs.NodeViews.{view_behind};
+ghost use Rattle.arena_tree.specs.RunForest.{row_ends};
+ghost use Rattle.arena_tree.specs.Steps.{nodes_added, rows_added};
+ghost use Rattle.arena_tree.specs.Plans.{plan_with, next_place, HasRoom, step_at, target_below};
+
+use crate::node::{Link, NO_PLACE, Node, Step};
+use crate::target::Target;
+use node_arena::Place;
+use rank_set::RankSet;
+use std::alloc::{AllocError, Global};
+use std::marker::Model;
+
+/// Steps, with the number of nodes before them, the place of the next new node, and the number of new rows.
+#[derive(Drop)]
+pub(crate) struct Plan {
+    steps: Vec<Step>,
+    base: u32,
+    next: u32,
+    rows: u32,
+}
+
+impl Model for Plan {
+    ghost use Rattle.std.specs.Prelude.{◌≡◌, ◌+◌};
+    ghost use Rattle.arena_tree.specs.Steps.{nodes_added, rows_added};
+    ghost use Rattle.arena_tree.specs.Plans.{PlanView};
+
+    ghost Value = { PlanView };
+
+    ghost view = { λ a. record { base = a.base; steps = a.steps.items } };
+
+    ghost invariant = { λ a. record {
+      next : a.next ≡ a.base + nodes_added a.steps.items;
+      rows : a.rows ≡ rows_added a.steps.items;
+    } };
+}
+
+impl Plan {
+    /// No steps, for a tree of `base` nodes.
+    pub(crate) fn new(alloc: Global, base: u32) -> Plan
+        ensures base { result.base ≡ base }
+        ensures steps { result.steps ≡ [] }
+    {
+        Plan {
+            steps: Vec::new(alloc),
+            base,
+            next: base,
+            rows: 0,
+        }
+    }
+
+    /// How many nodes the steps add.
+    pub(crate) fn nodes(&self) -> u32
+        ensures { result ≡ nodes_added self.now.steps }
+    {
+        self.next - self.base
+    }
+
+    /// How many rows the steps add.
+    pub(crate) fn rows(&self) -> u32
+        ensures { result ≡ rows_added self.now.steps }
+    {
+        self.rows
+    }
+
+    /// The steps.
+    pub(crate) fn into_steps(self) -> Vec<Step>
+        ensures { result.items ≡ self.steps }
+    {
+        let Plan {
+            steps,
+            base: _,
+            next: _,
+            rows: _,
+        } = self;
+        steps
+    }
+
+    /// Plans a new node, to which the link leads, and returns its place.
+    pub(crate) fn put(&mut self, link: Link, node: Node) -> Result<Place, AllocError>
+        requires { HasRoom self.old (length node.frames) }
+        ensures place { IfOk result (λ place. place ≡ next_place self.old) }
+        ensures plan { OnOk result (self.new ≡ plan_with self.old (New link node ∷ [])) }
+    {
+        let place = self.next;
+        let rows = node.frames().len() as u32;
+        self.steps.push(Step::New(link, node))?;
+        self.next = place + 1;
+        self.rows += rows;
+        Ok(place)
+    }
+
+    /// Plans that the first node of the target keeps `shared` of its frames and has the ranks besides;
+    /// the frames behind them, if there are any, go to a new node. Returns the target below it.
+    pub(crate) fn share(
+        &mut self,
+        into: Target,
+        node: &Node,
+        shared: usize,
+        label: &RankSet,
+        ends: &RankSet,
+    ) -> Result<Target, AllocError>
+        requires room { HasRoom self.old 1 }
+        requires not_empty { 0 < shared }
+        requires within { into.skip + shared ≤ length node.now.frames }
+        ensures plan { OnOk result (self.new ≡ plan_with self.old (step_at into.place
+            (take shared (drop into.skip node.now.frames)) (drop (into.skip + shared) node.now.frames) (
+              union node.now.label label.now,
+              union (row_ends (drop (into.skip + shared) node.now.frames) node.now.ends) ends.now,
+            )
+            (node.now.label, node.now.ends) node.now.first ∷ [])) }
+        ensures below { IfOk result (λ below. below ≡ target_below into (drop (into.skip + shared) node.now.frames)
+            (into.skip + shared) (next_place self.old) node.now.first) }
+    {
+        let len = node.frames().len();
+        let kept = into.skip + shared;
+        if kept == len {
+            self.mark(into.place, node, label, ends)?;
+            return Ok(Target {
+                link: Link::FirstOf(into.place),
+                node: node.first(),
+                skip: 0,
+                place: node.first(),
+            });
+        }
+        let place = self.cut(into, node, shared, label, ends)?;
+        Ok(Target {
+            link: Link::FirstOf(into.place),
+            node: into.node,
+            skip: kept,
+            place,
+        })
+    }
+
+    /// Plans that a node has the ranks besides its own.
+    fn mark(
+        &mut self,
+        at: Place,
+        node: &Node,
+        label: &RankSet,
+        ends: &RankSet,
+    ) -> Result<(), AllocError>
+        ensures { OnOk result (self.new ≡ plan_with self.old
+            (Old at (union node.now.label label.now) (union node.now.ends ends.now) ∷ [])) }
+    {
+        let label = node.label().united(label)?;
+        let ends = node.ends().united(ends)?;
+        self.steps.push(Step::Old(at, label, ends))?;
+        Ok(())
+    }
+
+    /// Plans that the first node of the target keeps `shared` of its frames, above a new node with the frames behind
+    /// them, and returns the place of that one.
+    fn cut(
+        &mut self,
+        into: Target,
+        node: &Node,
+        shared: usize,
+        label: &RankSet,
+        ends: &RankSet,
+    ) -> Result<Place, AllocError>
+        requires room { HasRoom self.old 1 }
+        requires not_empty { 0 < shared }
+        requires within { into.skip + shared < length node.now.frames }
+        ensures place { IfOk result (λ place. place ≡ next_place self.old) }
+        ensures plan { OnOk result (self.new ≡ plan_with self.old (Cut into.place
+            (take shared (drop into.skip node.now.frames)) (union node.now.label label.now) ends.now
+            (view_behind (into.skip + shared) node.now.first NO_PLACE node.now) ∷ [])) }
+    {
+        let place = self.next;
+        // For the proof: no more than `FRAME_LIMIT` frames.
+        let _len = node.frames().len();
+        let mut upper = node.frames().behind(into.skip)?;
+        upper.cut(shared);
+        let lower = node.behind(into.skip + shared, node.first(), NO_PLACE)?;
+        let label = node.label().united(label)?;
+        let ends = ends.copy()?;
+        self.steps
+            .push(Step::Cut(into.place, upper, label, ends, lower))?;
+        self.next = place + 1;
+        Ok(place)
+    }
+}

@@ -1,0 +1,66 @@
+//! The row of a tree with a given number.
+
+ghost use Rattle.std.specs.Prelude.{◌≡◌, ◌+◌, ◌<◌, ◌≤◌, Some, IfOk, IfErr, length, drop, slice_get};
+ghost use Rattle.rank_set.specs.Ranks.{none};
+ghost use Rattle.arena_tree.specs.RunForest.{count_rows, rows_of_runs, row_ends};
+ghost use Rattle.arena_tree.specs.Reading.{forest_at, LeadsToForest};
+ghost use Rattle.arena_tree.specs.ReadingOrder.{shows, row_seen};
+
+use crate::merge::ends_at;
+use crate::node::{NO_PLACE, Node};
+use node_arena::{Arena, Place};
+use prefix_tree::Row;
+use rank_set::RankSet;
+
+/// Row `i` of the nodes from a place on, whose first rows have the given depth. Where there are not so many rows, the
+/// error is what is left of `i` behind them.
+pub(crate) fn find_row<'a>(
+    nodes: &'a Arena<Node>,
+    mut at: Place,
+    depth: usize,
+    mut i: usize,
+    nobody: &'a RankSet,
+) -> Result<Row<'a>, usize>
+    requires leads { LeadsToForest nodes.now.items at }
+    requires nobody { nobody.now ≡ none }
+    requires depth { depth + count_rows (forest_at nodes.now.items at) ≤ 8192 }
+    ensures found { IfOk result (λ row.
+        slice_get (shows depth (rows_of_runs (forest_at nodes.now.items at))) i ≡ Some (row_seen row)) }
+    ensures left { IfErr result (λ left. left + count_rows (forest_at nodes.now.items at) ≡ i) }
+{
+    while at != NO_PLACE {
+        let node = nodes.get(at);
+        let len = node.frames().len();
+        if i < len {
+            return Ok(run_row(node, depth, i, nobody));
+        }
+        match find_row(nodes, node.first(), depth + len, i - len, nobody) {
+            Ok(row) => return Ok(row),
+            Err(left) => {
+                i = left;
+                at = node.next();
+            }
+        }
+    }
+    Err(i)
+}
+
+/// Row `i` of a node, whose first row has the given depth.
+pub(crate) fn run_row<'a>(node: &'a Node, depth: usize, i: usize, nobody: &'a RankSet) -> Row<'a>
+    requires within { i < length node.now.frames }
+    requires nobody { nobody.now ≡ none }
+    requires depth { depth ≤ 8192 }
+    ensures depth { result.depth ≡ depth + i }
+    ensures frame { slice_get node.now.frames i ≡ Some result.frame.now }
+    ensures label { result.label.now ≡ node.now.label }
+    ensures ends { result.ends.now ≡ row_ends (drop (i + 1) node.now.frames) node.now.ends }
+{
+    // For the proof: no more than `FRAME_LIMIT` frames.
+    let _len = node.frames().len();
+    Row {
+        depth: depth + i,
+        frame: node.frame(i),
+        label: node.label(),
+        ends: ends_at(node.frames(), i + 1, node.ends(), nobody),
+    }
+}

@@ -1,0 +1,228 @@
+//! A tree as nodes in an arena.
+
+ghost use Rattle.std.specs.Prelude.{◌≡◌, ◌+◌, ◌<◌, ◌≤◌, ◌^◌, IfOk, OnOk, length};
+ghost use Rattle.arena_tree.specs.Steps.{nodes_added, rows_added};
+ghost use Rattle.arena_tree.specs.Cursors.{IsCursor};
+
+use crate::apply::apply;
+use crate::merge::{plan_merge, plan_path};
+use crate::node::{Link, NO_PLACE, Node};
+use crate::plan::Plan;
+use crate::row::{find_row, run_row};
+use crate::target::Target;
+use crate::trail::Hint;
+use crate::walk::{move_on, put_link};
+use call_path::CallPath;
+use node_arena::{Arena, Place};
+use prefix_tree::{Cursor, PREFIX_LIMIT, PrefixTree, Row, TreeError};
+use rank_set::RankSet;
+use std::alloc::{AllocError, Global};
+use std::marker::Model;
+
+/// A tree that has one node for each run of rows with the same ranks.
+///
+/// A node has the frames of its rows, the ranks that pass them, and those whose path ends at the last of them. It is
+/// linked to its first child and to its next sibling; siblings are in the order of their first frames.
+#[derive(Drop)]
+pub struct ArenaTree {
+    coverage: RankSet,
+    // Stays empty: the ends of the root, and of each row that is not the last of its run.
+    nobody: RankSet,
+    nodes: Arena<Node>,
+    // The place of the first node below the root.
+    first: Place,
+    // How many rows there are below the root.
+    rows: u32,
+    // Where the frames of the path that was added last are, by level: paths that come in their order are found at once.
+    trail: Vec<Hint>,
+    alloc: Global,
+}
+
+impl Model for ArenaTree {
+    ghost use Rattle.std.specs.Prelude.{◌≡◌};
+    ghost use Rattle.rank_set.specs.Ranks.{none};
+    ghost use Rattle.arena_tree.specs.RunForest.{count_rows};
+    ghost use Rattle.arena_tree.specs.Reading.{forest_at};
+    ghost use Rattle.arena_tree.specs.TreeView.{ArenaView, arena_view, coded_arena, IsArenaTree};
+    ghost use Rattle.arena_tree.specs.Trail.{AreHints};
+
+    // The nodes are part of the value, since a cursor stands at one of them.
+    ghost Value = { ArenaView };
+
+    ghost coded = { coded_arena };
+
+    ghost view = { λ a. arena_view a.coverage a.nodes.items a.first };
+
+    ghost invariant = { λ a. record {
+      tree : IsArenaTree a.coverage a.nodes.items a.first;
+      rows : a.rows ≡ count_rows (forest_at a.nodes.items a.first);
+      nobody : a.nobody ≡ none;
+      hints : AreHints (forest_at a.nodes.items a.first) a.trail.items;
+    } };
+}
+
+impl PrefixTree for ArenaTree {
+    ghost tree = { λ t. t.tree };
+
+    ghost is_cursor = { λ t at. IsCursor t.nodes t.first at };
+
+    fn empty(alloc: Global) -> ArenaTree {
+        ArenaTree {
+            coverage: RankSet::new(alloc),
+            nobody: RankSet::new(alloc),
+            nodes: Arena::new(alloc),
+            first: NO_PLACE,
+            rows: 0,
+            trail: Vec::new(alloc),
+            alloc,
+        }
+    }
+
+    fn cover(&mut self, ranks: &RankSet) -> Result<(), AllocError> {
+        self.coverage.union_into(ranks)?;
+        Ok(())
+    }
+
+    fn add(&mut self, ranks: &RankSet, path: &CallPath) -> Result<(), TreeError> {
+        let mut plan = Plan::new(self.alloc, self.nodes.len());
+        // For the proof: no more than `FRAME_LIMIT` frames.
+        let _len = path.len();
+        let mut into = Target {
+            link: Link::Top,
+            node: self.first,
+            skip: 0,
+            place: self.first,
+        };
+        let _below = plan_path(
+            &self.nodes,
+            self.first,
+            &mut into,
+            path,
+            0,
+            ranks,
+            &self.nobody,
+            &mut plan,
+            &mut self.trail,
+            0,
+        )?;
+        if let Err(error) = make_room(&mut self.nodes, self.rows, &plan) {
+            return Err(error);
+        }
+        self.rows += plan.rows();
+        apply(&mut self.first, &mut self.nodes, plan.into_steps());
+        Ok(())
+    }
+
+    fn merge(&mut self, other: &ArenaTree) -> Result<(), TreeError> {
+        let mut plan = Plan::new(self.alloc, self.nodes.len());
+        let into = Target {
+            link: Link::Top,
+            node: self.first,
+            skip: 0,
+            place: self.first,
+        };
+        plan_merge(
+            &self.nodes,
+            into,
+            &other.nodes,
+            other.first,
+            &self.nobody,
+            &mut plan,
+        )?;
+        if let Err(error) = make_room(&mut self.nodes, self.rows, &plan) {
+            return Err(error);
+        }
+        self.coverage.union_into(&other.coverage)?;
+        self.trail.clear();
+        self.rows += plan.rows();
+        apply(&mut self.first, &mut self.nodes, plan.into_steps());
+        Ok(())
+    }
+
+    fn copy(&self) -> Result<ArenaTree, AllocError> {
+        Ok(ArenaTree {
+            coverage: self.coverage.copy()?,
+            nobody: self.nobody.copy()?,
+            nodes: copy_nodes(self.alloc, &self.nodes)?,
+            first: self.first,
+            rows: self.rows,
+            trail: Vec::new(self.alloc),
+            alloc: self.alloc,
+        })
+    }
+
+    fn rows(&self) -> usize {
+        self.rows as usize + 1
+    }
+
+    fn row(&self, i: usize) -> Row<'_> {
+        if i == 0 {
+            return Row {
+                depth: 0,
+                frame: "/",
+                label: &self.coverage,
+                ends: &self.nobody,
+            };
+        }
+        match find_row(&self.nodes, self.first, 1, i - 1, &self.nobody) {
+            Ok(row) => row,
+            Err(_) => unreachable!(),
+        }
+    }
+
+    fn cursor(&self, alloc: Global) -> Result<Cursor, AllocError> {
+        let mut waiting = Vec::with_capacity(alloc, self.nodes.len() as usize)?;
+        put_link(&mut waiting, self.first, 1);
+        Ok(Cursor {
+            row: 1,
+            waiting,
+            frame: 0,
+        })
+    }
+
+    fn next_row(&self, at: &mut Cursor) -> Option<Row<'_>> {
+        // For the proof: the invariant of the value.
+        let nodes = &self.nodes;
+        match at.waiting.pop() {
+            None => None,
+            Some(top) => {
+                let node = nodes.get(top.place);
+                let row = run_row(node, top.depth as usize, at.frame as usize, &self.nobody);
+                move_on(at, node, top);
+                Some(row)
+            }
+        }
+    }
+}
+
+/// Makes room for the nodes that the steps add to a tree with so many rows.
+fn make_room(nodes: &mut Arena<Node>, rows: u32, plan: &Plan) -> Result<(), TreeError>
+    requires rows { rows + rows_added plan.now.steps ≤ 16384 }
+    requires nodes { length nodes.old.items + nodes_added plan.now.steps < 2 ^ 32 }
+    ensures items { nodes.new.items ≡ nodes.old.items }
+    ensures room { OnOk result (nodes_added plan.now.steps ≤ nodes.new.spare) }
+    ensures fits { OnOk result (rows + rows_added plan.now.steps ≤ PREFIX_LIMIT) }
+    ensures full { result ≡ Err TreeError.TooManyPrefixes → PREFIX_LIMIT < rows + rows_added plan.now.steps }
+{
+    if (rows + plan.rows()) as usize > PREFIX_LIMIT {
+        return Err(TreeError::TooManyPrefixes);
+    }
+    nodes.reserve(plan.nodes())?;
+    Ok(())
+}
+
+/// The same nodes once more.
+fn copy_nodes(alloc: Global, nodes: &Arena<Node>) -> Result<Arena<Node>, AllocError>
+    ensures { IfOk result (λ all. all.items ≡ nodes.now.items) }
+{
+    let mut all = Arena::new(alloc);
+    all.reserve(nodes.len())?;
+    for place in 0..nodes.len() {
+        let node = nodes.get(place);
+        // For the proof: a node has a frame.
+        let _len = node.frames().len();
+        let copy = node.behind(0, node.first(), node.next())?;
+        all.put(copy);
+    }
+    Ok(all)
+}
