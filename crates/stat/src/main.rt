@@ -2,13 +2,13 @@
 //! stacks with the ranks that pass each part, and the groups of ranks of like behaviour.
 #![tactic(auto)]
 
-use prefix_tree::OwnedTree;
+use arena_tree::ArenaTree;
 use stat_tool::run_program;
 use std::process::ExitCode;
 
 /// Runs the call, tells a refusal on standard error, and ends with the number of its status.
 fn main(rt: HostRuntime) -> ExitCode {
-    let ending = run_program::<OwnedTree, _>(&rt);
+    let ending = run_program::<ArenaTree, _>(&rt);
     if let Some(status) = ending.refusal {
         let _ = eprintln!(rt; "stat: {status}");
     }

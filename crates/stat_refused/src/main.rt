@@ -2,12 +2,12 @@
 //! line and exit status.
 #![tactic(auto)]
 
-use prefix_tree::OwnedTree;
+use arena_tree::ArenaTree;
 use stat_tool::run_program;
 use std::process::ExitCode;
 
 fn main(rt: HostRuntime) -> ExitCode {
-    let ending = run_program::<OwnedTree, _>(&rt);
+    let ending = run_program::<ArenaTree, _>(&rt);
     if let Some(status) = ending.refusal {
         let _ = println!(rt; "stat: {status}");
     }
