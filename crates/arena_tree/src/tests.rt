@@ -178,7 +178,7 @@ fn picked_rows<T: PrefixTree>(
 
 #[test]
 fn both_trees_have_the_same_rows(rt: HostRuntime) -> Result<(), Fail> {
-    for seed in 1..60u32 {
+    for seed in 1..10_001u32 {
         let owned = picked_rows::<OwnedTree>(&rt, rt.alloc(), seed)?;
         let arena = picked_rows::<ArenaTree>(&rt, rt.alloc(), seed)?;
         assert_eq!(&rt; arena.as_slice(), owned.as_slice());
