@@ -201,6 +201,15 @@ impl PathBuilder {
         self.frames.len()
     }
 
+    /// Frame `i`, counted from the root.
+    pub fn frame(&self, i: usize) -> &str
+        requires { i < length self.now }
+        ensures frame { slice_get self.now i ≡ Some result.now }
+        ensures good { IsTrue (is_good_frame result.now) }
+    {
+        self.frames.frame(i)
+    }
+
     /// Appends a frame.
     pub fn push(&mut self, frame: &str) -> Result<(), AllocError>
         requires below_limit { length self.old < FRAME_LIMIT }

@@ -8,5 +8,9 @@ pub mod RunSets
 pub mod Runs
 pub mod NextBits
 pub mod Reading
+pub mod OneItem
 pub mod Spanning
 pub mod Places
+pub mod WordLists
+pub mod OneWord
+pub mod RunLists

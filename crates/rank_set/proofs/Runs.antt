@@ -5,7 +5,8 @@ use Rattle.std.proofs.lemmas.Bool.{eq-eqb, ne_eqb}
 use Rattle.std.proofs.Math.Seq.{take-append_seam}
 use Rattle.std.proofs.lemmas.List.{append-nil}
 use Rattle.std.proofs.lemmas.List.Elements.{filter-append}
-use Rattle.rank_set.specs.Text.{run_before, runs_of, run_text, runs_text, BeginsWith}
+use Rattle.rank_set.specs.Runs.{run_before, runs_of}
+use Rattle.rank_set.specs.Text.{run_text, runs_text, BeginsWith}
 use Rattle.rank_set.proofs.Members.{range_parts, none_pass}
 
 -- the members of a range from one place up to another

@@ -2,6 +2,8 @@ pub mod Ranks
 pub mod Runs
 pub mod Text
 pub mod Words
+pub mod WordLists
+pub mod ListRows
 pub mod Places
 pub mod Digits
 pub mod RanksText

@@ -1,9 +1,9 @@
 -- Runs of neighbouring ranks in a set.
-use Rattle.std.specs.Prelude.{ℕ, suc, ◌-◌, ◌≤◌, ◌<◌, ◌≡◌, true, false, Option, None, Some}
+use Rattle.std.specs.Prelude.{⊤, ℕ, suc, ◌+◌, ◌-◌, ◌≤◌, ◌<◌, ◌≡◌, true, false, cond, nat_eq, Option, None, Some, List, [], ◌∷◌}
 use Rattle.std.specs.List.{range_with_len}
 use Rattle.rank_set.specs.declared.TheConstants.{RANK_LIMIT}
 use Rattle.rank_set.specs.declared.Run.{Run}
-use Rattle.rank_set.specs.Ranks.{Ranks, has, set_of, union}
+use Rattle.rank_set.specs.Ranks.{Ranks, none, has, set_of, union}
 
 -- the ranks from the first to the last, none where the last is less
 unfoldable pub ranks_between : ℕ → ℕ → Ranks
@@ -26,3 +26,23 @@ pub record IsRunInRange (first last : ℕ) : Type 0 where
 abbrev pub with_pending : Ranks → Option Run → Ranks
 with_pending s None = s
 with_pending s (Some run) = union s (ranks_between run.first run.last)
+
+-- a run from its first rank to its last, put before runs that begin above it
+abbrev pub run_before : ℕ → ℕ → List (ℕ × ℕ) → List (ℕ × ℕ)
+run_before a b [] = (a, b) ∷ []
+run_before a b (r ∷ rs) = cond (nat_eq (suc b) r.0) ((a, r.1) ∷ rs) ((a, b) ∷ r ∷ rs)
+
+-- the longest runs of neighbours, in order
+abbrev pub runs_of : List ℕ → List (ℕ × ℕ)
+runs_of [] = []
+runs_of (r ∷ rs) = run_before r r (runs_of rs)
+
+-- the ranks of runs
+abbrev pub ranks_of_runs : List (ℕ × ℕ) → Ranks
+ranks_of_runs [] = none
+ranks_of_runs (r ∷ rs) = union (ranks_between r.0 r.1) (ranks_of_runs rs)
+
+-- runs below the limit of ranks that begin at or above a rank, in order, with a gap before the next
+abbrev pub AreRuns : ℕ → List (ℕ × ℕ) → Type 0
+AreRuns least [] = ⊤
+AreRuns least (r ∷ rs) = (least ≤ r.0) × (r.0 ≤ r.1) × (r.1 < RANK_LIMIT) × AreRuns (r.1 + 2) rs

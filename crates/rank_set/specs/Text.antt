@@ -1,7 +1,8 @@
 -- The text of a set of ranks, as `4:[0-2,7]`.
-use Rattle.std.specs.Prelude.{◌≡◌, ℕ, suc, nat_eq, cond, List, [], ◌∷◌, ◌++◌, codes}
+use Rattle.std.specs.Prelude.{◌≡◌, ℕ, nat_eq, cond, List, [], ◌∷◌, ◌++◌, codes}
 use Rattle.std.specs.Fmt.{decimal}
 use Rattle.rank_set.specs.Ranks.{Ranks, in_order, size}
+use Rattle.rank_set.specs.Runs.{runs_of}
 
 -- the byte `,`
 abbrev pub comma : ℕ
@@ -10,16 +11,6 @@ comma = 44
 -- the byte `-`
 abbrev pub dash : ℕ
 dash = 45
-
--- a run from its first rank to its last, put before runs that begin above it
-abbrev pub run_before : ℕ → ℕ → List (ℕ × ℕ) → List (ℕ × ℕ)
-run_before a b [] = (a, b) ∷ []
-run_before a b (r ∷ rs) = cond (nat_eq (suc b) r.0) ((a, r.1) ∷ rs) ((a, b) ∷ r ∷ rs)
-
--- the longest runs of neighbours, in order
-abbrev pub runs_of : List ℕ → List (ℕ × ℕ)
-runs_of [] = []
-runs_of (r ∷ rs) = run_before r r (runs_of rs)
 
 -- a number, or `a-b` for two or more
 abbrev pub run_text : ℕ × ℕ → List ℕ

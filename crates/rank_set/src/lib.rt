@@ -4,21 +4,26 @@
 //! are equal. A union of two full sets takes one operation a word, and at most one allocation.
 #![tactic(auto)]
 
-ghost use Rattle.std.specs.Prelude.{◌≡◌, ℕ, ◌<◌, ◌≤◌, ◌↔◌, true, false, OnOk, OnErr, IfOk, IfSome, IfNone, Some, slice_get, not, ◌++◌};
+ghost use Rattle.std.specs.Prelude.{◌≡◌, ℕ, ◌<◌, ◌≤◌, ◌/◌, ◌↔◌, true, false, OnOk, OnErr, IfOk, IfSome, IfNone, Some, slice_get, not, map, ◌++◌, [], ◌∷◌};
 ghost use Rattle.rank_set.specs.Ranks.{none, has, with_rank, union, those, in_order, is_subset, size, Has};
-ghost use Rattle.rank_set.specs.Runs.{ranks_between, IsRun};
+ghost use Rattle.rank_set.specs.Runs.{ranks_between, IsRun, runs_of};
 ghost use Rattle.rank_set.specs.Words.{ranks_in, AreWords, offset_of, spans};
+ghost use Rattle.rank_set.specs.WordLists.{words_of};
 ghost use Rattle.rank_set.specs.Places.{to_places, from_places};
 ghost use Rattle.rank_set.specs.Text.{text_of};
 
 mod cover;
 pub mod digits;
+pub mod laws;
+mod one_word;
 mod read;
+mod run_list;
 #[cfg(test)]
 mod tests;
 mod text;
 mod words;
 
+pub use one_word::word_is_below;
 pub use read::{RanksError, read_ranks};
 use std::alloc::{AllocError, Global};
 use std::marker::Model;
@@ -138,6 +143,19 @@ impl RankSet {
             self.put_run(first, last)?;
         }
         Ok(())
+    }
+
+    /// The set of the ranks from `first` to `last`, which lie in one word. It allocates nothing.
+    pub(crate) fn in_one_word(alloc: Global, first: u32, last: u32) -> RankSet
+        requires not_empty { first ≤ last }
+        requires below_limit { last < RANK_LIMIT }
+        requires one { first / 64 ≡ last / 64 }
+        ensures { result ≡ union none (ranks_between first last) }
+    {
+        RankSet {
+            offset: first / 64,
+            words: words::one_word(alloc, first, last),
+        }
     }
 
     /// Adds the ranks of a run that is not empty and within the limit.
@@ -296,6 +314,13 @@ impl RankSet {
         words::next_run(self.offset, self.words.as_slice(), from)
     }
 
+    /// All longest runs of neighbours, in order.
+    pub fn runs(&self, alloc: Global) -> Result<Vec<Run>, AllocError>
+        ensures { IfOk result (λ runs. map (λ run. (run.first, run.last)) runs.items ≡ runs_of (in_order self.now)) }
+    {
+        run_list::runs_in(alloc, self.offset, self.words.as_slice())
+    }
+
     /// The places of the ranks in a cover, a set that has them all: the place of a rank is the number of lesser ranks
     /// of the cover. The cost is that of the words and runs of both sets.
     pub fn to_places(&self, cover: &RankSet) -> Result<RankSet, AllocError>
@@ -369,7 +394,15 @@ impl RankSet {
     pub fn words(&self) -> &[u64]
         ensures trimmed { AreWords (offset_of self.now) result.now }
         ensures ranks { ranks_in (offset_of self.now) result.now ≡ self.now }
+        ensures list { result.now ≡ words_of self.now }
     {
         words::words_in(self.offset, self.words.as_slice())
+    }
+
+    /// Whether all ranks of word `index` are in the set: bit i of it stands for rank 64 * index + i.
+    pub fn covers_word(&self, index: u32, word: u64) -> bool
+        ensures { result ≡ is_subset (ranks_in index (word ∷ [])) self.now }
+    {
+        one_word::covers_word(self.offset, self.words.as_slice(), index, word)
     }
 }

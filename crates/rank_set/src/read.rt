@@ -127,6 +127,19 @@ fn put_pending(ranks: &mut RankSet, pending: Option<Run>) -> Result<(), AllocErr
     }
 }
 
+// The ranks of a text that is one item, where they lie in one word. None for other texts, and for one that is refused.
+fn read_one_word(alloc: Global, text: &[u8]) -> Option<RankSet>
+    requires { 0 < length text.now }
+    ensures { IfSome result (λ ranks. ranks_text text.now ≡ Ok ranks) }
+{
+    match item_at(0, text) {
+        Ok(run) if run.first / 64 == run.last / 64 => {
+            Some(RankSet::in_one_word(alloc, run.first, run.last))
+        }
+        _ => None,
+    }
+}
+
 // Adds the ranks of all items. On failure the set may have some of them.
 fn read_items(text: &[u8], ranks: &mut RankSet) -> Result<(), RanksError>
     ensures ok { OnOk result (ranks_at 0 ranks.old (items text.now) ≡ Ok ranks.new) }
@@ -158,6 +171,9 @@ pub fn read_ranks(alloc: Global, text: &[u8]) -> Result<RankSet, RanksError>
 {
     if text.is_empty() {
         return Err(RanksError::Empty);
+    }
+    if let Some(ranks) = read_one_word(alloc, text) {
+        return Ok(ranks);
     }
     let mut ranks = RankSet::new(alloc);
     read_items(text, &mut ranks)?;

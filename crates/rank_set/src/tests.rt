@@ -1,6 +1,6 @@
 //! What no clause says: the forms of text, and that each call succeeds with ample memory.
 
-use crate::{RANK_LIMIT, RankError, RankSet, RanksError, Run, read_ranks};
+use crate::{RANK_LIMIT, RankError, RankSet, RanksError, Run, read_ranks, word_is_below};
 use std::alloc::Global;
 use std::process::Abort;
 use std::test::Fail;
@@ -218,6 +218,59 @@ fn keeps_its_words(rt: HostRuntime) -> Result<(), Fail> {
     assert_eq!(rt; set.words(), [4, 256].as_slice());
     let words = Vec::from_slice(alloc, set.words())?;
     assert!(rt; RankSet::from_words(set.word_offset(), words).equals(&set));
+    Ok(())
+}
+
+#[test]
+fn tests_single_words(rt: HostRuntime) -> Result<(), Fail> {
+    let set = read_ranks(rt.alloc(), b"63-64,130,1048575")?;
+    for (index, word) in [(0, 1 << 63), (1, 1), (2, 4), (16_383, 1 << 63), (9, 0)] {
+        assert!(rt; set.covers_word(index, word));
+    }
+    for (index, word) in [(0, 1), (1, 3), (3, 4), (16_384, 1), (u32::MAX, 1)] {
+        assert!(rt; !set.covers_word(index, word));
+    }
+    assert!(rt; word_is_below(2, 4, 131) && word_is_below(u32::MAX, 0, 0));
+    assert!(rt; !word_is_below(2, 4, 130) && !word_is_below(u32::MAX, 1, u32::MAX));
+    Ok(())
+}
+
+// Ranks, and their runs.
+const RUNS: [(&str, &[Run]); 2] = [
+    (
+        "1048575",
+        &[Run {
+            first: 1_048_575,
+            last: 1_048_575,
+        }],
+    ),
+    (
+        "0,2-3,63-64,127-300",
+        &[
+            Run { first: 0, last: 0 },
+            Run { first: 2, last: 3 },
+            Run {
+                first: 63,
+                last: 64,
+            },
+            Run {
+                first: 127,
+                last: 300,
+            },
+        ],
+    ),
+];
+
+#[test]
+fn gives_all_runs(rt: HostRuntime) -> Result<(), Fail> {
+    let alloc = rt.alloc();
+    assert!(rt; RankSet::new(alloc).runs(alloc)?.is_empty());
+    for (text, runs) in &RUNS {
+        assert_eq!(rt;
+            read_ranks(alloc, text.as_bytes())?.runs(alloc)?.as_slice(),
+            *runs
+        );
+    }
     Ok(())
 }
 

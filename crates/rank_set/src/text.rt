@@ -4,7 +4,8 @@ ghost use Rattle.std.specs.Prelude.{◌≡◌, ◌≤◌, ◌+◌, ◌++◌, len
 ghost use Rattle.std.specs.Fmt.{decimal};
 ghost use Rattle.rank_set.specs.Ranks.{in_order};
 ghost use Rattle.rank_set.specs.Words.{ranks_in};
-ghost use Rattle.rank_set.specs.Text.{run_text, runs_text, runs_of, text_of, BeginsWith};
+ghost use Rattle.rank_set.specs.Runs.{runs_of};
+ghost use Rattle.rank_set.specs.Text.{run_text, runs_text, text_of, BeginsWith};
 
 use crate::WORD_LIMIT;
 use crate::words::{next_run, ones};

@@ -4,6 +4,7 @@ ghost use Rattle.std.specs.Prelude.{◌≡◌, ℕ, ◌<◌, ◌≤◌, ◌+◌,
 ghost use Rattle.rank_set.specs.Ranks.{none, has, those, union, in_order, is_subset, size};
 ghost use Rattle.rank_set.specs.Runs.{ranks_between, IsRun};
 ghost use Rattle.rank_set.specs.Words.{word_at, bit_in, ranks_in, AreWords, ExtendsTo, IsNext, offset_of, run_word, spans, IsOverlap};
+ghost use Rattle.rank_set.specs.WordLists.{words_of};
 
 use crate::{RANK_LIMIT, Run, WORD_LIMIT};
 use smallvec::SmallVec;
@@ -129,6 +130,17 @@ fn word_of_run(first: u32, last: u32, k: u32) -> u64
     let from = if k == first / 64 { first % 64 } else { 0 };
     let to = if k == last / 64 { last % 64 } else { 63 };
     u64::MAX << from & u64::MAX >> (63 - to)
+}
+
+// The word of the ranks from the first to the last, which lie in one word.
+pub(crate) fn one_word(alloc: Global, first: u32, last: u32) -> Words
+    requires not_empty { first ≤ last }
+    requires below_limit { last < RANK_LIMIT }
+    requires one { first / 64 ≡ last / 64 }
+    ensures trimmed { AreWords (first / 64) result.items }
+    ensures ranks { ranks_in (first / 64) result.items ≡ union none (ranks_between first last) }
+{
+    Words::from_buf(alloc, [word_of_run(first, last, first / 64)])
 }
 
 // Sets the bits of the ranks from the first to the last.
@@ -419,6 +431,7 @@ pub(crate) fn words_in(offset: u32, words: &[u64]) -> &[u64]
     requires { AreWords offset words.now }
     ensures trimmed { AreWords (offset_of (ranks_in offset words.now)) result.now }
     ensures ranks { ranks_in (offset_of (ranks_in offset words.now)) result.now ≡ ranks_in offset words.now }
+    ensures list { result.now ≡ words_of (ranks_in offset words.now) }
 {
     words
 }
@@ -451,7 +464,7 @@ pub(crate) fn next_run(offset: u32, words: &[u64], from: u32) -> Option<Run>
     ensures run { IfSome result (λ run. IsRun (ranks_in offset words.now) from run.first run.last) }
     ensures in_range { IfSome result (λ run. run.last < 64 * (offset + length words.now)) }
 {
-    let first = next_bit(offset, words, from, false)?;
+    let first = next_bit(offset, words, from.max(64 * offset), false)?;
     let end = match next_bit(offset, words, first, true) {
         Some(gap) => gap,
         None => 64 * (offset + words.len() as u32),

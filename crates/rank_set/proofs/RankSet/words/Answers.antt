@@ -1,6 +1,7 @@
 use Rattle.std.proofs.Common.{◌≡◌, ap, ◌∙◌, subst}
 use Rattle.rank_set.specs.Words.{ranks_in, AreWords}
 use Rattle.rank_set.specs.Words.{offset_of}
+use Rattle.rank_set.specs.WordLists.{words_of}
 use Rattle.rank_set.proofs.RankSet.words.Goals as goal
 
 pub returns-clause-trimmed : goal.returns-clause-trimmed
@@ -12,3 +13,6 @@ pub returns-clause-ranks : goal.returns-clause-ranks
 returns-clause-ranks c =
     let e : ranks_in c.self.inside.offset c.as_slice.result.now ≡ c.args.self.now = ap (ranks_in c.self.inside.offset) c.as_slice.ensures ∙ c.self.view_is in
     subst (λ s. ranks_in (offset_of s) c.words_in.result.now ≡ s) e c.words_in.ensures.ranks
+
+pub returns-clause-list : goal.returns-clause-list
+returns-clause-list c = c.words_in.ensures.list ∙ ap words_of (ap (ranks_in c.self.inside.offset) c.as_slice.ensures ∙ c.self.view_is)

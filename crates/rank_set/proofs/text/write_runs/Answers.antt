@@ -3,7 +3,8 @@ use Rattle.std.specs.List.{range_with_len, filter}
 use Rattle.std.proofs.lemmas.Bool.{lt-ltb, le-ltb}
 use Rattle.std.proofs.lemmas.List.{append-nil}
 use Rattle.rank_set.specs.Words.{bit_in}
-use Rattle.rank_set.specs.Text.{runs_of, run_text, runs_text}
+use Rattle.rank_set.specs.Runs.{runs_of}
+use Rattle.rank_set.specs.Text.{run_text, runs_text}
 use Rattle.rank_set.proofs.WordSets.{has-ranks_in}
 use Rattle.rank_set.proofs.Members.{members}
 use Rattle.rank_set.proofs.Runs.{begins_more, begins_through, members_from, first_run, no_runs, more_text, more_none, more_first, more_step}

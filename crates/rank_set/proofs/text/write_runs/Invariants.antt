@@ -1,6 +1,7 @@
 use Rattle.std.proofs.Common.{◌≡◌, ◌≤◌, ◌+◌, ◌-◌, ◌*◌, ◌++◌, length, nat_lt}
 use Rattle.rank_set.specs.Words.{bit_in}
-use Rattle.rank_set.specs.Text.{runs_of, BeginsWith}
+use Rattle.rank_set.specs.Runs.{runs_of}
+use Rattle.rank_set.specs.Text.{BeginsWith}
 use Rattle.rank_set.proofs.Runs.{members_from, more_text}
 use Rattle.rank_set.proofs.text.write_runs.Given as goal
 
