@@ -25,7 +25,8 @@ any_marks m = true
 abbrev IsGood : Path × Marks → Type 0
 IsGood e = IsGoodPath e.0
 
-good_in : (es : List (Path × Marks)) → All IsGood es → (q : Path) → in_rows any_marks es q ≡ true → IsGoodPath q
+-- each row of such a list has a good path
+pub good_in : (es : List (Path × Marks)) → All IsGood es → (q : Path) → in_rows any_marks es q ≡ true → IsGoodPath q
 good_in [] h q there = absurd (true≢false (sym there))
 good_in (e ∷ es) h q there = elim (or_cases (is_path q e.0 && true) (in_rows any_marks es q) there) [
   | inl here ↦ subst IsGoodPath (sym (is_path-exact q e.0 (and_parts (is_path q e.0) true here).0)) (All-head IsGood e es h)

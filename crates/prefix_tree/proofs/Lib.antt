@@ -9,5 +9,3 @@ pub mod GoodPaths
 pub mod ChangeLemmas
 pub mod Places
 pub mod Putting
-pub mod Weaving
-pub mod Rising

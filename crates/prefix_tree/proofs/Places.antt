@@ -1,5 +1,5 @@
 -- What a binary search over rows in order finds.
-use Rattle.std.proofs.Common.{◌≡◌, ℕ, zero, suc, ◌+◌, ◌<◌, ◌≤◌, ◌&&◌, List, [], ◌∷◌, Ok, Err, sym, ap, ◌∙◌, subst, T, length, get_or, arith, inl, inr}
+use Rattle.std.proofs.Common.{◌≡◌, ℕ, zero, suc, ◌+◌, ◌-◌, ◌/◌, ◌<◌, ◌≤◌, ◌&&◌, List, [], ◌∷◌, Ok, Err, sym, ap, ◌∙◌, subst, T, length, get_or, arith, inl, inr}
 use Rattle.std.specs.Ordering.{is_lt}
 use Rattle.std.specs.declared.cmp.Ordering.{Ordering}
 use Rattle.std.specs.declared.cmp.Ordering.TheVariants.{Less, Equal, Greater}
@@ -98,16 +98,16 @@ module _ (p : Path) where
           above = h.above;
         }
 
-  -- what is known up to two bounds is known up to the same bounds
-  pub same_bounds : (es : List (Path × Marks)) (low high new_low new_high : ℕ) → new_low ≡ low → new_high ≡ high → IsSearchedTo es low high → IsSearchedTo es new_low new_high
-  same_bounds es low high new_low new_high l r h = subst (λ n. IsSearchedTo es n new_high) (sym l) (subst (IsSearchedTo es low) (sym r) h)
-
   -- where nothing is left to search, the path goes there
   pub search_end : (es : List (Path × Marks)) (low high : ℕ) → IsSearchedTo es low high → high ≤ low → Err low ≡ place_of p es
   search_end es low high h le =
       let o = h.order in
       let i = h.inside in
       sym (place_between es no_entry low (omega (arith, o, i)) h.below (λ k start lt. h.above k (omega (arith, start, le)) lt))
+
+-- a place halfway between two others
+pub halfway : (low high : ℕ) → low < high → (low ≤ low + (high - low) / 2) × (low + (high - low) / 2 < high)
+halfway low high lt = (omega arith, omega (arith, lt))
 
 -- the path of a row
 row_at : (rows : List TreeRow) (k : ℕ) (row : TreeRow) → k < length rows → row ≡ get_or rows k row → (get_or (entries_view rows) k no_entry).0 ≡ row.path

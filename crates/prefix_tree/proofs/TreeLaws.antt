@@ -1,12 +1,11 @@
 -- Laws of trees for callers, in the words of their contracts.
-use Rattle.std.proofs.Common.{◌≡◌, ℕ, Bool, true, false, ◌&&◌, ◌||◌, [], ◌++◌, refl, sym, ap, ◌∙◌}
-use Rattle.rank_set.specs.Ranks.{Ranks, none, has, in_order, union, has-union, union-none, has-none}
-use Rattle.call_path.specs.Path.{Path, is_path}
+use Rattle.std.proofs.Common.{◌≡◌, ℕ, Bool, true, false, ◌&&◌, ◌||◌, ◌++◌, refl, sym, ap, ◌∙◌}
+use Rattle.rank_set.specs.Ranks.{Ranks, none, has, in_order, union, has-union, has-none}
+use Rattle.call_path.specs.Path.{Path}
 use Rattle.call_path.specs.Pairs.{Pairs, pairs_at, is_pair, is_below}
-use Rattle.prefix_tree.specs.Tree.{Tree, tree_of, pairs_of, merged, covered, added, Adds}
+use Rattle.prefix_tree.specs.Tree.{Tree, tree_of, pairs_of, merged, added, Adds}
 use Rattle.prefix_tree.specs.Joined.{AreSamePairs}
-use Rattle.prefix_tree.proofs.PairLemmas.{is_pair-append, is_pair-pairs_of, any-pairs_of_set}
-use Rattle.std.proofs.lemmas.Bool.{true≢false}
+use Rattle.prefix_tree.proofs.PairLemmas.{is_pair-append, is_pair-pairs_of}
 use Rattle.prefix_tree.proofs.TreeLemmas.{IsTreeOf-tree_of, IsTreeOf-same_pairs, tree_of-is, pairs_of-same, coverage-tree_of}
 
 -- a tree depends on which pairs of covered ranks there are alone
@@ -59,43 +58,6 @@ merged-tree_of S A B =
         or_false false = refl
     split true false true x y z e f g h = (λ i. g i || sym f i)
     split true false false x y z e f g h = refl
-
--- pairs that are not of covered ranks change nothing
-pub tree_of-more : (P : Pairs) (C L D : Ranks) (p : Path) → ((r : ℕ) → has D r ≡ (has L r && has C r)) → tree_of (P ++ pairs_at (in_order D) p) C ≡ tree_of (P ++ pairs_at (in_order L) p) C
-tree_of-more P C L D p both = tree_of-same_pairs _ _ C (λ q r.
-    ap (λ b. is_below q && (has C r && b)) (is_pair-append P (pairs_at (in_order D) p) r q ∙ ap (λ b. is_pair P r q || b) (any-pairs_of_set (is_path q) D p r ∙ ap (λ b. b && is_path q p) (both r)))
-    ∙ under (is_below q) (has C r) (is_pair P r q) (has L r) (is_path q p)
-    ∙ ap (λ b. is_below q && (has C r && b)) (sym (is_pair-append P (pairs_at (in_order L) p) r q ∙ ap (λ b. is_pair P r q || b) (any-pairs_of_set (is_path q) L p r))))
-  where
-    under : (b c x l y : Bool) → (b && (c && (x || ((l && c) && y)))) ≡ (b && (c && (x || (l && y))))
-    under true true x true y = refl
-    under true true x false y = refl
-    under true false x l y = refl
-    under false c x l y = refl
-
--- ranks outside the coverage add nothing
-pub tree_of-none_more : (P : Pairs) (C L : Ranks) (p : Path) → ((r : ℕ) → (has L r && has C r) ≡ false) → tree_of P C ≡ tree_of (P ++ pairs_at (in_order L) p) C
-tree_of-none_more P C L p distinct = tree_of-same_pairs _ _ C (λ q r.
-    under (is_below q) (has C r) (is_pair P r q) (has L r) (is_path q p) (distinct r)
-    ∙ ap (λ b. is_below q && (has C r && b)) (sym (is_pair-append P (pairs_at (in_order L) p) r q ∙ ap (λ b. is_pair P r q || b) (any-pairs_of_set (is_path q) L p r))))
-  where
-    under : (b c x l y : Bool) → (l && c) ≡ false → (b && (c && x)) ≡ (b && (c && (x || (l && y))))
-    under true true true l y e = refl
-    under true true false true y e = absurd (true≢false e)
-    under true true false false y e = refl
-    under true false x l y e = refl
-    under false c x l y e = refl
-
--- a tree of no pairs, over more ranks
-pub covered-nothing : (C : Ranks) → covered (tree_of [] none) C ≡ tree_of [] C
-covered-nothing C =
-    ap (tree_of (pairs_of (tree_of [] none))) (ap (λ s. union s C) (coverage-tree_of [] none) ∙ union-none C)
-    ∙ tree_of-same_pairs _ _ C (λ q r. ap (λ b. is_below q && (has C r && b)) (pair_of_tree [] none q r ∙ dead (is_below q) (has none r)))
-  where
-    dead : (b a : Bool) → (b && (a && false)) ≡ false
-    dead true true = refl
-    dead true false = refl
-    dead false a = refl
 
 -- over no ranks there are no rows
 pub tree_of-uncovered : (P Q : Pairs) → tree_of P none ≡ tree_of Q none

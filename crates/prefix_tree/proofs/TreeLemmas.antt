@@ -106,9 +106,6 @@ module _ (P : Pairs) (C : Ranks) (t u : Tree) (one : IsTreeOf P C t) (two : IsTr
       λ i. record { coverage = covers i; below = rows i }
 
 -- the tree is one of its pairs
-FindsRow : Pairs → Ranks → List Path → Path → Type 0
-FindsRow P C ps p = finmap.find path_cmp p (rows_at P C ps) ≡ cond (list_any (is_path p) ps) (row_at P C p) None
-
 module _ (P : Pairs) (C : Ranks) (ps : List Path) (p q : Path) (rest : finmap.find path_cmp p (rows_at P C ps) ≡ cond (list_any (is_path p) ps) (row_at P C p) None) where
   at_none : row_at P C p ≡ None → cond (list_any (is_path p) ps) (row_at P C p) None ≡ None
   at_none e = elim (list_any (is_path p) ps) as (λ b. cond b (row_at P C p) None ≡ None) [ true ↦ e | false ↦ refl ]

@@ -23,7 +23,7 @@ abbrev frame_cmp : List ℕ → List ℕ → Ordering
 frame_cmp = slice_cmp nat_cmp
 
 -- what is from q on and before a path that starts with q starts with q
-between : (q s x : Path) → is_gt (path_cmp q x) ≡ false → path_cmp x (q ++ s) ≡ Less → is_prefix q x ≡ true
+pub between : (q s x : Path) → is_gt (path_cmp q x) ≡ false → path_cmp x (q ++ s) ≡ Less → is_prefix q x ≡ true
 between [] s x from before = refl
 between (f ∷ q) s [] from before = absurd (true≢false from)
 between (f ∷ q) s (g ∷ x) from before =
@@ -36,7 +36,8 @@ between (f ∷ q) s (g ∷ x) from before =
     not_less : (o : Ordering) → Greater ≡ Less → ⊥
     not_less o e = true≢false (ap is_gt e)
 
-prefix_is_take : (q x : Path) → is_prefix q x ≡ true → q ≡ take (length q) x
+-- a path that starts another is its first frames
+pub prefix_is_take : (q x : Path) → is_prefix q x ≡ true → q ≡ take (length q) x
 prefix_is_take [] x e = refl
 prefix_is_take (f ∷ q) [] e = absurd (true≢false (sym e))
 prefix_is_take (f ∷ q) (g ∷ x) e =
@@ -54,7 +55,8 @@ is_prefix-take zero p = refl
 is_prefix-take (suc n) [] = refl
 is_prefix-take (suc n) (f ∷ p) = λ i. ap is_eq (tied_itself nat_list_cmp_total f) i && is_prefix-take n p i
 
-is_prefix-trans : (p q s : Path) → is_prefix p q ≡ true → is_prefix q s ≡ true → is_prefix p s ≡ true
+-- what starts the start of a path starts the path
+pub is_prefix-trans : (p q s : Path) → is_prefix p q ≡ true → is_prefix q s ≡ true → is_prefix p s ≡ true
 is_prefix-trans [] q s a b = refl
 is_prefix-trans (f ∷ p) [] s a b = absurd (true≢false (sym a))
 is_prefix-trans (f ∷ p) (g ∷ q) [] a b = absurd (true≢false (sym b))

@@ -1,5 +1,5 @@
 //! A tree as one vector of rows.
-ghost use Rattle.std.specs.Prelude.{⊤, ◌≡◌, ◌≤◌, ◌<◌, ◌+◌, ◌-◌, ◌++◌, [], ◌∷◌, OnOk, OnErr, IfOk, IfErr, IfSome, slice_get, length, map, take, drop, reverse, nat_le};
+ghost use Rattle.std.specs.Prelude.{⊤, ◌≡◌, ◌≤◌, ◌<◌, ◌+◌, ◌++◌, [], ◌∷◌, OnOk, OnErr, IfOk, IfErr, IfSome, slice_get, length, map, nat_le};
 ghost use Rattle.std.specs.Vec.{vec_capacity};
 ghost use Rattle.rank_set.specs.Ranks.{none, union};
 ghost use Rattle.call_path.specs.Good.{IsGoodPath};
@@ -88,9 +88,9 @@ impl PrefixTree for OwnedTree {
         if !has_room(&self.rows, changes.added) {
             return Err(TreeError::TooManyPrefixes);
         }
-        let coverage = self.coverage.united(&other.coverage)?;
-        apply_changes(&mut self.rows, changes)?;
-        self.coverage = coverage;
+        self.rows.reserve(changes.added)?;
+        self.coverage.union_into(&other.coverage)?;
+        insert_rows(&mut self.rows, changes.rows);
         Ok(())
     }
 
@@ -153,23 +153,8 @@ fn shown(rows: &[TreeRow], i: usize) -> Row<'_>
     }
 }
 
-// Where to probe next between two bounds: at the hint, or halfway where it lies outside.
-fn next_probe(low: usize, high: usize, hint: usize) -> usize
-    requires { low < high }
-    ensures from { low ≤ result }
-    ensures to { result < high }
-{
-    if low <= hint && hint < high {
-        hint
-    } else {
-        low + (high - low) / 2
-    }
-}
-
-// The index of a path's row, or where it would go: a galloping (exponential) search from the hint on, in strides that
-// double, and a binary search as soon as the row lies between two probes. The cost grows with the logarithm of how far
-// the hint was off.
-fn find_row(rows: &[TreeRow], path: &CallPath, hint: usize) -> Result<usize, usize>
+// The index of a path's row, or where it would go: a binary search.
+fn find_row(rows: &[TreeRow], path: &CallPath) -> Result<usize, usize>
     requires { HasIncreasingPaths rows.now }
     ensures index { result ≡ place_of path.now (entries_view rows.now) }
     ensures found { IfOk result (λ at. at < length rows.now) }
@@ -177,22 +162,13 @@ fn find_row(rows: &[TreeRow], path: &CallPath, hint: usize) -> Result<usize, usi
 {
     let mut low = 0;
     let mut high = rows.len();
-    let mut hint = hint.min(high.saturating_sub(1));
-    let mut stride: usize = 1;
     while low < high {
-        let probe = next_probe(low, high, hint);
-        match path.cmp(&rows[probe].path) {
-            Ordering::Less => {
-                high = probe;
-                hint = probe.saturating_sub(stride);
-            }
-            Ordering::Equal => return Ok(probe),
-            Ordering::Greater => {
-                low = probe + 1;
-                hint = probe.saturating_add(stride);
-            }
+        let middle = low + (high - low) / 2;
+        match path.cmp(&rows[middle].path) {
+            Ordering::Less => high = middle,
+            Ordering::Equal => return Ok(middle),
+            Ordering::Greater => low = middle + 1,
         }
-        stride = stride.saturating_mul(2);
     }
     Err(low)
 }
@@ -211,11 +187,9 @@ fn copy_rows(alloc: Global, rows: &[TreeRow]) -> Result<Vec<TreeRow>, AllocError
     Ok(all)
 }
 
-// The marks of a path once these are united into them, and whether its row is new. The hint is where its row may be,
-// and afterwards where that of the next path may be.
+// The marks of a path once these are united into them, and whether its row is new.
 fn united_marks(
     rows: &[TreeRow],
-    hint: &mut usize,
     path: &CallPath,
     label: &RankSet,
     ends: &RankSet,
@@ -225,18 +199,12 @@ fn united_marks(
         (λ m. (path.now, (m.0, m.1)) ≡ changed (below_in rows.now) (path.now, (label.now, ends.now))) }
     ensures new { IfOk result (λ m. m.2 ≡ is_new (below_in rows.now) (path.now, (label.now, ends.now))) }
 {
-    match find_row(rows, path, *hint) {
+    match find_row(rows, path) {
         Ok(at) => {
-            *hint = at + 1;
             let row = &rows[at];
-            let label = row.label.united(label)?;
-            let ends = row.ends.united(ends)?;
-            Ok((label, ends, false))
+            Ok((row.label.united(label)?, row.ends.united(ends)?, false))
         }
-        Err(at) => {
-            *hint = at;
-            Ok((label.copy()?, ends.copy()?, true))
-        }
+        Err(_) => Ok((label.copy()?, ends.copy()?, true)),
     }
 }
 
@@ -245,8 +213,6 @@ fn united_marks(
 struct Changes {
     rows: Vec<TreeRow>,
     added: usize,
-    // Where the row of the next path may be.
-    hint: usize,
 }
 
 impl Changes {
@@ -267,7 +233,7 @@ impl Changes {
             (self.new.added ≡ self.old.added + new_among (below_in rows.now) ((path, (label.now, ends.now)) ∷ [])) }
         ensures added_within { OnOk result (self.new.added ≤ length self.new.rows.items) }
     {
-        let (label, ends, is_new) = united_marks(rows, &mut self.hint, &path, label, ends)?;
+        let (label, ends, is_new) = united_marks(rows, &path, label, ends)?;
         self.rows.push(TreeRow { path, label, ends })?;
         if is_new {
             self.added += 1;
@@ -286,7 +252,6 @@ fn row_changes(alloc: Global, rows: &[TreeRow], others: &[TreeRow]) -> Result<Ch
     let mut changes = Changes {
         rows: Vec::with_capacity(alloc, others.len())?,
         added: 0,
-        hint: 0,
     };
     for row in others {
         changes.note(rows, row.path.copy()?, &row.label, &row.ends)?;
@@ -312,7 +277,6 @@ fn path_changes(
     let mut changes = Changes {
         rows: Vec::with_capacity(alloc, path.len())?,
         added: 0,
-        hint: 0,
     };
     for depth in 1..path.len() {
         changes.note(rows, path.prefix(depth)?, ranks, no_ranks)?;
@@ -336,79 +300,12 @@ fn insert_rows(rows: &mut Vec<TreeRow>, changes: Vec<TreeRow>)
         ≤ vec_capacity rows.old }
     ensures { entries_view rows.new.items ≡ inserted (entries_view rows.old.items) (entries_view changes.items) }
 {
-    let mut hint = 0;
     for row in changes {
-        match find_row(rows, &row.path, hint) {
-            Ok(at) => {
-                hint = at + 1;
-                rows[at] = row;
-            }
+        match find_row(rows, &row.path) {
+            Ok(at) => rows[at] = row,
             Err(at) => {
-                hint = at + 1;
                 let _ = rows.insert(at, row);
             }
         }
     }
-}
-
-// Moves the rows from an index on to the end of others, the last one first.
-fn move_tail(rows: &mut Vec<TreeRow>, start: usize, tail: &mut Vec<TreeRow>)
-    requires within { start ≤ length rows.old.items }
-    requires capacity { length tail.old.items + (length rows.old.items - start) ≤ vec_capacity tail.old }
-    ensures rows { rows.new.items ≡ take start rows.old.items }
-    ensures tail { reverse tail.new.items ≡ drop start rows.old.items ++ reverse tail.old.items }
-    ensures count { length tail.new.items + start ≡ length tail.old.items + length rows.old.items }
-    ensures capacity { vec_capacity rows.new ≡ vec_capacity rows.old }
-    ensures tail_capacity { vec_capacity tail.old ≤ vec_capacity tail.new }
-{
-    while rows.len() > start {
-        if let Some(row) = rows.pop() {
-            tail.push_reserved(row);
-        }
-    }
-}
-
-// Inserts sorted rows in one pass, for which there is capacity: the rows behind each are set aside, from the last
-// on, and come back at the end. On failure the rows are unchanged.
-fn merge_rows(rows: &mut Vec<TreeRow>, mut changes: Vec<TreeRow>) -> Result<(), AllocError>
-    requires in_order { HasIncreasingPaths rows.old.items }
-    requires increasing { HasIncreasingPaths changes.items }
-    requires capacity { length (inserted (entries_view rows.old.items) (entries_view changes.items))
-        ≤ vec_capacity rows.old }
-    ensures ok { OnOk result
-        (entries_view rows.new.items ≡ inserted (entries_view rows.old.items) (entries_view changes.items)) }
-    ensures err { OnErr result (rows.new.items ≡ rows.old.items) }
-{
-    let mut tail = Vec::with_capacity(*rows.allocator(), rows.len() + changes.len())?;
-    while let Some(change) = changes.pop() {
-        match find_row(rows, &change.path, rows.len()) {
-            Ok(at) => {
-                move_tail(rows, at + 1, &mut tail);
-                rows.truncate(at);
-            }
-            Err(at) => move_tail(rows, at, &mut tail),
-        }
-        tail.push_reserved(change);
-    }
-    tail.as_mut_slice().reverse();
-    let _ = rows.append(&mut tail);
-    Ok(())
-}
-
-// Puts each of the changes in its place: one new row by itself, several in one pass. On failure the rows are unchanged.
-fn apply_changes(rows: &mut Vec<TreeRow>, changes: Changes) -> Result<(), AllocError>
-    requires in_order { HasIncreasingPaths rows.old.items }
-    requires increasing { HasIncreasingPaths changes.rows.items }
-    requires added { length (inserted (entries_view rows.old.items) (entries_view changes.rows.items))
-        ≤ length rows.old.items + changes.added }
-    ensures ok { OnOk result
-        (entries_view rows.new.items ≡ inserted (entries_view rows.old.items) (entries_view changes.rows.items)) }
-    ensures err { OnErr result (rows.new.items ≡ rows.old.items) }
-{
-    rows.reserve(changes.added)?;
-    if changes.added > 1 {
-        return merge_rows(rows, changes.rows);
-    }
-    insert_rows(rows, changes.rows);
-    Ok(())
 }
