@@ -14,7 +14,7 @@ use Rattle.arena_tree.specs.RunForest.{RunForest, no_runs, run_node, count_nodes
 use Rattle.arena_tree.specs.Placement.{first_place, count_place, HasDistinctPlaces, node_view, AreNodesOf}
 use Rattle.arena_tree.specs.Links.{LinkedNodes, with_change, with_first, with_next, relink, first_after, LeadsTo, IsOutside, IsNotAt}
 use Rattle.arena_tree.specs.Steps.{new_view, with_marks, with_frames, apply_step, shared_step, rest_over, count_among, Becomes}
-use Rattle.arena_tree.proofs.Counting.{agrees, count_among-below, count_among-one, count_among-add, inside, lies_kept, below_all, span_in}
+use Rattle.arena_tree.proofs.Counting.{agrees, count_among-below, count_among-one, count_among-add, inside, nodes_still_hold, below_all, span_in}
 use Rattle.arena_tree.proofs.Changes.{change_same, change_other, length-with_change, length-relink, relink_other, relink_same, begins_same, at_end, before_end}
 
 pub off_else : (l : Link) (k : RunForest) (y : ℕ) → IsOutside l k → 1 ≤ count_place y k → IsNotAt l y
@@ -26,8 +26,8 @@ abbrev pub Premises : Link → ℕ → RunForest → LinkedNodes → Type 0 → 
 Premises l n k h X = length h.nodes ≡ n → AreNodesOf h.nodes k → HasDistinctPlaces k → IsOutside l k → LeadsTo l h (first_place k) → X
 
 pub nothing_new : (l : Link) (k : RunForest) (h : LinkedNodes) → AreNodesOf h.nodes k → LeadsTo l h (first_place k) → Becomes l k k 0 h h
-nothing_new l k h lies to = record {
-  lies = lies;
+nothing_new l k h nodes_hold to = record {
+  nodes_hold = nodes_hold;
   count = omega arith;
   rest = λ y lt out. sym (relink_same l h (first_place k) y to);
   first = begins_same l h (first_place k) to;
@@ -43,7 +43,7 @@ module _ (l : Link) (n : ℕ) (g : List ℕ) (gs : Path) (w : Marks) (k c' t' : 
   abbrev h1 : LinkedNodes
   h1 = apply_step h (New l x)
 
-  module _ (len : length h.nodes ≡ n) (lies : AreNodesOf h.nodes k) (no_common : HasDistinctPlaces k) (off : IsOutside l k) (to : LeadsTo l h (first_place k))
+  module _ (len : length h.nodes ≡ n) (nodes_hold : AreNodesOf h.nodes k) (no_common : HasDistinctPlaces k) (off : IsOutside l k) (to : LeadsTo l h (first_place k))
       (ih_c : Premises (FirstOf n) (suc n) no_runs h1 (Becomes (FirstOf n) no_runs c' mc h1 h2))
       (ih_t : Premises (NextOf n) (suc n + mc) k h2 (Becomes (NextOf n) k t' mt h2 h3)) where
     len0 : length (relink l (length h.nodes) h.nodes) ≡ n
@@ -74,10 +74,10 @@ module _ (l : Link) (n : ℕ) (g : List ℕ) (gs : Path) (w : Marks) (k c' t' : 
     len2 = let e = b1.count in omega (arith, e, len1)
 
     lies_k : AreNodesOf h2.nodes k
-    lies_k = lies_kept h.nodes h2.nodes k (λ y some. below2 y (below_all h.nodes k n y len lies some) ∙ relink_other l n h.nodes y (off_else l k y off some)) lies
+    lies_k = nodes_still_hold h.nodes h2.nodes k (λ y some. below2 y (below_all h.nodes k n y len nodes_hold some) ∙ relink_other l n h.nodes y (off_else l k y off some)) nodes_hold
 
     off_n : (y : ℕ) → n ≤ y → count_place y k ≡ 0
-    off_n y ge = inside h.nodes k y lies (omega (arith, len, ge))
+    off_n y ge = inside h.nodes k y nodes_hold (omega (arith, len, ge))
 
     b2 : Becomes (NextOf n) k t' mt h2 h3
     b2 = ih_t len2 lies_k no_common (off_n n (omega arith)) (with_first (first_place c') x, at_n2, refl)
@@ -99,7 +99,7 @@ module _ (l : Link) (n : ℕ) (g : List ℕ) (gs : Path) (w : Marks) (k c' t' : 
 
     pub new_case : Becomes l k (run_node n g gs w c' t') (suc (mc + mt)) h h3
     new_case = record {
-      lies = (at_n3, lies_kept h2.nodes h3.nodes c' kept_c b1.lies, b2.lies);
+      nodes_hold = (at_n3, nodes_still_hold h2.nodes h3.nodes c' kept_c b1.nodes_hold, b2.nodes_hold);
       count = let e = b2.count in omega (arith, e, len, len2);
       rest = λ y lt out.
           let lt' : y < n = omega (arith, lt, len) in
@@ -120,14 +120,14 @@ pub record Opened (h h1 : LinkedNodes) (n a : ℕ) (f : List ℕ) (common : Path
   pub len : length h1.nodes ≡ m + n
   pub here : slice_get h1.nodes a ≡ Some (node_view f common v kb s)
   pub kept : (y : ℕ) → y < n → y ≢ a → slice_get h1.nodes y ≡ slice_get h.nodes y
-  pub lies : AreNodesOf h1.nodes kb
+  pub nodes_hold : AreNodesOf h1.nodes kb
   pub places : (y : ℕ) → count_place y kb ≡ count_place y b + count_among y n m
   pub size : count_nodes kb ≡ count_nodes b + m
   pub first : h1.first ≡ h.first
 
-module _ (n a : ℕ) (f : List ℕ) (fs common : Path) (v m : Marks) (b s : RunForest) (h : LinkedNodes) (len : length h.nodes ≡ n) (lies : AreNodesOf h.nodes (run_node a f fs m b s)) (no_common : HasDistinctPlaces (run_node a f fs m b s)) where
+module _ (n a : ℕ) (f : List ℕ) (fs common : Path) (v m : Marks) (b s : RunForest) (h : LinkedNodes) (len : length h.nodes ≡ n) (nodes_hold : AreNodesOf h.nodes (run_node a f fs m b s)) (no_common : HasDistinctPlaces (run_node a f fs m b s)) where
   in_all : a < length h.nodes
-  in_all = slice_get_within h.nodes a (node_view f fs m b s) lies.0
+  in_all = slice_get_within h.nodes a (node_view f fs m b s) nodes_hold.0
 
   other : (y : ℕ) → 1 ≤ count_place y b → y ≢ a
   other y some e =
@@ -139,9 +139,9 @@ module _ (n a : ℕ) (f : List ℕ) (fs common : Path) (v m : Marks) (b s : RunF
   pub node_shared : (mine : Path) → fs ≡ common ++ mine → Opened h (apply_step h (shared_step a f mine common v m b)) n a f common v (rest_over n mine m b) b s (cut_count mine)
   node_shared [] is = record {
     len = let e = length-with_change h.nodes a (with_marks v.0 v.1) in omega (arith, e, len);
-    here = change_same h.nodes a (with_marks v.0 v.1) (node_view f fs m b s) lies.0 ∙ (λ i. Some (node_view f ((is ∙ append-nil common) i) v b s));
+    here = change_same h.nodes a (with_marks v.0 v.1) (node_view f fs m b s) nodes_hold.0 ∙ (λ i. Some (node_view f ((is ∙ append-nil common) i) v b s));
     kept = λ y lt ne. change_other h.nodes a y (with_marks v.0 v.1) ne;
-    lies = lies_kept h.nodes (with_change a (with_marks v.0 v.1) h.nodes) b (λ y some. change_other h.nodes a y (with_marks v.0 v.1) (other y some)) lies.1;
+    nodes_hold = nodes_still_hold h.nodes (with_change a (with_marks v.0 v.1) h.nodes) b (λ y some. change_other h.nodes a y (with_marks v.0 v.1) (other y some)) nodes_hold.1;
     places = λ y. omega arith;
     size = omega arith;
     first = refl;
@@ -153,10 +153,10 @@ module _ (n a : ℕ) (f : List ℕ) (fs common : Path) (v m : Marks) (b s : RunF
       let same : (y : ℕ) → y < n → y ≢ a → slice_get (with_change a up h.nodes ++ low ∷ []) y ≡ slice_get h.nodes y = (λ y lt ne. before_end (with_change a up h.nodes) y low (omega (arith, lt, long)) ∙ change_other h.nodes a y up ne) in
       record {
         len = let e = length-append (with_change a up h.nodes) (low ∷ []) in omega (arith, e, long);
-        here = before_end (with_change a up h.nodes) a low (omega (arith, in_all, len, long)) ∙ change_same h.nodes a up (node_view f fs m b s) lies.0
+        here = before_end (with_change a up h.nodes) a low (omega (arith, in_all, len, long)) ∙ change_same h.nodes a up (node_view f fs m b s) nodes_hold.0
             ∙ (λ i. Some (record { frames = f ∷ common; label = v.0; ends = v.1; first = len i; next = first_place s }));
         kept = same;
-        lies = (at_end (with_change a up h.nodes) n low long, lies_kept h.nodes (with_change a up h.nodes ++ low ∷ []) b (λ y some. same y (below_all h.nodes b n y len lies.1 some) (other y some)) lies.1, tt);
+        nodes_hold = (at_end (with_change a up h.nodes) n low long, nodes_still_hold h.nodes (with_change a up h.nodes ++ low ∷ []) b (λ y some. same y (below_all h.nodes b n y len nodes_hold.1 some) (other y some)) nodes_hold.1, tt);
         places = λ y. omega arith;
         size = omega arith;
         first = refl;
@@ -164,12 +164,12 @@ module _ (n a : ℕ) (f : List ℕ) (fs common : Path) (v m : Marks) (b s : RunF
 
 -- two nodes that begin with one frame
 module _ (l : Link) (n a : ℕ) (f : List ℕ) (fs common : Path) (m v : Marks) (b s kb b' s' : RunForest) (mo mb ms : ℕ) (h h1 h2 h3 : LinkedNodes) where
-  module _ (len : length h.nodes ≡ n) (lies : AreNodesOf h.nodes (run_node a f fs m b s)) (no_common : HasDistinctPlaces (run_node a f fs m b s)) (to : LeadsTo l h a)
+  module _ (len : length h.nodes ≡ n) (nodes_hold : AreNodesOf h.nodes (run_node a f fs m b s)) (no_common : HasDistinctPlaces (run_node a f fs m b s)) (to : LeadsTo l h a)
       (cut_in : Opened h h1 n a f common v kb b s mo)
       (ih_b : Premises (FirstOf a) (mo + n) kb h1 (Becomes (FirstOf a) kb b' mb h1 h2))
       (ih_s : Premises (NextOf a) (mo + n + mb) s h2 (Becomes (NextOf a) s s' ms h2 h3)) where
     a_in : a < n
-    a_in = let e = slice_get_within h.nodes a (node_view f fs m b s) lies.0 in omega (arith, e, len)
+    a_in = let e = slice_get_within h.nodes a (node_view f fs m b s) nodes_hold.0 in omega (arith, e, len)
 
     off_b : count_place a b ≡ 0
     off_b = let e = no_common a in let o = agrees a a refl in omega (arith, e, o)
@@ -184,7 +184,7 @@ module _ (l : Link) (n a : ℕ) (f : List ℕ) (fs common : Path) (m v : Marks) 
     apart_kb : HasDistinctPlaces kb
     apart_kb y = elim (cases_lt y n) [
       | inl lt ↦ (let e = old_kb y lt in let one = no_common y in omega (arith, e, one))
-      | inr ge ↦ (let e = cut_in.places y in let none = inside h.nodes b y lies.1 (omega (arith, ge, len)) in let one = count_among-one y n mo in omega (arith, e, none, one))
+      | inr ge ↦ (let e = cut_in.places y in let none = inside h.nodes b y nodes_hold.1 (omega (arith, ge, len)) in let one = count_among-one y n mo in omega (arith, e, none, one))
     ]
 
     off_kb : count_place a kb ≡ 0
@@ -194,7 +194,7 @@ module _ (l : Link) (n a : ℕ) (f : List ℕ) (fs common : Path) (m v : Marks) 
     long1 = cut_in.len
 
     e1 : Becomes (FirstOf a) kb b' mb h1 h2
-    e1 = ih_b long1 cut_in.lies apart_kb off_kb (node_view f common v kb s, cut_in.here, refl)
+    e1 = ih_b long1 cut_in.nodes_hold apart_kb off_kb (node_view f common v kb s, cut_in.here, refl)
 
     in_2 : slice_get h2.nodes a ≡ Some (node_view f common v b' s)
     in_2 = e1.rest a (omega (arith, a_in, long1)) off_kb ∙ change_same h1.nodes a (with_first (first_place b')) (node_view f common v kb s) cut_in.here
@@ -210,7 +210,7 @@ module _ (l : Link) (n a : ℕ) (f : List ℕ) (fs common : Path) (m v : Marks) 
     other_s y some e = let z : count_place y s ≡ 0 = ap (λ u. count_place u s) e ∙ off_s in omega (arith, some, z)
 
     lies_s : AreNodesOf h2.nodes s
-    lies_s = lies_kept h.nodes h2.nodes s (λ y some. kept2 y (below_all h.nodes s n y len lies.2 some) (let e = no_common y in omega (arith, e, some)) (other_s y some)) lies.2
+    lies_s = nodes_still_hold h.nodes h2.nodes s (λ y some. kept2 y (below_all h.nodes s n y len nodes_hold.2 some) (let e = no_common y in omega (arith, e, some)) (other_s y some)) nodes_hold.2
 
     e2 : Becomes (NextOf a) s s' ms h2 h3
     e2 = ih_s long2 lies_s (λ y. let e = no_common y in omega (arith, e)) off_s (node_view f common v b' s, in_2, refl)
@@ -230,17 +230,17 @@ module _ (l : Link) (n a : ℕ) (f : List ℕ) (fs common : Path) (m v : Marks) 
     off_new : (y : ℕ) → 1 ≤ count_place y b' → count_place y s ≡ 0
     off_new y some = elim (cases_lt y n) [
       | inl lt ↦ (let o = old_b y lt in let e = no_common y in omega (arith, some, o, e))
-      | inr ge ↦ inside h.nodes s y lies.2 (omega (arith, ge, len))
+      | inr ge ↦ inside h.nodes s y nodes_hold.2 (omega (arith, ge, len))
     ]
 
     kept_b : (y : ℕ) → 1 ≤ count_place y b' → slice_get h3.nodes y ≡ slice_get h2.nodes y
     kept_b y some =
-        let lt : y < mo + n + mb = below_all h2.nodes b' (mo + n + mb) y long2 e1.lies some in
+        let lt : y < mo + n + mb = below_all h2.nodes b' (mo + n + mb) y long2 e1.nodes_hold some in
         e2.rest y (omega (arith, lt, long2)) (off_new y some) ∙ change_other h2.nodes a y (with_next (first_place s')) (other_b y some)
 
     pub same_case : Becomes l (run_node a f fs m b s) (run_node a f common v b' s') (mo + mb + ms) h h3
     same_case = record {
-      lies = (in_3, lies_kept h2.nodes h3.nodes b' kept_b e1.lies, e2.lies);
+      nodes_hold = (in_3, nodes_still_hold h2.nodes h3.nodes b' kept_b e1.nodes_hold, e2.nodes_hold);
       count = let e = e2.count in omega (arith, e, len, long2);
       rest = λ y lt out.
           let ne : y ≢ a = (λ e. let o = agrees y a e in omega (arith, out, o)) in
@@ -263,16 +263,16 @@ module _ (l : Link) (n a : ℕ) (f : List ℕ) (fs common : Path) (m v : Marks) 
 
 -- a node is passed
 module _ (l : Link) (n a : ℕ) (f : List ℕ) (fs : Path) (m : Marks) (b s s' : RunForest) (ms : ℕ) (h h1 : LinkedNodes) where
-  module _ (len : length h.nodes ≡ n) (lies : AreNodesOf h.nodes (run_node a f fs m b s)) (no_common : HasDistinctPlaces (run_node a f fs m b s)) (to : LeadsTo l h a)
+  module _ (len : length h.nodes ≡ n) (nodes_hold : AreNodesOf h.nodes (run_node a f fs m b s)) (no_common : HasDistinctPlaces (run_node a f fs m b s)) (to : LeadsTo l h a)
       (ih : Premises (NextOf a) n s h (Becomes (NextOf a) s s' ms h h1)) where
     off_1 : count_place a s ≡ 0
     off_1 = let e = no_common a in let o = agrees a a refl in omega (arith, e, o)
 
     q1 : Becomes (NextOf a) s s' ms h h1
-    q1 = ih len lies.2 (λ y. let e = no_common y in omega (arith, e)) off_1 (node_view f fs m b s, lies.0, refl)
+    q1 = ih len nodes_hold.2 (λ y. let e = no_common y in omega (arith, e)) off_1 (node_view f fs m b s, nodes_hold.0, refl)
 
     at_a : slice_get h1.nodes a ≡ Some (node_view f fs m b s')
-    at_a = q1.rest a (slice_get_within h.nodes a (node_view f fs m b s) lies.0) off_1 ∙ change_same h.nodes a (with_next (first_place s')) (node_view f fs m b s) lies.0
+    at_a = q1.rest a (slice_get_within h.nodes a (node_view f fs m b s) nodes_hold.0) off_1 ∙ change_same h.nodes a (with_next (first_place s')) (node_view f fs m b s) nodes_hold.0
 
     other_1 : (y : ℕ) → 1 ≤ count_place y b → y ≢ a
     other_1 y some e =
@@ -283,7 +283,7 @@ module _ (l : Link) (n a : ℕ) (f : List ℕ) (fs : Path) (m : Marks) (b s s' :
 
     pub pass_case : Becomes l (run_node a f fs m b s) (run_node a f fs m b s') ms h h1
     pass_case = record {
-      lies = (at_a, lies_kept h.nodes h1.nodes b (λ y some. q1.rest y (below_all h.nodes b (length h.nodes) y refl lies.1 some) (let e = no_common y in omega (arith, e, some)) ∙ change_other h.nodes a y (with_next (first_place s')) (other_1 y some)) lies.1, q1.lies);
+      nodes_hold = (at_a, nodes_still_hold h.nodes h1.nodes b (λ y some. q1.rest y (below_all h.nodes b (length h.nodes) y refl nodes_hold.1 some) (let e = no_common y in omega (arith, e, some)) ∙ change_other h.nodes a y (with_next (first_place s')) (other_1 y some)) nodes_hold.1, q1.nodes_hold);
       count = q1.count;
       rest = λ y lt out.
           let ne : y ≢ a = (λ e. let o = agrees y a e in omega (arith, out, o)) in

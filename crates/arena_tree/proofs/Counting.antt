@@ -58,21 +58,21 @@ count_among-add y n (suc a) b (suc m) e =
 
 -- the places of a forest are those of nodes
 pub inside : (cs : List NodeView) (k : RunForest) (y : ℕ) → AreNodesOf cs k → length cs ≤ y → count_place y k ≡ 0
-inside cs no_runs y lies past = refl
-inside cs (run_node a f fs m b s) y lies past =
-    let within = slice_get_within cs a _ lies.0 in
+inside cs no_runs y nodes_hold past = refl
+inside cs (run_node a f fs m b s) y nodes_hold past =
+    let within = slice_get_within cs a _ nodes_hold.0 in
     let distinct = differs y a (λ e. omega (arith, within, past, e)) in
-    let one = inside cs b y lies.1 past in
-    let two = inside cs s y lies.2 past in
+    let one = inside cs b y nodes_hold.1 past in
+    let two = inside cs s y nodes_hold.2 past in
     omega (arith, distinct, one, two)
 
 -- nodes that are the same at its places hold it too
-pub lies_kept : (cs ds : List NodeView) (k : RunForest) → ((y : ℕ) → 1 ≤ count_place y k → slice_get ds y ≡ slice_get cs y) → AreNodesOf cs k → AreNodesOf ds k
-lies_kept cs ds no_runs same lies = tt
-lies_kept cs ds (run_node a f fs m b s) same lies = (
-  same a (own a (count_place a b + count_place a s)) ∙ lies.0,
-  lies_kept cs ds b (λ y some. same y (omega (arith, some))) lies.1,
-  lies_kept cs ds s (λ y some. same y (omega (arith, some))) lies.2,
+pub nodes_still_hold : (cs ds : List NodeView) (k : RunForest) → ((y : ℕ) → 1 ≤ count_place y k → slice_get ds y ≡ slice_get cs y) → AreNodesOf cs k → AreNodesOf ds k
+nodes_still_hold cs ds no_runs same nodes_hold = tt
+nodes_still_hold cs ds (run_node a f fs m b s) same nodes_hold = (
+  same a (own a (count_place a b + count_place a s)) ∙ nodes_hold.0,
+  nodes_still_hold cs ds b (λ y some. same y (omega (arith, some))) nodes_hold.1,
+  nodes_still_hold cs ds s (λ y some. same y (omega (arith, some))) nodes_hold.2,
 )
   where
     own : (a r : ℕ) → 1 ≤ here a a + r
@@ -80,9 +80,9 @@ lies_kept cs ds (run_node a f fs m b s) same lies = (
 
 -- a place of a forest is that of a node
 pub below_all : (cs : List NodeView) (k : RunForest) (n y : ℕ) → length cs ≡ n → AreNodesOf cs k → 1 ≤ count_place y k → y < n
-below_all cs k n y len lies some = elim (cases_lt y n) [
+below_all cs k n y len nodes_hold some = elim (cases_lt y n) [
   | inl lt ↦ lt
-  | inr ge ↦ let none = inside cs k y lies (omega (arith, len, ge)) in absurd (omega (arith, some, none))
+  | inr ge ↦ let none = inside cs k y nodes_hold (omega (arith, len, ge)) in absurd (omega (arith, some, none))
 ]
 
 pub span_in : (y n m : ℕ) → 1 ≤ count_among y n m → (n ≤ y) × (y < n + m)

@@ -46,7 +46,7 @@ module _ (cs : List NodeView) (n : ℕ) (p0 : PlanView) (base : p0.base ≡ n) (
       → p.steps ≡ merge_steps Top (length cs) (forest_at cs first) (path_forest C path)
   add_planned first rest below C path p it =
       ap (λ (p : PlanView). p.steps) it.plan ∙ ap (λ (ss : List Step). ss ++ it.steps) none
-      ∙ sym ((λ i. merge_steps Top (sym next_is i) (forest_at cs first) (sym (path_run path) i)) ∙ it.same 0 no_runs no_runs
+      ∙ sym ((λ i. merge_steps Top (sym next_is i) (forest_at cs first) (sym (path_run path) i)) ∙ it.steps_split 0 no_runs no_runs
       ∙ (λ i. it.steps ++ side_steps-none below.link (next_place p0 + nodes_added it.steps) (target_forest cs below) i
       ++ side_steps-none rest.link (next_place p0 + nodes_added it.steps + new_nodes [] (target_forest cs below) [] no_runs) (target_forest cs rest) i)
       ∙ append-nil (it.steps ++ []) ∙ append-nil it.steps)

@@ -30,23 +30,23 @@ pub record Reads (cs : List NodeView) (at : ℕ) (c : NodeView) : Type 0 where
   pub next : LeadsToForest cs c.next
 
 reads_at : (cs : List NodeView) (at : ℕ) (c : NodeView) (k : RunForest) → forest_at cs at ≡ k → first_place k ≡ at → AreNodesOf cs k → count_nodes k ≤ length cs → length cs ≤ 2048 → slice_get cs at ≡ Some c → Reads cs at c
-reads_at cs at c no_runs is from lies fits few there =
+reads_at cs at c no_runs is from nodes_hold fits few there =
     absurd (none_some c (sym (slice_get_past cs at (omega (arith, few, from))) ∙ there))
-reads_at cs at c (run_node a f fs m b s) is from lies fits few there =
-    let same : c ≡ node_view f fs m b s = same_Some c (node_view f fs m b s) (sym there ∙ ap (slice_get cs) (sym from) ∙ lies.0) in
-    let at_b : forest_at cs (first_place b) ≡ b = leads_to cs b lies.1 (omega (arith, fits)) few in
-    let at_s : forest_at cs (first_place s) ≡ s = leads_to cs s lies.2 (omega (arith, fits)) few in
+reads_at cs at c (run_node a f fs m b s) is from nodes_hold fits few there =
+    let same : c ≡ node_view f fs m b s = same_Some c (node_view f fs m b s) (sym there ∙ ap (slice_get cs) (sym from) ∙ nodes_hold.0) in
+    let at_b : forest_at cs (first_place b) ≡ b = leads_to cs b nodes_hold.1 (omega (arith, fits)) few in
+    let at_s : forest_at cs (first_place s) ≡ s = leads_to cs s nodes_hold.2 (omega (arith, fits)) few in
     subst (λ (x : NodeView). Reads cs at x) (sym same) (record {
       frame = f;
       behind = fs;
       frames = refl;
       is = is ∙ (λ i. run_node (from i) f fs m (sym at_b i) (sym at_s i));
-      first = leads_from cs b lies.1 (omega (arith, fits)) few;
-      next = leads_from cs s lies.2 (omega (arith, fits)) few;
+      first = leads_from cs b nodes_hold.1 (omega (arith, fits)) few;
+      next = leads_from cs s nodes_hold.2 (omega (arith, fits)) few;
     })
 
 pub reads : (cs : List NodeView) (at : ℕ) (c : NodeView) → LeadsToForest cs at → slice_get cs at ≡ Some c → Reads cs at c
-reads cs at c to there = reads_at cs at c (forest_at cs at) refl to.begins to.lies to.fits to.within_limit there
+reads cs at c to there = reads_at cs at c (forest_at cs at) refl to.begins to.nodes_hold to.no_more_nodes to.within_limit there
 
 -- a target's first node
 pub record ReadsBehind (cs : List NodeView) (node place skip : ℕ) (c : NodeView) (f : List ℕ) : Type 0 where

@@ -44,7 +44,7 @@ plans_one cs into0 into rest below fs gs w old new sought it none lt = record {
   below_leads = it.below_leads;
   places = let few = it.places in omega (arith, few, lt);
   rows = let few = it.rows in omega (arith, few, lt);
-  same = λ x c t. sought x c t ∙ it.same x c t
+  steps_split = λ x c t. sought x c t ∙ it.steps_split x c t
       ∙ (λ i. it.step ∷ merge_steps below.link (next_place old + one i) (target_forest cs below) (rest_over 0 (none i) w c)
       ++ merge_steps rest.link (next_place old + one i + new_nodes [] (target_forest cs below) [] (rest_over 0 (none i) w c)) (target_forest cs rest) t);
 }
@@ -69,7 +69,7 @@ module _ (cs : List NodeView) (into0 into rest below0 rest0 below : Target) (fs 
   inner c =
       let far : next_place mid + nodes_added more.steps ≡ next_place old + nodes_added (it.step ∷ more.steps) = omega (arith, next_is) in
       (λ i. merge_steps below0.link (sym next_is i) (target_forest cs below0) (run_alone gs w c lt i))
-      ∙ more.same 0 c no_runs
+      ∙ more.steps_split 0 c no_runs
       ∙ (λ i. more.steps ++ merge_steps below.link (far i) (target_forest cs below) c
       ++ side_steps-none rest0.link (next_place mid + nodes_added more.steps + new_nodes [] (target_forest cs below) [] c) (target_forest cs rest0) i)
       ∙ append-nil (more.steps ++ below_steps c)
@@ -90,10 +90,10 @@ module _ (cs : List NodeView) (into0 into rest below0 rest0 below : Target) (fs 
     below_leads = more.below_leads;
     places = let one = it.places in let few = more.places in omega (arith, one, few, shorter);
     rows = let one = it.rows in let few = more.rows in omega (arith, one, few, shorter);
-    same = λ x c t.
+    steps_split = λ x c t.
         let far : next_place old + nodes_added_by it.step + new_nodes [] (target_forest cs below0) [] (rest_over 0 gs w c)
         ≡ next_place old + nodes_added (it.step ∷ more.steps) + new_nodes [] (target_forest cs below) [] c = let e = counted c in omega (arith, e) in
-        sought x c t ∙ it.same x c t
+        sought x c t ∙ it.steps_split x c t
         ∙ (λ i. it.step ∷ inner c i ++ merge_steps rest.link (far i) (target_forest cs rest) t);
   }
 
@@ -160,7 +160,7 @@ module _ (cs : List NodeView) (into0 into rest below : Target) (p : Path) (skip 
     below_leads = subst (IsTarget cs) (sym below_is) (leads_nowhere cs few, refl);
     places = omega (arith, long);
     rows = let e = ap (λ (c : NodeView). length c.frames) node_is in omega (arith, e);
-    same = λ x c t. sought x c t
+    steps_split = λ x c t. sought x c t
         ∙ ap (λ fs. merge_steps into.link n (target_forest cs into) (run_of x fs w c t)) split_here
         ∙ new_turn into.link n x g (drop (skip + 1) p) w (target_forest cs into) c t less
         ∙ (λ i. step_is i ∷ merge_steps (below_link i) (one i) (nothing i) c ++ merge_steps (rest_link i) (one i + new_nodes [] (nothing i) [] c) (rest_forest i) t);
@@ -195,5 +195,5 @@ plans_sought cs into0 into rest below fs w old new sought it = record {
   below_leads = it.below_leads;
   places = it.places;
   rows = it.rows;
-  same = λ x c t. sought x c t ∙ it.same x c t;
+  steps_split = λ x c t. sought x c t ∙ it.steps_split x c t;
 }

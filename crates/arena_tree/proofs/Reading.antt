@@ -8,21 +8,21 @@ use Rattle.arena_tree.specs.Reading.{forest_with, forest_within, forest_at, Lead
 
 -- the links lead to the forest
 pub forest_found : (cs : List NodeView) (k : RunForest) (n : ℕ) → AreNodesOf cs k → count_nodes k ≤ n → length cs ≤ 2048 → forest_within n cs (first_place k) ≡ k
-forest_found cs no_runs zero lies fits few = refl
-forest_found cs no_runs (suc n) lies fits few = ap (forest_with (forest_within n cs) no_place) (slice_get_past cs no_place (omega (arith, few)))
-forest_found cs (run_node a f fs m b s) zero lies fits few = absurd (omega (arith, fits))
-forest_found cs (run_node a f fs m b s) (suc n) lies fits few =
-    ap (forest_with (forest_within n cs) a) lies.0
-    ∙ (λ i. run_node a f fs m (forest_found cs b n lies.1 (omega (arith, fits)) few i) (forest_found cs s n lies.2 (omega (arith, fits)) few i))
+forest_found cs no_runs zero nodes_hold fits few = refl
+forest_found cs no_runs (suc n) nodes_hold fits few = ap (forest_with (forest_within n cs) no_place) (slice_get_past cs no_place (omega (arith, few)))
+forest_found cs (run_node a f fs m b s) zero nodes_hold fits few = absurd (omega (arith, fits))
+forest_found cs (run_node a f fs m b s) (suc n) nodes_hold fits few =
+    ap (forest_with (forest_within n cs) a) nodes_hold.0
+    ∙ (λ i. run_node a f fs m (forest_found cs b n nodes_hold.1 (omega (arith, fits)) few i) (forest_found cs s n nodes_hold.2 (omega (arith, fits)) few i))
 
 -- where a forest lies, its place leads to it
 pub leads_to : (cs : List NodeView) (k : RunForest) → AreNodesOf cs k → count_nodes k ≤ length cs → length cs ≤ 2048 → forest_at cs (first_place k) ≡ k
-leads_to cs k lies fits few = forest_found cs k (length cs) lies fits few
+leads_to cs k nodes_hold fits few = forest_found cs k (length cs) nodes_hold fits few
 
 pub leads_from : (cs : List NodeView) (k : RunForest) → AreNodesOf cs k → count_nodes k ≤ length cs → length cs ≤ 2048 → LeadsToForest cs (first_place k)
-leads_from cs k lies fits few =
-    let e : forest_at cs (first_place k) ≡ k = leads_to cs k lies fits few in
-    record { begins = ap first_place e; lies = subst (AreNodesOf cs) (sym e) lies; fits = subst (λ j. count_nodes j ≤ length cs) (sym e) fits; within_limit = few }
+leads_from cs k nodes_hold fits few =
+    let e : forest_at cs (first_place k) ≡ k = leads_to cs k nodes_hold fits few in
+    record { begins = ap first_place e; nodes_hold = subst (AreNodesOf cs) (sym e) nodes_hold; no_more_nodes = subst (λ j. count_nodes j ≤ length cs) (sym e) fits; within_limit = few }
 
 -- nothing lies nowhere
 pub none_in : (cs : List NodeView) → length cs ≤ 2048 → forest_at cs no_place ≡ no_runs
@@ -32,9 +32,9 @@ pub leads_nowhere : (cs : List NodeView) → length cs ≤ 2048 → LeadsToFores
 leads_nowhere cs few = leads_from cs no_runs tt (omega arith) few
 
 inside_at : (cs : List NodeView) (at : ℕ) (k : RunForest) → first_place k ≡ at → AreNodesOf cs k → at ≢ no_place → at < length cs
-inside_at cs at no_runs from lies off = absurd (off (sym from))
-inside_at cs at (run_node a f fs m b s) from lies off = subst (λ x. x < length cs) from (slice_get_within cs a (node_view f fs m b s) lies.0)
+inside_at cs at no_runs from nodes_hold off = absurd (off (sym from))
+inside_at cs at (run_node a f fs m b s) from nodes_hold off = subst (λ x. x < length cs) from (slice_get_within cs a (node_view f fs m b s) nodes_hold.0)
 
 -- a place that leads somewhere is that of a node
 pub inside_node : (cs : List NodeView) (at : ℕ) → LeadsToForest cs at → at ≢ no_place → at < length cs
-inside_node cs at to off = inside_at cs at (forest_at cs at) to.begins to.lies off
+inside_node cs at to off = inside_at cs at (forest_at cs at) to.begins to.nodes_hold off

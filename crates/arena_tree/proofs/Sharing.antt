@@ -3,6 +3,7 @@ use Rattle.std.proofs.Common.{◌≡◌, ℕ, zero, suc, ◌+◌, ◌<◌, ◌�
 use Rattle.std.specs.Prelude.{slice_get, Some}
 use Rattle.std.specs.declared.cmp.Ordering.TheVariants.{Equal}
 use Rattle.std.proofs.lemmas.List.{length-drop}
+use Rattle.std.proofs.lemmas.Option.{same_Some}
 use Rattle.rank_set.specs.Ranks.{Ranks, union, union-none}
 use Rattle.call_path.specs.Path.{Path}
 use Rattle.prefix_tree.specs.Tree.{Marks}
@@ -20,6 +21,7 @@ use Rattle.arena_tree.specs.Steps.{nodes_added_by, rows_added_by, shared_step, r
 use Rattle.arena_tree.specs.Reading.{run_of, forest_at, LeadsToForest}
 use Rattle.arena_tree.specs.Targets.{rest_of, forest_behind, target_forest, LeadsBehind, IsTarget, IsAfter, next_of}
 use Rattle.arena_tree.specs.Plans.{PlanView, plan_with, next_place, BeginsAt, step_at, target_below, SharesRun}
+use Rattle.arena_tree.specs.Trail.{IsBelow}
 use Rattle.arena_tree.proofs.MergingRuns.{parted}
 use Rattle.arena_tree.proofs.Orders.{frame_exact}
 use Rattle.arena_tree.proofs.SharedFrames.{drop_at, some_at}
@@ -220,7 +222,7 @@ module _ (cs : List NodeView) (into after below : Target) (c : NodeView) (to : I
     below_leads = subst (IsTarget cs) (sym below_is) (leads_below cs into c own k (next_place old) refl positive there it.first (target_few cs into.node into.place into.skip to));
     places = let few = few_cuts own in omega (arith, few, added);
     rows = rows_at into.place (take (1 + n0) (drop into.skip c.frames)) own v m c.first;
-    same = same;
+    steps_split = same;
   }
 
 -- the frame that a target begins with is the path's
@@ -230,3 +232,8 @@ frames_same cs into c to there p skip begins =
     let it : ReadsBehind cs into.node into.place into.skip c at.0 = reads_behind cs into.node into.place into.skip c at.0 to there at.1 in
     let equal : frame_cmp begins.frame at.0 ≡ Equal = sym (side_at cs into.node into.place into.skip c at.0 it begins.frame) ∙ begins.side in
     at.1 ∙ ap Some (sym (frame_exact begins.frame at.0 equal)) ∙ sym begins.is
+
+-- a target below a node begins with the node's first child, or within the node
+pub child_below : (cs : List NodeView) (into below : Target) (node : NodeView) (gs : Path) (kept place : ℕ) → slice_get cs into.node ≡ Some node → 0 < kept → below ≡ target_below into gs kept place node.first → IsBelow cs into.node below
+child_below cs into below node [] kept place there some is c at whole = ap (λ (t : Target). t.node) is ∙ ap (λ (v : NodeView). v.first) (same_Some node c (sym there ∙ at))
+child_below cs into below node (g ∷ gs) kept place there some is c at whole = let e = ap (λ (t : Target). t.skip) is in absurd (omega (arith, e, whole, some))

@@ -32,14 +32,14 @@ siblings_from t (run_node a f fs m b s) (inr i) = siblings_from t s i
 -- they are what the place leads to
 module _ (cs : List NodeView) (few : length cs ≤ 2048) where
   at_siblings : (t : ℕ) (k : RunForest) (i : IsAmong t k) → AreNodesOf cs k → count_nodes k ≤ length cs → forest_at cs t ≡ siblings_from t k i
-  at_siblings t no_runs i lies fits = absurd i
-  at_siblings t (run_node a f fs m b s) (inl e) lies fits = ap (forest_at cs) e ∙ leads_to cs (run_node a f fs m b s) lies fits few
-  at_siblings t (run_node a f fs m b s) (inr i) lies fits = at_siblings t s i lies.2 (omega (arith, fits))
+  at_siblings t no_runs i nodes_hold fits = absurd i
+  at_siblings t (run_node a f fs m b s) (inl e) nodes_hold fits = ap (forest_at cs) e ∙ leads_to cs (run_node a f fs m b s) nodes_hold fits few
+  at_siblings t (run_node a f fs m b s) (inr i) nodes_hold fits = at_siblings t s i nodes_hold.2 (omega (arith, fits))
 
   among_leads : (t : ℕ) (k : RunForest) (i : IsAmong t k) → AreNodesOf cs k → count_nodes k ≤ length cs → LeadsToForest cs t
-  among_leads t no_runs i lies fits = absurd i
-  among_leads t (run_node a f fs m b s) (inl e) lies fits = subst (LeadsToForest cs) (sym e) (leads_from cs (run_node a f fs m b s) lies fits few)
-  among_leads t (run_node a f fs m b s) (inr i) lies fits = among_leads t s i lies.2 (omega (arith, fits))
+  among_leads t no_runs i nodes_hold fits = absurd i
+  among_leads t (run_node a f fs m b s) (inl e) nodes_hold fits = subst (LeadsToForest cs) (sym e) (leads_from cs (run_node a f fs m b s) nodes_hold fits few)
+  among_leads t (run_node a f fs m b s) (inr i) nodes_hold fits = among_leads t s i nodes_hold.2 (omega (arith, fits))
 
 -- a frame before the first is before each
 before_siblings : (g : List ℕ) (t : ℕ) (k : RunForest) (i : IsAmong t k) → IsBefore g (rows_of_runs k) → HasIncreasingRuns k → frame_side g (siblings_from t k i) ≡ Less
@@ -86,35 +86,35 @@ increasing_below a (f ∷ fs) m k up = increasing_below a fs m k up.1
 -- a node of the tree
 module _ (cs : List NodeView) where
   among_inside : (t : ℕ) (k : RunForest) (i : IsAmong t k) → AreNodesOf cs k → t < length cs
-  among_inside t no_runs i lies = absurd i
-  among_inside t (run_node a f fs m b s) (inl e) lies = subst (λ a. a < length cs) (sym e) (slice_get_within cs a (node_view f fs m b s) lies.0)
-  among_inside t (run_node a f fs m b s) (inr i) lies = among_inside t s i lies.2
+  among_inside t no_runs i nodes_hold = absurd i
+  among_inside t (run_node a f fs m b s) (inl e) nodes_hold = subst (λ a. a < length cs) (sym e) (slice_get_within cs a (node_view f fs m b s) nodes_hold.0)
+  among_inside t (run_node a f fs m b s) (inr i) nodes_hold = among_inside t s i nodes_hold.2
 
   pub later_inside : (k : RunForest) (x t : ℕ) → AreNodesOf cs k → IsLaterSibling k x t → t < length cs
-  later_inside no_runs x t lies i = absurd i
-  later_inside (run_node a f fs m b s) x t lies (inl i) = among_inside t (run_node a f fs m b s) i.1 lies
-  later_inside (run_node a f fs m b s) x t lies (inr (inl i)) = later_inside b x t lies.1 i
-  later_inside (run_node a f fs m b s) x t lies (inr (inr i)) = later_inside s x t lies.2 i
+  later_inside no_runs x t nodes_hold i = absurd i
+  later_inside (run_node a f fs m b s) x t nodes_hold (inl i) = among_inside t (run_node a f fs m b s) i.1 nodes_hold
+  later_inside (run_node a f fs m b s) x t nodes_hold (inr (inl i)) = later_inside b x t nodes_hold.1 i
+  later_inside (run_node a f fs m b s) x t nodes_hold (inr (inr i)) = later_inside s x t nodes_hold.2 i
 
 module _ (cs : List NodeView) (few : length cs ≤ 2048) where
   pub later_leads : (k : RunForest) (x t : ℕ) → AreNodesOf cs k → count_nodes k ≤ length cs → IsLaterSibling k x t → LeadsToForest cs t
-  later_leads no_runs x t lies fits i = absurd i
-  later_leads (run_node a f fs m b s) x t lies fits (inl i) = among_leads cs few t (run_node a f fs m b s) i.1 lies fits
-  later_leads (run_node a f fs m b s) x t lies fits (inr (inl i)) = later_leads b x t lies.1 (omega (arith, fits)) i
-  later_leads (run_node a f fs m b s) x t lies fits (inr (inr i)) = later_leads s x t lies.2 (omega (arith, fits)) i
+  later_leads no_runs x t nodes_hold fits i = absurd i
+  later_leads (run_node a f fs m b s) x t nodes_hold fits (inl i) = among_leads cs few t (run_node a f fs m b s) i.1 nodes_hold fits
+  later_leads (run_node a f fs m b s) x t nodes_hold fits (inr (inl i)) = later_leads b x t nodes_hold.1 (omega (arith, fits)) i
+  later_leads (run_node a f fs m b s) x t nodes_hold fits (inr (inr i)) = later_leads s x t nodes_hold.2 (omega (arith, fits)) i
 
   -- the steps from an earlier sibling on are those from a later one on
   pub later_steps : (l : Link) (n y : ℕ) (g : List ℕ) (gs : Path) (w : Marks) (c u : RunForest) (k : RunForest) (x t : ℕ) → AreNodesOf cs k → count_nodes k ≤ length cs → HasIncreasingRuns k → IsLaterSibling k x t → frame_side g (forest_at cs t) ≢ Less
       → merge_steps l n (forest_at cs x) (run_node y g gs w c u) ≡ merge_steps l n (forest_at cs t) (run_node y g gs w c u)
-  later_steps l n y g gs w c u no_runs x t lies fits up i off = absurd i
-  later_steps l n y g gs w c u (run_node a f fs m b s) x t lies fits up (inl i) off =
+  later_steps l n y g gs w c u no_runs x t nodes_hold fits up i off = absurd i
+  later_steps l n y g gs w c u (run_node a f fs m b s) x t nodes_hold fits up (inl i) off =
       let whole : RunForest = run_node a f fs m b s in
-      let there : forest_at cs t ≡ siblings_from t (run_node a f fs m b s) i.1 = at_siblings cs few t (run_node a f fs m b s) i.1 lies fits in
-      ap (λ k. merge_steps l n k (run_node y g gs w c u)) (ap (forest_at cs) i.0 ∙ leads_to cs (run_node a f fs m b s) lies fits few)
+      let there : forest_at cs t ≡ siblings_from t (run_node a f fs m b s) i.1 = at_siblings cs few t (run_node a f fs m b s) i.1 nodes_hold fits in
+      ap (λ k. merge_steps l n k (run_node y g gs w c u)) (ap (forest_at cs) i.0 ∙ leads_to cs (run_node a f fs m b s) nodes_hold fits few)
       ∙ steps_from l n y g gs w c u t (run_node a f fs m b s) i.1 up (subst (λ k. frame_side g k ≢ Less) there off)
       ∙ ap (λ k. merge_steps l n k (run_node y g gs w c u)) (sym there)
-  later_steps l n y g gs w c u (run_node a f fs m b s) x t lies fits up (inr (inl i)) off = later_steps l n y g gs w c u b x t lies.1 (omega (arith, fits)) (increasing_below a fs m (rows_of_runs b) up.1) i off
-  later_steps l n y g gs w c u (run_node a f fs m b s) x t lies fits up (inr (inr i)) off = later_steps l n y g gs w c u s x t lies.2 (omega (arith, fits)) up.2 i off
+  later_steps l n y g gs w c u (run_node a f fs m b s) x t nodes_hold fits up (inr (inl i)) off = later_steps l n y g gs w c u b x t nodes_hold.1 (omega (arith, fits)) (increasing_below a fs m (rows_of_runs b) up.1) i off
+  later_steps l n y g gs w c u (run_node a f fs m b s) x t nodes_hold fits up (inr (inr i)) off = later_steps l n y g gs w c u s x t nodes_hold.2 (omega (arith, fits)) up.2 i off
 
 first_among : (k : RunForest) (x : ℕ) → x ≡ first_place k → x ≢ 4294967295 → IsAmong x k
 first_among no_runs x e off = absurd (off e)
@@ -131,29 +131,29 @@ first_there cs root to off = first_later (forest_at cs root) root (sym to.begins
 -- what the links of a node lead to
 module _ (cs : List NodeView) (t : ℕ) (c : NodeView) (there : slice_get cs t ≡ Some c) where
   node_is : (a : ℕ) (f : List ℕ) (fs : Path) (m : Marks) (b s : RunForest) → t ≡ a → slice_get cs a ≡ Some (node_view f fs m b s) → c ≡ node_view f fs m b s
-  node_is a f fs m b s e lies = same_Some c (node_view f fs m b s) (sym there ∙ ap (slice_get cs) e ∙ lies)
+  node_is a f fs m b s e nodes_hold = same_Some c (node_view f fs m b s) (sym there ∙ ap (slice_get cs) e ∙ nodes_hold)
 
   next_among : (k : RunForest) → AreNodesOf cs k → IsAmong t k → c.next ≢ 4294967295 → IsAmong c.next k
-  next_among no_runs lies i off = absurd i
-  next_among (run_node a f fs m b s) lies (inl e) off = inr (first_among s c.next (ap (λ (c : NodeView). c.next) (node_is a f fs m b s e lies.0)) off)
-  next_among (run_node a f fs m b s) lies (inr i) off = inr (next_among s lies.2 i off)
+  next_among no_runs nodes_hold i off = absurd i
+  next_among (run_node a f fs m b s) nodes_hold (inl e) off = inr (first_among s c.next (ap (λ (c : NodeView). c.next) (node_is a f fs m b s e nodes_hold.0)) off)
+  next_among (run_node a f fs m b s) nodes_hold (inr i) off = inr (next_among s nodes_hold.2 i off)
 
   child_among : (k : RunForest) → AreNodesOf cs k → IsAmong t k → c.first ≢ 4294967295 → IsLaterSibling k c.first c.first
-  child_among no_runs lies i off = absurd i
-  child_among (run_node a f fs m b s) lies (inl e) off = inr (inl (first_later b c.first (ap (λ (c : NodeView). c.first) (node_is a f fs m b s e lies.0)) off))
-  child_among (run_node a f fs m b s) lies (inr i) off = inr (inr (child_among s lies.2 i off))
+  child_among no_runs nodes_hold i off = absurd i
+  child_among (run_node a f fs m b s) nodes_hold (inl e) off = inr (inl (first_later b c.first (ap (λ (c : NodeView). c.first) (node_is a f fs m b s e nodes_hold.0)) off))
+  child_among (run_node a f fs m b s) nodes_hold (inr i) off = inr (inr (child_among s nodes_hold.2 i off))
 
   pub next_later : (k : RunForest) (x : ℕ) → AreNodesOf cs k → IsLaterSibling k x t → c.next ≢ 4294967295 → IsLaterSibling k x c.next
-  next_later no_runs x lies i off = absurd i
-  next_later (run_node a f fs m b s) x lies (inl i) off = inl (i.0, next_among (run_node a f fs m b s) lies i.1 off)
-  next_later (run_node a f fs m b s) x lies (inr (inl i)) off = inr (inl (next_later b x lies.1 i off))
-  next_later (run_node a f fs m b s) x lies (inr (inr i)) off = inr (inr (next_later s x lies.2 i off))
+  next_later no_runs x nodes_hold i off = absurd i
+  next_later (run_node a f fs m b s) x nodes_hold (inl i) off = inl (i.0, next_among (run_node a f fs m b s) nodes_hold i.1 off)
+  next_later (run_node a f fs m b s) x nodes_hold (inr (inl i)) off = inr (inl (next_later b x nodes_hold.1 i off))
+  next_later (run_node a f fs m b s) x nodes_hold (inr (inr i)) off = inr (inr (next_later s x nodes_hold.2 i off))
 
   pub child_later : (k : RunForest) (x : ℕ) → AreNodesOf cs k → IsLaterSibling k x t → c.first ≢ 4294967295 → IsLaterSibling k c.first c.first
-  child_later no_runs x lies i off = absurd i
-  child_later (run_node a f fs m b s) x lies (inl i) off = child_among (run_node a f fs m b s) lies i.1 off
-  child_later (run_node a f fs m b s) x lies (inr (inl i)) off = inr (inl (child_later b x lies.1 i off))
-  child_later (run_node a f fs m b s) x lies (inr (inr i)) off = inr (inr (child_later s x lies.2 i off))
+  child_later no_runs x nodes_hold i off = absurd i
+  child_later (run_node a f fs m b s) x nodes_hold (inl i) off = child_among (run_node a f fs m b s) nodes_hold i.1 off
+  child_later (run_node a f fs m b s) x nodes_hold (inr (inl i)) off = inr (inl (child_later b x nodes_hold.1 i off))
+  child_later (run_node a f fs m b s) x nodes_hold (inr (inr i)) off = inr (inr (child_later s x nodes_hold.2 i off))
 
 among_itself : (t : ℕ) (k : RunForest) → IsAmong t k → IsLaterSibling k t t
 among_itself t no_runs i = absurd i
@@ -176,14 +176,14 @@ module _ (cs : List NodeView) (root : ℕ) (tree : LeadsToOrdered cs root) where
   all = forest_at cs root
 
   pub leads_there : (x t : ℕ) → IsLaterSibling all x t → LeadsToForest cs t
-  leads_there x t i = later_leads cs tree.leads.within_limit all x t tree.leads.lies tree.leads.fits i
+  leads_there x t i = later_leads cs tree.leads.within_limit all x t tree.leads.nodes_hold tree.leads.no_more_nodes i
 
   pub inside_there : (x t : ℕ) → IsLaterSibling all x t → t < length cs
-  inside_there x t i = later_inside cs all x t tree.leads.lies i
+  inside_there x t i = later_inside cs all x t tree.leads.nodes_hold i
 
   pub steps_there : (l : Link) (x t : ℕ) → IsLaterSibling all x t → (g : List ℕ) → frame_side g (forest_at cs t) ≢ Less → (n y : ℕ) (gs : Path) (w : Marks) (c u : RunForest)
       → merge_steps l n (forest_at cs x) (run_node y g gs w c u) ≡ merge_steps l n (forest_at cs t) (run_node y g gs w c u)
-  steps_there l x t i g off n y gs w c u = later_steps cs tree.leads.within_limit l n y g gs w c u all x t tree.leads.lies tree.leads.fits tree.ordered i off
+  steps_there l x t i g off n y gs w c u = later_steps cs tree.leads.within_limit l n y g gs w c u all x t tree.leads.nodes_hold tree.leads.no_more_nodes tree.ordered i off
 
   -- a node that is read there
   module _ (x t : ℕ) (i : IsLaterSibling all x t) (c : NodeView) (there : slice_get cs t ≡ Some c) where
@@ -191,10 +191,10 @@ module _ (cs : List NodeView) (root : ℕ) (tree : LeadsToOrdered cs root) where
     frames_there = let it = reads cs t c (leads_there x t i) there in let long = ap length it.frames in omega (arith, long)
 
     pub next_there : c.next ≢ 4294967295 → IsLaterSibling all x c.next
-    next_there off = next_later cs t c there all x tree.leads.lies i off
+    next_there off = next_later cs t c there all x tree.leads.nodes_hold i off
 
     pub child_there : c.first ≢ 4294967295 → IsLaterSibling all c.first c.first
-    child_there off = child_later cs t c there all x tree.leads.lies i off
+    child_there off = child_later cs t c there all x tree.leads.nodes_hold i off
 
     module _ (f : List ℕ) (one : slice_get c.frames 0 ≡ Some f) where
       it : ReadsBehind cs t t 0 c f

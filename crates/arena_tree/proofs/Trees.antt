@@ -53,11 +53,11 @@ increasing_path C (f ∷ p) = (tt, increasing_rest C p, tt)
 
 -- places stay distinct
 pub distinct_united : (cs : List NodeView) (k new : RunForest) (m : ℕ) → AreNodesOf cs k → HasDistinctPlaces k → ((y : ℕ) → count_place y new ≡ count_place y k + count_among y (length cs) m) → HasDistinctPlaces new
-distinct_united cs k new m lies no_common is y =
+distinct_united cs k new m nodes_hold no_common is y =
     let count = is y in
     elim (cases_lt y (length cs)) [
       | inl lt ↦ (let none = count_among-below y (length cs) m lt in let old = no_common y in omega (arith, count, none, old))
-      | inr ge ↦ (let one = count_among-one y (length cs) m in let old = inside cs k y lies ge in omega (arith, count, one, old))
+      | inr ge ↦ (let one = count_among-one y (length cs) m in let old = inside cs k y nodes_hold ge in omega (arith, count, one, old))
     ]
 
 -- the nodes make a tree, which is this one
@@ -71,7 +71,7 @@ module _ (C : Ranks) (cs : List NodeView) (first : ℕ) (holds : IsArenaTree C c
   own = forest_at cs first
 
   pub leads_first : LeadsToForest cs first
-  leads_first = let all = holds.all in let few = holds.within_limit in let less = nodes_within_rows own in record { begins = holds.begins; lies = holds.lies; fits = omega (arith, all); within_limit = omega (arith, all, few, less) }
+  leads_first = let all = holds.count in let few = holds.within_limit in let less = nodes_within_rows own in record { begins = holds.begins; nodes_hold = holds.nodes_hold; no_more_nodes = omega (arith, all); within_limit = omega (arith, all, few, less) }
 
   pub entries_are : finmap.entries (tree_view C cs first).below ≡ forest_rows (rows_of_runs own)
   entries_are = finmap.entries-from_sorted path_cmp (forest_rows (rows_of_runs own)) (rows_sorted (rows_of_runs own) holds.ordered)
@@ -83,14 +83,14 @@ module _ (C : Ranks) (cs : List NodeView) (first : ℕ) (holds : IsArenaTree C c
   lawful = record {
     tree = holds.tree;
     within_limit = let e = finmap.len-entries (tree_view C cs first).below in let few = holds.within_limit in omega (arith, e, entry_count, few);
-    good = subst (λ es. All (λ e. IsGoodPath e.0) es) (sym entries_are) holds.good;
+    good = subst (λ es. All (λ e. IsGoodPath e.0) es) (sym entries_are) holds.good_paths;
   }
 
   -- the same nodes over other ranks
   pub over_ranks : (D : Ranks) (P : Pairs) (E : Ranks) → tree_view D cs first ≡ tree_of P E → Makes D cs first (tree_of P E)
   over_ranks D P E is = record {
     is = is;
-    tree = record { begins = holds.begins; lies = holds.lies; distinct = holds.distinct; all = holds.all; within_limit = holds.within_limit; ordered = holds.ordered; tree = subst IsTree (sym is) (IsTree-tree_of P E); good = holds.good };
+    tree = record { begins = holds.begins; nodes_hold = holds.nodes_hold; distinct = holds.distinct; count = holds.count; within_limit = holds.within_limit; ordered = holds.ordered; tree = subst IsTree (sym is) (IsTree-tree_of P E); good_paths = holds.good_paths };
   }
 
   pub makes_covered : (D : Ranks) → Makes (union C D) cs first (covered (tree_view C cs first) D)
@@ -118,30 +118,30 @@ module _ (C : Ranks) (cs : List NodeView) (first : ℕ) (holds : IsArenaTree C c
     -- after the steps
     module _ (h : LinkedNodes) (done : h ≡ apply_steps (linked first cs) (merge_steps Top (length cs) own o)) (few : count_rows own + new_rows [] own [] o ≤ 2048) where
       became : Becomes Top own whole (new_nodes [] own [] o) (linked first cs) h
-      became = subst (Becomes Top own whole (new_nodes [] own [] o) (linked first cs)) (sym done) (merge_done Top (length cs) own o (linked first cs) refl holds.lies holds.distinct tt (sym holds.begins))
+      became = subst (Becomes Top own whole (new_nodes [] own [] o) (linked first cs)) (sym done) (merge_done Top (length cs) own o (linked first cs) refl holds.nodes_hold holds.distinct tt (sym holds.begins))
 
       nodes_whole : count_nodes whole ≡ length h.nodes
-      nodes_whole = let e = became.size in let count = became.count in let all = holds.all in omega (arith, e, count, all)
+      nodes_whole = let e = became.size in let count = became.count in let all = holds.count in omega (arith, e, count, all)
 
       rows_whole : count_rows whole ≤ 2048
       rows_whole = omega (arith, few, count_rows-merge_runs (length cs) own o)
 
       pub found : forest_at h.nodes h.first ≡ whole
-      found = ap (forest_at h.nodes) became.first ∙ leads_to h.nodes whole became.lies (omega (arith, nodes_whole)) (let less = nodes_within_rows whole in omega (arith, nodes_whole, less, rows_whole))
+      found = ap (forest_at h.nodes) became.first ∙ leads_to h.nodes whole became.nodes_hold (omega (arith, nodes_whole)) (let less = nodes_within_rows whole in omega (arith, nodes_whole, less, rows_whole))
 
       pub makes_united : Makes D h.nodes h.first (tree_of P D)
       makes_united = record {
         is = same;
         tree = record {
           begins = ap first_place found ∙ sym became.first;
-          lies = subst (AreNodesOf h.nodes) (sym found) became.lies;
-          distinct = subst HasDistinctPlaces (sym found) (distinct_united cs own whole (new_nodes [] own [] o) holds.lies holds.distinct became.places);
-          all = ap count_nodes found ∙ nodes_whole;
+          nodes_hold = subst (AreNodesOf h.nodes) (sym found) became.nodes_hold;
+          distinct = subst HasDistinctPlaces (sym found) (distinct_united cs own whole (new_nodes [] own [] o) holds.nodes_hold holds.distinct became.places);
+          count = ap count_nodes found ∙ nodes_whole;
           within_limit = subst (λ (k : RunForest). count_rows k ≤ 2048) (sym found) rows_whole;
           ordered = subst HasIncreasingRuns (sym found) (increasing-merge_sides (length cs) own o holds.ordered up);
           tree = subst IsTree (sym same) (IsTree-tree_of P D);
-          good = subst (λ es. All (λ e. IsGoodPath e.0) es) (same_entries ∙ ap (λ k. forest_rows (rows_of_runs k)) (sym found))
-              (put_rows_good (tree_view C cs first).below (forest_rows (rows_of_runs o)) (subst (λ es. All (λ e. IsGoodPath e.0) es) (sym entries_are) holds.good) good);
+          good_paths = subst (λ es. All (λ e. IsGoodPath e.0) es) (same_entries ∙ ap (λ k. forest_rows (rows_of_runs k)) (sym found))
+              (put_rows_good (tree_view C cs first).below (forest_rows (rows_of_runs o)) (subst (λ es. All (λ e. IsGoodPath e.0) es) (sym entries_are) holds.good_paths) good);
         };
       }
         where
@@ -159,16 +159,16 @@ module _ (A B : Ranks) (cs os : List NodeView) (first other : ℕ) (holds_own : 
       ∙ tree_merged (tree_view A cs first) holds_own.tree (tree_view B os other) holds_other.tree
 
   pub count_merged : count_below both ≡ count_rows (forest_at cs first) + new_rows [] (forest_at cs first) [] (forest_at os other)
-  count_merged = count_united A cs first holds_own (forest_at os other) holds_other.ordered holds_other.good (union A B) (pairs_of (tree_view A cs first) ++ pairs_of (tree_view B os other)) is_merged
+  count_merged = count_united A cs first holds_own (forest_at os other) holds_other.ordered holds_other.good_paths (union A B) (pairs_of (tree_view A cs first) ++ pairs_of (tree_view B os other)) is_merged
 
   pub steps_make_the_merged_tree : (h : LinkedNodes) → h ≡ apply_steps (linked first cs) (merge_steps Top (length cs) (forest_at cs first) (forest_at os other)) → count_rows (forest_at cs first) + new_rows [] (forest_at cs first) [] (forest_at os other) ≤ 2048 → Makes (union A B) h.nodes h.first both
-  steps_make_the_merged_tree h done few = makes_united A cs first holds_own (forest_at os other) holds_other.ordered holds_other.good (union A B) (pairs_of (tree_view A cs first) ++ pairs_of (tree_view B os other)) is_merged h done few
+  steps_make_the_merged_tree h done few = makes_united A cs first holds_own (forest_at os other) holds_other.ordered holds_other.good_paths (union A B) (pairs_of (tree_view A cs first) ++ pairs_of (tree_view B os other)) is_merged h done few
 
 -- no nodes
 pub makes_none : Makes none [] 4294967295 (tree_of [] none)
 makes_none = record {
   is = tree_in-none;
-  tree = record { begins = refl; lies = tt; distinct = λ x. omega arith; all = refl; within_limit = omega arith; ordered = tt; tree = subst IsTree (sym tree_in-none) (IsTree-tree_of [] none); good = All-nil (λ e. IsGoodPath e.0) };
+  tree = record { begins = refl; nodes_hold = tt; distinct = λ x. omega arith; count = refl; within_limit = omega arith; ordered = tt; tree = subst IsTree (sym tree_in-none) (IsTree-tree_of [] none); good_paths = All-nil (λ e. IsGoodPath e.0) };
 }
 
 lies_in : (C A : Ranks) → is_subset C A ≡ true → (q : ℕ) → has C q ≡ true → has A q ≡ true
@@ -182,13 +182,13 @@ module _ (A C : Ranks) (p : Path) (cs : List NodeView) (first : ℕ) (t : Tree) 
   some : (r : ℕ) × (has C r ≡ true)
   some = some_member C other
 
-  lies : (q : ℕ) → has C q ≡ true → has A q ≡ true
-  lies = lies_in C A (ap (λ (t : Tree). is_subset C t.coverage) seen ∙ within)
+  covers_each : (q : ℕ) → has C q ≡ true → has A q ≡ true
+  covers_each = lies_in C A (ap (λ (t : Tree). is_subset C t.coverage) seen ∙ within)
 
   is_added : record { coverage = A; below = insert_rows (tree_view A cs first).below (forest_rows (rows_of_runs o)) } ≡ added (tree_view A cs first) C p
   is_added =
       ap (λ es. record { coverage = A; below = insert_rows (tree_view A cs first).below es }) (rows_path C p)
-      ∙ tree_added (tree_view A cs first) holds_own.tree C p some.0 some.1 lies
+      ∙ tree_added (tree_view A cs first) holds_own.tree C p some.0 some.1 covers_each
 
   good_rows : All (λ e. IsGoodPath e.0) (forest_rows (rows_of_runs o))
   good_rows = subst (λ es. All (λ e. IsGoodPath e.0) es) (sym (rows_path C p)) (path_rows_good C some.0 some.1 p good)

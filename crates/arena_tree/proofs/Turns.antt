@@ -117,7 +117,7 @@ module _ (cs os : List NodeView) (other : ℕ) (to : LeadsToForest os other) (c 
     turn_same =
         (λ i. (all_are i).steps ++ merge_steps rest.link (sym far i) (target_forest cs rest) (forest_at os (later_is i)))
         ∙ append_assoc p0.steps all_steps (merge_steps rest.link (next_place p0 + nodes_added run.steps + new_nodes [] (target_forest cs below) [] b) (target_forest cs rest) s)
-        ∙ ap (λ (ss : List Step). p0.steps ++ ss) (sym (run.same other b s) ∙ ap (merge_steps into.link (next_place p0) (target_forest cs into)) (sym it.is))
+        ∙ ap (λ (ss : List Step). p0.steps ++ ss) (sym (run.steps_split other b s) ∙ ap (merge_steps into.link (next_place p0) (target_forest cs into)) (sym it.is))
 
 -- the room that is left in a later turn
 pub room_in_turn : (p p0 : PlanView) (k k0 : ℕ) → p.base ≡ p0.base → nodes_added p.steps + k ≤ nodes_added p0.steps + k0 → rows_added p.steps + k ≤ rows_added p0.steps + k0 → HasRoom p0 k0 → HasRoom p k

@@ -11,7 +11,7 @@ no_place = 4294967295
 
 -- the place of the first
 abbrev pub first_place : RunForest → ℕ
-first_place no_runs = 4294967295
+first_place no_runs = no_place
 first_place (run_node a f fs m b s) = a
 
 -- how often a place occurs

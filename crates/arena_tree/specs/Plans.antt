@@ -1,4 +1,5 @@
 -- Steps that are planned, and what it means that they plan a run.
+-- No clause of a public call cites this file: it says how a change is planned and done.
 use Rattle.std.specs.Prelude.{◌≡◌, ℕ, ◌+◌, ◌≤◌, List, [], ◌∷◌, ◌++◌, length, Some, slice_get}
 use Rattle.std.specs.declared.cmp.Ordering.TheVariants.{Equal}
 use Rattle.call_path.specs.Path.{Path}
@@ -8,6 +9,7 @@ use Rattle.arena_tree.specs.declared.node.Step.{Step}
 use Rattle.arena_tree.specs.declared.node.Step.TheVariants.{Old, Cut}
 use Rattle.arena_tree.specs.declared.target.Target.{Target}
 use Rattle.arena_tree.specs.NodeViews.{NodeView, view_of}
+use Rattle.arena_tree.specs.Placement.{no_place}
 use Rattle.arena_tree.specs.RunForest.{RunForest}
 use Rattle.arena_tree.specs.RunMerge.{new_nodes}
 use Rattle.arena_tree.specs.Steps.{nodes_added_by, nodes_added, rows_added_by, rows_added, rest_over, merge_steps}
@@ -35,7 +37,7 @@ pub record HasRoom (p : PlanView) (k : ℕ) : Type 0 where
 -- the step of a node that keeps its upper frames and gets other marks, where its lower ones, if it has any, go to a new node with the old marks
 abbrev pub step_at : ℕ → Path → Path → Marks → Marks → ℕ → Step
 step_at a upper [] v m first = Old a v.0 v.1
-step_at a upper (g ∷ gs) v m first = Cut a upper v.0 v.1 (view_of (g ∷ gs) m first 4294967295)
+step_at a upper (g ∷ gs) v m first = Cut a upper v.0 v.1 (view_of (g ∷ gs) m first no_place)
 
 -- the target below a node then
 abbrev pub target_below : Target → Path → ℕ → ℕ → ℕ → Target
@@ -56,7 +58,7 @@ pub record SharesRun (cs : List NodeView) (into rest below : Target) (fs gs : Pa
   pub below_leads : IsTarget cs below
   pub places : nodes_added_by step ≤ 1
   pub rows : rows_added_by step ≡ 0
-  pub same : (x : ℕ) (c t : RunForest) → merge_steps into.link (next_place old) (target_forest cs into) (run_of x fs w c t)
+  pub steps_split : (x : ℕ) (c t : RunForest) → merge_steps into.link (next_place old) (target_forest cs into) (run_of x fs w c t)
       ≡ step ∷ merge_steps below.link (next_place old + nodes_added_by step) (target_forest cs below) (rest_over 0 gs w c)
       ++ merge_steps rest.link (next_place old + nodes_added_by step + new_nodes [] (target_forest cs below) [] (rest_over 0 gs w c)) (target_forest cs rest) t
 
@@ -68,6 +70,6 @@ pub record PlansRun (cs : List NodeView) (into rest below : Target) (fs : Path) 
   pub below_leads : IsTarget cs below
   pub places : nodes_added steps ≤ length fs
   pub rows : rows_added steps ≤ length fs
-  pub same : (x : ℕ) (c t : RunForest) → merge_steps into.link (next_place old) (target_forest cs into) (run_of x fs w c t)
+  pub steps_split : (x : ℕ) (c t : RunForest) → merge_steps into.link (next_place old) (target_forest cs into) (run_of x fs w c t)
       ≡ steps ++ merge_steps below.link (next_place old + nodes_added steps) (target_forest cs below) c
       ++ merge_steps rest.link (next_place old + nodes_added steps + new_nodes [] (target_forest cs below) [] c) (target_forest cs rest) t

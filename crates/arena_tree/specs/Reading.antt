@@ -30,8 +30,8 @@ forest_at cs at = forest_within (length cs) cs at
 -- a place leads to a forest, or is none
 pub record LeadsToForest (cs : List NodeView) (at : ℕ) : Type 0 where
   pub begins : first_place (forest_at cs at) ≡ at
-  pub lies : AreNodesOf cs (forest_at cs at)
-  pub fits : count_nodes (forest_at cs at) ≤ length cs
+  pub nodes_hold : AreNodesOf cs (forest_at cs at)
+  pub no_more_nodes : count_nodes (forest_at cs at) ≤ length cs
   pub within_limit : length cs ≤ 2048
 
 -- where a frame is, seen from the first node of a forest

@@ -1,4 +1,5 @@
 -- The steps of a merge, and what they make of the nodes.
+-- No clause of a public call cites this file: it says how a change is planned and done.
 use Rattle.std.specs.Prelude.{◌≡◌, ℕ, zero, suc, ◌+◌, ◌<◌, cond, nat_eq, length, List, [], ◌∷◌, ◌++◌, slice_get}
 use Rattle.rank_set.specs.Ranks.{Ranks, none}
 use Rattle.call_path.specs.Path.{Path}
@@ -12,12 +13,12 @@ use Rattle.arena_tree.specs.NodeViews.{NodeView}
 use Rattle.arena_tree.specs.RowForest.{frame_cmp}
 use Rattle.arena_tree.specs.RunForest.{RunForest, no_runs, run_node, count_nodes, split_frames, cut_count}
 use Rattle.arena_tree.specs.RunMerge.{shared_marks, new_nodes}
-use Rattle.arena_tree.specs.Placement.{first_place, count_place, AreNodesOf}
+use Rattle.arena_tree.specs.Placement.{no_place, first_place, count_place, AreNodesOf}
 use Rattle.arena_tree.specs.Links.{LinkedNodes, with_change, relink, first_after}
 
 -- a node with no child, before the node at a place
 abbrev pub new_view : List ℕ → Path → Marks → ℕ → NodeView
-new_view g gs w n = record { frames = g ∷ gs; label = w.0; ends = w.1; first = 4294967295; next = n }
+new_view g gs w n = record { frames = g ∷ gs; label = w.0; ends = w.1; first = no_place; next = n }
 
 -- a node with other marks
 abbrev pub with_marks : Ranks → Ranks → NodeView → NodeView
@@ -63,7 +64,7 @@ rows_added (s ∷ ss) = rows_added_by s + rows_added ss
 -- the step of a node with other marks, which is cut where frames of its own are left
 abbrev pub shared_step : ℕ → List ℕ → Path → Path → Marks → Marks → RunForest → Step
 shared_step a f [] common v m b = Old a v.0 v.1
-shared_step a f (g ∷ gs) common v m b = Cut a (f ∷ common) v.0 v.1 (record { frames = g ∷ gs; label = m.0; ends = m.1; first = first_place b; next = 4294967295 })
+shared_step a f (g ∷ gs) common v m b = Cut a (f ∷ common) v.0 v.1 (record { frames = g ∷ gs; label = m.0; ends = m.1; first = first_place b; next = no_place })
 
 -- what stands below a node then
 abbrev pub rest_over : ℕ → Path → Marks → RunForest → RunForest
@@ -73,12 +74,12 @@ rest_over p (f ∷ fs) m b = run_node p f fs m b no_runs
 -- the steps of new nodes
 abbrev pub copy_steps : Link → ℕ → RunForest → List Step
 copy_steps l n no_runs = []
-copy_steps l n (run_node x g gs w c t) = New l (new_view g gs w 4294967295) ∷ copy_steps (FirstOf n) (suc n) c ++ copy_steps (NextOf n) (suc n + count_nodes c) t
+copy_steps l n (run_node x g gs w c t) = New l (new_view g gs w no_place) ∷ copy_steps (FirstOf n) (suc n) c ++ copy_steps (NextOf n) (suc n + count_nodes c) t
 
 -- the steps of a merge into the nodes that a link leads to, where new nodes get the places from n on
 abbrev pub side_steps : Link → ℕ → ℕ → Path → Marks → RunForest → Path → Marks → RunForest → List Step
 side_steps l n p [] m no_runs [] w c = copy_steps l n c
-side_steps l n p [] m no_runs (g ∷ gs) w c = New l (new_view g gs w 4294967295) ∷ copy_steps (FirstOf n) (suc n) c
+side_steps l n p [] m no_runs (g ∷ gs) w c = New l (new_view g gs w no_place) ∷ copy_steps (FirstOf n) (suc n) c
 side_steps l n p [] m0 (run_node a f fs m b s) [] w no_runs = []
 side_steps l n p [] m0 (run_node a f fs m b s) [] w0 (run_node x g gs w c t) =
     by_order (frame_cmp g f)
@@ -105,7 +106,7 @@ side_steps l n p (f ∷ fs) m b (g ∷ gs) w c =
     by_order (frame_cmp g f)
     (New l (new_view g gs w p) ∷ copy_steps (FirstOf n) (suc n) c)
     []
-    (New (NextOf p) (new_view g gs w 4294967295) ∷ copy_steps (FirstOf n) (suc n) c)
+    (New (NextOf p) (new_view g gs w no_place) ∷ copy_steps (FirstOf n) (suc n) c)
 
 -- the steps of a merge of two forests
 abbrev pub merge_steps : Link → ℕ → RunForest → RunForest → List Step
@@ -118,7 +119,7 @@ count_among y n (suc m) = cond (nat_eq y n) 1 0 + count_among y (suc n) m
 
 -- the nodes hold another forest, with so many nodes more, and all others are as they were, but for the link
 pub record Becomes (l : Link) (k new : RunForest) (m : ℕ) (h after : LinkedNodes) : Type 0 where
-  pub lies : AreNodesOf after.nodes new
+  pub nodes_hold : AreNodesOf after.nodes new
   pub count : length after.nodes ≡ length h.nodes + m
   pub rest : (y : ℕ) → y < length h.nodes → count_place y k ≡ 0 → slice_get after.nodes y ≡ slice_get (relink l (first_place new) h.nodes) y
   pub first : after.first ≡ first_after l (first_place new) h.first

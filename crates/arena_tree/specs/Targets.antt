@@ -1,8 +1,10 @@
 -- Where a run of frames is merged.
+-- No clause of a public call cites this file: it says how a change is planned and done.
 use Rattle.std.specs.Prelude.{◌≡◌, ℕ, zero, suc, ◌<◌, ◌≤◌, List, length, drop, Option, Some, None, slice_get}
 use Rattle.arena_tree.specs.declared.node.Link.TheVariants.{NextOf}
 use Rattle.arena_tree.specs.declared.target.Target.{Target}
 use Rattle.arena_tree.specs.NodeViews.{NodeView}
+use Rattle.arena_tree.specs.Placement.{no_place}
 use Rattle.arena_tree.specs.RunForest.{RunForest, no_runs}
 use Rattle.arena_tree.specs.Reading.{run_of, forest_at, LeadsToForest}
 
@@ -33,7 +35,7 @@ IsTarget cs t = LeadsBehind cs t.node t.place t.skip
 -- the next sibling, which a part of a node has not
 abbrev pub next_of : ℕ → ℕ → ℕ
 next_of zero next = next
-next_of (suc i) next = 4294967295
+next_of (suc i) next = no_place
 
 -- what follows the first node of a target, whose next sibling is given
 pub record IsAfter (t : Target) (next : ℕ) (after : Target) : Type 0 where

@@ -1,9 +1,11 @@
 -- Hints of where a frame may be looked for among siblings.
+-- No clause of a public call cites this file: it says how a change is planned and done.
 use Rattle.std.specs.Prelude.{◌≡◌, ◌≢◌, ◌⊎◌, ℕ, All, List, Some, slice_get}
 use Rattle.std.specs.declared.cmp.Ordering.TheVariants.{Less, Equal}
 use Rattle.arena_tree.specs.declared.target.Target.{Target}
 use Rattle.arena_tree.specs.declared.trail.Hint.{Hint}
 use Rattle.arena_tree.specs.NodeViews.{NodeView}
+use Rattle.arena_tree.specs.Placement.{no_place}
 use Rattle.arena_tree.specs.RunForest.{RunForest, no_runs, run_node, HasIncreasingRuns}
 use Rattle.arena_tree.specs.Reading.{forest_at, LeadsToForest, frame_side}
 use Rattle.arena_tree.specs.Targets.{target_forest}
@@ -29,7 +31,7 @@ pub record LeadsToOrdered (cs : List NodeView) (at : ℕ) : Type 0 where
 
 -- the node of a target is one of the tree's, where the target begins with a whole node
 abbrev pub IsInTree : List NodeView → ℕ → Target → Type 0
-IsInTree cs root into = into.skip ≡ 0 → into.node ≢ 4294967295 → IsLaterSibling (forest_at cs root) into.node into.node
+IsInTree cs root into = into.skip ≡ 0 → into.node ≢ no_place → IsLaterSibling (forest_at cs root) into.node into.node
 
 -- a frame may be looked for from a place on, among the siblings from another place on
 pub record IsStart (cs : List NodeView) (root first : ℕ) (frame : List ℕ) (at : ℕ) : Type 0 where
@@ -39,7 +41,7 @@ pub record IsStart (cs : List NodeView) (root first : ℕ) (frame : List ℕ) (a
 -- a target begins with a frame, at a whole node of the tree
 pub record IsFound (cs : List NodeView) (root : ℕ) (frame : List ℕ) (into : Target) : Type 0 where
   pub side : frame_side frame (target_forest cs into) ≡ Equal
-  pub whole : into.skip ≡ 0
+  pub whole_node : into.skip ≡ 0
   pub node : IsLaterSibling (forest_at cs root) into.node into.node
 
 -- where a target below a node begins with a whole node, that one is the node's first child

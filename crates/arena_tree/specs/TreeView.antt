@@ -37,13 +37,13 @@ coded_arena = code_by (Tree × (List NodeView × ℕ)) (coded× coded_tree (code
 -- the links make one tree, in order, of all nodes, with few rows, and of good paths
 pub record IsArenaTree (C : Ranks) (cs : List NodeView) (first : ℕ) : Type 0 where
   pub begins : first_place (forest_at cs first) ≡ first
-  pub lies : AreNodesOf cs (forest_at cs first)
+  pub nodes_hold : AreNodesOf cs (forest_at cs first)
   pub distinct : HasDistinctPlaces (forest_at cs first)
-  pub all : count_nodes (forest_at cs first) ≡ length cs
+  pub count : count_nodes (forest_at cs first) ≡ length cs
   pub within_limit : count_rows (forest_at cs first) ≤ 2048
   pub ordered : HasIncreasingRuns (forest_at cs first)
   pub tree : IsTree (tree_view C cs first)
-  pub good : All (λ e. IsGoodPath e.0) (forest_rows (rows_of_runs (forest_at cs first)))
+  pub good_paths : All (λ e. IsGoodPath e.0) (forest_rows (rows_of_runs (forest_at cs first)))
 
 -- a forest of one path, whose places are of no account
 abbrev pub path_forest : Ranks → Path → RunForest

@@ -15,6 +15,8 @@ ghost use Rattle.arena_tree.specs.ReadingOrder.{ReadsInOrder};
 mod apply;
 #[cfg(test)]
 mod cost_tests;
+#[cfg(test)]
+mod memory_tests;
 mod merge;
 mod node;
 mod plan;

@@ -35,68 +35,75 @@ pub(crate) fn ends_at<'a>(
     if kept == len { ends } else { nobody }
 }
 
-/// Plans the first frames of a run, from frame `skip` of a path on, which are also those of the first node of the
-/// target. Returns the target below them and how many of the path's frames are planned then.
+/// Rows that are planned: those of the frames of a path from frame `skip` on. The same ranks pass them all.
+#[derive(Clone, Copy)]
+pub(crate) struct Run<'a> {
+    pub(crate) path: &'a CallPath,
+    pub(crate) skip: usize,
+    /// The ranks that pass the rows.
+    pub(crate) label: &'a RankSet,
+    /// The ranks whose path ends at the last row.
+    pub(crate) ends: &'a RankSet,
+    /// Those whose path ends at another row: the empty set.
+    pub(crate) nobody: &'a RankSet,
+}
+
+/// Plans the first frames of a run, which are also those of the first node of the target. Returns the target below them
+/// and how many of the path's frames are planned then.
 fn share_run(
     nodes: &Arena<Node>,
     into: &mut Target,
-    path: &CallPath,
-    skip: usize,
-    label: &RankSet,
-    ends: &RankSet,
-    nobody: &RankSet,
+    run: Run<'_>,
     plan: &mut Plan,
 ) -> Result<(Target, usize), AllocError>
     requires target { IsTarget nodes.now.items into.old }
-    requires skip { skip < length path.now }
-    requires begins { BeginsAt nodes.now.items into.old path.now skip }
-    requires nobody { nobody.now ≡ none }
+    requires skip { run.skip < length run.path.now }
+    requires begins { BeginsAt nodes.now.items into.old run.path.now run.skip }
+    requires nobody { run.nobody.now ≡ none }
     requires room { HasRoom plan.old 1 }
-    ensures kept { IfOk result (λ r. (skip < r.1) × (r.1 ≤ length path.now)) }
+    ensures kept { IfOk result (λ r. (run.entry.skip < r.1) × (r.1 ≤ length run.entry.path.now)) }
     ensures below { IfOk result (λ r. IsBelow nodes.now.items into.old.node r.0) }
     ensures shares { IfOk result (λ r. SharesRun nodes.now.items into.old into.new r.0
-        (drop skip path.now) (drop r.1 path.now) (label.now, ends.now) plan.old plan.new) }
+        (drop run.entry.skip run.entry.path.now) (drop r.1 run.entry.path.now)
+        (run.entry.label.now, run.entry.ends.now) plan.old plan.new) }
 {
     let node = nodes.get(into.node);
     // For the proof: no more than `FRAME_LIMIT` frames.
-    let _lens = (node.frames().len(), path.len());
-    let shared = 1 + common_behind(node.frames(), into.skip, path, skip);
-    let kept = skip + shared;
-    let ends = ends_at(path, kept, ends, nobody);
-    let below = plan.share(*into, node, shared, label, ends)?;
+    let _lens = (node.frames().len(), run.path.len());
+    let shared = 1 + common_behind(node.frames(), into.skip, run.path, run.skip);
+    let kept = run.skip + shared;
+    let ends = ends_at(run.path, kept, run.ends, run.nobody);
+    let below = plan.share(*into, node, shared, run.label, ends)?;
     *into = into.after(node.next());
     Ok((below, kept))
 }
 
-/// Plans a run with its ranks: the frames of a path from frame `skip` on, where `ends` are the ranks whose path ends at
-/// the last one. Leads the target to what comes after the run, and returns the target below it.
+/// Plans a run. Leads the target to what comes after the run, and returns the target below it.
 pub(crate) fn plan_run(
     nodes: &Arena<Node>,
     into: &mut Target,
-    path: &CallPath,
-    skip: usize,
-    label: &RankSet,
-    ends: &RankSet,
-    nobody: &RankSet,
+    run: Run<'_>,
     plan: &mut Plan,
 ) -> Result<Target, AllocError>
     requires target { IsTarget nodes.now.items into.old }
-    requires skip { skip < length path.now }
-    requires nobody { nobody.now ≡ none }
-    requires room { HasRoom plan.old (length path.now - skip) }
+    requires skip { run.skip < length run.path.now }
+    requires nobody { run.nobody.now ≡ none }
+    requires room { HasRoom plan.old (length run.path.now - run.skip) }
     ensures { IfOk result (λ below. PlansRun nodes.now.items into.old into.new below
-        (drop skip path.now) (label.now, ends.now) plan.old plan.new) }
+        (drop run.entry.skip run.entry.path.now) (run.entry.label.now, run.entry.ends.now) plan.old plan.new) }
 {
-    if seek(nodes, into, path.frame(skip)) {
-        let (below, kept) = share_run(nodes, into, path, skip, label, ends, nobody, plan)?;
-        if kept == path.len() {
+    if seek(nodes, into, run.path.frame(run.skip)) {
+        let (below, kept) = share_run(nodes, into, run, plan)?;
+        if kept == run.path.len() {
             return Ok(below);
         }
         let mut rest = below;
-        let last = plan_run(nodes, &mut rest, path, kept, label, ends, nobody, plan)?;
+        let last = plan_run(nodes, &mut rest, Run { skip: kept, ..run }, plan)?;
         return Ok(last);
     }
-    let node = Node::new(path, skip, label, ends, NO_PLACE, into.place)?;
+    let node = Node::new(
+        run.path, run.skip, run.label, run.ends, NO_PLACE, into.place,
+    )?;
     let place = plan.put(into.link, node)?;
     into.link = Link::NextOf(place);
     Ok(Target {
@@ -107,16 +114,13 @@ pub(crate) fn plan_run(
     })
 }
 
-/// Plans a path from frame `skip` on, where the same ranks pass it and end there, in the tree that begins at `root`.
-/// The trail's hints, from that of the level on, say where to look for its frames, and then where they were found.
+/// Plans a run as `plan_run` does, in the tree that begins at `root`. The trail's hints, from that of the level on, say
+/// where to look for its frames, and then where they were found.
 pub(crate) fn plan_path(
     nodes: &Arena<Node>,
     root: Place,
     into: &mut Target,
-    path: &CallPath,
-    skip: usize,
-    ranks: &RankSet,
-    nobody: &RankSet,
+    run: Run<'_>,
     plan: &mut Plan,
     trail: &mut Vec<Hint>,
     level: usize,
@@ -124,36 +128,27 @@ pub(crate) fn plan_path(
     requires target { IsTarget nodes.now.items into.old }
     requires tree { LeadsToOrdered nodes.now.items root }
     requires inside { IsInTree nodes.now.items root into.old }
-    requires skip { skip < length path.now }
-    requires level { level ≤ skip }
-    requires nobody { nobody.now ≡ none }
-    requires room { HasRoom plan.old (length path.now - skip) }
+    requires skip { run.skip < length run.path.now }
+    requires level { level ≤ run.skip }
+    requires nobody { run.nobody.now ≡ none }
+    requires room { HasRoom plan.old (length run.path.now - run.skip) }
     requires hints { AreHints (forest_at nodes.now.items root) trail.old.items }
     ensures hints { AreHints (forest_at nodes.now.items root) trail.new.items }
     ensures plans { IfOk result (λ below. PlansRun nodes.now.items into.old into.new below
-        (drop skip path.now) (ranks.now, ranks.now) plan.old plan.new) }
+        (drop run.entry.skip run.entry.path.now) (run.entry.label.now, run.entry.ends.now) plan.old plan.new) }
 {
-    if follow(nodes, root, into, path.frame(skip), trail, level)? {
-        let (below, kept) = share_run(nodes, into, path, skip, ranks, ranks, nobody, plan)?;
-        if kept == path.len() {
+    let frame = run.path.frame(run.skip);
+    if follow(nodes, root, into, frame, trail, level)? {
+        let (below, kept) = share_run(nodes, into, run, plan)?;
+        if kept == run.path.len() {
             return Ok(below);
         }
         let mut rest = below;
-        let last = plan_path(
-            nodes,
-            root,
-            &mut rest,
-            path,
-            kept,
-            ranks,
-            nobody,
-            plan,
-            trail,
-            level + 1,
-        )?;
+        let run = Run { skip: kept, ..run };
+        let last = plan_path(nodes, root, &mut rest, run, plan, trail, level + 1)?;
         return Ok(last);
     }
-    let last = plan_run(nodes, into, path, skip, ranks, ranks, nobody, plan)?;
+    let last = plan_run(nodes, into, run, plan)?;
     Ok(last)
 }
 
@@ -180,16 +175,14 @@ pub(crate) fn plan_merge(
 {
     while other != NO_PLACE {
         let node = others.get(other);
-        let below = plan_run(
-            nodes,
-            &mut into,
-            node.frames(),
-            0,
-            node.label(),
-            node.ends(),
+        let run = Run {
+            path: node.frames(),
+            skip: 0,
+            label: node.label(),
+            ends: node.ends(),
             nobody,
-            plan,
-        )?;
+        };
+        let below = plan_run(nodes, &mut into, run, plan)?;
         plan_merge(nodes, below, others, node.first(), nobody, plan)?;
         other = node.next();
     }

@@ -5,7 +5,7 @@ ghost use Rattle.arena_tree.specs.Steps.{nodes_added, rows_added};
 ghost use Rattle.arena_tree.specs.Cursors.{IsCursor};
 
 use crate::apply::apply;
-use crate::merge::{plan_merge, plan_path};
+use crate::merge::{Run, plan_merge, plan_path};
 use crate::node::{Link, NO_PLACE, Node};
 use crate::plan::Plan;
 use crate::row::{find_row, run_row};
@@ -93,14 +93,18 @@ impl PrefixTree for ArenaTree {
             skip: 0,
             place: self.first,
         };
+        let run = Run {
+            path,
+            skip: 0,
+            label: ranks,
+            ends: ranks,
+            nobody: &self.nobody,
+        };
         let _below = plan_path(
             &self.nodes,
             self.first,
             &mut into,
-            path,
-            0,
-            ranks,
-            &self.nobody,
+            run,
             &mut plan,
             &mut self.trail,
             0,

@@ -29,7 +29,7 @@ returns-clause-found c found =
       side = ap (λ skip. frame_side g (forest_behind cs at at skip)) c.if-into-ne0.false
           ∙ side_there cs c.args.root c.requires.tree c.args.into.now.node at later c.get.result.now c.get.ensures own c.frame.ensures.frame g
           ∙ ap (frame_cmp g) (sym same) ∙ cmp_itself g;
-      whole = c.if-into-ne0.false;
+      whole_node = c.if-into-ne0.false;
       node = later_itself _ c.args.into.now.node at later;
     }
 

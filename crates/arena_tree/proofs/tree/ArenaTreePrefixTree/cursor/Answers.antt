@@ -14,7 +14,7 @@ put_link-requires c =
     let tree = c.self.invariant.tree in
     let leads = leads_first own.coverage own.nodes.items own.first tree in
     let few = tree.within_limit in
-    let all = tree.all in
+    let all = tree.count in
     let waits = link_waiting own.nodes.items own.first 1 [] leads (omega (arith, few)) tt in
     let less = waiting_few own.nodes.items (with_link own.first 1 []) waits in
     let count = link_count own.nodes.items own.first 1 [] leads in
@@ -33,7 +33,7 @@ returns-clause-cursor c =
     let tree = c.self.invariant.tree in
     let leads = leads_first own.coverage own.nodes.items own.first tree in
     let few = tree.within_limit in
-    let all = tree.all in
+    let all = tree.count in
     let items : reverse c.put_link.new.waiting.items ≡ with_link own.first 1 [] =
     c.put_link.ensures.waiting ∙ ap (λ (ws : List WaitingNode). with_link own.first 1 (reverse ws)) c.in_ok-waiting.ensures.items in
     let count = link_count own.nodes.items own.first 1 [] leads in

@@ -73,7 +73,7 @@ returns-in-Some-clause-good c _ =
     let own = c.self.inside in
     row_good c.run_row-row.result (rows_of_runs (forest_at own.nodes.items own.first)) (c.args.at.now.row - 1)
     (found c.self.inside.coverage c.self.inside.nodes.items c.self.inside.first c.args.self.now c.self.view_is c.args.at.now c.requires c.pop.new.self.items c.in-Some.top c.in-Some.ensures.items c.get-node.result.now c.get-node.ensures c.run_row-row.result c.run_row-row.ensures.depth c.run_row-row.ensures.frame c.run_row-row.ensures.label c.run_row-row.ensures.ends)
-    c.self.invariant.tree.good
+    c.self.invariant.tree.good_paths
 
 pub returns-in-Some-clause-cursor : goal.returns-in-Some-clause-cursor
 returns-in-Some-clause-cursor c =

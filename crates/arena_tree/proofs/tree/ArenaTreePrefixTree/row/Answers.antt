@@ -24,4 +24,4 @@ returns-clause-shows c =
     (row_shows c.in-Ok.row (rows_of_runs (forest_at own.nodes.items own.first)) (c.args.i - 1) c.in-Ok.ensures.found)
 
 pub returns-clause-good : goal.returns-clause-good
-returns-clause-good c _ = row_good c.in-Ok.row (rows_of_runs (forest_at c.self.inside.nodes.items c.self.inside.first)) (c.args.i - 1) c.in-Ok.ensures.found c.self.invariant.tree.good
+returns-clause-good c _ = row_good c.in-Ok.row (rows_of_runs (forest_at c.self.inside.nodes.items c.self.inside.first)) (c.args.i - 1) c.in-Ok.ensures.found c.self.invariant.tree.good_paths
