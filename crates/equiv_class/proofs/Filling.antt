@@ -1,12 +1,11 @@
 -- The ranks of a set go to the sets of their states, one after another.
 use Rattle.std.proofs.Common.{◌≡◌, ℕ, zero, suc, ◌++◌, ◌<◌, ◌≤◌, ◌-◌, ◌+◌, Bool, true, false, ◌&&◌, ◌||◌, eqb, ltb, List, [], ◌∷◌, length, get_or, set, replicate, not, refl, sym, ap, ◌∙◌, inl, inr, arith}
-use Rattle.std.specs.Ordering.{nat_cmp, eq_by_cmp}
-use Rattle.std.specs.Cmp.{unsigned_tied}
 use Rattle.std.proofs.lemmas.Bool.{true≢false, and_parts, and_from, cases_eq, cases_lt, eq-eqb, ne_eqb, eqb-true, lt-ltb, le-ltb, ltb-true}
 use Rattle.std.proofs.lemmas.List.{get_or-set_same, get_or-set_other, length-set, get_or-replicate}
 use Rattle.call_path.specs.Path.{Path}
-use Rattle.rank_set.specs.Ranks.{Ranks, none, has, those, with_rank, has-none, has-those, has-with_rank, same_ranks}
-use Rattle.rank_set.specs.Runs.{IsRun}
+use Rattle.rank_set.specs.Ranks.{Ranks, none, has, those, union, has-none, has-those, has-union, same_ranks}
+use Rattle.rank_set.specs.Runs.{IsRun, ranks_between}
+use Rattle.rank_set.proofs.RunSets.{between_in, between_low, between_high}
 use Rattle.equiv_class.specs.Classes.{same_answer}
 use Rattle.equiv_class.specs.SeenPaths.{same_paths}
 use Rattle.equiv_class.specs.States.{AreBlocks, AreStates, AreTables, ArePartedBy}
@@ -55,59 +54,80 @@ fill_gap E states base n from first last sets run h = record {
       ]
     ]
 
-module _ (E : Ranks) (states : List ℕ) (base r : ℕ) (member : has E r ≡ true) (from_base : base ≤ get_or states r 0) where
-  -- the set of its state gets the rank
-  own_set : with_rank (those (of_state_below states (get_or states r 0) r) E) r ≡ those (of_state_below states (get_or states r 0) (r + 1)) E
-  own_set = same_ranks _ _ (λ q. has-with_rank (those (of_state_below states (get_or states r 0) r) E) r q
-      ∙ ap (λ b. eq_by_cmp nat_cmp q r || b) (has-those (of_state_below states (get_or states r 0) r) E q)
-      ∙ each q ∙ sym (has-those (of_state_below states (get_or states r 0) (r + 1)) E q))
-    where
-      each : (q : ℕ) → (eq_by_cmp nat_cmp q r || (has E q && of_state_below states (get_or states r 0) r q)) ≡ (has E q && of_state_below states (get_or states r 0) (r + 1) q)
-      each q = elim (cases_eq q r) [
-        | inl e ↦
-            ap (λ b. b || (has E q && of_state_below states (get_or states r 0) r q)) (unsigned_tied q r ∙ eq-eqb q r e)
-            ∙ sym (and_from (has E q) (of_state_below states (get_or states r 0) (r + 1) q) (ap (has E) e ∙ member)
-            (and_from (eqb (get_or states q 0) (get_or states r 0)) (ltb q (r + 1)) (eq-eqb _ _ (ap (λ x. get_or states x 0) e)) (lt-ltb q (r + 1) (omega (arith, e)))))
-        | inr ne ↦
-            ap (λ b. b || (has E q && of_state_below states (get_or states r 0) r q)) (unsigned_tied q r ∙ ne_eqb q r ne)
-            ∙ ap (λ b. has E q && (eqb (get_or states q 0) (get_or states r 0) && b)) (below q ne)
-      ]
-        where
-          below : (q : ℕ) → (q ≡ r → ⊥) → ltb q r ≡ ltb q (r + 1)
-          below q ne = elim (cases_lt q r) [
-            | inl lt ↦ lt-ltb q r lt ∙ sym (lt-ltb q (r + 1) (omega (arith, lt)))
-            | inr ge ↦ le-ltb q r ge ∙ sym (le-ltb q (r + 1) (omega (arith, ge, ne)))
-          ]
+-- the ranks from r to before e, which are of one state
+module _ (E : Ranks) (states : List ℕ) (base r e : ℕ) (some : r < e) (members : (q : ℕ) → r ≤ q → q < e → has E q ≡ true) (same : (q : ℕ) → r ≤ q → q < e → get_or states q 0 ≡ get_or states r 0) (from_base : base ≤ get_or states r 0) where
+  or_false : (b : Bool) → (b || false) ≡ b
+  or_false true = refl
+  or_false false = refl
 
-  -- the others stay
-  other_set : (k : ℕ) → (k ≡ get_or states r 0 → ⊥) → those (of_state_below states k r) E ≡ those (of_state_below states k (r + 1)) E
-  other_set k ne = those-on E (of_state_below states k r) (of_state_below states k (r + 1)) (λ q _. each q)
+  or_true : (b : Bool) → (b || true) ≡ true
+  or_true true = refl
+  or_true false = refl
+
+  -- outside of these ranks the ends make no difference
+  outside : (k q : ℕ) → (r ≤ q → q < e → ⊥) → of_state_below states k r q ≡ of_state_below states k e q
+  outside k q out = ap (λ b. eqb (get_or states q 0) k && b) (elim (cases_lt q r) [
+    | inl lt ↦ lt-ltb q r lt ∙ sym (lt-ltb q e (omega (arith, lt, some)))
+    | inr ge ↦ elim (cases_lt q e) [
+      | inl lt ↦ absurd (out ge lt)
+      | inr past ↦ le-ltb q r ge ∙ sym (le-ltb q e past)
+    ]
+  ])
+
+  -- the set of their state gets the ranks
+  own_set : union (those (of_state_below states (get_or states r 0) r) E) (ranks_between r (e - 1)) ≡ those (of_state_below states (get_or states r 0) e) E
+  own_set = same_ranks _ _ (λ q. has-union (those (of_state_below states (get_or states r 0) r) E) (ranks_between r (e - 1)) q
+      ∙ ap (λ b. b || has (ranks_between r (e - 1)) q) (has-those (of_state_below states (get_or states r 0) r) E q)
+      ∙ each q ∙ sym (has-those (of_state_below states (get_or states r 0) e) E q))
     where
-      each : (q : ℕ) → of_state_below states k r q ≡ of_state_below states k (r + 1) q
-      each q = elim (cases_eq q r) [
-        | inl e ↦
-            let other : eqb (get_or states q 0) k ≡ false = ne_eqb _ _ (λ same. ne (sym same ∙ ap (λ x. get_or states x 0) e)) in
-            ap (λ b. b && ltb q r) other ∙ sym (ap (λ b. b && ltb q (r + 1)) other)
-        | inr nq ↦ elim (cases_lt q r) [
-          | inl lt ↦ ap (λ b. eqb (get_or states q 0) k && b) (lt-ltb q r lt ∙ sym (lt-ltb q (r + 1) (omega (arith, lt))))
-          | inr ge ↦ ap (λ b. eqb (get_or states q 0) k && b) (le-ltb q r ge ∙ sym (le-ltb q (r + 1) (omega (arith, ge, nq))))
+      missed : (q : ℕ) → (r ≤ q → q < e → ⊥) → has (ranks_between r (e - 1)) q ≡ false → ((has E q && of_state_below states (get_or states r 0) r q) || has (ranks_between r (e - 1)) q) ≡ (has E q && of_state_below states (get_or states r 0) e q)
+      missed q out none_here =
+          ap (λ b. (has E q && of_state_below states (get_or states r 0) r q) || b) none_here
+          ∙ or_false (has E q && of_state_below states (get_or states r 0) r q)
+          ∙ ap (λ b. has E q && b) (outside (get_or states r 0) q out)
+
+      each : (q : ℕ) → ((has E q && of_state_below states (get_or states r 0) r q) || has (ranks_between r (e - 1)) q) ≡ (has E q && of_state_below states (get_or states r 0) e q)
+      each q = elim (cases_lt q r) [
+        | inl lt ↦ missed q (λ ge _. omega (arith, lt, ge)) (between_low r (e - 1) q lt)
+        | inr ge ↦ elim (cases_lt q e) [
+          | inl lt ↦
+              ap (λ b. (has E q && of_state_below states (get_or states r 0) r q) || b) (between_in r (e - 1) q ge (omega (arith, lt)))
+              ∙ or_true (has E q && of_state_below states (get_or states r 0) r q)
+              ∙ sym (and_from (has E q) (of_state_below states (get_or states r 0) e q) (members q ge lt)
+              (and_from (eqb (get_or states q 0) (get_or states r 0)) (ltb q e) (eq-eqb _ _ (same q ge lt)) (lt-ltb q e lt)))
+          | inr past ↦ missed q (λ _ lt. omega (arith, lt, past)) (between_high r (e - 1) q (omega (arith, past, some)))
         ]
       ]
 
-  pub fill_step : (n : ℕ) (sets sets' : List Ranks) → get_or states r 0 - base < n → sets' ≡ set sets (get_or states r 0 - base) (with_rank (get_or sets (get_or states r 0 - base) none) r)
-      → AreFilled E states base n r sets → AreFilled E states base n (r + 1) sets'
+  -- the others stay
+  other_set : (k : ℕ) → (k ≡ get_or states r 0 → ⊥) → those (of_state_below states k r) E ≡ those (of_state_below states k e) E
+  other_set k ne = those-on E (of_state_below states k r) (of_state_below states k e) (λ q _. each q)
+    where
+      each : (q : ℕ) → of_state_below states k r q ≡ of_state_below states k e q
+      each q = elim (cases_lt q r) [
+        | inl lt ↦ outside k q (λ ge _. omega (arith, lt, ge))
+        | inr ge ↦ elim (cases_lt q e) [
+          | inl lt ↦
+              let other : eqb (get_or states q 0) k ≡ false = ne_eqb _ _ (λ is_k. ne (sym is_k ∙ same q ge lt)) in
+              ap (λ b. b && ltb q r) other ∙ sym (ap (λ b. b && ltb q e) other)
+          | inr past ↦ outside k q (λ _ lt. omega (arith, lt, past))
+        ]
+      ]
+
+  pub fill_step : (n : ℕ) (sets sets' : List Ranks) → get_or states r 0 - base < n → sets' ≡ set sets (get_or states r 0 - base) (union (get_or sets (get_or states r 0 - base) none) (ranks_between r (e - 1)))
+      → AreFilled E states base n r sets → AreFilled E states base n e sets'
   fill_step n sets sets' own_in is h =
       let own : ℕ = get_or states r 0 - base in
       let back : base + own ≡ get_or states r 0 = omega (arith, from_base) in
       let own_lt : own < length sets = omega (arith, own_in, h.long) in
       record {
-        long = ap length is ∙ length-set sets own (with_rank (get_or sets own none) r) ∙ h.long;
+        long = ap length is ∙ length-set sets own (union (get_or sets own none) (ranks_between r (e - 1))) ∙ h.long;
         filled = λ k lt. elim (cases_eq k own) [
-          | inl e ↦ (λ i. get_or (is i) (e i) none) ∙ get_or-set_same sets own (with_rank (get_or sets own none) r) none own_lt
-              ∙ ap (λ S. with_rank S r) (h.filled own own_in ∙ ap (λ x. those (of_state_below states x r) E) back) ∙ own_set
-              ∙ ap (λ x. those (of_state_below states x (r + 1)) E) (sym back ∙ ap (λ x. base + x) (sym e))
-          | inr ne ↦ ap (λ xs. get_or xs k none) is ∙ get_or-set_other sets own k (with_rank (get_or sets own none) r) none ne ∙ h.filled k lt
-              ∙ other_set (base + k) (λ e. ne (omega (arith, e)))
+          | inl is_own ↦ (λ i. get_or (is i) (is_own i) none) ∙ get_or-set_same sets own (union (get_or sets own none) (ranks_between r (e - 1))) none own_lt
+              ∙ ap (λ S. union S (ranks_between r (e - 1))) (h.filled own own_in ∙ ap (λ x. those (of_state_below states x r) E) back) ∙ own_set
+              ∙ ap (λ x. those (of_state_below states x e) E) (sym back ∙ ap (λ x. base + x) (sym is_own))
+          | inr ne ↦ ap (λ xs. get_or xs k none) is ∙ get_or-set_other sets own k (union (get_or sets own none) (ranks_between r (e - 1))) none ne ∙ h.filled k lt
+              ∙ other_set (base + k) (λ is_state. ne (omega (arith, is_state)))
         ];
       }
 

@@ -1,7 +1,9 @@
 //! Blocks of covered ranks that were seen in the same paths.
 
-ghost use Rattle.std.specs.Prelude.{◌≡◌, ℕ, ◌<◌, ◌≤◌, ◌-◌, true, length, get_or, set, replicate, nat_eq, IfOk, OnOk};
-ghost use Rattle.rank_set.specs.Ranks.{Ranks, none, has, those, with_rank};
+ghost use Rattle.std.specs.Prelude.{◌≡◌, ℕ, ◌<◌, ◌≤◌, ◌-◌, ◌+◌, true, length, get_or, set, replicate, nat_eq, IfOk, OnOk};
+ghost use Rattle.rank_set.specs.Ranks.{Ranks, none, has, those, union};
+ghost use Rattle.rank_set.specs.Runs.{ranks_between};
+ghost use Rattle.rank_set.specs.declared.TheConstants.{RANK_LIMIT};
 ghost use Rattle.call_path.specs.Path.{Path};
 ghost use Rattle.equiv_class.specs.SeenPaths.{entries_view, same_paths};
 ghost use Rattle.equiv_class.specs.States.{AreBlocks, HasEntries};
@@ -60,12 +62,33 @@ fn ranks_by_state(
     let mut sets = empty_sets(alloc, base, end)?;
     let mut from = 0;
     while let Some(run) = covered.next_run(from) {
-        from = run.last + 1;
-        for r in run.first..from {
-            put(sets.as_mut_slice(), states[r as usize] - base, r)?;
+        from = run.first;
+        while from <= run.last {
+            let state = states[from as usize];
+            let end = end_of_state(states, from, run.last);
+            put(sets.as_mut_slice(), state - base, from, end - 1)?;
+            from = end;
         }
     }
     Ok(sets)
+}
+
+// The first rank past the given ones, or the first of them whose state is not that of the first.
+fn end_of_state(states: &[u32], first: u32, last: u32) -> u32
+    requires not_empty { first ≤ last }
+    requires in_table { last < length states.now }
+    requires below_limit { last < RANK_LIMIT }
+    ensures passed { first < result }
+    ensures within { result ≤ last + 1 }
+    ensures same { (r : ℕ) → first ≤ r → r < result → get_or states.now r 0 ≡ get_or states.now first 0 }
+{
+    let state = states[first as usize];
+    for r in first + 1..last + 1 {
+        if states[r as usize] != state {
+            return r;
+        }
+    }
+    last + 1
 }
 
 // As many empty sets as there are states from `base` to before `end`.
@@ -79,12 +102,13 @@ fn empty_sets(alloc: Global, base: u32, end: u32) -> Result<Vec<RankSet>, AllocE
     Ok(sets)
 }
 
-// Adds a rank to one of the sets.
-fn put(sets: &mut [RankSet], k: u32, r: u32) -> Result<(), AllocError>
+// Adds the ranks from the first to the last to one of the sets.
+fn put(sets: &mut [RankSet], k: u32, first: u32, last: u32) -> Result<(), AllocError>
     requires { k < length sets.old }
-    ensures { OnOk result (sets.new ≡ set sets.old k (with_rank (get_or sets.old k none) r)) }
+    ensures { OnOk result
+        (sets.new ≡ set sets.old k (union (get_or sets.old k none) (ranks_between first last))) }
 {
-    match sets[k as usize].insert(r) {
+    match sets[k as usize].insert_run(first, last) {
         Ok(()) => Ok(()),
         Err(_) => Err(AllocError),
     }

@@ -46,11 +46,16 @@ fn write_row(row: &Row<'_>, label_text: &[u8], out: &mut Vec<u8>) -> Result<(), 
     Ok(())
 }
 
-// Appends two spaces for each frame.
+// Appends two spaces for each frame, those of eight frames at once as long as there are so many.
 fn write_indent(depth: usize, out: &mut Vec<u8>) -> Result<(), AllocError>
     ensures { OnOk result (out.new.items ≡ out.old.items ++ indent depth) }
 {
-    for _ in 0..depth {
+    let mut left = depth;
+    while left >= 8 {
+        out.extend_from_slice(b"                ")?;
+        left -= 8;
+    }
+    for _ in 0..left {
         out.extend_from_slice(b"  ")?;
     }
     Ok(())

@@ -13,3 +13,4 @@ pub mod Handling
 pub mod Distinct
 pub mod Reading
 pub mod Starting
+pub mod Leaves

@@ -36,11 +36,15 @@ fn is_child(plan: &Plan, n: u32, m: u32) -> bool
     }
 }
 
-/// A node's children, ascending.
+/// A node's children, ascending. A daemon has none, and they are not looked for.
 pub fn children_of(alloc: Global, plan: &Plan, n: u32) -> Result<Vec<u32>, AllocError>
+    requires { n < nodes plan.now }
     ensures { IfOk result (λ children. children.items ≡ children_of plan.now n) }
 {
     let mut children = Vec::new(alloc);
+    if plan.is_daemon(n) {
+        return Ok(children);
+    }
     for c in 0..plan.nodes() {
         if is_child(plan, c, n) {
             children.push(c)?;

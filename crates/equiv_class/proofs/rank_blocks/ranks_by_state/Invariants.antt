@@ -1,10 +1,17 @@
-use Rattle.std.proofs.Common.{◌≤◌, ◌-◌}
+use Rattle.std.proofs.Common.{◌≤◌, ◌+◌, ◌-◌}
 use Rattle.rank_set.specs.declared.TheConstants.{RANK_LIMIT}
 use Rattle.equiv_class.proofs.Filling.{AreFilled}
 use Rattle.equiv_class.proofs.rank_blocks.ranks_by_state.Given as goal
 
-abbrev pub invariant-loop-r : goal.invariant-loop-r
-invariant-loop-r l = AreFilled l.covered l.states l.base (l.end - l.base) l.r l.sets.items
+abbrev pub invariant-loop-from : goal.invariant-loop-from
+invariant-loop-from l = record {
+  begins : l.run.first ≤ l.from;
+  within : l.from ≤ l.run.last + 1;
+  filled : AreFilled l.covered l.states l.base (l.end - l.base) l.from l.sets.items;
+}
+
+abbrev pub decreases-loop-from : goal.decreases-loop-from
+decreases-loop-from l = l.run.last + 1 - l.from
 
 abbrev pub invariant-loop-run : goal.invariant-loop-run
 invariant-loop-run l = record {

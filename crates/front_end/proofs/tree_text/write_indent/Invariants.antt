@@ -1,6 +1,15 @@
-use Rattle.std.proofs.Common.{◌≡◌, ◌++◌}
+use Rattle.std.proofs.Common.{◌≡◌, ◌++◌, ◌≤◌, ◌+◌, ◌-◌}
 use Rattle.front_end.specs.TreeText.{indent}
 use Rattle.front_end.proofs.tree_text.write_indent.Given as goal
 
+abbrev pub invariant-loop-left : goal.invariant-loop-left
+invariant-loop-left l = record {
+  within : l.left ≤ l.depth;
+  text : l.out.items ≡ l.fn.out.items ++ indent (l.depth - l.left);
+}
+
+abbrev pub decreases-loop-left : goal.decreases-loop-left
+decreases-loop-left l = l.left
+
 abbrev pub invariant-loop : goal.invariant-loop
-invariant-loop l = l.out.items ≡ l.fn.out.items ++ indent l.counter
+invariant-loop l = l.out.items ≡ l.fn.out.items ++ indent (l.depth - l.left + l.counter)
