@@ -1,0 +1,152 @@
+-- Words of a set, one after another.
+use Rattle.std.proofs.Common.{◌≡◌, ℕ, zero, suc, ◌+◌, ◌-◌, ◌<◌, Bool, true, false, ◌||◌, nat_eq, List, [], ◌∷◌, ◌++◌, length, Option, None, refl, sym, ap, ◌∙◌, arith, append_assoc, length-append}
+use Rattle.std.proofs.lemmas.List.{append-nil}
+use Rattle.std.proofs.Math.Seq.{get_or-append_seam}
+use Rattle.std.specs.List.{list_all}
+use Rattle.std.proofs.Common.{subst, get_or, not, take, cond, nat_lt, inl, inr, ◌≤◌}
+use Rattle.std.proofs.lemmas.Bool.{ltb-true, or_cases, true≢false, le-ltb}
+use Rattle.rank_set.specs.Ranks.{Ranks, Has, has, has-union, has-none, has-in_order, in_order, all_have, none, size, is_subset}
+use Rattle.rank_set.proofs.WordSets.{ranks_in-none}
+use Rattle.rank_set.proofs.WordLists.{ranks_in-push}
+use Rattle.rank_set.specs.Words.{ranks_in}
+use Rattle.packet_frame.specs.declared.error.FrameReason.{FrameReason}
+use Rattle.packet_frame.specs.declared.error.FrameReason.TheVariants.{NotCanonical}
+use Rattle.packet_frame.specs.Fields.{Form, whole, ◌>>=◌, list_form, Rules, broken}
+use Rattle.packet_frame.specs.Frame.{word_form, next_word, after_word, words_form, offset_form, word_count_form, set_form, word_limit, is_first, ends_rule}
+use Rattle.call_path.specs.Path.{Path}
+use Rattle.packet_frame.specs.declared.scan.Scan.{Scan}
+use Rattle.packet_frame.specs.declared.scan.FrameRow.{FrameRow}
+use Rattle.packet_frame.specs.declared.scan.Part.{Part}
+use Rattle.packet_frame.specs.declared.scan.Part.TheVariants as parts
+use Rattle.packet_frame.specs.Scanning.{words_left, word_rule, IsInPart, IsInSet, IsNamed, last_path}
+use Rattle.packet_frame.proofs.Binding.{bind_assoc, bind_same, first_and_rest}
+
+module _ {B : Type 0} (of_word : ℕ → ℕ → Rules) (k : Ranks → Form B) where
+  none_read : (offset count : ℕ) → words_form of_word offset count >>= (λ ws. whole (ranks_in offset ws)) ≡ words_left of_word offset [] count
+  unfolding words_form
+  none_read offset count = ap (λ (n : ℕ). list_form (next_word of_word) after_word (n, true) count >>= λ ws. whole (ranks_in offset ws)) (let e : offset ≡ offset + 0 = omega arith in e)
+
+  -- offset and count come first
+  pub set_follows : (limit : ℕ) (needed : Option FrameReason) → set_form limit needed of_word >>= k ≡ offset_form limit >>= λ offset. word_count_form limit needed offset >>= λ count. words_left of_word offset [] count >>= k
+  unfolding set_form
+  set_follows limit needed =
+      bind_assoc (offset_form limit) (λ offset. word_count_form limit needed offset >>= λ count. words_form of_word offset count >>= λ ws. whole (ranks_in offset ws)) k
+      ∙ bind_same (offset_form limit) _ _ (λ offset.
+      bind_assoc (word_count_form limit needed offset) (λ count. words_form of_word offset count >>= λ ws. whole (ranks_in offset ws)) k
+      ∙ bind_same (word_count_form limit needed offset) _ _ (λ count. ap (λ form. form >>= k) (none_read offset count)))
+
+  as_list : (offset : ℕ) (ws : List ℕ) (count : ℕ) → words_left of_word offset ws count >>= k ≡ list_form (next_word of_word) after_word (offset + length ws, nat_eq (length ws) 0) count >>= λ rest. k (ranks_in offset (ws ++ rest))
+  as_list offset ws count = bind_assoc (list_form (next_word of_word) after_word (offset + length ws, nat_eq (length ws) 0) count) (λ rest. whole (ranks_in offset (ws ++ rest))) k
+
+  -- a word follows
+  pub word_follows : (offset : ℕ) (ws : List ℕ) (count left : ℕ) → count ≡ suc left → words_left of_word offset ws count >>= k ≡ word_form of_word (offset + length ws) (nat_eq (length ws) 0 || nat_eq left 0) >>= λ w. words_left of_word offset (ws ++ w ∷ []) left >>= k
+  word_follows offset ws count left e =
+      ap (λ (n : ℕ). words_left of_word offset ws n >>= k) e
+      ∙ as_list offset ws (suc left)
+      ∙ first_and_rest (next_word of_word) after_word (offset + length ws, nat_eq (length ws) 0) left (λ rest. k (ranks_in offset (ws ++ rest)))
+      ∙ bind_same (word_form of_word (offset + length ws) (nat_eq (length ws) 0 || nat_eq left 0)) _ _ (λ w.
+      bind_same (list_form (next_word of_word) after_word (suc (offset + length ws), false) left) _ _ (λ rest. ap (λ all. k (ranks_in offset all)) (sym (append_assoc ws (w ∷ []) rest)))
+      ∙ ap (λ (state : ℕ × Bool). list_form (next_word of_word) after_word state left >>= λ rest. k (ranks_in offset ((ws ++ w ∷ []) ++ rest))) (more w)
+      ∙ sym (as_list offset (ws ++ w ∷ []) left))
+    where
+      more : (w : ℕ) → ◌≡◌ {A = ℕ × Bool} (suc (offset + length ws), false) (offset + length (ws ++ w ∷ []), nat_eq (length (ws ++ w ∷ [])) 0)
+      more w =
+          let len : length (ws ++ w ∷ []) ≡ suc (length ws) = length-append ws (w ∷ []) ∙ (let e : length ws + 1 ≡ suc (length ws) = omega arith in e) in
+          let place : suc (offset + length ws) ≡ offset + length (ws ++ w ∷ []) = omega (arith, len) in
+          let some : false ≡ nat_eq (length (ws ++ w ∷ [])) 0 = sym (ap (λ (n : ℕ). nat_eq n 0) len ∙ (let f : nat_eq (suc (length ws)) 0 ≡ false = grind arith in f)) in
+          (λ i. (place i, some i))
+
+  -- no word is left
+  pub words_end : (offset : ℕ) (ws : List ℕ) (count : ℕ) → count ≡ 0 → words_left of_word offset ws count >>= k ≡ k (ranks_in offset ws)
+  words_end offset ws count e = ap (λ (n : ℕ). words_left of_word offset ws n >>= k) e ∙ ap (λ all. k (ranks_in offset all)) (append-nil ws)
+
+-- the places of more words stay below the number of covered ranks
+pub places_below : (offset : ℕ) (ws : List ℕ) (w count : ℕ) → ((p : ℕ) → Has p (ranks_in offset ws) → p < count) → list_all (λ p. nat_lt p count) (in_order (ranks_in (offset + length ws) (w ∷ []))) ≡ true → (p : ℕ) → Has p (ranks_in offset (ws ++ w ∷ [])) → p < count
+places_below offset ws w count before fine p member =
+    let one = ranks_in (offset + length ws) (w ∷ []) in
+    let either : (has (ranks_in offset ws) p || has one p) ≡ true = sym (has-union (ranks_in offset ws) one p) ∙ ap (λ s. has s p) (sym (ranks_in-push offset ws w)) ∙ member in
+    elim (or_cases (has (ranks_in offset ws) p) (has one p) either) [
+      | inl h ↦ before p h
+      | inr h ↦ ltb-true p count (all_have (λ q. nat_lt q count) (in_order one) p fine (sym (has-in_order one p) ∙ h))
+    ]
+
+-- no word gives no place
+pub no_places : (offset count : ℕ) (ws : List ℕ) → ws ≡ [] → (p : ℕ) → Has p (ranks_in offset ws) → p < count
+no_places offset count ws e p member = absurd (true≢false (sym member ∙ ap (λ s. has s p) (ap (ranks_in offset) e ∙ ranks_in-none offset) ∙ has-none p))
+
+-- ---- the first and the last word are not 0
+
+edge_some : (a b : Bool) (w : ℕ) → (not (a || b) || not (nat_eq w 0)) ≡ true → (a || b) ≡ true → 0 < w
+edge_some a b w fine edge = let one : not (nat_eq w 0) ≡ true = ap (λ c. not c || not (nat_eq w 0)) (sym edge) ∙ fine in grind (arith, one)
+
+module _ (ws : List ℕ) (w left : ℕ) (fine : (not (nat_eq (length ws) 0 || nat_eq left 0) || not (nat_eq w 0)) ≡ true) where
+  pub first_word : (0 < length ws → 0 < get_or ws 0 0) → 0 < get_or (ws ++ w ∷ []) 0 0
+  first_word before = by_case ws refl
+    where
+      by_case : (xs : List ℕ) → ws ≡ xs → 0 < get_or (xs ++ w ∷ []) 0 0
+      by_case [] e = edge_some (nat_eq (length ws) 0) (nat_eq left 0) w fine (ap (λ xs. nat_eq (length xs) 0 || nat_eq left 0) e)
+      by_case (x ∷ xs) e = subst (λ ys. 0 < get_or ys 0 0) e (before (subst (λ ys. 0 < length ys) (sym e) (let some : 0 < suc (length xs) = omega arith in some)))
+
+  pub last_word : left ≡ 0 → 0 < get_or (ws ++ w ∷ []) (length (ws ++ w ∷ []) - 1) 0
+  last_word e =
+      let some = edge_some (nat_eq (length ws) 0) (nat_eq left 0) w fine (ap (λ (n : ℕ). nat_eq (length ws) 0 || nat_eq n 0) e ∙ or_true (nat_eq (length ws) 0)) in
+      subst (λ (n : ℕ). 0 < n) (sym (last_is ws)) some
+    where
+      or_true : (b : Bool) → (b || true) ≡ true
+      or_true true = refl
+      or_true false = refl
+
+      last_is : (xs : List ℕ) → get_or (xs ++ w ∷ []) (length (xs ++ w ∷ []) - 1) 0 ≡ w
+      last_is xs = ap (λ (n : ℕ). get_or (xs ++ w ∷ []) n 0) (let e : length (xs ++ w ∷ []) - 1 ≡ length xs = omega (arith, length-append xs (w ∷ [])) in e) ∙ get_or-append_seam xs w [] 0
+
+-- what the rule of a word says of places
+pub obeyed : (part : Part) (version index w : ℕ) (cover : Ranks) → broken (word_rule part version cover index w) ≡ None → part ≡ parts.Ends → is_first version ≡ false → list_all (λ p. nat_lt p (size cover)) (in_order (ranks_in index (w ∷ []))) ≡ true
+unfolding ends_rule
+obeyed parts.Coverage version index w cover fine ends second = absurd cc
+obeyed parts.Ends version index w cover fine ends second =
+    let numbers = ranks_in index (w ∷ []) in
+    let below = list_all (λ p. nat_lt p (size cover)) (in_order numbers) in
+    let one : broken ((below, NotCanonical) ∷ []) ≡ None = ap (λ (b : Bool). broken ((cond b (is_subset numbers cover) below, NotCanonical) ∷ [])) (sym second) ∙ fine in
+    by_case below one
+  where
+    by_case : (b : Bool) → broken ((b, NotCanonical) ∷ []) ≡ None → b ≡ true
+    by_case true h = refl
+    by_case false h = absurd cc
+
+-- a word more of a set
+pub with_word : (s t : Scan) (w : ℕ) → IsInSet s → 0 < s.left → t.left ≡ s.left - 1 → t.words.items ≡ s.words.items ++ w ∷ [] → t.offset ≡ s.offset → t.part ≡ s.part → IsInPart t.part t → t.version ≡ s.version → t.cover ≡ s.cover → (not (nat_eq (length s.words.items) 0 || nat_eq (s.left - 1) 0) || not (nat_eq w 0)) ≡ true → (s.part ≡ parts.Ends → is_first s.version ≡ false → list_all (λ p. nat_lt p (size s.cover)) (in_order (ranks_in (s.offset + length s.words.items) (w ∷ []))) ≡ true) → IsInSet t
+with_word s t w is some left words offset part ready version cover fine places =
+    let len : length t.words.items ≡ length s.words.items + 1 = ap length words ∙ length-append s.words.items (w ∷ []) in
+    record {
+      part = ready;
+      fits = omega (arith, len, left, offset, some, is.fits);
+      first = λ _. subst (λ (ws : List ℕ). 0 < get_or ws 0 0) (sym words) (first_word s.words.items w (s.left - 1) fine is.first);
+      last = λ none _. subst (λ (ws : List ℕ). 0 < get_or ws (length ws - 1) 0) (sym words) (last_word s.words.items w (s.left - 1) fine (sym left ∙ none));
+      nothing = λ _ none. absurd (omega (arith, len, none));
+      places = λ ends second p member.
+          subst (λ (c : Ranks). p < size c) (sym cover) (places_below s.offset s.words.items w (size s.cover) (is.places (sym part ∙ ends) (ap is_first (sym version) ∙ second)) (places (sym part ∙ ends) (ap is_first (sym version) ∙ second)) p (subst (λ (ws : List ℕ). Has p (ranks_in s.offset ws)) words (subst (λ (o : ℕ). Has p (ranks_in o t.words.items)) offset member)));
+    }
+
+-- the part stays ready where nothing of it changes
+pub part_kept : (part : Part) (s t : Scan) → s.kind ≡ t.kind → s.version ≡ t.version → s.covered ≡ t.covered → s.cover ≡ t.cover → s.rows_left ≡ t.rows_left → s.depth ≡ t.depth → s.path ≡ t.path → s.rows.items ≡ t.rows.items → IsInPart part s → IsInPart part t
+part_kept parts.Coverage s t kind version covered cover count depth path rows h = (sym kind ∙ h.0, sym version ∙ h.1)
+part_kept parts.Ends s t kind version covered cover count depth path rows h = record {
+  kind = sym kind ∙ h.kind;
+  covered = sym covered ∙ h.covered ∙ ap size cover;
+  some = subst (λ (n : ℕ). 0 < n) count h.some;
+  depth = subst (λ (n : ℕ). 1 ≤ n) depth h.depth;
+  depth_limit = subst (λ (n : ℕ). n ≤ 128) depth h.depth_limit;
+  len = ap length (sym path) ∙ h.len ∙ depth;
+  kept = same_front s.depth t.depth s.path t.path s.rows.items t.rows.items depth path rows h.kept;
+}
+  where
+    same_front : (d e : ℕ) (p q : Path) (rs qs : List FrameRow) → d ≡ e → p ≡ q → rs ≡ qs → take (d - 1) p ≡ take (d - 1) (last_path [] rs) → take (e - 1) q ≡ take (e - 1) (last_path [] qs)
+    same_front d e p q rs qs de pq rq k = ap (λ (n : ℕ). take (n - 1) q) (sym de) ∙ ap (take (d - 1)) (sym pq) ∙ k ∙ ap (λ xs. take (d - 1) (last_path [] xs)) rq ∙ ap (λ (n : ℕ). take (n - 1) (last_path [] qs)) de
+
+-- the limit of words of either version
+pub within_words : (version n : ℕ) → n ≤ word_limit version → n ≤ 16384
+within_words version n = by_case (is_first version)
+  where
+    by_case : (b : Bool) → n ≤ cond b 256 16384 → n ≤ 16384
+    by_case true h = omega (arith, h)
+    by_case false h = h

@@ -1,0 +1,14 @@
+pub mod Fields
+pub mod Frame
+pub mod Scanning
+pub mod Reading
+pub mod Spelling
+pub mod Sent
+pub mod Building
+pub mod Answers
+pub mod FormLaws
+pub mod Streams
+pub mod Feeding
+pub mod Captures
+pub mod Sending
+pub mod Writing

@@ -1,0 +1,148 @@
+//! Bytes of packets.
+
+ghost use Rattle.std.specs.Prelude.{ℕ, ◌≡◌, ◌≢◌, ◌++◌, ◌<◌, ◌≤◌, true, length, List, Ok, OnOk, IfOk};
+ghost use Rattle.std.specs.List.{flat_map};
+ghost use Rattle.std.specs.Int.{w16, w64, to_be_bytes};
+ghost use Rattle.std.specs.Str.{IsUtf8};
+ghost use Rattle.rank_set.specs.Ranks.{none, Has, is_subset};
+ghost use Rattle.prefix_tree.specs.Shown.{IsGoodRow};
+ghost use Rattle.packet_frame.specs.Fields.{read};
+ghost use Rattle.packet_frame.specs.Frame.{frame_form};
+ghost use Rattle.packet_frame.specs.Sent.{sent_from, packet_map, as_packet};
+ghost use Rattle.packet_frame.specs.Spelling.{set_bytes, run_bytes, coverage_bytes, sent_bytes, spelling};
+ghost use Rattle.packet_frame.specs.Writing.{shown_bytes, rows_bytes};
+ghost use Rattle.packet_frame.specs.Sending.{HasText, MayBeTree, MayBePacket, MayBeEncoded};
+
+use crate::frame::Frame;
+use crate::packet::Packet;
+use prefix_tree::{PrefixTree, Row};
+use rank_set::{RANK_LIMIT, RankSet, Run};
+use std::alloc::{AllocError, Global};
+
+/// The version that is written.
+const VERSION: u8 = 2;
+
+/// The bytes of a packet's frame, in version 2; its fields are in docs/FORMATS.md. `decode` reads the packet from them
+/// again, whatever bytes follow. The stream must be below 8, the wave below 16, and the coverage of a tree not empty.
+///
+/// An error means that memory is out.
+pub fn encode<T: PrefixTree>(alloc: Global, packet: &Packet<T>) -> Result<Frame, AllocError>
+    requires { MayBeEncoded (packet_map T.tree packet.now) }
+    ensures spelling { IfOk result
+        (λ frame. frame ≡ spelling 2 (packet_map sent_from (packet_map T.tree packet.now))) }
+    ensures read_back { IfOk result
+        (λ frame. (more : List ℕ)
+        → as_packet (read frame_form (frame ++ more) 0) ≡ Ok (packet_map T.tree packet.now, length frame)) }
+{
+    let mut out = Vec::new(alloc);
+    put_packet(packet, &mut out)?;
+    Ok(Frame { bytes: out })
+}
+
+// Appends the frame of a packet.
+fn put_packet<T: PrefixTree>(packet: &Packet<T>, out: &mut Vec<u8>) -> Result<(), AllocError>
+    requires { MayBeEncoded (packet_map T.tree packet.now) }
+    ensures spelling { OnOk result
+        (out.new.items ≡ out.old.items ++ spelling 2 (packet_map sent_from (packet_map T.tree packet.now))) }
+    ensures may { OnOk result (MayBePacket 2 (packet_map T.tree packet.now)) }
+{
+    match packet {
+        Packet::Up { stream, wave, tree } => {
+            out.extend_from_slice(&[VERSION, 1, *stream, *wave])?;
+            put_tree(tree, out)
+        }
+        Packet::Done { stream, wave } => out.extend_from_slice(&[VERSION, 2, *stream, *wave]),
+        Packet::Attach => out.extend_from_slice(&[VERSION, 3]),
+        Packet::Down => out.extend_from_slice(&[VERSION, 4]),
+    }
+}
+
+// Appends a tree: its coverage, how many rows it has besides the root, and these.
+fn put_tree<T: PrefixTree>(tree: &T, out: &mut Vec<u8>) -> Result<(), AllocError>
+    requires { (T.tree tree.now).coverage ≢ none }
+    ensures bytes { OnOk result (out.new.items ≡ out.old.items ++ sent_bytes 2 (sent_from (T.tree tree.now))) }
+    ensures may { OnOk result (MayBeTree 2 (T.tree tree.now)) }
+{
+    let cover = tree.row(0).label;
+    put_cover(cover, out)?;
+    out.extend_from_slice(&((tree.rows() - 1) as u16).to_be_bytes())?;
+    put_rows(tree, cover, out)
+}
+
+// Appends the rows of a tree besides the root.
+fn put_rows<T: PrefixTree>(tree: &T, cover: &RankSet, out: &mut Vec<u8>) -> Result<(), AllocError>
+    requires { cover.now ≡ (T.tree tree.now).coverage }
+    ensures bytes { OnOk result (out.new.items ≡ out.old.items ++ rows_bytes (T.tree tree.now)) }
+    ensures text { OnOk result (HasText (T.tree tree.now)) }
+{
+    let mut at = tree.cursor(*out.allocator())?;
+    while let Some(row) = tree.next_row(&mut at) {
+        put_row(&row, cover, out)?;
+    }
+    Ok(())
+}
+
+// Appends a row: its depth, the length of its last frame, that frame, and the places of its ends in the coverage.
+fn put_row(row: &Row<'_>, cover: &RankSet, out: &mut Vec<u8>) -> Result<(), AllocError>
+    requires good { IsGoodRow row.now }
+    requires covered { is_subset row.now.ends.now cover.now ≡ true }
+    ensures bytes { OnOk result (out.new.items ≡ out.old.items ++ shown_bytes cover.now row.now) }
+    ensures text { OnOk result (IsUtf8 row.now.frame.now) }
+{
+    out.push(row.depth as u8)?;
+    put_name(row.frame, out)?;
+    put_set(&row.ends.to_places(cover)?, out)
+}
+
+// Appends a frame of a path: its length, and its bytes.
+fn put_name(name: &str, out: &mut Vec<u8>) -> Result<(), AllocError>
+    requires { length name.now ≤ 1023 }
+    ensures bytes { OnOk result
+        (out.new.items ≡ out.old.items ++ (to_be_bytes w16 (length name.now) ++ name.now)) }
+    ensures text { OnOk result (IsUtf8 name.now) }
+{
+    out.extend_from_slice(&(name.len() as u16).to_be_bytes())?;
+    out.extend_from_slice(name.as_bytes())
+}
+
+// Appends a set of numbers: the index of its first word, how many words it has, and these.
+fn put_set(numbers: &RankSet, out: &mut Vec<u8>) -> Result<(), AllocError>
+    ensures { OnOk result (out.new.items ≡ out.old.items ++ set_bytes numbers.now) }
+{
+    let words = numbers.words();
+    out.extend_from_slice(&(numbers.word_offset() as u16).to_be_bytes())?;
+    out.extend_from_slice(&(words.len() as u16).to_be_bytes())?;
+    put_words(words, out)
+}
+
+fn put_words(words: &[u64], out: &mut Vec<u8>) -> Result<(), AllocError>
+    ensures { OnOk result (out.new.items ≡ out.old.items ++ flat_map (to_be_bytes w64) words.now) }
+{
+    for word in words {
+        out.extend_from_slice(&word.to_be_bytes())?;
+    }
+    Ok(())
+}
+
+// Appends a coverage: how many runs it has, and these.
+fn put_cover(cover: &RankSet, out: &mut Vec<u8>) -> Result<(), AllocError>
+    ensures bytes { OnOk result (out.new.items ≡ out.old.items ++ coverage_bytes 2 cover.now) }
+    ensures small { OnOk result ((r : ℕ) → Has r cover.now → r < RANK_LIMIT) }
+{
+    // for the proof: its ranks are below the limit, since its words are
+    let _ = cover.words();
+    let runs = cover.runs(*out.allocator())?;
+    out.extend_from_slice(&(runs.len() as u32).to_be_bytes())?;
+    put_runs(&runs, out)
+}
+
+fn put_runs(runs: &[Run], out: &mut Vec<u8>) -> Result<(), AllocError>
+    ensures { OnOk result
+        (out.new.items ≡ out.old.items ++ flat_map (λ run. run_bytes (run.first, run.last)) runs.now) }
+{
+    for run in runs {
+        out.extend_from_slice(&run.first.to_be_bytes())?;
+        out.extend_from_slice(&run.last.to_be_bytes())?;
+    }
+    Ok(())
+}

@@ -1,0 +1,34 @@
+//! What goes over a link: packets as bytes.
+#![tactic(auto)]
+
+mod build;
+#[cfg(test)]
+mod captures;
+mod cover;
+mod decoding;
+mod encoding;
+mod error;
+mod feeder;
+mod frame;
+mod header;
+mod laws;
+mod number;
+mod packet;
+#[cfg(test)]
+mod plain_decoder;
+mod reader;
+mod rows;
+mod scan;
+mod sets;
+#[cfg(test)]
+mod tests;
+
+pub use decoding::decode;
+pub use encoding::encode;
+pub use error::{FrameError, FrameReason};
+pub use feeder::Feeder;
+pub use frame::Frame;
+pub use laws::{
+    captures_are_read, frame_laws, frames_stay, one_spelling, spellings, trees_are_sent,
+};
+pub use packet::Packet;

@@ -1,0 +1,171 @@
+//! Rows of a tree.
+
+ghost use Rattle.std.specs.Prelude.{◌≡◌, ◌≤◌, ◌-◌, length, true, false, [], slice_get, OnOk, IfErr, IfSome, IfNone};
+ghost use Rattle.std.specs.List.{list_all};
+ghost use Rattle.call_path.specs.Good.{is_plain};
+ghost use Rattle.packet_frame.specs.Frame.{is_after, is_name};
+ghost use Rattle.packet_frame.specs.declared.scan.Field.TheVariants as fields;
+ghost use Rattle.packet_frame.specs.Scanning.{left, left_at, Takes, IsReady, IsBeforeRow, IsNamed, after_ends, rows_view};
+
+use crate::error::{FieldError, FrameReason};
+use crate::number::{u8_of, u16_of};
+use crate::scan::{Field, FrameRow, Part, Scan};
+use rank_set::RankSet;
+use std::alloc::Global;
+use std::cmp::Ordering;
+
+impl Scan {
+    #[tactic(auto, unfolding(crate::specs::Frame::row_count_form))]
+    pub fn take_row_count(&mut self, field: &[u8]) -> Result<(), FieldError>
+        requires ready { IsReady fields.RowCount self.old }
+        requires width { length field.now ≡ 2 }
+        ensures takes { Takes (left_at fields.RowCount self.old) field.now result (left self.new) }
+        ensures ready { OnOk result (IsReady self.new.field self.new) }
+    {
+        let count = u16_of(field);
+        if count > 2_048 {
+            return Err(FieldError::Broken(FrameReason::OverLimit));
+        }
+        self.rows.clear();
+        self.path.cut(0);
+        self.ended = true;
+        self.rows_left = count;
+        self.next_row();
+        Ok(())
+    }
+
+    #[tactic(auto, unfolding(crate::specs::Frame::depth_form, crate::specs::Frame::row_form))]
+    pub fn take_depth(&mut self, field: &[u8]) -> Result<(), FieldError>
+        requires ready { IsReady fields.Depth self.old }
+        requires width { length field.now ≡ 1 }
+        ensures takes { Takes (left_at fields.Depth self.old) field.now result (left self.new) }
+        ensures ready { OnOk result (IsReady self.new.field self.new) }
+    {
+        let depth = u8_of(field);
+        if depth > 128 {
+            return Err(FieldError::Broken(FrameReason::OverLimit));
+        }
+        let next = self.path.len() + 1;
+        if depth < 1 || depth as usize > next {
+            return Err(FieldError::Broken(FrameReason::NotCanonical));
+        }
+        if !self.ended && depth as usize != next {
+            return Err(FieldError::Broken(FrameReason::NotCanonical));
+        }
+        self.depth = depth;
+        self.field = Field::NameLength;
+        Ok(())
+    }
+
+    #[tactic(auto, unfolding(crate::specs::Frame::name_length_form))]
+    pub fn take_name_length(&mut self, field: &[u8]) -> Result<(), FieldError>
+        requires ready { IsReady fields.NameLength self.old }
+        requires width { length field.now ≡ 2 }
+        ensures takes { Takes (left_at fields.NameLength self.old) field.now result (left self.new) }
+        ensures ready { OnOk result (IsReady self.new.field self.new) }
+    {
+        let length = u16_of(field);
+        if length == 0 {
+            return Err(FieldError::Broken(FrameReason::BadLength));
+        }
+        if length > 1_023 {
+            return Err(FieldError::Broken(FrameReason::OverLimit));
+        }
+        self.name_length = length;
+        self.field = Field::Name;
+        Ok(())
+    }
+
+    // Whether the name comes after the sibling before it.
+    fn is_in_order(&self, name: &[u8]) -> bool
+        requires { 1 ≤ self.now.depth }
+        ensures { result ≡ is_after (slice_get self.now.path (self.now.depth - 1)) name.now }
+    {
+        let above = self.depth as usize - 1;
+        if above >= self.path.len() {
+            return true;
+        }
+        self.path.frame(above).as_bytes().cmp(name) == Ordering::Less
+    }
+
+    #[tactic(auto, unfolding(crate::specs::Frame::name_form, crate::specs::Frame::ends_form))]
+    pub fn take_name(&mut self, field: &[u8]) -> Result<(), FieldError>
+        requires ready { IsReady fields.Name self.old }
+        requires width { length field.now ≡ self.old.name_length }
+        ensures takes { Takes (left_at fields.Name self.old) field.now result (left self.new) }
+        ensures ready { OnOk result (IsReady self.new.field self.new) }
+    {
+        let Some(name) = name_of(field) else {
+            return Err(FieldError::Broken(FrameReason::NotCanonical));
+        };
+        if !self.is_in_order(field) {
+            return Err(FieldError::Broken(FrameReason::NotCanonical));
+        }
+        self.path.cut(self.depth as usize - 1);
+        self.path.push(name)?;
+        self.part = Part::Ends;
+        self.field = Field::Offset;
+        Ok(())
+    }
+
+    // The next row, if any is left.
+    fn next_row(&mut self)
+        requires { IsBeforeRow self.old }
+        ensures left { left self.new ≡ left_at fields.Depth self.old }
+        ensures ready { IsReady self.new.field self.new }
+    {
+        if self.rows_left == 0 {
+            self.field = Field::End;
+        } else {
+            self.field = Field::Depth;
+        }
+    }
+
+    // The row is whole.
+    pub fn end_row(&mut self, alloc: Global, ends: RankSet) -> Result<(), FieldError>
+        requires { IsNamed self.old }
+        ensures ends { OnOk result
+            (after_ends self.old.version self.old.stream self.old.wave self.old.cover (rows_view [] self.old.rows.items)
+            self.old.path self.old.rows_left ends ≡ left self.new) }
+        ensures err { IfErr result (λ e. e ≡ FieldError.OutOfMemory) }
+        ensures ready { OnOk result (IsReady self.new.field self.new) }
+    {
+        let name = String::from_str(alloc, self.path.frame(self.depth as usize - 1))?;
+        self.ended = ends.count() != 0;
+        self.rows.push(FrameRow {
+            keep: self.depth - 1,
+            name,
+            ends,
+        })?;
+        self.rows_left -= 1;
+        self.next_row();
+        Ok(())
+    }
+}
+
+fn is_plain(b: u8) -> bool
+    ensures { result ≡ is_plain b }
+{
+    0x20 <= b && b != 0x7F && b != b';'
+}
+
+fn are_plain(field: &[u8]) -> bool
+    ensures { result ≡ list_all is_plain field.now }
+{
+    field.iter().all(|b| is_plain(*b))
+}
+
+// The field as text, where it is a good name.
+fn name_of(field: &[u8]) -> Option<&str>
+    ensures some { IfSome result (λ name. name.now ≡ field.now) }
+    ensures good { IfSome result (λ name. is_name field.now ≡ true) }
+    ensures none { IfNone result (is_name field.now ≡ false) }
+{
+    if !are_plain(field) {
+        return None;
+    }
+    match str::from_utf8(field) {
+        Ok(name) => Some(name),
+        Err(_) => None,
+    }
+}

@@ -1,0 +1,146 @@
+//! The fields of a frame, one after another, wherever the input ends.
+
+ghost use Rattle.std.specs.Prelude.{◌≡◌, length, OnOk};
+ghost use Rattle.packet_frame.specs.Scanning.{left, Takes, IsReady, field_width};
+
+use crate::error::FieldError;
+use call_path::PathBuilder;
+use rank_set::RankSet;
+use std::alloc::Global;
+
+/// Which field comes next.
+#[derive(Clone, Copy, Debug, PartialEq, Eq)]
+pub enum Field {
+    Version,
+    Kind,
+    Stream,
+    Wave,
+    RunCount,
+    FirstRank,
+    LastRank,
+    Offset,
+    WordCount,
+    Word,
+    RowCount,
+    Depth,
+    NameLength,
+    Name,
+    /// None: the frame is whole.
+    End,
+}
+
+/// Whose set of ranks is being read.
+#[derive(Clone, Copy, Debug, PartialEq, Eq)]
+pub enum Part {
+    Coverage,
+    Ends,
+}
+
+/// A row that was read.
+#[derive(Drop)]
+pub struct FrameRow {
+    /// How many of the first frames of the row before its path keeps.
+    pub keep: u8,
+    /// The frame behind them.
+    pub name: String,
+    pub ends: RankSet,
+}
+
+/// The fields of a frame that were read so far, and which comes next.
+#[derive(Drop)]
+pub struct Scan {
+    pub field: Field,
+    pub version: u8,
+    pub kind: u8,
+    pub stream: u8,
+    pub wave: u8,
+    /// The coverage, as far as it was read.
+    pub cover: RankSet,
+    /// How many ranks it has, once it is whole.
+    pub covered: u32,
+    /// The least rank with which the next run may begin, or its first rank where its last comes next.
+    pub least: u32,
+    /// Whose words come next.
+    pub part: Part,
+    pub offset: u16,
+    pub words: Vec<u64>,
+    /// How many words or runs are left.
+    pub left: u32,
+    pub rows: Vec<FrameRow>,
+    /// How many rows are left, the one that is being read among them.
+    pub rows_left: u16,
+    /// The path of the row before, or, from its name on, of the row that is being read.
+    pub path: PathBuilder,
+    /// Whether the row before has ends.
+    pub ended: bool,
+    pub depth: u8,
+    pub name_length: u16,
+}
+
+impl Scan {
+    /// Before the first field of a frame.
+    pub fn new(alloc: Global) -> Scan
+        ensures { result.field ≡ Field.Version }
+    {
+        Scan {
+            field: Field::Version,
+            version: 0,
+            kind: 0,
+            stream: 0,
+            wave: 0,
+            cover: RankSet::new(alloc),
+            covered: 0,
+            least: 0,
+            part: Part::Coverage,
+            offset: 0,
+            words: Vec::new(alloc),
+            left: 0,
+            rows: Vec::new(alloc),
+            rows_left: 0,
+            path: PathBuilder::new(alloc),
+            ended: true,
+            depth: 0,
+            name_length: 0,
+        }
+    }
+
+    // How many bytes the next field has.
+    pub fn width(&self) -> usize
+        ensures { result ≡ field_width self.now.field self.now }
+    {
+        match self.field {
+            Field::Version | Field::Kind | Field::Stream | Field::Wave | Field::Depth => 1,
+            Field::Offset | Field::WordCount | Field::RowCount | Field::NameLength => 2,
+            Field::RunCount | Field::FirstRank | Field::LastRank => 4,
+            Field::Word => 8,
+            Field::Name => self.name_length as usize,
+            Field::End => 0,
+        }
+    }
+
+    // Takes the bytes of the next field.
+    pub fn take(&mut self, alloc: Global, field: &[u8]) -> Result<(), FieldError>
+        requires ready { IsReady self.old.field self.old }
+        requires width { length field.now ≡ field_width self.old.field self.old }
+        ensures takes { Takes (left self.old) field.now result (left self.new) }
+        ensures ready { OnOk result (IsReady self.new.field self.new) }
+    {
+        match self.field {
+            Field::Version => self.take_version(field),
+            Field::Kind => self.take_kind(field),
+            Field::Stream => self.take_stream(field),
+            Field::Wave => self.take_wave(field),
+            Field::RunCount => self.take_run_count(alloc, field),
+            Field::FirstRank => self.take_first_rank(field),
+            Field::LastRank => self.take_last_rank(field),
+            Field::Offset => self.take_offset(field),
+            Field::WordCount => self.take_word_count(alloc, field),
+            Field::Word => self.take_word(alloc, field),
+            Field::RowCount => self.take_row_count(field),
+            Field::Depth => self.take_depth(field),
+            Field::NameLength => self.take_name_length(field),
+            Field::Name => self.take_name(field),
+            Field::End => Ok(()),
+        }
+    }
+}

@@ -1,0 +1,165 @@
+//! Sets of numbers as words.
+
+ghost use Rattle.std.specs.Prelude.{ℕ, ◌≡◌, ◌<◌, ◌+◌, ◌-◌, ◌||◌, nat_eq, cond, length, false, None, Some, OnOk, IfErr, IfSome};
+ghost use Rattle.rank_set.specs.Ranks.{Has, size};
+ghost use Rattle.rank_set.specs.Words.{AreWords, ranks_in};
+ghost use Rattle.packet_frame.specs.declared.error.FrameReason.TheVariants.{NotCanonical};
+ghost use Rattle.packet_frame.specs.Fields.{broken, is_short};
+ghost use Rattle.packet_frame.specs.Frame.{is_first, word_limit};
+ghost use Rattle.packet_frame.specs.declared.scan.Part.TheVariants as parts;
+ghost use Rattle.packet_frame.specs.declared.scan.Field.TheVariants as fields;
+ghost use Rattle.packet_frame.specs.Scanning.{left, left_at, Takes, IsReady, IsInPart, IsInSet, needed, word_rule, set_then, set_left};
+
+use crate::error::{FieldError, FrameReason};
+use crate::number::{u16_of, u64_of};
+use crate::scan::{Field, Part, Scan};
+use rank_set::{RankSet, word_is_below};
+use std::alloc::Global;
+use std::mem;
+
+impl Scan {
+    // How many words a set may reach over.
+    fn word_limit(&self) -> u32
+        ensures { result ≡ word_limit self.now.version }
+    {
+        if self.version == 1 { 256 } else { 16_384 }
+    }
+
+    #[tactic(auto, unfolding(crate::specs::Frame::set_form, crate::specs::Frame::offset_form))]
+    pub fn take_offset(&mut self, field: &[u8]) -> Result<(), FieldError>
+        requires ready { IsReady fields.Offset self.old }
+        requires width { length field.now ≡ 2 }
+        ensures takes { Takes (left_at fields.Offset self.old) field.now result (left self.new) }
+        ensures ready { OnOk result (IsReady self.new.field self.new) }
+    {
+        let offset = u16_of(field);
+        if u32::from(offset) >= self.word_limit() {
+            return Err(FieldError::Broken(FrameReason::OverLimit));
+        }
+        self.offset = offset;
+        self.field = Field::WordCount;
+        Ok(())
+    }
+
+    // Why the set may not be empty, if it may not.
+    fn needed(&self) -> Option<FrameReason>
+        ensures reason { result ≡ needed self.now.part self.now.depth self.now.rows_left }
+        ensures lasting { IfSome result (λ reason. is_short reason ≡ false) }
+    {
+        match self.part {
+            Part::Coverage => Some(FrameReason::BadLength),
+            Part::Ends if self.rows_left <= 1 || self.depth == 128 => Some(
+                FrameReason::NotCanonical,
+            ),
+            Part::Ends => None,
+        }
+    }
+
+    #[tactic(auto, unfolding(crate::specs::Frame::word_count_form))]
+    pub fn take_word_count(&mut self, alloc: Global, field: &[u8]) -> Result<(), FieldError>
+        requires ready { IsReady fields.WordCount self.old }
+        requires width { length field.now ≡ 2 }
+        ensures takes { Takes (left_at fields.WordCount self.old) field.now result (left self.new) }
+        ensures ready { OnOk result (IsReady self.new.field self.new) }
+    {
+        let count = u16_of(field);
+        if u32::from(self.offset) + u32::from(count) > self.word_limit() {
+            return Err(FieldError::Broken(FrameReason::OverLimit));
+        }
+        if self.offset != 0 && count == 0 {
+            return Err(FieldError::Broken(FrameReason::NotCanonical));
+        }
+        if let Some(reason) = self.needed()
+            && count == 0
+        {
+            return Err(FieldError::Broken(reason));
+        }
+        self.words.clear();
+        self.left = u32::from(count);
+        self.next_word(alloc)
+    }
+
+    #[tactic(auto, unfolding(crate::specs::Frame::ends_rule))]
+    // Whether a word of a row's ends obeys their rule.
+    fn obeys(&self, word: u64) -> bool
+        requires { IsInSet self.now }
+        ensures { broken (word_rule self.now.part self.now.version self.now.cover
+            (self.now.offset + length self.now.words.items) word) ≡ cond result None (Some NotCanonical) }
+    {
+        let index = u32::from(self.offset) + self.words.len() as u32;
+        match self.part {
+            Part::Coverage => true,
+            Part::Ends if self.version == 1 => self.cover.covers_word(index, word),
+            Part::Ends => word_is_below(index, word, self.covered),
+        }
+    }
+
+    // Whether the next word is the first or the last of its set.
+    fn is_edge(&self) -> bool
+        requires { 0 < self.now.left }
+        ensures { result ≡ (nat_eq (length self.now.words.items) 0 || nat_eq (self.now.left - 1) 0) }
+    {
+        self.words.is_empty() || self.left == 1
+    }
+
+    #[tactic(auto, unfolding(crate::specs::Frame::word_form))]
+    pub fn take_word(&mut self, alloc: Global, field: &[u8]) -> Result<(), FieldError>
+        requires ready { IsReady fields.Word self.old }
+        requires width { length field.now ≡ 8 }
+        ensures takes { Takes (left_at fields.Word self.old) field.now result (left self.new) }
+        ensures ready { OnOk result (IsReady self.new.field self.new) }
+    {
+        let word = u64_of(field);
+        let is_edge = self.is_edge();
+        if is_edge && word == 0 {
+            return Err(FieldError::Broken(FrameReason::NotCanonical));
+        }
+        if !self.obeys(word) {
+            return Err(FieldError::Broken(FrameReason::NotCanonical));
+        }
+        self.words.push(word)?;
+        self.left -= 1;
+        self.next_word(alloc)
+    }
+
+    // The next word, if any is left.
+    fn next_word(&mut self, alloc: Global) -> Result<(), FieldError>
+        requires { IsInSet self.old }
+        ensures left { OnOk result (set_left self.old ≡ left self.new) }
+        ensures err { IfErr result (λ e. e ≡ FieldError.OutOfMemory) }
+        ensures ready { OnOk result (IsReady self.new.field self.new) }
+    {
+        if self.left == 0 {
+            return self.end_set(alloc);
+        }
+        self.field = Field::Word;
+        Ok(())
+    }
+
+    // The set is whole.
+    fn end_set(&mut self, alloc: Global) -> Result<(), FieldError>
+        requires part { IsInPart self.old.part self.old }
+        requires words { AreWords self.old.offset self.old.words.items }
+        requires places { self.old.part ≡ parts.Ends → is_first self.old.version ≡ false
+            → (p : ℕ) → Has p (ranks_in self.old.offset self.old.words.items) → p < size self.old.cover }
+        ensures ends { OnOk result
+            (set_then self.old (ranks_in self.old.offset self.old.words.items) ≡ left self.new) }
+        ensures err { IfErr result (λ e. e ≡ FieldError.OutOfMemory) }
+        ensures ready { OnOk result (IsReady self.new.field self.new) }
+    {
+        let words = mem::replace(&mut self.words, Vec::new(alloc));
+        let numbers = RankSet::from_words(u32::from(self.offset), words);
+        match self.part {
+            Part::Coverage => {
+                self.cover = numbers;
+                self.end_cover();
+                Ok(())
+            }
+            Part::Ends if self.version == 1 => self.end_row(alloc, numbers),
+            Part::Ends => {
+                let ends = numbers.from_places(&self.cover)?;
+                self.end_row(alloc, ends)
+            }
+        }
+    }
+}
