@@ -59,7 +59,7 @@ take_field width rule next bytes h = ap (λ (o : Option FrameReason). elim o as 
 pub take_number : {A : Type 0} (w : Width) (rules : ℕ → Rules) (k : ℕ → Form A) (bytes : List ℕ) (n : ℕ) → n ≡ from_be_bytes w bytes → broken (rules n) ≡ None → after_field (number w rules >>= k) bytes ≡ Ok (k n)
 take_number w rules k bytes n e h = take_field (byte_len w) (λ b. broken (rules (from_be_bytes w b))) (λ b. k (from_be_bytes w b)) bytes (ap (λ (m : ℕ). broken (rules m)) (sym e) ∙ h) ∙ ap (λ (m : ℕ). Ok (k m)) (sym e)
 
--- the rest is done by a call that fails for want of memory alone
+-- the rest is done by a call whose only error is out of memory
 pub takes_by : (old mid new : Form Message) (bytes : List ℕ) (r : Result (Unit {0}) FieldError) → after_field old bytes ≡ Ok mid → OnOk r (mid ≡ new) → IfErr r (λ e. e ≡ errors.OutOfMemory) → Takes old bytes r new
 takes_by old mid new bytes (Ok x) taken left fails = taken ∙ ap Ok left
 takes_by old mid new bytes (Err (errors.Broken reason)) taken left fails = absurd cc
