@@ -1,12 +1,11 @@
 -- One form after another.
-use Rattle.std.proofs.Common.{◌≡◌, ℕ, zero, suc, ◌+◌, ◌-◌, ◌<◌, nat_eq, cond, true, false, Bool, List, [], ◌∷◌, ◌++◌, length, Option, Some, None, Result, Ok, Err, OnOk, IfErr, refl, sym, ap, subst, ◌∙◌, append_assoc, arith}
+use Rattle.std.proofs.Common.{◌≡◌, ℕ, suc, nat_eq, cond, true, false, Bool, List, ◌∷◌, Option, Some, None, Result, Ok, Err, OnOk, IfErr, refl, sym, ap, ◌∙◌}
 use Rattle.std.specs.Int.{Width, byte_len, from_be_bytes}
 use Rattle.rank_set.specs.Runs.{ranks_of_runs}
 use Rattle.packet_frame.specs.declared.error.FrameReason.{FrameReason}
 use Rattle.packet_frame.specs.declared.error.FieldError.{FieldError}
 use Rattle.packet_frame.specs.declared.error.FieldError.TheVariants as errors
-use Rattle.std.proofs.lemmas.List.{append-nil}
-use Rattle.rank_set.specs.Ranks.{Ranks, none, union, union-none}
+use Rattle.rank_set.specs.Ranks.{none, union-none}
 use Rattle.packet_frame.specs.declared.error.FrameReason.TheVariants.{BadLength}
 use Rattle.packet_frame.specs.declared.packet.Packet.TheVariants.{Done}
 use Rattle.packet_frame.specs.Fields.{Form, whole, field, ◌>>=◌, list_form, Rules, broken, number, after_field}

@@ -1,14 +1,14 @@
 -- What was read may be built.
-use Rattle.std.proofs.Common.{◌≡◌, ℕ, ◌+◌, ◌≤◌, ◌<◌, true, List, [], ◌∷◌, ◌++◌, length, take, get_or, string_bytes, IsTrue, Ok, refl, sym, ap, subst, ◌∙◌, arith, length-append, Bool, nat_eq, cond}
+use Rattle.std.proofs.Common.{◌≡◌, ℕ, true, List, [], ◌∷◌, ◌++◌, length, take, get_or, string_bytes, Ok, sym, ap, subst, ◌∙◌, arith, length-append, Bool, nat_eq, cond}
 use Rattle.std.proofs.lemmas.List.{length-take-le}
 use Rattle.std.proofs.Math.Seq.{get_or-append_seam}
-use Rattle.rank_set.specs.Ranks.{Ranks, subset_from, is_subset}
+use Rattle.rank_set.specs.Ranks.{Ranks, subset_from}
 use Rattle.call_path.specs.Path.{Path}
 use Rattle.call_path.specs.Good.{is_good_frame}
 use Rattle.packet_frame.specs.declared.packet.Packet.TheVariants.{Up, Done, Attach, Down}
 use Rattle.packet_frame.specs.declared.scan.FrameRow.{FrameRow}
 use Rattle.packet_frame.specs.declared.scan.Scan.{Scan}
-use Rattle.packet_frame.specs.Frame.{Message, row_of, sent_of}
+use Rattle.packet_frame.specs.Frame.{row_of, sent_of}
 use Rattle.packet_frame.specs.Reading.{first_of}
 use Rattle.packet_frame.specs.Scanning.{path_behind, rows_view, message_of}
 use Rattle.packet_frame.specs.Sending.{MayFollow, MayBeRows, MayBeMessage, AreBytes}

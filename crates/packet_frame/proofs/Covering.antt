@@ -1,10 +1,10 @@
 -- Runs of a coverage, one after another.
-use Rattle.std.proofs.Common.{◌≡◌, ℕ, zero, suc, ◌+◌, ◌-◌, ◌<◌, Bool, true, false, ◌||◌, List, [], ◌∷◌, length, Ok, refl, sym, ap, ◌∙◌, arith}
-use Rattle.rank_set.specs.Ranks.{Ranks, none, union, has-union, same_ranks, has}
+use Rattle.std.proofs.Common.{◌≡◌, ℕ, suc, ◌+◌, Bool, true, false, ◌||◌, refl, sym, ap, ◌∙◌}
+use Rattle.rank_set.specs.Ranks.{Ranks, union, has-union, same_ranks, has}
 use Rattle.rank_set.specs.Runs.{ranks_between, ranks_of_runs}
 use Rattle.rank_set.proofs.WordSets.{union_none}
-use Rattle.packet_frame.specs.Fields.{Form, whole, ◌>>=◌, list_form}
-use Rattle.packet_frame.specs.Frame.{Message, run_form, first_rank_form, last_rank_form, next_run, after_run}
+use Rattle.packet_frame.specs.Fields.{whole, ◌>>=◌, list_form}
+use Rattle.packet_frame.specs.Frame.{run_form, first_rank_form, last_rank_form, next_run, after_run}
 use Rattle.packet_frame.specs.Scanning.{after_cover, runs_left}
 use Rattle.packet_frame.proofs.Binding.{bind_assoc, bind_same, first_and_rest}
 

@@ -1,5 +1,5 @@
 -- Frames of a stream, one after another.
-use Rattle.std.proofs.Common.{◌≡◌, ◌≢◌, ℕ, zero, suc, ◌+◌, ◌-◌, ◌≤◌, ◌<◌, List, [], ◌∷◌, ◌++◌, length, map, take, drop, Option, Some, None, Result, Ok, Err, refl, sym, ap, subst, ◌∙◌, inr, false, option_map, arith, length-append, append_assoc, drop-drop}
+use Rattle.std.proofs.Common.{◌≡◌, ◌≢◌, ℕ, ◌+◌, ◌<◌, List, [], ◌∷◌, ◌++◌, length, map, drop, Option, None, Ok, Err, refl, sym, ap, subst, ◌∙◌, inr, false, option_map, arith, drop-drop}
 use Rattle.std.specs.Bool.{◌==◌}
 use Rattle.std.proofs.lemmas.Bool.{true≢false}
 use Rattle.std.proofs.lemmas.List.{map-append}
@@ -9,10 +9,10 @@ use Rattle.packet_frame.specs.declared.error.FrameReason.TheVariants.{Short}
 use Rattle.packet_frame.specs.declared.error.FrameError.TheVariants as errors
 use Rattle.packet_frame.specs.declared.packet.Packet.{Packet}
 use Rattle.packet_frame.specs.declared.reader.Reader.{Reader}
-use Rattle.packet_frame.specs.Fields.{Refusal, Spells, is_short}
+use Rattle.packet_frame.specs.Fields.{Spells}
 use Rattle.packet_frame.specs.Frame.{Message, frame_form, version_form}
 use Rattle.packet_frame.specs.Sent.{packet_map, tree_from}
-use Rattle.packet_frame.specs.Reading.{first_of, IsOn, Waits, IsWhole}
+use Rattle.packet_frame.specs.Reading.{first_of, IsOn, Waits}
 use Rattle.packet_frame.specs.Scanning.{message_of}
 use Rattle.packet_frame.specs.Streams.{Begins, taken, Fed, Gave}
 use Rattle.packet_frame.specs.Feeding.{packets_from, refused_at, IsFed, Ends, FramesOf}

@@ -14,7 +14,7 @@ use Rattle.prefix_tree.specs.Joined.{Below, seen, if_some}
 use Rattle.prefix_tree.proofs.PairLemmas.{pair_from_passes}
 use Rattle.prefix_tree.proofs.TreeLemmas.{IsTreeOf-tree_of}
 use Rattle.packet_frame.specs.declared.scan.FrameRow.{FrameRow}
-use Rattle.packet_frame.specs.Frame.{Row, path_at}
+use Rattle.packet_frame.specs.Frame.{Row}
 use Rattle.packet_frame.specs.Scanning.{path_behind, rows_view}
 use Rattle.packet_frame.specs.Sent.{pairs_of_rows}
 use Rattle.packet_frame.specs.Sending.{MayBeRows}

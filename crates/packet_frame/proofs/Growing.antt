@@ -1,24 +1,22 @@
 -- The tree of a frame's rows, row by row.
-use Rattle.std.proofs.Common.{◌≡◌, ℕ, zero, suc, ◌+◌, ◌-◌, ◌≤◌, ◌<◌, Bool, true, false, cond, not, nat_eq, List, [], ◌∷◌, ◌++◌, length, take, drop, get_or, string_bytes, IsTrue, Option, Some, None, refl, sym, ap, subst, ◌∙◌, inl, inr, arith, length-append}
-use Rattle.std.specs.List.{flat_map}
+use Rattle.std.proofs.Common.{◌≡◌, ℕ, zero, suc, ◌+◌, ◌≤◌, ◌<◌, true, cond, List, [], ◌∷◌, ◌++◌, length, take, drop, get_or, refl, sym, ap, subst, ◌∙◌, inl, inr, arith, length-append}
 use Rattle.std.proofs.lemmas.Grind.{flat_map-append}
 use Rattle.std.proofs.lemmas.List.{append-nil, take-append-drop, length-take-le}
 use Rattle.std.proofs.lemmas.Bool.{true≢false}
 use Rattle.std.proofs.Math.Seq.{take-suc}
-use Rattle.rank_set.specs.Ranks.{Ranks, none, in_order, is_empty, is_subset, none_from_size, size, union-none}
+use Rattle.rank_set.specs.Ranks.{Ranks, none, in_order, is_empty, none_from_size, union-none}
 use Rattle.call_path.specs.Path.{Path}
-use Rattle.call_path.specs.Pairs.{Pairs, pairs_at}
+use Rattle.call_path.specs.Pairs.{pairs_at}
 use Rattle.prefix_tree.specs.Tree.{Tree, tree_of, added, count_below, Covers}
-use Rattle.prefix_tree.proofs.TreeLemmas.{coverage-tree_of}
 use Rattle.prefix_tree.proofs.TreeLaws.{added-tree_of}
 use Rattle.packet_frame.specs.declared.scan.FrameRow.{FrameRow}
 use Rattle.packet_frame.specs.Frame.{Row, row_of}
 use Rattle.packet_frame.specs.Sent.{pairs_of_rows}
 use Rattle.packet_frame.specs.Scanning.{path_behind, rows_view, last_path}
-use Rattle.packet_frame.specs.Building.{grown, MayBeRow, AreRowsBuilt, MayBeBuilt}
+use Rattle.packet_frame.specs.Building.{grown, MayBeRow, AreRowsBuilt}
 use Rattle.packet_frame.proofs.FormLaws.{bool_case}
 use Rattle.packet_frame.proofs.FewRows.{few_views}
-use Rattle.packet_frame.proofs.Rowing.{last_path-push, rows_view-push}
+use Rattle.packet_frame.proofs.Rowing.{rows_view-push}
 
 -- the first rows, and the path behind them
 pub row_at : (cover : Ranks) (before : Path) (rs : List FrameRow) (i : ℕ) (r : FrameRow) → AreRowsBuilt cover before (take i rs ++ r ∷ []) → MayBeRow cover (last_path before (take i rs)) r

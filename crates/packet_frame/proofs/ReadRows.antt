@@ -10,8 +10,8 @@ use Rattle.std.proofs.lemmas.List.Concat.{flat_map-cons}
 use Rattle.rank_set.specs.Ranks.{Ranks, none, Has, IsSubset, in_order, size, is_subset, subset_has, all_have, is_empty, has-in_order}
 use Rattle.rank_set.specs.Words.{ranks_in}
 use Rattle.rank_set.specs.Runs.{runs_of}
-use Rattle.rank_set.specs.Places.{to_places, from_places}
-use Rattle.rank_set.proofs.Places.{back_to_places, ranks_in_cover}
+use Rattle.rank_places.specs.Places.{to_places, from_places}
+use Rattle.rank_places.proofs.Places.{back_to_places, ranks_in_cover}
 use Rattle.call_path.specs.Path.{Path}
 use Rattle.call_path.specs.Good.{is_plain}
 use Rattle.prefix_tree.specs.Tree.{frame_of}

@@ -1,8 +1,8 @@
 -- Rows, one after another.
-use Rattle.std.proofs.Common.{◌≡◌, ℕ, zero, suc, ◌+◌, ◌-◌, ◌≤◌, ◌<◌, Bool, true, false, not, nat_eq, List, [], ◌∷◌, ◌++◌, length, take, get_or, slice_get, string_bytes, Option, Some, None, refl, sym, ap, ◌∙◌, arith, append_assoc}
+use Rattle.std.proofs.Common.{◌≡◌, ℕ, suc, ◌-◌, ◌≤◌, ◌<◌, Bool, not, nat_eq, List, [], ◌∷◌, ◌++◌, length, take, get_or, slice_get, Some, refl, sym, ap, ◌∙◌, arith, append_assoc}
 use Rattle.std.proofs.Math.Seq.{take-suc, take-length}
 use Rattle.std.proofs.lemmas.Option.{slice_get-get_or}
-use Rattle.rank_set.specs.Ranks.{Ranks, size, is_empty}
+use Rattle.rank_set.specs.Ranks.{Ranks, is_empty}
 use Rattle.call_path.specs.Path.{Path}
 use Rattle.packet_frame.specs.declared.scan.FrameRow.{FrameRow}
 use Rattle.packet_frame.specs.declared.scan.Scan.{Scan}

@@ -1,11 +1,11 @@
 -- Words of a set, one after another.
-use Rattle.std.proofs.Common.{◌≡◌, ℕ, zero, suc, ◌+◌, ◌-◌, ◌<◌, Bool, true, false, ◌||◌, nat_eq, List, [], ◌∷◌, ◌++◌, length, Option, None, refl, sym, ap, ◌∙◌, arith, append_assoc, length-append}
+use Rattle.std.proofs.Common.{◌≡◌, ℕ, suc, ◌+◌, ◌-◌, ◌<◌, Bool, true, false, ◌||◌, nat_eq, List, [], ◌∷◌, ◌++◌, length, Option, None, refl, sym, ap, ◌∙◌, arith, append_assoc, length-append}
 use Rattle.std.proofs.lemmas.List.{append-nil}
 use Rattle.std.proofs.Math.Seq.{get_or-append_seam}
 use Rattle.std.specs.List.{list_all}
 use Rattle.std.proofs.Common.{subst, get_or, not, take, cond, nat_lt, inl, inr, ◌≤◌}
-use Rattle.std.proofs.lemmas.Bool.{ltb-true, or_cases, true≢false, le-ltb}
-use Rattle.rank_set.specs.Ranks.{Ranks, Has, has, has-union, has-none, has-in_order, in_order, all_have, none, size, is_subset}
+use Rattle.std.proofs.lemmas.Bool.{ltb-true, or_cases, true≢false}
+use Rattle.rank_set.specs.Ranks.{Ranks, Has, has, has-union, has-none, has-in_order, in_order, all_have, size, is_subset}
 use Rattle.rank_set.proofs.WordSets.{ranks_in-none}
 use Rattle.rank_set.proofs.WordLists.{ranks_in-push}
 use Rattle.rank_set.specs.Words.{ranks_in}
@@ -18,7 +18,7 @@ use Rattle.packet_frame.specs.declared.scan.Scan.{Scan}
 use Rattle.packet_frame.specs.declared.scan.FrameRow.{FrameRow}
 use Rattle.packet_frame.specs.declared.scan.Part.{Part}
 use Rattle.packet_frame.specs.declared.scan.Part.TheVariants as parts
-use Rattle.packet_frame.specs.Scanning.{words_left, word_rule, IsInPart, IsInSet, IsNamed, last_path}
+use Rattle.packet_frame.specs.Scanning.{words_left, word_rule, IsInPart, IsInSet, last_path}
 use Rattle.packet_frame.proofs.Binding.{bind_assoc, bind_same, first_and_rest}
 
 module _ {B : Type 0} (of_word : ℕ → ℕ → Rules) (k : Ranks → Form B) where
@@ -128,11 +128,11 @@ with_word s t w is some left words offset part ready version cover fine places =
     }
 
 -- the part stays ready where nothing of it changes
-pub part_kept : (part : Part) (s t : Scan) → s.kind ≡ t.kind → s.version ≡ t.version → s.covered ≡ t.covered → s.cover ≡ t.cover → s.rows_left ≡ t.rows_left → s.depth ≡ t.depth → s.path ≡ t.path → s.rows.items ≡ t.rows.items → IsInPart part s → IsInPart part t
-part_kept parts.Coverage s t kind version covered cover count depth path rows h = (sym kind ∙ h.0, sym version ∙ h.1)
-part_kept parts.Ends s t kind version covered cover count depth path rows h = record {
+pub part_kept : (part : Part) (s t : Scan) → s.kind ≡ t.kind → s.version ≡ t.version → s.covered ≡ t.covered → s.places ≡ t.places → s.cover ≡ t.cover → s.rows_left ≡ t.rows_left → s.depth ≡ t.depth → s.path ≡ t.path → s.rows.items ≡ t.rows.items → IsInPart part s → IsInPart part t
+part_kept parts.Coverage s t kind version covered places cover count depth path rows h = (sym kind ∙ h.0, sym version ∙ h.1)
+part_kept parts.Ends s t kind version covered places cover count depth path rows h = record {
   kind = sym kind ∙ h.kind;
-  covered = sym covered ∙ h.covered ∙ ap size cover;
+  covered = (sym covered ∙ h.covered.0 ∙ ap size cover, sym places ∙ h.covered.1 ∙ cover);
   some = subst (λ (n : ℕ). 0 < n) count h.some;
   depth = subst (λ (n : ℕ). 1 ≤ n) depth h.depth;
   depth_limit = subst (λ (n : ℕ). n ≤ 128) depth h.depth_limit;

@@ -11,8 +11,8 @@ use Rattle.rank_set.specs.declared.TheConstants.{RANK_LIMIT}
 use Rattle.rank_set.specs.Ranks.{Ranks, none, has, Has, IsSubset, in_order, size, is_subset, is_empty, subset_from, all_pass, has-in_order, has-none}
 use Rattle.rank_set.specs.Words.{ranks_in}
 use Rattle.rank_set.specs.Runs.{runs_of}
-use Rattle.rank_set.specs.Places.{place, to_places, from_places}
-use Rattle.rank_set.proofs.Places.{back_to_ranks, places_in_cover, to_places-member, has-to_places, place-le}
+use Rattle.rank_places.specs.Places.{place, to_places, from_places}
+use Rattle.rank_places.proofs.Places.{back_to_ranks, places_in_cover, to_places-member, has-to_places, place-le}
 use Rattle.rank_set.proofs.SomeMember.{some_member}
 use Rattle.call_path.specs.Path.{Path}
 use Rattle.call_path.specs.Good.{is_plain}

@@ -1,5 +1,5 @@
 -- The fields that a scan takes, one after another.
-use Rattle.std.proofs.Common.{◌≡◌, ℕ, zero, suc, ◌+◌, ◌-◌, ◌≤◌, ◌<◌, Bool, true, false, not, nat_lt, nat_eq, List, [], ◌∷◌, ◌++◌, length, Option, Some, None, Result, Ok, Err, refl, sym, ap, subst, ◌∙◌, inl, inr, arith, length-append, append_assoc}
+use Rattle.std.proofs.Common.{◌≡◌, ℕ, ◌+◌, ◌-◌, ◌≤◌, ◌<◌, false, nat_lt, List, [], ◌++◌, length, Option, Some, None, Result, Ok, Err, refl, sym, ap, subst, ◌∙◌, inl, inr, arith}
 use Rattle.std.proofs.lemmas.Bool.{lt-ltb, le-ltb}
 use Rattle.std.proofs.lemmas.List.{append-nil}
 use Rattle.packet_frame.specs.declared.error.FrameReason.{FrameReason}
@@ -7,8 +7,8 @@ use Rattle.packet_frame.specs.declared.error.FrameReason.TheVariants.{Short}
 use Rattle.packet_frame.specs.declared.scan.Field.{Field}
 use Rattle.packet_frame.specs.declared.scan.Field.TheVariants as fields
 use Rattle.packet_frame.specs.declared.scan.Scan.{Scan}
-use Rattle.packet_frame.specs.Fields.{Refusal, Form, whole, field, ◌>>=◌, piece, read, width_of, after_field, is_short}
-use Rattle.packet_frame.specs.Frame.{Message, frame_form, version_form, kind_form, stream_form, wave_form, run_count_form, first_rank_form, last_rank_form, offset_form, word_count_form, word_form, row_count_form, depth_form, name_length_form, name_form, word_limit}
+use Rattle.packet_frame.specs.Fields.{Form, whole, field, piece, read, width_of, after_field}
+use Rattle.packet_frame.specs.Frame.{frame_form, version_form, kind_form, stream_form, wave_form, run_count_form, first_rank_form, last_rank_form, offset_form, word_count_form, word_form, row_count_form, depth_form, name_length_form, name_form, word_limit}
 use Rattle.packet_frame.specs.Scanning.{left, left_at, IsReady, Takes, field_width, set_then, word_rule, needed, rows_view}
 use Rattle.packet_frame.specs.declared.error.FieldError.{FieldError}
 use Rattle.packet_frame.specs.declared.error.FieldError.TheVariants as faults

@@ -16,7 +16,7 @@ use Rattle.rank_set.specs.Runs.{runs_of}
 use Rattle.rank_set.specs.Words.{offset_of, ranks_in, AreWords}
 use Rattle.rank_set.proofs.WordLists.{ranks_small}
 use Rattle.rank_set.proofs.RunLists.{runs_of_count}
-use Rattle.rank_set.specs.Places.{to_places}
+use Rattle.rank_places.specs.Places.{to_places}
 use Rattle.call_path.specs.Path.{Path, is_path}
 use Rattle.call_path.specs.Pairs.{pairs_at}
 use Rattle.call_path.proofs.PathLemmas.{is_path-itself}

@@ -1,6 +1,6 @@
 -- A tree that is built of the rows of a frame, one after another.
-use Rattle.std.specs.Prelude.{◌≡◌, ◌≤◌, ◌<◌, cond, take, List, [], ◌∷◌, length, string_bytes, IsTrue}
-use Rattle.rank_set.specs.Ranks.{Ranks, is_subset, is_empty, in_order}
+use Rattle.std.specs.Prelude.{◌≤◌, ◌<◌, cond, take, List, [], ◌∷◌, length, string_bytes, IsTrue}
+use Rattle.rank_set.specs.Ranks.{Ranks, is_subset, is_empty}
 use Rattle.call_path.specs.Path.{Path}
 use Rattle.call_path.specs.Good.{is_good_frame}
 use Rattle.prefix_tree.specs.Tree.{Tree, added}

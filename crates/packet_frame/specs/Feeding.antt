@@ -1,5 +1,5 @@
 -- What a feeder answers, and what it keeps.
-use Rattle.std.specs.Prelude.{◌≡◌, ◌≢◌, ◌<◌, ◌≤◌, ◌^◌, length, ℕ, suc, zero, ◌+◌, ◌⊎◌, refl, List, [], ◌∷◌, map, drop, Option, Some, None, option_map, Result, Ok, Err}
+use Rattle.std.specs.Prelude.{◌≡◌, ◌≢◌, ◌<◌, ◌≤◌, ◌^◌, length, ℕ, suc, zero, ◌+◌, ◌⊎◌, refl, List, [], map, drop, Option, Some, None, Result, Ok, Err}
 use Rattle.std.specs.Coded.{Coded, code_by, coded×, coded_ℕ, coded_list, coded_option}
 use Rattle.prefix_tree.specs.Tree.{Tree}
 use Rattle.packet_frame.specs.declared.error.FrameReason.{FrameReason}

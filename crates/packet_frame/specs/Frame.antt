@@ -1,6 +1,6 @@
 -- The fields of a frame, with their rules and refusals in order. Versions 1 and 2 differ in the coverage, in the limit of
 -- words, and in what the bits of a row's ends stand for.
-use Rattle.std.specs.Prelude.{◌≡◌, ℕ, zero, suc, ◌+◌, ◌-◌, Bool, true, false, cond, not, ◌&&◌, ◌||◌, List, [], ◌∷◌, ◌++◌, length, take, slice_get, Option, Some, None, nat_lt, nat_le, nat_eq}
+use Rattle.std.specs.Prelude.{ℕ, suc, ◌+◌, ◌-◌, Bool, true, false, cond, not, ◌&&◌, ◌||◌, List, [], ◌∷◌, ◌++◌, length, take, slice_get, Option, Some, None, nat_lt, nat_le, nat_eq}
 use Rattle.std.specs.Int.{w8, w16, w32, w64}
 use Rattle.std.specs.Str.{is_utf8}
 use Rattle.std.specs.List.{list_all}
@@ -10,7 +10,7 @@ use Rattle.rank_set.specs.declared.TheConstants.{RANK_LIMIT}
 use Rattle.rank_set.specs.Ranks.{Ranks, in_order, size, is_subset, is_empty}
 use Rattle.rank_set.specs.Runs.{ranks_of_runs}
 use Rattle.rank_set.specs.Words.{ranks_in}
-use Rattle.rank_set.specs.Places.{from_places}
+use Rattle.rank_places.specs.Places.{from_places}
 use Rattle.call_path.specs.Path.{Path}
 use Rattle.call_path.specs.Good.{is_plain}
 use Rattle.packet_frame.specs.declared.error.FrameReason.{FrameReason}

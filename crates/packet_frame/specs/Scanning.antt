@@ -1,12 +1,12 @@
 -- What is left to read of a frame, once some of its fields were read.
-use Rattle.std.specs.Prelude.{◌≡◌, ◌≢◌, ℕ, zero, suc, ◌+◌, ◌-◌, ◌<◌, ◌≤◌, Bool, true, false, cond, not, nat_eq, nat_le, List, [], ◌∷◌, ◌++◌, length, take, get_or, string_bytes, Option, Some, None, Result, Ok, Err, ◌^◌}
+use Rattle.std.specs.Prelude.{◌≡◌, ℕ, ◌+◌, ◌-◌, ◌<◌, ◌≤◌, Bool, true, false, cond, not, nat_eq, List, [], ◌∷◌, ◌++◌, length, take, get_or, string_bytes, Option, Some, Result, Ok, Err}
 use Rattle.rank_set.specs.declared.TheConstants.{RANK_LIMIT}
 use Rattle.rank_set.specs.Ranks.{Ranks, none, union, size, is_empty, Has}
 use Rattle.rank_set.specs.Runs.{ranks_between, ranks_of_runs}
 use Rattle.rank_set.specs.Words.{ranks_in}
 use Rattle.call_path.specs.Path.{Path}
 use Rattle.packet_frame.specs.declared.error.FrameReason.{FrameReason}
-use Rattle.packet_frame.specs.declared.error.FrameReason.TheVariants.{Short, BadLength}
+use Rattle.packet_frame.specs.declared.error.FrameReason.TheVariants.{BadLength}
 use Rattle.packet_frame.specs.declared.error.FieldError.{FieldError}
 use Rattle.packet_frame.specs.declared.error.FieldError.TheVariants as errors
 use Rattle.packet_frame.specs.declared.packet.Packet.TheVariants.{Up, Done, Attach, Down}
@@ -16,8 +16,8 @@ use Rattle.packet_frame.specs.declared.scan.Part.{Part}
 use Rattle.packet_frame.specs.declared.scan.Part.TheVariants as parts
 use Rattle.packet_frame.specs.declared.scan.Scan.{Scan}
 use Rattle.packet_frame.specs.declared.scan.FrameRow.{FrameRow}
-use Rattle.packet_frame.specs.Fields.{Refusal, Form, whole, ◌>>=◌, Rules, read, list_form, width_of, after_field, is_short}
-use Rattle.packet_frame.specs.Frame.{Row, row_of, Sent, sent_of, Message, next_word, after_word, word_count_form, set_form, is_first, word_limit, no_rules, run_count_form, first_rank_form, last_rank_form, next_run, after_run, ends_rule, ranks_at, ends_needed, ends_form, depth_form, name_length_form, name_form, path_at, next_row, after_row, kind_form, stream_form, wave_form, row_count_form, content_form, packet_form, frame_form}
+use Rattle.packet_frame.specs.Fields.{Form, whole, ◌>>=◌, Rules, list_form, after_field, is_short}
+use Rattle.packet_frame.specs.Frame.{Row, row_of, sent_of, Message, next_word, after_word, word_count_form, set_form, is_first, word_limit, no_rules, run_count_form, last_rank_form, next_run, after_run, ends_rule, ranks_at, ends_needed, ends_form, name_length_form, name_form, path_at, next_row, after_row, kind_form, stream_form, wave_form, row_count_form, content_form, packet_form, frame_form}
 
 -- the path of a row behind another: the first frames of that one's path, and its own name
 abbrev pub path_behind : Path → FrameRow → Path
@@ -134,10 +134,14 @@ abbrev pub last_path : Path → List FrameRow → Path
 last_path before [] = before
 last_path before (r ∷ rs) = last_path (path_behind before r) rs
 
+-- a coverage's ranks are counted, and have their places
+abbrev pub IsCovered : ℕ → Ranks → Ranks → Type 0
+IsCovered count places cover = (count ≡ size cover) × (places ≡ cover)
+
 -- before a row, or behind the last
 pub record IsBeforeRow (s : Scan) : Type 0 where
   pub kind : s.kind ≡ 1
-  pub covered : s.covered ≡ size s.cover
+  pub covered : IsCovered s.covered s.places s.cover
   pub path : last_path [] s.rows.items ≡ s.path
 
 -- a row's depth was read
@@ -151,7 +155,7 @@ pub record IsInRow (s : Scan) : Type 0 where
 -- a row's name was read, and stands at the end of the path
 pub record IsNamed (s : Scan) : Type 0 where
   pub kind : s.kind ≡ 1
-  pub covered : s.covered ≡ size s.cover
+  pub covered : IsCovered s.covered s.places s.cover
   pub some : 0 < s.rows_left
   pub depth : 1 ≤ s.depth
   pub depth_limit : s.depth ≤ 128
@@ -183,7 +187,7 @@ IsReady fields.LastRank s = (s.kind ≡ 1) × (0 < s.left) × (s.least < RANK_LI
 IsReady fields.Offset s = IsInPart s.part s
 IsReady fields.WordCount s = IsInPart s.part s
 IsReady fields.Word s = IsInSet s × (0 < s.left)
-IsReady fields.RowCount s = (s.kind ≡ 1) × (s.covered ≡ size s.cover)
+IsReady fields.RowCount s = (s.kind ≡ 1) × IsCovered s.covered s.places s.cover
 IsReady fields.Depth s = IsBeforeRow s × (0 < s.rows_left)
 IsReady fields.NameLength s = IsInRow s
 IsReady fields.Name s = IsInRow s × (1 ≤ s.name_length) × (s.name_length ≤ 1023)

@@ -6,7 +6,7 @@ use Rattle.rank_set.specs.Ranks.{Ranks, in_order}
 use Rattle.rank_set.specs.Runs.{runs_of}
 use Rattle.rank_set.specs.Words.{offset_of}
 use Rattle.rank_set.specs.WordLists.{words_of}
-use Rattle.rank_set.specs.Places.{to_places}
+use Rattle.rank_places.specs.Places.{to_places}
 use Rattle.prefix_tree.specs.Tree.{frame_of}
 use Rattle.packet_frame.specs.declared.packet.Packet.TheVariants.{Up, Done, Attach, Down}
 use Rattle.packet_frame.specs.Frame.{Row, Sent, Message, is_first}

@@ -4,7 +4,7 @@ use Rattle.std.specs.List.{flat_map}
 use Rattle.std.specs.FinMap as finmap
 use Rattle.std.specs.Int.{w8, w16, to_be_bytes}
 use Rattle.rank_set.specs.Ranks.{Ranks}
-use Rattle.rank_set.specs.Places.{to_places}
+use Rattle.rank_places.specs.Places.{to_places}
 use Rattle.call_path.specs.Path.{Path}
 use Rattle.prefix_tree.specs.declared.Row.{Row}
 use Rattle.prefix_tree.specs.Tree.{Tree, Marks}

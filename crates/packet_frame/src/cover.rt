@@ -1,12 +1,13 @@
 //! The runs of a coverage.
 
-ghost use Rattle.std.specs.Prelude.{◌≡◌, length, OnOk};
+ghost use Rattle.std.specs.Prelude.{◌≡◌, length, OnOk, IfErr};
 ghost use Rattle.packet_frame.specs.declared.scan.Field.TheVariants as fields;
 ghost use Rattle.packet_frame.specs.Scanning.{left, left_at, Takes, IsReady, after_cover};
 
 use crate::error::{FieldError, FrameReason};
 use crate::number::u32_of;
 use crate::scan::{Field, Scan};
+use rank_places::CoverPlaces;
 use rank_set::{RANK_LIMIT, RankError, RankSet};
 use std::alloc::Global;
 
@@ -55,7 +56,7 @@ impl Scan {
     }
 
     #[tactic(auto, unfolding(crate::specs::Frame::last_rank_form))]
-    pub fn take_last_rank(&mut self, field: &[u8]) -> Result<(), FieldError>
+    pub fn take_last_rank(&mut self, alloc: Global, field: &[u8]) -> Result<(), FieldError>
         requires ready { IsReady fields.LastRank self.old }
         requires width { length field.now ≡ 4 }
         ensures takes { Takes (left_at fields.LastRank self.old) field.now result (left self.new) }
@@ -76,20 +77,23 @@ impl Scan {
         self.least = last + 2;
         self.left -= 1;
         if self.left == 0 {
-            self.end_cover();
-        } else {
-            self.field = Field::FirstRank;
+            return self.end_cover(alloc);
         }
+        self.field = Field::FirstRank;
         Ok(())
     }
 
     // The coverage is whole.
-    pub fn end_cover(&mut self)
+    pub fn end_cover(&mut self, alloc: Global) -> Result<(), FieldError>
         requires { self.old.kind ≡ 1 }
-        ensures left { left self.new ≡ after_cover self.old.version self.old.stream self.old.wave self.old.cover }
-        ensures ready { IsReady self.new.field self.new }
+        ensures left { OnOk result
+            (after_cover self.old.version self.old.stream self.old.wave self.old.cover ≡ left self.new) }
+        ensures err { IfErr result (λ e. e ≡ FieldError.OutOfMemory) }
+        ensures ready { OnOk result (IsReady self.new.field self.new) }
     {
+        self.places = CoverPlaces::of(alloc, &self.cover)?;
         self.covered = self.cover.count();
         self.field = Field::RowCount;
+        Ok(())
     }
 }

@@ -11,11 +11,13 @@ ghost use Rattle.packet_frame.specs.Frame.{frame_form};
 ghost use Rattle.packet_frame.specs.Sent.{sent_from, packet_map, as_packet};
 ghost use Rattle.packet_frame.specs.Spelling.{set_bytes, run_bytes, coverage_bytes, sent_bytes, spelling};
 ghost use Rattle.packet_frame.specs.Writing.{shown_bytes, rows_bytes};
-ghost use Rattle.packet_frame.specs.Sending.{HasText, MayBeTree, MayBePacket, MayBeEncoded};
+ghost use Rattle.packet_frame.specs.Sending.{HasText, MayBeTree, MayBePacket, MayBeEncoded, spelling_of};
+ghost use Rattle.packet_frame.specs.declared.packet.Packet.TheVariants.{Up};
 
 use crate::frame::Frame;
 use crate::packet::Packet;
 use prefix_tree::{PrefixTree, Row};
+use rank_places::CoverPlaces;
 use rank_set::{RANK_LIMIT, RankSet, Run};
 use std::alloc::{AllocError, Global};
 
@@ -39,6 +41,43 @@ pub fn encode<T: PrefixTree>(alloc: Global, packet: &Packet<T>) -> Result<Frame,
     Ok(Frame { bytes: out })
 }
 
+/// The bytes of the frame of an `Up` packet with this tree, which need not be put into a packet for it: as `encode` gives
+/// them.
+///
+/// An error means that memory is out.
+pub fn encode_up<T: PrefixTree>(
+    alloc: Global,
+    stream: u8,
+    wave: u8,
+    tree: &T,
+) -> Result<Frame, AllocError>
+    requires { MayBeEncoded (Up stream wave (T.tree tree.now)) }
+    ensures spelling { IfOk result (λ frame. frame ≡ spelling_of 2 (Up stream wave (T.tree tree.now))) }
+    ensures read_back { IfOk result
+        (λ frame. (more : List ℕ)
+        → as_packet (read frame_form (frame ++ more) 0) ≡ Ok (Up stream wave (T.tree tree.now), length frame)) }
+{
+    let mut out = Vec::new(alloc);
+    put_up(stream, wave, tree, &mut out)?;
+    Ok(Frame { bytes: out })
+}
+
+// Appends the frame of an `Up` packet.
+fn put_up<T: PrefixTree>(
+    stream: u8,
+    wave: u8,
+    tree: &T,
+    out: &mut Vec<u8>,
+) -> Result<(), AllocError>
+    requires { MayBeEncoded (Up stream wave (T.tree tree.now)) }
+    ensures spelling { OnOk result
+        (out.new.items ≡ out.old.items ++ spelling_of 2 (Up stream wave (T.tree tree.now))) }
+    ensures may { OnOk result (MayBePacket 2 (Up stream wave (T.tree tree.now))) }
+{
+    out.extend_from_slice(&[VERSION, 1, stream, wave])?;
+    put_tree(tree, out)
+}
+
 // Appends the frame of a packet.
 fn put_packet<T: PrefixTree>(packet: &Packet<T>, out: &mut Vec<u8>) -> Result<(), AllocError>
     requires { MayBeEncoded (packet_map T.tree packet.now) }
@@ -47,10 +86,7 @@ fn put_packet<T: PrefixTree>(packet: &Packet<T>, out: &mut Vec<u8>) -> Result<()
     ensures may { OnOk result (MayBePacket 2 (packet_map T.tree packet.now)) }
 {
     match packet {
-        Packet::Up { stream, wave, tree } => {
-            out.extend_from_slice(&[VERSION, 1, *stream, *wave])?;
-            put_tree(tree, out)
-        }
+        Packet::Up { stream, wave, tree } => put_up(*stream, *wave, tree, out),
         Packet::Done { stream, wave } => out.extend_from_slice(&[VERSION, 2, *stream, *wave]),
         Packet::Attach => out.extend_from_slice(&[VERSION, 3]),
         Packet::Down => out.extend_from_slice(&[VERSION, 4]),
@@ -66,32 +102,37 @@ fn put_tree<T: PrefixTree>(tree: &T, out: &mut Vec<u8>) -> Result<(), AllocError
     let cover = tree.row(0).label;
     put_cover(cover, out)?;
     out.extend_from_slice(&((tree.rows() - 1) as u16).to_be_bytes())?;
-    put_rows(tree, cover, out)
+    let places = CoverPlaces::of(*out.allocator(), cover)?;
+    put_rows(tree, &places, out)
 }
 
 // Appends the rows of a tree besides the root.
-fn put_rows<T: PrefixTree>(tree: &T, cover: &RankSet, out: &mut Vec<u8>) -> Result<(), AllocError>
-    requires { cover.now ≡ (T.tree tree.now).coverage }
+fn put_rows<T: PrefixTree>(
+    tree: &T,
+    places: &CoverPlaces,
+    out: &mut Vec<u8>,
+) -> Result<(), AllocError>
+    requires { places.now ≡ (T.tree tree.now).coverage }
     ensures bytes { OnOk result (out.new.items ≡ out.old.items ++ rows_bytes (T.tree tree.now)) }
     ensures text { OnOk result (HasText (T.tree tree.now)) }
 {
     let mut at = tree.cursor(*out.allocator())?;
     while let Some(row) = tree.next_row(&mut at) {
-        put_row(&row, cover, out)?;
+        put_row(&row, places, out)?;
     }
     Ok(())
 }
 
 // Appends a row: its depth, the length of its last frame, that frame, and the places of its ends in the coverage.
-fn put_row(row: &Row<'_>, cover: &RankSet, out: &mut Vec<u8>) -> Result<(), AllocError>
+fn put_row(row: &Row<'_>, places: &CoverPlaces, out: &mut Vec<u8>) -> Result<(), AllocError>
     requires good { IsGoodRow row.now }
-    requires covered { is_subset row.now.ends.now cover.now ≡ true }
-    ensures bytes { OnOk result (out.new.items ≡ out.old.items ++ shown_bytes cover.now row.now) }
+    requires covered { is_subset row.now.ends.now places.now ≡ true }
+    ensures bytes { OnOk result (out.new.items ≡ out.old.items ++ shown_bytes places.now row.now) }
     ensures text { OnOk result (IsUtf8 row.now.frame.now) }
 {
     out.push(row.depth as u8)?;
     put_name(row.frame, out)?;
-    put_set(&row.ends.to_places(cover)?, out)
+    put_set(&places.to_places(row.ends)?, out)
 }
 
 // Appends a frame of a path: its length, and its bytes.

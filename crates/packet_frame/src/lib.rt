@@ -24,7 +24,7 @@ mod sets;
 mod tests;
 
 pub use decoding::decode;
-pub use encoding::encode;
+pub use encoding::{encode, encode_up};
 pub use error::{FrameError, FrameReason};
 pub use feeder::Feeder;
 pub use frame::Frame;

@@ -5,6 +5,7 @@ ghost use Rattle.packet_frame.specs.Scanning.{left, Takes, IsReady, field_width}
 
 use crate::error::FieldError;
 use call_path::PathBuilder;
+use rank_places::CoverPlaces;
 use rank_set::RankSet;
 use std::alloc::Global;
 
@@ -56,6 +57,8 @@ pub struct Scan {
     pub wave: u8,
     /// The coverage, as far as it was read.
     pub cover: RankSet,
+    /// The places of its ranks, once it is whole.
+    pub places: CoverPlaces,
     /// How many ranks it has, once it is whole.
     pub covered: u32,
     /// The least rank with which the next run may begin, or its first rank where its last comes next.
@@ -89,6 +92,7 @@ impl Scan {
             stream: 0,
             wave: 0,
             cover: RankSet::new(alloc),
+            places: CoverPlaces::new(alloc),
             covered: 0,
             least: 0,
             part: Part::Coverage,
@@ -132,7 +136,7 @@ impl Scan {
             Field::Wave => self.take_wave(field),
             Field::RunCount => self.take_run_count(alloc, field),
             Field::FirstRank => self.take_first_rank(field),
-            Field::LastRank => self.take_last_rank(field),
+            Field::LastRank => self.take_last_rank(alloc, field),
             Field::Offset => self.take_offset(field),
             Field::WordCount => self.take_word_count(alloc, field),
             Field::Word => self.take_word(alloc, field),

@@ -152,12 +152,11 @@ impl Scan {
         match self.part {
             Part::Coverage => {
                 self.cover = numbers;
-                self.end_cover();
-                Ok(())
+                self.end_cover(alloc)
             }
             Part::Ends if self.version == 1 => self.end_row(alloc, numbers),
             Part::Ends => {
-                let ends = numbers.from_places(&self.cover)?;
+                let ends = self.places.from_places(&numbers)?;
                 self.end_row(alloc, ends)
             }
         }

@@ -10,7 +10,6 @@ pub mod NextBits
 pub mod Reading
 pub mod OneItem
 pub mod Spanning
-pub mod Places
 pub mod WordLists
 pub mod OneWord
 pub mod RunLists

@@ -4,7 +4,6 @@ pub mod Text
 pub mod Words
 pub mod WordLists
 pub mod ListRows
-pub mod Places
 pub mod Digits
 pub mod RanksText
 pub mod Rows

@@ -5,7 +5,6 @@ use Rattle.rank_set.specs.declared.read.RanksError.TheVariants.{Empty, BadNumber
 use Rattle.rank_set.specs.Ranks.{none, has, set_of, union, with_rank, those}
 use Rattle.rank_set.specs.Runs.{ranks_between}
 use Rattle.rank_set.specs.Words.{word_at, ranks_in, offset_of, spans}
-use Rattle.rank_set.specs.Places.{place, to_places, from_places}
 use Rattle.rank_set.specs.Text.{text_of}
 use Rattle.rank_set.specs.RanksText.{ranks_text, ranks_at, items, item_at}
 
@@ -125,13 +124,3 @@ no_words = refl
 no_ranks : spans none none ≡ true
 unfolding spans
 no_ranks = refl
-
--- places
-
-second_and_fourth : to_places (set_of (3 ∷ 5 ∷ 6 ∷ 9 ∷ [])) (set_of (5 ∷ 9 ∷ [])) ≡ set_of (1 ∷ 3 ∷ [])
-unfolding to_places place those with_rank
-second_and_fourth = refl
-
-at_second_and_fourth : from_places (set_of (3 ∷ 5 ∷ 6 ∷ 9 ∷ [])) (set_of (1 ∷ 3 ∷ [])) ≡ set_of (5 ∷ 9 ∷ [])
-unfolding from_places place those has with_rank
-at_second_and_fourth = refl

@@ -9,10 +9,8 @@ ghost use Rattle.rank_set.specs.Ranks.{none, has, with_rank, union, those, in_or
 ghost use Rattle.rank_set.specs.Runs.{ranks_between, IsRun, runs_of};
 ghost use Rattle.rank_set.specs.Words.{ranks_in, AreWords, offset_of, spans};
 ghost use Rattle.rank_set.specs.WordLists.{words_of};
-ghost use Rattle.rank_set.specs.Places.{to_places, from_places};
 ghost use Rattle.rank_set.specs.Text.{text_of};
 
-mod cover;
 pub mod digits;
 pub mod laws;
 mod one_word;
@@ -319,54 +317,6 @@ impl RankSet {
         ensures { IfOk result (λ runs. map (λ run. (run.first, run.last)) runs.items ≡ runs_of (in_order self.now)) }
     {
         run_list::runs_in(alloc, self.offset, self.words.as_slice())
-    }
-
-    /// The places of the ranks in a cover, a set that has them all: the place of a rank is the number of lesser ranks
-    /// of the cover. The cost is that of the words and runs of both sets.
-    pub fn to_places(&self, cover: &RankSet) -> Result<RankSet, AllocError>
-        requires { is_subset self.now cover.now ≡ true }
-        ensures places { IfOk result (λ places. places ≡ to_places cover.now self.now) }
-        ensures in_cover { IfOk result (λ places. (p : ℕ) → Has p places → p < size cover.now) }
-        ensures inverse { IfOk result (λ places. from_places cover.now places ≡ self.now) }
-    {
-        let mut places = RankSet::new(*self.words.allocator());
-        let mut from = 0;
-        let mut place = 0;
-        while let Some(run) = cover.next_run(from) {
-            let words = self.words.as_slice();
-            cover::add_moved(self.offset, words, run.first, run.last, place, &mut places)?;
-            place += run.last - run.first + 1;
-            from = run.last + 1;
-        }
-        Ok(places)
-    }
-
-    /// The ranks of a cover whose places are in the set, each place below the cover's count: the way back from
-    /// `to_places`. The cost is that of the words and runs of both sets.
-    pub fn from_places(&self, cover: &RankSet) -> Result<RankSet, AllocError>
-        requires { (p : ℕ) → Has p self.now → p < size cover.now }
-        ensures ranks { IfOk result (λ ranks. ranks ≡ from_places cover.now self.now) }
-        ensures subset { IfOk result (λ ranks. is_subset ranks cover.now ≡ true) }
-        ensures inverse { IfOk result (λ ranks. to_places cover.now ranks ≡ self.now) }
-    {
-        let mut ranks = RankSet::new(*self.words.allocator());
-        let mut from = 0;
-        let mut first_place = 0;
-        while let Some(run) = cover.next_run(from) {
-            let words = self.words.as_slice();
-            let last_place = first_place + (run.last - run.first);
-            cover::add_moved(
-                self.offset,
-                words,
-                first_place,
-                last_place,
-                run.first,
-                &mut ranks,
-            )?;
-            first_place = last_place + 1;
-            from = run.last + 1;
-        }
-        Ok(ranks)
     }
 
     /// Appends the set's text, as `4:[0-2,7]`. On failure `out` is unchanged.

@@ -128,20 +128,6 @@ fn assert_common(
     assert_text(rt, alloc, &set, text)
 }
 
-fn assert_places(
-    rt: &impl Abort,
-    alloc: Global,
-    cover: &RankSet,
-    ranks: &RankSet,
-    text: &str,
-) -> Result<(), Fail> {
-    assert!(rt; ranks.is_subset(cover));
-    let places = ranks.to_places(cover)?;
-    assert_text(rt, alloc, &places, text)?;
-    assert!(rt; places.from_places(cover)?.equals(ranks));
-    Ok(())
-}
-
 #[test]
 fn combines_sets_at_the_borders_of_words(rt: HostRuntime) -> Result<(), Fail> {
     let alloc = rt.alloc();
@@ -283,30 +269,6 @@ fn unites_within_its_words(rt: HostRuntime) -> Result<(), Fail> {
     assert!(rt; !set.spans(&read_ranks(alloc, b"63,64")?));
     set.unite_within(&other);
     assert_text(&rt, alloc, &set, "4:[64,70,1048512,1048575]")
-}
-
-// A cover, some of its ranks, and their places.
-const PLACES: [(&str, &str, &str); 5] = [
-    ("3,5-6,9", "5,9", "2:[1,3]"),
-    ("0-1048575", "0,64,1048575", "3:[0,64,1048575]"),
-    (
-        "64-191,1048512-1048575",
-        "64,127-128,1048512,1048575",
-        "5:[0,63-64,128,191]",
-    ),
-    ("7,1048575", "1048575", "1:[1]"),
-    ("100-300", "101-299", "199:[1-199]"),
-];
-
-#[test]
-fn gives_places_and_takes_them_back(rt: HostRuntime) -> Result<(), Fail> {
-    let alloc = rt.alloc();
-    for (cover, ranks, places) in &PLACES {
-        let cover = read_ranks(alloc, cover.as_bytes())?;
-        let ranks = read_ranks(alloc, ranks.as_bytes())?;
-        assert_places(&rt, alloc, &cover, &ranks, places)?;
-    }
-    Ok(())
 }
 
 const TEXTS: [(&str, &str); 7] = [

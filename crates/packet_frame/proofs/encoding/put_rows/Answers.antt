@@ -8,13 +8,13 @@ use Rattle.packet_frame.proofs.Written.{ends_covered, rows_from, text_from}
 use Rattle.packet_frame.proofs.encoding.put_rows.Goals as goal
 
 pub put_row-requires-clause-covered : goal.put_row-requires-clause-covered
-put_row-requires-clause-covered g c = ends_covered (g.T.PrefixTree.tree c.args.tree.now) c.in_ok-at.ensures.lawful.tree c.args.cover.now c.requires c.in-Some.row c.loop-row.at.row c.loop-row.invariant.below_root c.in-Some.ensures.within c.in-Some.ensures.shows
+put_row-requires-clause-covered g c = ends_covered (g.T.PrefixTree.tree c.args.tree.now) c.in_ok-at.ensures.lawful.tree c.args.places.now c.requires c.in-Some.row c.loop-row.at.row c.loop-row.invariant.below_root c.in-Some.ensures.within c.in-Some.ensures.shows
 
 pub loop-row-preserved : goal.loop-row-preserved
 loop-row-preserved g c =
     let rows = rows_of (g.T.PrefixTree.tree c.args.tree.now) in
     let row = c.in-Some.row in
-    let cover = c.args.cover.now in
+    let cover = c.args.places.now in
     let k = c.loop-row.at.row in
     let h = c.loop-row.invariant in
     record {

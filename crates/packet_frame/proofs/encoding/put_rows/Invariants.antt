@@ -10,7 +10,7 @@ abbrev pub invariant-loop-row : goal.invariant-loop-row
 invariant-loop-row g l = record {
   cursor : g.T.PrefixTree.is_cursor l.tree l.at;
   below_root : 1 ≤ l.at.row;
-  bytes : l.out.items ++ flat_map (entry_bytes l.cover) (drop l.at.row (rows_of (g.T.PrefixTree.tree l.tree))) ≡ l.fn.out.items ++ rows_bytes (g.T.PrefixTree.tree l.tree);
+  bytes : l.out.items ++ flat_map (entry_bytes l.places) (drop l.at.row (rows_of (g.T.PrefixTree.tree l.tree))) ≡ l.fn.out.items ++ rows_bytes (g.T.PrefixTree.tree l.tree);
   text : All (λ e. is_utf8 (frame_of e.0) ≡ true) (drop l.at.row (rows_of (g.T.PrefixTree.tree l.tree))) → HasText (g.T.PrefixTree.tree l.tree);
 }
 

@@ -14,7 +14,7 @@ next_word-requires c =
     let w = c.u64_of-word.result in
     let fine : (not (nat_eq (length s.words.items) 0 || nat_eq (s.left - 1) 0) || not (nat_eq w 0)) ≡ true = search rules in
     let none : broken (word_rule s.part s.version s.cover (s.offset + length s.words.items) w) ≡ None = c.obeys.ensures ∙ ap (λ (b : Bool). cond b None (Some NotCanonical)) c.if-not-obeys.false in
-    with_word s _ w c.requires.ready.0 c.requires.ready.1 refl c.in_ok-push.ensures.items refl refl (part_kept s.part s _ refl refl refl refl refl refl refl refl c.requires.ready.0.part) refl refl fine (obeyed s.part s.version (s.offset + length s.words.items) w s.cover none)
+    with_word s _ w c.requires.ready.0 c.requires.ready.1 refl c.in_ok-push.ensures.items refl refl (part_kept s.part s _ refl refl refl refl refl refl refl refl refl c.requires.ready.0.part) refl refl fine (obeyed s.part s.version (s.offset + length s.words.items) w s.cover none)
 
 pub returns-clause-takes : goal.returns-clause-takes
 unfolding word_form

@@ -14,7 +14,7 @@ next_word-requires c =
     let s = c.args.self.now in
     let none : length c.clear.new.self.items ≡ 0 = ap length c.clear.ensures.items in
     record {
-      part = part_kept s.part s _ refl refl refl refl refl refl refl refl c.requires.ready;
+      part = part_kept s.part s _ refl refl refl refl refl refl refl refl refl c.requires.ready;
       fits =
           let within : s.offset + c.u16_of-count.result ≤ word_limit s.version = omega (arith, c.from.ensures, c.from-2.ensures, c.word_limit.ensures, c.if-from-word_limit.false) in
           omega (arith, none, within_words s.version (s.offset + c.u16_of-count.result) within, c.from-self.ensures);

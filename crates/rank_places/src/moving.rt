@@ -1,0 +1,114 @@
+//! Moves numbers between a cover and the places in it.
+
+ghost use Rattle.std.specs.Prelude.{◌≡◌, ◌≢◌, ℕ, ◌+◌, ◌-◌, ◌*◌, ◌/◌, ◌<◌, ◌≤◌, true, [], ◌∷◌, OnOk, IfOk};
+ghost use Rattle.rank_set.specs.Ranks.{none, has, union};
+ghost use Rattle.rank_set.specs.Words.{ranks_in, offset_of};
+ghost use Rattle.rank_set.specs.WordLists.{words_of};
+ghost use Rattle.rank_places.specs.Table.{ArePlaced, cover_of, inside, Becomes, image, AreMoved};
+ghost use Rattle.rank_places.specs.Collected.{collected, IsCollected};
+
+use crate::collected::Collected;
+use crate::table::{PlacedRun, Shift, find, shift_at, shift_with};
+use rank_set::{RankSet, WORD_LIMIT};
+use std::alloc::{AllocError, Global};
+
+// Adds what the numbers of a word become, where it was a run before whose shift is given. It gives the shift of the run
+// that the last of them is in.
+fn put_moved(
+    runs: &[PlacedRun],
+    back: bool,
+    before: Shift,
+    index: u32,
+    word: u64,
+    out: &mut Collected,
+) -> Result<Shift, AllocError>
+    requires placed { ArePlaced 0 0 runs.now }
+    requires moves { AreMoved back (cover_of runs.now) before.first before.last before.target }
+    requires within_limit { index < WORD_LIMIT }
+    requires inside { (x : ℕ) → has (ranks_in index (word ∷ [])) x ≡ true
+        → inside back (cover_of runs.now) x ≡ true }
+    requires good { IsCollected out.old }
+    requires above { (q x y : ℕ) → has (collected out.old) q ≡ true → 64 * index ≤ x
+        → Becomes back (cover_of runs.now) x y → q < y }
+    ensures moves { IfOk result (λ after. AreMoved back (cover_of runs.now) after.first after.last after.target) }
+    ensures good { OnOk result (IsCollected out.new) }
+    ensures numbers { OnOk result
+        (collected out.new ≡ union (collected out.old) (image back (cover_of runs.now) (ranks_in index (word ∷ [])))) }
+{
+    let mut run = before;
+    let mut from = 64 * index;
+    let mut rest = word;
+    while rest != 0 {
+        let zeros = rest.trailing_zeros();
+        let first = from + zeros;
+        run = shift_with(runs, back, run, first);
+        let len = (run.last - first).min(63 - zeros);
+        let bits = rest >> zeros;
+        out.put(
+            run.target + (first - run.first),
+            bits & u64::MAX >> (63 - len),
+        )?;
+        rest = bits >> len >> 1;
+        from = first + len + 1;
+    }
+    Ok(run)
+}
+
+// What the numbers of a set become that lie in one run, which is moved by whole words.
+fn moved_words(alloc: Global, set: &RankSet, run: Shift) -> Result<RankSet, AllocError>
+    requires some { set.now ≢ none }
+    requires start { run.first / 64 ≤ offset_of set.now }
+    requires below_limit { (x : ℕ) → has set.now x ≡ true → run.target / 64 + (x / 64 - run.first / 64) < WORD_LIMIT }
+    ensures moved { IfOk result
+        (λ moved. moved ≡ ranks_in (run.target / 64 + (offset_of set.now - run.first / 64)) (words_of set.now)) }
+    ensures words { ranks_in (offset_of set.now) (words_of set.now) ≡ set.now }
+{
+    let words = Vec::from_slice(alloc, set.words())?;
+    let offset = run.target / 64 + (set.word_offset() - run.first / 64);
+    Ok(RankSet::from_words(offset, words))
+}
+
+/// What the numbers of a set become: places of the ranks of the cover, or, with `back`, ranks at places.
+pub(crate) fn moved(
+    alloc: Global,
+    runs: &[PlacedRun],
+    back: bool,
+    set: &RankSet,
+) -> Result<RankSet, AllocError>
+    requires placed { ArePlaced 0 0 runs.now }
+    requires inside { (x : ℕ) → has set.now x ≡ true → inside back (cover_of runs.now) x ≡ true }
+    ensures { IfOk result (λ moved. moved ≡ image back (cover_of runs.now) set.now) }
+{
+    let Some(first) = set.first() else {
+        return Ok(RankSet::new(alloc));
+    };
+    let at = find(runs, back, 0, first);
+    let run = shift_at(runs, back, at, first);
+    if at + 1 == runs.len() && run.first % 64 == run.target % 64 {
+        return moved_words(alloc, set, run);
+    }
+    moved_bits(alloc, runs, back, run, set)
+}
+
+// What the numbers of a set become, bit by bit where they must. The shift is that of any run.
+fn moved_bits(
+    alloc: Global,
+    runs: &[PlacedRun],
+    back: bool,
+    before: Shift,
+    set: &RankSet,
+) -> Result<RankSet, AllocError>
+    requires placed { ArePlaced 0 0 runs.now }
+    requires moves { AreMoved back (cover_of runs.now) before.first before.last before.target }
+    requires inside { (x : ℕ) → has set.now x ≡ true → inside back (cover_of runs.now) x ≡ true }
+    ensures { IfOk result (λ moved. moved ≡ image back (cover_of runs.now) set.now) }
+{
+    let mut out = Collected::new(alloc);
+    let mut run = before;
+    let mut index = set.word_offset();
+    for word in set.words() {
+        run = put_moved(runs, back, run, index, *word, &mut out)?;
+        index += 1;
+    }
+    out.finish()
+}
