@@ -4,12 +4,12 @@ use Rattle.std.proofs.Common.{◌≡◌, ◌≢◌, ◌⊎◌, inl, inr, ℕ, Bo
 use Rattle.std.proofs.lemmas.Bool.{cond_both, cond-true, cond-false, and_parts, and_from, cases_Bool, eqb-false, true≢false, or_cases, not_from_true}
 use Rattle.std.proofs.lemmas.List.Elements.{filter-append}
 use Rattle.overlay_setup.specs.NodeSets.{In, member}
-use Rattle.stat_plan.specs.Machine.Waves.{put_at, Wave, Open, Closed, Book, set_wave, is_open, is_closed, is_fired, sent_of, covering, growing, ticked, unsent}
+use Rattle.stat_plan.specs.Machine.Waves.{put_at, Wave, Open, Closed, Book, set_wave, is_open, is_closed, is_fired, sent_of, covering, growing, ticked, unsent, is_empty_open}
 use Rattle.stat_plan.specs.Plans.{Plan, IsUnder, ancestors, serves, mode, is_front, front, daemons, ranks, is_within, is_related, waves_at, waves_of}
 use Rattle.stat_plan.specs.Machine.Due.{due_act}
 use Rattle.overlay_core.specs.Nodes.{Packet, Up, Done, Attach, Down, Node, Effects, Outcome, Release, begin, due_at, to_parent, dones, acted, act_as, act, act_each, done_work, sampled, after_tick, received_up, received_done, received_attach, received_down, received}
 use Rattle.stat_plan.specs.Machine.Kin.{Kin, complete, is_parent, without_child, with_parent}
-use Rattle.overlay_core.specs.Machine.{State, start, step, commit, with_link, lose, receive, is_enabled, is_empty_open}
+use Rattle.overlay_core.specs.Machine.{State, start, step, commit, with_link, lose, receive, is_enabled}
 use Rattle.overlay_core.proofs.PlanFacts.{HasPlanFacts}
 use Rattle.overlay_core.specs.LinkInvariant.{LinkInvariant, KinIsSound, PacketIsSound, WaveIsSound, BookIsSound, OpenIsSound}
 use Rattle.overlay_core.specs.History.{of_wave, ByKind, MissesOnlyLost, IsHistory, HistoryIsSound}

@@ -3,6 +3,7 @@ use Rattle.std.proofs.Common.{◌≡◌, ◌≢◌, ◌⊎◌, inl, inr, ℕ, su
 use Rattle.std.specs.List.{list_all, list_any}
 use Rattle.std.proofs.lemmas.Bool.{true≢false, or_cases, or_left, or_right, eqb-false, and_parts, and_from, ltb-false, ltb-true}
 use Rattle.overlay_setup.specs.NodeSets.{up_to, In, member, with_number, without_number, IsStrictlyIncreasing}
+use Rattle.stat_plan.proofs.KinLemmas.{in_with_number, in_without}
 use Rattle.rank_set.specs.Ranks.{Ranks, none, has, size, in_order, union, is_subset, is_same, is_empty, Has, IsSubset, has-none, has-union, has-in_order, same_ranks, subset_has, subset_from, none_from_size}
 use Rattle.std.specs.Ordering.{nat_cmp, eq_by_cmp, is_eq}
 use Rattle.std.specs.Cmp.{both_ways, nat_cmp_total, tied_itself}
@@ -15,44 +16,6 @@ in_member x (y ∷ ys) (inr h) = or_right (x == y) (member x ys) (in_member x ys
 pub in_from_member : (x : ℕ) (xs : List ℕ) → member x xs ≡ true → In x xs
 in_from_member x [] e = absurd (cc)
 in_from_member x (y ∷ ys) e = elim (or_cases (x == y) (member x ys) e) [ inl a ↦ inl (eqb-true x y a) | inr b ↦ inr (in_from_member x ys b) ]
-
-pub in_with_number : (x y : ℕ) (ys : List ℕ) → In x (with_number y ys) → (x ≡ y) ⊎ In x ys
-in_with_number x y [] h = h
-in_with_number x y (z ∷ zs) h = go (in_with_number x y zs) (nat_lt y z) (y == z) h
-  where
-    go : (In x (with_number y zs) → (x ≡ y) ⊎ In x zs) → (a b : Bool) → In x (cond a (y ∷ z ∷ zs) (cond b (z ∷ zs) (z ∷ with_number y zs))) → (x ≡ y) ⊎ In x (z ∷ zs)
-    go ih true b k = k
-    go ih false true k = inr k
-    go ih false false (inl e) = inr (inl e)
-    go ih false false (inr k) = elim (ih k) [ inl e ↦ inl e | inr i ↦ inr (inr i) ]
-
-pub with_number_old : (x y : ℕ) (ys : List ℕ) → In x ys → In x (with_number y ys)
-with_number_old x y [] h = absurd h
-with_number_old x y (z ∷ zs) h = go (with_number_old x y zs) (nat_lt y z) (y == z) h
-  where
-    go : (In x zs → In x (with_number y zs)) → (a b : Bool) → In x (z ∷ zs) → In x (cond a (y ∷ z ∷ zs) (cond b (z ∷ zs) (z ∷ with_number y zs)))
-    go ih true b k = inr k
-    go ih false true k = k
-    go ih false false (inl e) = inl e
-    go ih false false (inr k) = inr (ih k)
-
-pub with_number_new : (y : ℕ) (ys : List ℕ) → In y (with_number y ys)
-with_number_new y [] = inl refl
-with_number_new y (z ∷ zs) = go (with_number_new y zs) (nat_lt y z) (y == z) refl
-  where
-    go : In y (with_number y zs) → (a b : Bool) → (y == z) ≡ b → In y (cond a (y ∷ z ∷ zs) (cond b (z ∷ zs) (z ∷ with_number y zs)))
-    go ih true b e = inl refl
-    go ih false true e = inl (eqb-true y z e)
-    go ih false false e = inr ih
-
-pub in_without : (x y : ℕ) (ys : List ℕ) → In x (without_number y ys) → In x ys
-in_without x y [] h = h
-in_without x y (z ∷ zs) h = go (in_without x y zs) (y == z) h
-  where
-    go : (In x (without_number y zs) → In x zs) → (a : Bool) → In x (cond a (without_number y zs) (z ∷ without_number y zs)) → In x (z ∷ zs)
-    go ih true k = inr (ih k)
-    go ih false (inl e) = inl e
-    go ih false (inr k) = inr (ih k)
 
 pub in_append : {X : Type 0} (x : X) (xs ys : List X) → In x (xs ++ ys) → In x xs ⊎ In x ys
 in_append x [] ys h = inr h

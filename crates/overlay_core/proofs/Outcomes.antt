@@ -1,44 +1,24 @@
 -- What each event of a node leaves, of a sound node.
 use Rattle.rank_set.specs.Ranks.{Ranks, union, Has, IsSubset}
 use Rattle.std.proofs.Common.{◌≡◌, ◌⊎◌, inl, inr, ℕ, Bool, true, false, cond, ◌&&◌, ◌==◌, List, [], ◌∷◌, filter, find, refl, sym, ap, subst, ◌∙◌, eqb-true, Option, Some, None}
-use Rattle.std.proofs.lemmas.Bool.{cond_both, and_parts, cases_Bool, eqb-false}
-use Rattle.overlay_setup.specs.NodeSets.{In, member, with_number}
+use Rattle.std.proofs.lemmas.Bool.{cond_both, and_parts}
+use Rattle.overlay_setup.specs.NodeSets.{In, with_number}
 use Rattle.stat_plan.specs.Plans.{Plan, IsUnder, ancestors, serves, daemons, ranks, waves_at, waves_of}
 use Rattle.overlay_core.specs.Nodes.{Packet, Up, Done, Attach, Down, Node, Effects, Outcome, begin, done_work, sampled, after_tick, received_up, received_done, received_attach, received_down, received}
-use Rattle.stat_plan.specs.Machine.Kin.{Kin, nearest, is_parent, without_child, with_parent}
-use Rattle.stat_plan.specs.Machine.Waves.{Wave, Open, Closed, Book, covering, growing, ticked, unsent, is_closed, is_fired}
-use Rattle.overlay_core.specs.Machine.{next_sample, is_empty_open, is_wave}
+use Rattle.stat_plan.specs.Machine.Kin.{Kin, is_parent, without_child, with_parent}
+use Rattle.stat_plan.specs.Machine.Waves.{Wave, Open, Closed, Book, covering, growing, ticked, unsent, is_closed, is_fired, is_empty_open}
+use Rattle.stat_plan.proofs.KinLemmas.{in_with_number, with_number_old, with_number_new, in_without, nearest_in, nearest_same}
+use Rattle.overlay_core.specs.Machine.{next_sample, is_wave}
 use Rattle.overlay_core.proofs.PlanFacts.{HasPlanFacts}
 use Rattle.overlay_core.specs.LinkInvariant.{AreRelated, ComesWhole, KinIsSound, PacketIsSound, SendIsSound, WaveIsSound, BookIsSound, IsUnion}
-use Rattle.overlay_core.proofs.Lists.{in_map_filter, in_member, in_from_member, in_with_number, with_number_old, with_number_new, in_without, in_union, union_left, union_right, with_number_increases, without_increases, filter_from, no_rank, empty_true}
+use Rattle.overlay_core.proofs.Lists.{in_map_filter, in_union, union_left, union_right, with_number_increases, without_increases, filter_from, no_rank, empty_true}
 use Rattle.overlay_core.proofs.Acts.{IsSubsetOf, each_wave_set, KinFits, WorkIsSound, act_sound, act_each_sound, dones_sound, to_parent_sound}
-
-pub nearest_in : (xs lost : List ℕ) (m : ℕ) → nearest xs lost ≡ Some m → In m xs
-nearest_in [] lost m e = absurd (cc)
-nearest_in (x ∷ xs) lost m e = go (nearest_in xs lost m) (member x lost) e
-  where
-    go : (nearest xs lost ≡ Some m → In m xs) → (b : Bool) → cond b (nearest xs lost) (Some x) ≡ Some m → In m (x ∷ xs)
-    go ih true k = inr (ih k)
-    go ih false k = inl (cc)
 
 pub kin_fits : (p : Plan) (alive : ℕ → Bool) (n : ℕ) (kin : Kin) → KinIsSound p alive n kin → KinFits p n kin
 kin_fits p alive n kin h = record {
   parent = λ m e. nearest_in (ancestors p n) kin.lost m (sym h.parent ∙ e);
   children = h.children;
 }
-
--- the member test of a list with one number more
-pub member_more : (a m : ℕ) (lost : List ℕ) → (a ≡ m → ⊥) → member a lost ≡ false → member a (with_number m lost) ≡ false
-member_more a m lost ne e = elim (cases_Bool (member a (with_number m lost))) [ inl t ↦ absurd (elim (in_with_number a m lost (in_from_member a (with_number m lost) t)) [ inl i ↦ ne i | inr i ↦ let k : member a lost ≡ true = in_member a lost i in cc ]) | inr f ↦ f ]
-
--- a number that isn't the nearest leaves the nearest as it is
-pub nearest_same : (xs lost : List ℕ) (m : ℕ) → is_parent (nearest xs lost) m ≡ false → nearest xs (with_number m lost) ≡ nearest xs lost
-nearest_same [] lost m e = refl
-nearest_same (x ∷ xs) lost m e = go (nearest_same xs lost m) (member x lost) refl e
-  where
-    go : (is_parent (nearest xs lost) m ≡ false → nearest xs (with_number m lost) ≡ nearest xs lost) → (b : Bool) → member x lost ≡ b → is_parent (cond b (nearest xs lost) (Some x)) m ≡ false → cond (member x (with_number m lost)) (nearest xs (with_number m lost)) (Some x) ≡ cond b (nearest xs lost) (Some x)
-    go ih true eb k = let t : member x (with_number m lost) ≡ true = in_member x (with_number m lost) (with_number_old x m lost (in_from_member x lost eb)) in rw t (ih k)
-    go ih false eb k = let t : member x (with_number m lost) ≡ false = member_more x m lost (eqb-false x m k) eb in rw t refl
 
 -- what an outcome is, of a node that hears of the losses `heard`
 pub record OutcomeIsSound (p : Plan) (alive : ℕ → Bool) (n : ℕ) (x : Node) (heard : List ℕ) (o : Outcome) : Type 0 where

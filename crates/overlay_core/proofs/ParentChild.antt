@@ -5,6 +5,7 @@ use Rattle.overlay_setup.specs.NodeSets.{In}
 use Rattle.stat_plan.specs.Plans.{Plan, ancestors, waves_at, serves}
 use Rattle.overlay_core.specs.Nodes.{Packet, Up, Done, Attach, Down, Node, Outcome, received}
 use Rattle.stat_plan.specs.Machine.Waves.{is_open}
+use Rattle.stat_plan.proofs.KinLemmas.{nearest_in}
 use Rattle.overlay_core.specs.Machine.{State, step, commit, with_link, lose, receive, to, is_enabled}
 use Rattle.overlay_core.proofs.PlanFacts.{HasPlanFacts}
 use Rattle.overlay_core.specs.LinkInvariant.{LinkInvariant, KinIsSound}
@@ -12,7 +13,7 @@ use Rattle.overlay_core.specs.ParentChild.{IsUnderWay, ParentChildHolds, ParentC
 use Rattle.stat_desk.specs.declared.event.Event.{Event}
 use Rattle.stat_desk.specs.declared.event.Event.TheVariants.{Sample, Recv, Tick, Lose}
 use Rattle.overlay_core.proofs.Lists.{append_right, in_from_member}
-use Rattle.overlay_core.proofs.Outcomes.{nearest_in, next_is_empty, next_is_named, sampled_sound, tick_sound, received_sound}
+use Rattle.overlay_core.proofs.Outcomes.{next_is_empty, next_is_named, sampled_sound, tick_sound, received_sound}
 use Rattle.overlay_core.proofs.Commits.{next_node, commit_link_grows}
 use Rattle.overlay_core.proofs.Losses.{was_alive, link_stays}
 use Rattle.overlay_core.proofs.ParentLinks.{OutcomeLinks, sampled_links, tick_links, received_links, front_top_of, filter_in}

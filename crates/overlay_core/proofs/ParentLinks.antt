@@ -8,8 +8,7 @@ use Rattle.stat_plan.specs.Plans.{Plan, IsUnder, ancestors, serves, mode, is_fro
 use Rattle.stat_plan.specs.Machine.Due.{due_act}
 use Rattle.overlay_core.specs.Nodes.{Packet, Up, Done, Attach, Down, Node, Effects, Outcome, begin, due_at, to_parent, dones, acted, act_as, act, act_each, done_work, sampled, after_tick, received_up, received_done, received_attach, received_down, received}
 use Rattle.stat_plan.specs.Machine.Kin.{Kin, complete, nearest, is_parent, without_child, with_parent}
-use Rattle.stat_plan.specs.Machine.Waves.{Wave, Open, Closed, Book, set_wave, is_open, is_closed, is_fired, coverage_of, sent_of, covering, growing, ticked, unsent}
-use Rattle.overlay_core.specs.Machine.{is_empty_open}
+use Rattle.stat_plan.specs.Machine.Waves.{Wave, Open, Closed, Book, set_wave, is_open, is_closed, is_fired, coverage_of, sent_of, covering, growing, ticked, unsent, is_empty_open}
 use Rattle.overlay_core.proofs.PlanFacts.{HasPlanFacts}
 use Rattle.overlay_core.specs.LinkInvariant.{KinIsSound, PacketIsSound}
 use Rattle.overlay_setup.specs.declared.script.Mode.{Mode}
@@ -18,7 +17,8 @@ use Rattle.stat_plan.specs.declared.machine.Timer.{Timer}
 use Rattle.stat_plan.specs.declared.machine.Timer.TheVariants.{Off, Running, Fired}
 use Rattle.stat_plan.specs.declared.machine.Act.{Act}
 use Rattle.stat_plan.specs.declared.machine.Act.TheVariants.{Hold, Arm, Send, Partial, Final}
-use Rattle.overlay_core.proofs.Lists.{append_left, append_right, with_number_old, with_number_new, union_left, union_right, in_member, in_from_member, no_rank, empty_true}
+use Rattle.stat_plan.proofs.KinLemmas.{with_number_old, with_number_new}
+use Rattle.overlay_core.proofs.Lists.{append_left, append_right, union_left, union_right, in_member, in_from_member, no_rank, empty_true}
 use Rattle.overlay_core.proofs.Acts.{each_wave_set}
 
 -- r goes to m in an Up of the wave

@@ -11,8 +11,7 @@ use Rattle.overlay_setup.specs.Scripts.{Stream}
 use Rattle.stat_plan.specs.Machine.Due.{due_act}
 use Rattle.overlay_core.specs.Nodes.{Packet, Up, Done, Attach, Down, Node, Effects, Outcome, begin, due_at, to_parent, dones, acted, act_as, act, act_each, done_work, sampled, after_tick, received_up, received_done, received_attach, received_down}
 use Rattle.stat_plan.specs.Machine.Kin.{Kin, complete, nearest, is_parent, without_child, with_parent}
-use Rattle.stat_plan.specs.Machine.Waves.{Wave, Open, Closed, Book, set_wave, ticks, is_closed, is_fired, is_running, covering, growing, ticked, unsent}
-use Rattle.overlay_core.specs.Machine.{is_empty_open}
+use Rattle.stat_plan.specs.Machine.Waves.{Wave, Open, Closed, Book, set_wave, ticks, is_closed, is_fired, is_running, covering, growing, ticked, unsent, is_empty_open}
 use Rattle.overlay_core.proofs.PlanFacts.{HasPlanFacts}
 use Rattle.overlay_core.specs.LinkInvariant.{KinIsSound, WaveIsSound}
 use Rattle.overlay_core.specs.Settled.{WaveIsSettled, NodeIsSettled, TimerIsSound}
@@ -23,10 +22,11 @@ use Rattle.stat_plan.specs.declared.machine.Timer.{Timer}
 use Rattle.stat_plan.specs.declared.machine.Timer.TheVariants.{Off, Running, Fired}
 use Rattle.stat_plan.specs.declared.machine.Act.{Act}
 use Rattle.stat_plan.specs.declared.machine.Act.TheVariants.{Hold, Arm, Send, Partial, Final}
-use Rattle.overlay_core.proofs.Lists.{test_from_same, same_from_members, union_left, in_member, in_from_member, with_number_old, with_number_new, subset_from_test, test_from_subset, filter_from, no_rank, empty_true, none_from_subset}
+use Rattle.stat_plan.proofs.KinLemmas.{with_number_old, with_number_new, nearest_in}
+use Rattle.overlay_core.proofs.Lists.{test_from_same, same_from_members, union_left, in_member, in_from_member, subset_from_test, test_from_subset, filter_from, no_rank, empty_true, none_from_subset}
 use Rattle.overlay_core.proofs.Totals.{total, total_append, total_drop, total_increase, length_filter_le, length_filter_less, length_filter_drop}
 use Rattle.overlay_core.proofs.Acts.{IsSubsetOf, each_wave_set, send_grown}
-use Rattle.overlay_core.proofs.Outcomes.{nearest_in, waves_at_named}
+use Rattle.overlay_core.proofs.Outcomes.{waves_at_named}
 use Rattle.overlay_core.proofs.ParentLinks.{set_wave_here, test_from_within, list_any_in}
 use Rattle.overlay_core.proofs.Settled.{after_arm}
 use Rattle.overlay_core.proofs.Whole.{nearest_split}

@@ -15,6 +15,7 @@ use Rattle.stat_plan.specs.declared.machine.Timer.{Timer}
 use Rattle.stat_plan.specs.declared.machine.Timer.TheVariants.{Off, Running, Fired}
 use Rattle.stat_plan.specs.declared.machine.Act.{Act}
 use Rattle.stat_plan.specs.declared.machine.Act.TheVariants.{Hold, Arm, Send, Partial, Final}
+use Rattle.stat_plan.proofs.KinLemmas.{with_number_new}
 use Rattle.stat_desk.specs.declared.event.Event.{Event}
 use Rattle.stat_desk.specs.declared.event.Event.TheVariants.{Sample, Recv, Tick, Lose}
 use Rattle.overlay_core.specs.declared.release.Kind.TheVariants.{Partial as PartialRelease, Final as FinalRelease}
@@ -24,7 +25,7 @@ use Rattle.overlay_core.specs.Runs.{run, after}
 use Rattle.overlay_core.specs.Independent.{first_from, outcome}
 use Rattle.stat_desk.specs.Events.{event_node}
 use Rattle.overlay_core.specs.Counts.{one_if, is_up_of, is_partial_of, sends_in, grows, is_same_parent, is_unsent, sends_at, sends, growths, moves}
-use Rattle.overlay_core.proofs.Lists.{in_member, with_number_new, test_from_same, same_true}
+use Rattle.overlay_core.proofs.Lists.{in_member, test_from_same, same_true}
 use Rattle.overlay_core.proofs.ParentLinks.{set_wave_here}
 use Rattle.overlay_core.proofs.Settled.{set_wave_else}
 use Rattle.overlay_core.proofs.Independent.{node_else}

@@ -3,12 +3,12 @@ use Rattle.rank_set.specs.Ranks.{Ranks, none, union, is_subset, is_same, is_empt
 use Rattle.std.proofs.Common.{◌≡◌, ◌≢◌, ◌⊎◌, ◌≤◌, inl, inr, ℕ, suc, zero, Bool, true, false, not, ◌||◌, ◌&&◌, ◌==◌, List, [], ◌∷◌, filter, refl, sym, ap, subst, ◌∙◌, arith, eqb-true, eq-eqb, le_refl}
 use Rattle.std.proofs.lemmas.Bool.{cond_both, and_parts, and_from, cases_Bool, true≢false, or_cases, not_from_true}
 use Rattle.overlay_setup.specs.NodeSets.{In, member}
-use Rattle.stat_plan.specs.Machine.Waves.{put_at, Wave, Open, Closed, Book, set_wave, ticks, is_fired, covering, growing, ticked, unsent}
+use Rattle.stat_plan.specs.Machine.Waves.{put_at, Wave, Open, Closed, Book, set_wave, ticks, is_fired, covering, growing, ticked, unsent, is_empty_open}
 use Rattle.stat_plan.specs.Plans.{Plan, serves, mode, is_front, daemons, ranks, is_within, waves_at, waves_of}
 use Rattle.stat_plan.specs.Machine.Due.{due_act}
 use Rattle.overlay_core.specs.Nodes.{Packet, Up, Done, Attach, Down, Node, Effects, Outcome, begin, due_at, acted, act_as, act, act_each, done_work, sampled, after_tick, received_up, received_done, received_attach, received_down, received}
 use Rattle.stat_plan.specs.Machine.Kin.{Kin, complete, is_parent, without_child, with_parent}
-use Rattle.overlay_core.specs.Machine.{State, start, step, commit, with_link, lose, receive, is_enabled, is_active, is_empty_open}
+use Rattle.overlay_core.specs.Machine.{State, start, step, commit, with_link, lose, receive, is_enabled, is_active}
 use Rattle.overlay_core.proofs.PlanFacts.{HasPlanFacts}
 use Rattle.overlay_core.specs.LinkInvariant.{LinkInvariant, WaveIsSound, BookIsSound}
 use Rattle.overlay_core.specs.Settled.{TimerIsSound, WaveIsSettled, NodeIsSettled, NodesAreSettled}

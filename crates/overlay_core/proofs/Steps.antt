@@ -4,15 +4,16 @@ use Rattle.std.proofs.lemmas.Bool.{cond_both, cond-true, and_parts, and_from, no
 use Rattle.overlay_setup.specs.NodeSets.{In, up_to}
 use Rattle.stat_plan.specs.Plans.{Plan, IsUnder, ancestors, daemons, front, nodes}
 use Rattle.overlay_core.specs.Nodes.{Packet, Up, Done, Attach, Down}
-use Rattle.stat_plan.specs.Machine.Kin.{nearest}
-use Rattle.overlay_core.specs.Machine.{State, start, step, with_link, receive, is_enabled, is_active, is_doomed, children_of}
+use Rattle.stat_plan.specs.Machine.Kin.{children_of, nearest}
+use Rattle.stat_plan.proofs.KinLemmas.{nearest_in}
+use Rattle.overlay_core.specs.Machine.{State, start, step, with_link, receive, is_enabled, is_active, is_doomed}
 use Rattle.overlay_core.specs.Runs.{run, after, IsLegal, IsLegalFrom}
 use Rattle.overlay_core.proofs.PlanFacts.{HasPlanFacts}
 use Rattle.overlay_core.specs.LinkInvariant.{AreRelated, LinkIsSound, EndsAtDown, LinkInvariant}
 use Rattle.stat_desk.specs.declared.event.Event.{Event}
 use Rattle.stat_desk.specs.declared.event.Event.TheVariants.{Sample, Recv, Tick, Lose}
 use Rattle.overlay_core.proofs.Lists.{filter_increases, up_to_increases, in_from_member, in_map_filter, no_rank}
-use Rattle.overlay_core.proofs.Outcomes.{next_is_named, sampled_sound, tick_sound, received_sound, next_is_empty, heard_in, nearest_in}
+use Rattle.overlay_core.proofs.Outcomes.{next_is_named, sampled_sound, tick_sound, received_sound, next_is_empty, heard_in}
 use Rattle.overlay_core.proofs.Commits.{IsReady, LossIsHeard, commit_sound}
 use Rattle.overlay_core.proofs.Losses.{lose_sound}
 

@@ -6,9 +6,9 @@ use Rattle.overlay_setup.specs.NodeSets.{In, member, up_to}
 use Rattle.stat_plan.specs.Plans.{Plan, IsUnder, ancestors, serves, mode, is_front, front, nodes, daemons, ranks, is_within, waves_at, waves_of}
 use Rattle.stat_plan.specs.Machine.Due.{due_act}
 use Rattle.overlay_core.specs.Nodes.{Packet, Up, Done, Attach, Down, Release, due_at}
-use Rattle.stat_plan.specs.Machine.Waves.{Wave, Open, Closed, is_open, coverage_of, sent_of}
+use Rattle.stat_plan.specs.Machine.Waves.{Wave, Open, Closed, is_open, coverage_of, sent_of, is_empty_open}
 use Rattle.stat_plan.specs.Machine.Kin.{complete, nearest}
-use Rattle.overlay_core.specs.Machine.{State, start, step, is_enabled, is_active, is_doomed, is_pending, is_empty_open, next_sample, is_wave, commit, lose, with_link, receive}
+use Rattle.overlay_core.specs.Machine.{State, start, step, is_enabled, is_active, is_doomed, is_pending, next_sample, is_wave, commit, lose, with_link, receive}
 use Rattle.overlay_core.specs.Runs.{run, after, IsLegal, IsLegalFrom, IsQuiet, IsWhole}
 use Rattle.overlay_core.proofs.PlanFacts.{HasPlanFacts}
 use Rattle.overlay_core.specs.LinkInvariant.{AreRelated, WaveIsSound, OpenIsSound}
@@ -21,10 +21,10 @@ use Rattle.overlay_core.specs.declared.release.Kind.TheVariants.{Partial as Part
 use Rattle.overlay_setup.specs.declared.script.Mode.{Mode}
 use Rattle.stat_plan.specs.declared.machine.Timer.{Timer}
 use Rattle.stat_plan.specs.declared.machine.Act.TheVariants.{Hold}
+use Rattle.stat_plan.proofs.KinLemmas.{nearest_in, nearest_some}
 use Rattle.stat_desk.specs.declared.event.Event.{Event}
 use Rattle.stat_desk.specs.declared.event.Event.TheVariants.{Sample, Recv, Tick, Lose}
 use Rattle.overlay_core.proofs.Lists.{in_append, append_left, append_right, in_member, in_from_member, list_all_from, test_from_subset, no_rank, some_rank, same_true}
-use Rattle.overlay_core.proofs.Outcomes.{nearest_in}
 use Rattle.overlay_core.proofs.Steps.{step_sound, start_sound}
 use Rattle.overlay_core.proofs.ParentLinks.{in_filter, filter_in, in_list_any, within_from_test, test_from_within, waves_above}
 use Rattle.overlay_core.proofs.ParentChild.{step_pairs}
@@ -113,14 +113,6 @@ nearest_split (x ∷ xs) lost q e = go (member x lost) refl (nearest_split xs lo
         → cond b (nearest xs lost) (Some x) ≡ Some q → (near : List ℕ) × (far : List ℕ) × ((x ∷ xs) ≡ near ++ q ∷ far) × (member q lost ≡ false) × ((a : ℕ) → In a near → In a lost)
     go true k ih h = let r = ih h in (x ∷ r.0, r.1, ap (λ l. x ∷ l) r.2, r.3, λ a i. elim i [ inl j ↦ subst (λ b. In b lost) (sym j) (in_from_member x lost k) | inr j ↦ r.4 a j ])
     go false k ih h = let e : x ≡ q = cc in ([], xs, ap (λ a. a ∷ xs) e, subst (λ a. member a lost ≡ false) e k, λ a i. absurd i)
-
-nearest_some : (xs lost : List ℕ) (a : ℕ) → In a xs → member a lost ≡ false → (q : ℕ) × (nearest xs lost ≡ Some q)
-nearest_some [] lost a i e = absurd i
-nearest_some (x ∷ xs) lost a i e = go (member x lost) refl (nearest_some xs lost a)
-  where
-    go : (b : Bool) → member x lost ≡ b → (In a xs → member a lost ≡ false → (q : ℕ) × (nearest xs lost ≡ Some q)) → (q : ℕ) × (cond b (nearest xs lost) (Some x) ≡ Some q)
-    go true k ih = ih (elim i [ inl j ↦ absurd (true≢false (sym (subst (λ y. member y lost ≡ true) (sym j) k) ∙ e)) | inr j ↦ j ]) e
-    go false k ih = (x, refl)
 
 -- a living node and its parent, in a quiet sound state
 record Parent (p : Plan) (st : State) (d q : ℕ) : Type 0 where

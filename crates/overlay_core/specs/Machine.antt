@@ -1,11 +1,11 @@
 -- The machine: its state, the events that are enabled, and what each does.
 use Rattle.std.specs.Prelude.{ℕ, zero, suc, Bool, true, false, ◌&&◌, not, ◌==◌, nat_lt, cond, List, [], ◌∷◌, ◌++◌, map, filter, take, find, Option, Some, None}
 use Rattle.std.specs.List.{list_any}
-use Rattle.rank_set.specs.Ranks.{none, is_empty}
+use Rattle.rank_set.specs.Ranks.{none}
 use Rattle.overlay_setup.specs.NodeSets.{member, up_to}
-use Rattle.stat_plan.specs.Plans.{Plan, nodes, ancestors, is_related, waves_at, waves_of, daemons, fault}
-use Rattle.stat_plan.specs.Machine.Kin.{nearest}
-use Rattle.stat_plan.specs.Machine.Waves.{Wave, Open, Closed, put_at, is_running}
+use Rattle.stat_plan.specs.Plans.{Plan, nodes, is_related, waves_at, waves_of, daemons, fault}
+use Rattle.stat_plan.specs.Machine.Kin.{start_kin}
+use Rattle.stat_plan.specs.Machine.Waves.{Open, put_at, is_empty_open, is_running}
 use Rattle.overlay_setup.specs.declared.script.Fault.{Fault}
 use Rattle.stat_plan.specs.declared.machine.Timer.TheVariants.{Off}
 use Rattle.stat_desk.specs.declared.event.Event.{Event}
@@ -19,14 +19,10 @@ pub record State : Type 0 where
   pub link : ℕ → ℕ → List Packet  -- from the first to the second
   pub releases : List Release
 
--- the original children of a node, ascending
-abbrev pub children_of : Plan → ℕ → List ℕ
-children_of p n = filter (λ c. elim (nearest (ancestors p c) []) [ None ↦ false | Some m ↦ m == n ]) (up_to (nodes p))
-
 -- a node that has done nothing yet
 abbrev pub start_node : Plan → ℕ → Node
 start_node p n = record {
-  kin = record { parent = nearest (ancestors p n) []; children = children_of p n; lost = [] };
+  kin = start_kin p n;
   book = λ s w. Open none none Off;
   count = 0;
 }
@@ -93,11 +89,6 @@ step p st (Sample n s w) = commit st n (handled p n (st.node n) (Sample n s w) N
 step p st (Recv n m) = receive p st n m (st.link m n)
 step p st (Tick n) = commit st n (handled p n (st.node n) (Tick n) None)
 step p st (Lose n) = lose p st n
-
--- whether a wave is open and covers nothing yet
-abbrev pub is_empty_open : Wave → Bool
-is_empty_open (Open covered sent timer) = is_empty covered
-is_empty_open Closed = false
 
 -- the first wave of the stream that is open and covers nothing yet
 abbrev pub next_sample : Plan → Node → ℕ → Option (ℕ × ℕ)

@@ -1,11 +1,10 @@
 -- A node of the overlay: what it keeps, and what an event of its own leaves of it.
 use Rattle.std.specs.Prelude.{ℕ, ◌&&◌, if◌then◌else◌, List, [], ◌∷◌, ◌++◌, map, filter, Option, None, Some}
 use Rattle.rank_set.specs.Ranks.{Ranks}
-use Rattle.overlay_setup.specs.NodeSets.{with_number}
 use Rattle.stat_plan.specs.Plans.{Plan, is_front, ranks, mode, serves, waves_at}
 use Rattle.stat_plan.specs.Machine.Due.{due_act}
 use Rattle.stat_plan.specs.Machine.Waves.{Wave, Open, Closed, Book, set_wave, has_grown, ticks, is_fired, is_closed, covering, growing, ticked, unsent}
-use Rattle.stat_plan.specs.Machine.Kin.{Kin, complete, is_parent, without_child, with_parent}
+use Rattle.stat_plan.specs.Machine.Kin.{Kin, complete, is_parent, with_child, without_child, with_parent}
 use Rattle.stat_plan.specs.declared.machine.Timer.{Timer}
 use Rattle.stat_plan.specs.declared.machine.Timer.TheVariants.{Off, Running}
 use Rattle.stat_plan.specs.declared.machine.Act.{Act}
@@ -136,7 +135,7 @@ received_done p n x s w = record { kin = x.kin; work = done_work p x.kin s w x.b
 -- m is a child from now on, and is notified which of its waves have ended
 unfoldable pub received_attach : Plan → ℕ → Node → ℕ → Outcome
 received_attach p n x m = record {
-  kin = record { parent = x.kin.parent; children = with_number m x.kin.children; lost = x.kin.lost };
+  kin = with_child x.kin m;
   work = record {
     book = x.book;
     sends = map (λ v. (m, Done v.0 v.1)) (filter (λ v. is_closed (x.book v.0 v.1) && serves p m v.0) (waves_at p n));

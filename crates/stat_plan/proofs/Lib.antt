@@ -11,3 +11,5 @@ pub mod Counting
 pub mod InOrder
 pub mod SeenPaths
 pub mod WavePrefixes
+pub mod Rooted
+pub mod KinLemmas

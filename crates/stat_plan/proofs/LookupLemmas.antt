@@ -81,17 +81,21 @@ serves_some p n s r there = elim (in_ranks none (map (ranks p) (those_within p n
       any_from_in (λ d. is_within p d n) from.0 (daemons p s) kept.0 kept.1
 ]
 
--- the daemons of a stream have ranks
-daemon_has_ranks : (p : Plan) (s d : ℕ) → IsPlan p → In d (daemons p s) → ranks p d ≢ none
-unfolding daemons stream_of ranks
-daemon_has_ranks p s d plan i = by (find (λ x. x.number == s) p.streams) refl i
+-- each daemon of a stream is a node that is nobody's parent
+pub listed : (p : Plan) (d s : ℕ) → IsPlan p → In d (daemons p s) → IsDaemon (nodes_of p) d
+unfolding daemons stream_of
+listed p d s plan i = by (find (λ x. x.number == s) p.streams) refl i
   where
-    by : (o : Option Stream) → find (λ x. x.number == s) p.streams ≡ o → In d (elim o as (λ _. List ℕ) [ None ↦ [] | (Some x) ↦ x.daemons ]) → get_or p.placed d none ≢ none
+    by : (o : Option Stream) → find (λ x. x.number == s) p.streams ≡ o → In d (elim o as (λ _. List ℕ) [ None ↦ [] | (Some x) ↦ x.daemons ]) → IsDaemon (nodes_of p) d
     by None is i = absurd i
     by (Some x) is i =
         let stream = found_in (λ x. x.number == s) p.streams x is in
-        let daemon = all_in (IsDaemon (nodes_of p)) x.daemons d (all_in (λ (x : Stream). AllByRecursion (IsDaemon (nodes_of p)) x.daemons) p.streams x plan.script_fits.daemons stream) i in
-        plan.samples_fit.on_daemons d daemon.0 daemon.1
+        all_in (IsDaemon (nodes_of p)) x.daemons d (all_in (λ (x : Stream). AllByRecursion (IsDaemon (nodes_of p)) x.daemons) p.streams x plan.script_fits.daemons stream) i
+
+-- the daemons of a stream have ranks
+daemon_has_ranks : (p : Plan) (s d : ℕ) → IsPlan p → In d (daemons p s) → ranks p d ≢ none
+unfolding ranks
+daemon_has_ranks p s d plan i = let daemon = listed p d s plan i in plan.samples_fit.on_daemons d daemon.0 daemon.1
 
 -- a node that serves a stream expects some rank
 pub serves_none : (p : Plan) (n s : ℕ) → IsPlan p → expected p n s ≡ none → serves p n s ≡ false

@@ -1,9 +1,9 @@
 -- A node's kin: its parent and its children, and which nodes it knows to be lost.
 use Rattle.rank_set.specs.Ranks.{Ranks, is_subset}
-use Rattle.std.specs.Prelude.{ℕ, Bool, false, ◌||◌, not, ◌==◌, cond, List, [], ◌∷◌, Option, None, Some}
+use Rattle.std.specs.Prelude.{ℕ, Bool, false, ◌||◌, not, ◌==◌, if◌then◌else◌, cond, List, [], ◌∷◌, filter, Option, None, Some}
 use Rattle.std.specs.List.{list_all}
-use Rattle.overlay_setup.specs.NodeSets.{member, with_number, without_number}
-use Rattle.stat_plan.specs.Plans.{Plan, ancestors, is_within, ranks, daemons}
+use Rattle.overlay_setup.specs.NodeSets.{member, up_to, with_number, without_number}
+use Rattle.stat_plan.specs.Plans.{Plan, nodes, ancestors, is_within, ranks, daemons}
 
 -- the parent, none at the front end; the children and the nodes that are known to be lost, ascending
 pub record Kin : Type 0 where
@@ -32,3 +32,19 @@ without_child kin m = record { parent = kin.parent; children = without_number m 
 -- the parent m is lost: the nearest ancestor that isn't known to be lost takes its place
 abbrev pub with_parent : Plan → ℕ → Kin → ℕ → Kin
 with_parent p n kin m = record { parent = nearest (ancestors p n) (with_number m kin.lost); children = kin.children; lost = with_number m kin.lost }
+
+-- what a node becomes that hears of the loss of m: the nearest ancestor that isn't known to be lost is its parent
+abbrev pub after_loss : Plan → ℕ → Kin → ℕ → Kin
+after_loss p n kin m = if is_parent kin.parent m then with_parent p n kin m else without_child kin m
+
+-- a node's kin with m as a child
+abbrev pub with_child : Kin → ℕ → Kin
+with_child kin m = record { parent = kin.parent; children = with_number m kin.children; lost = kin.lost }
+
+-- the original children of a node, ascending
+abbrev pub children_of : Plan → ℕ → List ℕ
+children_of p n = filter (λ c. elim (nearest (ancestors p c) []) [ None ↦ false | Some m ↦ m == n ]) (up_to (nodes p))
+
+-- the kin of a node that knows of no loss
+abbrev pub start_kin : Plan → ℕ → Kin
+start_kin p n = record { parent = nearest (ancestors p n) []; children = children_of p n; lost = [] }

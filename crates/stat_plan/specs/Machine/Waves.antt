@@ -1,5 +1,5 @@
 -- What a node knows of each of its waves.
-use Rattle.rank_set.specs.Ranks.{Ranks, none, union, is_same}
+use Rattle.rank_set.specs.Ranks.{Ranks, none, union, is_empty, is_same}
 use Rattle.std.specs.Prelude.{ℕ, zero, suc, Bool, true, false, not, cond, ◌==◌}
 use Rattle.overlay_setup.specs.declared.script.Mode.{Mode}
 use Rattle.overlay_setup.specs.declared.script.Mode.TheVariants.{WaitForAll, TimeOut, DontWait}
@@ -52,6 +52,11 @@ is_closed Closed = true
 abbrev pub is_open : Wave → Bool
 is_open (Open covered sent timer) = true
 is_open Closed = false
+
+-- whether a wave is open and covers nothing yet
+abbrev pub is_empty_open : Wave → Bool
+is_empty_open (Open covered sent timer) = is_empty covered
+is_empty_open Closed = false
 
 -- the coverage, and what was sent of it; empty for a closed wave
 abbrev pub coverage_of : Wave → Ranks

@@ -1,0 +1,5 @@
+mod Completion
+mod Leaves
+mod Adoption
+mod NumberLists
+mod NearestSteps

@@ -1,0 +1,3 @@
+pub mod NodeKins
+pub mod Reactions
+pub mod Settled
