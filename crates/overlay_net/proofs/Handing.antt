@@ -7,7 +7,8 @@ use Rattle.stat_plan.specs.Plans.{Plan}
 use Rattle.stat_desk.specs.declared.event.Event.{Event}
 use Rattle.stat_desk.specs.Events.{event_node}
 use Rattle.overlay_core.specs.TreeReleases.{bare_releases}
-use Rattle.overlay_node.specs.Packets.{Output, TreePacket, PacketFits, ReleaseFits, bare_sends}
+use Rattle.overlay_node.specs.Frames.{IsFrame}
+use Rattle.overlay_node.specs.Outputs.{Output, ReleaseFits, packets_of}
 use Rattle.overlay_node.specs.NodeViews.{ContinueNumbers, CountMore, IsNodeAfter, IsNodeOf, NodeView, outcome_at}
 use Rattle.overlay_net.specs.Inboxes.{Waiting}
 use Rattle.overlay_net.specs.Sends.{IsTaken}
@@ -18,17 +19,17 @@ pub read_at : (xs : List NodeView) (n k : ℕ) (x : NodeView) → k ≡ n → n 
 read_at xs n k x same below is = slice_get-get_or xs n x below ∙ ap (λ i. Some (get_or xs i x)) (sym same)
 
 -- the clauses of `handle`, put together
-pub handed : {E : Type 0} (p : Plan) (e : Event) (xs : List NodeView) (old new : List Waiting) (packet : Option TreePacket) (k : ℕ) (x y : NodeView) (r : Result Output E)
+pub handed : {E : Type 0} (p : Plan) (e : Event) (xs : List NodeView) (old new : List Waiting) (packet : Option (List ℕ)) (k : ℕ) (x y : NodeView) (r : Result Output E)
     → IsTaken old e packet new → k ≡ event_node e → slice_get xs (event_node e) ≡ Some x
     → IfOk r (λ out. y.number ≡ x.number)
     → IfOk r (λ out. IsNodeAfter p x y e packet)
-    → IfOk r (λ out. bare_sends out.sends ≡ (outcome_at p x e packet).work.sends)
+    → IfOk r (λ out. packets_of out.sends ≡ (outcome_at p x e packet).work.sends)
     → IfOk r (λ out. bare_releases out.releases ≡ (outcome_at p x e packet).work.releases)
     → IfOk r (λ out. IsNodeOf p y)
-    → IfOk r (λ out. AllByRecursion (λ v. PacketFits p v.1) out.sends)
+    → IfOk r (λ out. AllByRecursion (λ v. IsFrame p v.1) out.sends)
     → IfOk r (λ out. AllByRecursion (ReleaseFits p) out.releases)
-    → IfOk r (λ out. ContinueNumbers x.entries out.releases)
-    → IfOk r (λ out. CountMore x.entries y.entries out.releases)
+    → IfOk r (λ out. ContinueNumbers x.held out.releases)
+    → IfOk r (λ out. CountMore x.held y.held out.releases)
     → IfOk r (λ out. IsHandedOver p e xs (slice_set xs k y) old new out.sends out.releases)
 handed p e xs old new packet k x y (Err error) taken same at number node sends releases fits packets trees numbers counts = tt
 handed p e xs old new packet k x y (Ok out) taken same at number node sends releases fits packets trees numbers counts = record {

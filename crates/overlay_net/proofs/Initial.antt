@@ -1,20 +1,22 @@
 -- The start of a net, node by node.
-use Rattle.std.proofs.Common.{◌≡◌, ◌≢◌, ◌∙◌, ◌<◌, ◌≤◌, ◌+◌, ℕ, zero, suc, Bool, true, false, ◌==◌, cond, nat_lt, List, [], ◌∷◌, ◌++◌, map, length, slice_get, Option, Some, None, refl, sym, ap, subst, inl, inr, eqb-true, eq-eqb, arith}
-use Rattle.std.proofs.lemmas.Bool.{cases_Bool, true≢false, eqb-false}
+use Rattle.std.proofs.Common.{◌≡◌, ◌⊎◌, ◌≢◌, ◌∙◌, ◌<◌, ◌≤◌, ◌+◌, ℕ, zero, suc, Bool, true, false, ◌==◌, cond, nat_lt, List, [], ◌∷◌, ◌++◌, map, length, slice_get, Option, Some, None, refl, sym, ap, subst, inl, inr, eqb-true, eq-eqb, arith}
+use Rattle.std.proofs.lemmas.Bool.{cases_Bool, true≢false, eqb-false, ltb-true, ltb-false}
 use Rattle.std.proofs.lemmas.Option.{slice_get_within}
 use Rattle.std.specs.List.{AllByRecursion}
 use Rattle.std.specs.List.Sorted.{IsStrictlySortedBy}
 use Rattle.std.specs.Ordering.{nat_cmp}
-use Rattle.overlay_node.specs.Packets.{PacketFits, bare_packet}
+use Rattle.overlay_node.specs.Frames.{IsFrame, packet_of}
 use Rattle.stat_plan.specs.Plans.{Plan, nodes, front}
 use Rattle.overlay_core.specs.Nodes.{Node}
 use Rattle.overlay_core.specs.Machine.{State, start, start_node}
 use Rattle.overlay_core.specs.TreeReleases.{TreeRelease, bare_releases}
 use Rattle.overlay_node.specs.NodeViews.{Counts, IsNodeOf, NodeView, node_of}
 use Rattle.overlay_net.specs.Inboxes.{HaveSent, Waiting, is_waiting, queue_of, senders_of}
-use Rattle.overlay_net.specs.Nets.{IsReachedBy, inbox_at, net_view_of, node_events, state_with}
+use Rattle.overlay_net.specs.Nets.{IsReachedBy, inbox_at, is_alive, net_view_of, node_events, state_with}
 use Rattle.overlay_net.specs.Events.{IsNet, has_some, is_listed}
 use Rattle.overlay_net.specs.States.{AreInitial}
+use Rattle.overlay_net.proofs.Offers.{alive_past}
+use Rattle.overlay_net.proofs.PartsInvariant.{all_append}
 
 -- the elements behind other ones
 last_here : {X : Type 0} (xs : List X) (y : X) → slice_get (xs ++ y ∷ []) (length xs) ≡ Some y
@@ -44,27 +46,35 @@ no_sender : IsStrictlySortedBy nat_cmp []
 unfolding IsStrictlySortedBy
 no_sender = tt
 
+-- each of nodes that live lives
+alive_within : (al : List Bool) (n : ℕ) → AllByRecursion (λ t. t ≡ true) al → n < length al → is_alive al n ≡ true
+alive_within [] n all lt = absurd (omega arith)
+alive_within (b ∷ al) zero all lt = all.0
+alive_within (b ∷ al) (suc n) all lt = alive_within al n all.1 (omega arith)
+
 -- a loop that has come to its end
 pub at_end : (n e k : ℕ) → e ≤ n → n ≤ e → e ≡ k → n ≡ k
 at_end n e k from to is = omega arith
 
 module _ (p : Plan) where
   -- a node that has done nothing yet, behind others
-  pub initial_more : (k : ℕ) (xs ys : List NodeView) (ib ic : List Waiting) (la lb : List ℕ) (x : NodeView) (box : Waiting) → AreInitial p k xs ib la → ys ≡ xs ++ x ∷ [] → ic ≡ ib ++ box ∷ [] → box ≡ []
-      → x.number ≡ k → IsNodeOf p x → ◌≡◌ {A = Node} (node_of x) (start_node p k) → Counts x.entries []
-      → ((b : ℕ) → is_listed lb b ≡ cond (b == x.number) (has_some (node_events p x box)) (is_listed la b))
-      → AreInitial p (k + 1) ys ic lb
-  initial_more k xs ys ib ic la lb x box h eys eic ebox number fits begins counts marked =
-      subst (λ zs. AreInitial p (k + 1) zs ic lb) (sym eys) (subst (λ id. AreInitial p (k + 1) (xs ++ x ∷ []) id lb) (sym (eic ∙ ap (λ w. ib ++ w ∷ []) ebox)) (record {
+  pub initial_more : (k : ℕ) (al am : List Bool) (xs ys : List NodeView) (ib ic : List Waiting) (la lb : List ℕ) (x : NodeView) (box : Waiting) → AreInitial p k al xs ib la → am ≡ al ++ true ∷ [] → ys ≡ xs ++ x ∷ [] → ic ≡ ib ++ box ∷ [] → box ≡ []
+      → x.number ≡ k → IsNodeOf p x → ◌≡◌ {A = Node} (node_of x) (start_node p k) → Counts x.held []
+      → ((b : ℕ) → is_listed lb b ≡ cond (b == x.number) (has_some (node_events p true x box)) (is_listed la b))
+      → AreInitial p (k + 1) am ys ic lb
+  initial_more k al am xs ys ib ic la lb x box h eam eys eic ebox number fits begins counts marked =
+      subst (λ an. AreInitial p (k + 1) an ys ic lb) (sym eam) (subst (λ zs. AreInitial p (k + 1) (al ++ true ∷ []) zs ic lb) (sym eys) (subst (λ id. AreInitial p (k + 1) (al ++ true ∷ []) (xs ++ x ∷ []) id lb) (sym (eic ∙ ap (λ w. ib ++ w ∷ []) ebox)) (record {
         node_count = length-last xs x ∙ ap (λ n. n + 1) h.node_count;
         inbox_count = length-last ib [] ∙ ap (λ n. n + 1) h.inbox_count;
+        alive_count = length-last al true ∙ ap (λ n. n + 1) h.alive_count;
+        all_alive = all_append (λ (t : Bool). t ≡ true) al (true ∷ []) h.all_alive (refl, tt);
         numbers = λ n. each n (λ y. (y.number ≡ n) × IsNodeOf p y) (h.numbers n) (λ e. (number ∙ e, fits));
         start = λ n. each n (λ y. ◌≡◌ {A = Node} (node_of y) (start_node p n)) (h.start n) (λ e. begins ∙ ap (start_node p) e);
-        counts = λ n. each n (λ y. Counts y.entries []) (h.counts n) (λ e. counts);
+        counts = λ n. each n (λ y. Counts y.held []) (h.counts n) (λ e. counts);
         empty = empty_last ib h.empty;
         below = below;
-        has_event = λ n. each n (λ y. is_listed lb n ≡ has_some (node_events p y [])) (λ y at. listed_else n (λ e. away n y at e) ∙ h.has_event n y at) (λ e. subst (λ m. is_listed lb m ≡ has_some (node_events p x [])) e listed_here);
-      }))
+        has_event = λ n. each n (λ y. is_listed lb n ≡ has_some (node_events p true y [])) (λ y at. listed_else n (λ e. away n y at e) ∙ h.has_event n y at) (λ e. subst (λ m. is_listed lb m ≡ has_some (node_events p true x [])) e listed_here);
+      })))
     where
       here : slice_get (xs ++ x ∷ []) k ≡ Some x
       here = subst (λ n. slice_get (xs ++ x ∷ []) n ≡ Some x) h.node_count (last_here xs x)
@@ -81,12 +91,12 @@ module _ (p : Plan) where
       listed_else : (n : ℕ) → (n ≡ k → ⊥) → is_listed lb n ≡ is_listed la n
       listed_else n other = marked n ∙ go (n == x.number) refl
         where
-          go : (b : Bool) → (n == x.number) ≡ b → cond b (has_some (node_events p x box)) (is_listed la n) ≡ is_listed la n
+          go : (b : Bool) → (n == x.number) ≡ b → cond b (has_some (node_events p true x box)) (is_listed la n) ≡ is_listed la n
           go true t = absurd (other (eqb-true n x.number t ∙ number))
           go false t = refl
 
-      listed_here : is_listed lb k ≡ has_some (node_events p x [])
-      listed_here = marked k ∙ ap (λ b. cond b (has_some (node_events p x box)) (is_listed la k)) (eq-eqb k x.number (sym number)) ∙ ap (λ w. has_some (node_events p x w)) ebox
+      listed_here : is_listed lb k ≡ has_some (node_events p true x [])
+      listed_here = marked k ∙ ap (λ b. cond b (has_some (node_events p true x box)) (is_listed la k)) (eq-eqb k x.number (sym number)) ∙ ap (λ w. has_some (node_events p true x w)) ebox
 
       below : (n : ℕ) → is_listed lb n ≡ true → n < k + 1
       below n t = elim (cases_Bool (n == k)) [
@@ -95,10 +105,12 @@ module _ (p : Plan) where
       ]
 
   -- nothing is there yet
-  pub none_initial : (listed : List ℕ) → listed ≡ [] → AreInitial p 0 [] [] listed
-  none_initial listed e = subst (AreInitial p 0 [] []) (sym e) (record {
+  pub none_initial : (listed : List ℕ) → listed ≡ [] → AreInitial p 0 [] [] [] listed
+  none_initial listed e = subst (AreInitial p 0 [] [] []) (sym e) (record {
     node_count = refl;
     inbox_count = refl;
+    alive_count = refl;
+    all_alive = tt;
     numbers = λ n x at. absurd (no_node n x at);
     start = λ n x at. absurd (no_node n x at);
     counts = λ n x at. absurd (no_node n x at);
@@ -114,43 +126,50 @@ module _ (p : Plan) where
       nothing zero = refl
       nothing (suc n) = refl
 
-  module _ (no_faults : p.faults ≡ []) (xs : List NodeView) (ib : List Waiting) (rs : List TreeRelease) (listed : List ℕ) (h : AreInitial p (nodes p) xs ib listed) (none : rs ≡ []) where
+  module _ (al : List Bool) (xs : List NodeView) (ib : List Waiting) (rs : List TreeRelease) (listed : List ℕ) (h : AreInitial p (nodes p) al xs ib listed) (none : rs ≡ []) where
     -- the state is the start
-    state_starts : ◌≡◌ {A = State} (state_with p xs ib []) (start p)
+    state_starts : ◌≡◌ {A = State} (state_with p al xs ib []) (start p)
     unfolding start
     state_starts = λ i. record {
-      alive = λ n. nat_lt n (nodes p);
+      alive = λ n. alive_starts n (cases_Bool (nat_lt n (nodes p))) i;
       node = λ n. node_starts n (slice_get xs n) refl i;
       link = λ m n. link_starts m n i;
       releases = [];
     }
       where
+        alive_starts : (n : ℕ) → (nat_lt n (nodes p) ≡ true) ⊎ (nat_lt n (nodes p) ≡ false) → is_alive al n ≡ nat_lt n (nodes p)
+        alive_starts n (inl t) = alive_within al n h.all_alive (let lt = ltb-true n (nodes p) t in let l = h.alive_count in omega (arith, lt, l)) ∙ sym t
+        alive_starts n (inr f) = alive_past al n (let le = ltb-false n (nodes p) f in let l = h.alive_count in omega (arith, le, l)) ∙ sym f
+
         node_starts : (n : ℕ) (o : Option NodeView) → slice_get xs n ≡ o → (elim o [ None ↦ start_node p n | Some x ↦ node_of x ]) ≡ start_node p n
         node_starts n None at = refl
         node_starts n (Some x) at = h.start n x at
 
-        link_starts : (m n : ℕ) → map bare_packet (queue_of (inbox_at ib n) m) ≡ []
-        link_starts m n = ap (λ w. map bare_packet (queue_of w m)) (h.empty n)
+        link_starts : (m n : ℕ) → map packet_of (queue_of (inbox_at ib n) m) ≡ []
+        link_starts m n = ap (λ w. map packet_of (queue_of w m)) (h.empty n)
 
     -- the empty journal leads to it
-    pub initial_reached : IsReachedBy (net_view_of p xs ib rs false) []
-    initial_reached = subst (λ l. IsReachedBy (net_view_of p xs ib l false) []) (sym none) (record { legal = tt; state = state_starts; numbered = refl; trees = tt })
+    pub initial_reached : IsReachedBy (net_view_of p al xs ib rs false) []
+    initial_reached = subst (λ l. IsReachedBy (net_view_of p al xs ib l false) []) (sym none) (record { legal = tt; state = state_starts; numbered = refl; trees = tt })
+
+    lives : (n : ℕ) (x : NodeView) → slice_get xs n ≡ Some x → is_alive al n ≡ true
+    lives n x at = alive_within al n h.all_alive (let lt = slice_get_within xs n x at in let a = h.node_count in let b = h.alive_count in omega (arith, lt, a, b))
 
     -- all nodes that have done nothing yet are a net
-    pub initial_net : IsNet (net_view_of p xs ib rs false) listed
+    pub initial_net : IsNet (net_view_of p al xs ib rs false) listed
     initial_net = record {
-      no_faults = no_faults;
       journal = [];
       reached = initial_reached;
       parts = record {
         node_count = h.node_count;
         inbox_count = h.inbox_count;
+        alive_count = h.alive_count;
         node = h.numbers;
-        packets = λ m n. subst (λ w. AllByRecursion (PacketFits p) (queue_of w m)) (sym (h.empty n)) tt;
+        packets = λ m n. subst (λ w. AllByRecursion (IsFrame p) (queue_of w m)) (sym (h.empty n)) tt;
         senders = λ m n t. absurd (true≢false (sym t ∙ ap (λ w. is_waiting w m) (h.empty n)));
         sent = λ n. subst HaveSent (sym (h.empty n)) tt;
         increasing = λ n. subst (λ w. IsStrictlySortedBy nat_cmp (senders_of w)) (sym (h.empty n)) no_sender;
       };
-      counts = λ x at. subst (λ l. Counts x.entries (bare_releases l)) (sym none) (h.counts (front p) x at);
-      listed = record { below = h.below; has_event = λ n x at. h.has_event n x at ∙ ap (λ w. has_some (node_events p x w)) (sym (h.empty n)) };
+      counts = λ x at. subst (λ l. Counts x.held (bare_releases l)) (sym none) (h.counts (front p) x at);
+      listed = record { below = h.below; has_event = λ n x at. h.has_event n x at ∙ (λ i. has_some (node_events p (sym (lives n x at) i) x (sym (h.empty n) i))) };
     }

@@ -10,3 +10,5 @@ pub mod SmallCounts
 pub mod Sending
 pub mod WholeEvents
 pub mod Initial
+pub mod LostLinks
+pub mod LostStates

@@ -23,13 +23,14 @@ use Rattle.overlay_core.proofs.Lists.{in_member, in_from_member, up_to_below, eq
 use Rattle.overlay_core.proofs.Outcomes.{next_is_named, find_passes}
 use Rattle.overlay_core.proofs.ParentLinks.{within_from_test, test_from_within}
 use Rattle.overlay_core.proofs.Whole.{in_up_to}
-use Rattle.overlay_node.specs.Packets.{TreePacket, bare_packet}
-use Rattle.overlay_node.specs.NodeViews.{NodeView, book_of, node_of}
+use Rattle.overlay_node.specs.Frames.{packet_of}
+use Rattle.overlay_node.specs.NodeViews.{NodeView, node_of}
 use Rattle.stat_desk.specs.declared.event.Event.{Event}
 use Rattle.stat_desk.specs.declared.event.Event.TheVariants.{Sample, Recv, Tick, Lose}
+use Rattle.stat_desk.specs.Events.{event_node}
 use Rattle.overlay_net.specs.Inboxes.{Waiting, HaveSent, is_waiting, queue_of, senders_of}
-use Rattle.overlay_net.specs.Nets.{inbox_at, node_at, node_events, sample_of, state_with, tick_of}
-use Rattle.overlay_net.specs.Events.{AreParts, AreReady, IsNth, has_some, is_listed, sample_at}
+use Rattle.overlay_net.specs.Nets.{active_events, inbox_at, is_alive, is_doomed_node, node_at, node_events, sample_of, state_with, tick_of}
+use Rattle.overlay_net.specs.Events.{AreParts, AreReady, IsNth, has_some, is_listed, may_come, sample_at}
 use Rattle.overlay_net.specs.declared.events.Nth.{Nth}
 use Rattle.overlay_net.proofs.Listed.{get_before, get_past, nth_past, filter_mapped, filter_none, filter_same, filter_up_to, flat_ready, listed_from_in, listed_waits, none_from_test, increasing_from_sorted, sender_listed}
 
@@ -261,8 +262,8 @@ ticks_next p st x box h =
     ap (λ (b : Bool). cond (b && list_any (λ v. is_running ((st.node x.number).book v.0 v.1)) (waves_at p x.number)) (Tick x.number ∷ []) []) h.active
     ∙ ap (λ n. cond (list_any (λ v. is_running (n.book v.0 v.1)) (waves_at p x.number)) (Tick x.number ∷ []) []) h.node
 
--- the events of a node that may come next, of all that can be named
-pub node_offers : (p : Plan) (st : State) (x : NodeView) (box : Waiting) → IsPlan p → IsNodeIn p st x box → filter (is_enabled p st) (events_of p x.number) ≡ node_events p x box
+-- the events of an active node that may come next, of all that can be named
+pub node_offers : (p : Plan) (st : State) (x : NodeView) (box : Waiting) → IsPlan p → IsNodeIn p st x box → filter (is_enabled p st) (events_of p x.number) ≡ active_events p x box
 node_offers p st x box plan h =
     ap (λ (b : Bool). cond b (Lose x.number ∷ filter (is_enabled p st) later) (filter (is_enabled p st) later)) h.stays
     ∙ filter-append (is_enabled p st) (samples_of x.number (waves_of p.streams) ++ map (λ m. Recv x.number m) (up_to (nodes p))) (Tick x.number ∷ [])
@@ -288,43 +289,30 @@ in_read xs k x lt is = subst (λ y. In y xs) (sym is) (in_at xs k x lt)
 -- ---- the events of all nodes
 
 -- the events of the node of this number that may come next, if there is one
-abbrev pub events_at : Plan → List NodeView → List Waiting → ℕ → List Event
-events_at p xs inboxes n = elim (slice_get xs n) [ None ↦ [] | Some x ↦ node_events p x (inbox_at inboxes n) ]
+abbrev pub events_at : Plan → List Bool → List NodeView → List Waiting → ℕ → List Event
+events_at p al xs inboxes n = elim (slice_get xs n) [ None ↦ [] | Some x ↦ node_events p (is_alive al n) x (inbox_at inboxes n) ]
 
--- where no node is to be lost, none is doomed
-not_doomed : (p : Plan) (st : State) (n : ℕ) → p.faults ≡ [] → is_doomed p st n ≡ false
-unfolding is_doomed fault
-not_doomed p st n no_faults = ap (λ fs. is_spent (find (λ f. f.node == n) fs) (st.node n).count) no_faults
+-- who lives is one of the nodes
+pub alive_below : (al : List Bool) (n : ℕ) → is_alive al n ≡ true → n < length al
+alive_below [] zero up = absurd (true≢false (sym up))
+alive_below [] (suc n) up = absurd (true≢false (sym up))
+alive_below (b ∷ al) zero up = omega arith
+alive_below (b ∷ al) (suc n) up = let lt = alive_below al n up in omega (arith, lt)
 
--- nothing more is asked
-and_true : (b : Bool) → (b && true) ≡ b
-and_true true = refl
-and_true false = refl
-
--- what can't hold is asked
-and_false : (b : Bool) → (b && false) ≡ false
-and_false true = refl
-and_false false = refl
-
--- where no node is to be lost, a node that lives can do something
-pub active_is : (p : Plan) (st : State) (n : ℕ) → p.faults ≡ [] → is_active p st n ≡ st.alive n
-unfolding is_active
-active_is p st n no_faults = ap (λ (b : Bool). st.alive n && not b) (not_doomed p st n no_faults) ∙ and_true (st.alive n)
-
--- where no node is to be lost, none is lost next
-pub stays_is : (p : Plan) (st : State) (n : ℕ) → p.faults ≡ [] → is_enabled p st (Lose n) ≡ false
-stays_is p st n no_faults = ap (λ (b : Bool). st.alive n && b) (not_doomed p st n no_faults) ∙ and_false (st.alive n)
+-- a node beyond the others doesn't live
+pub alive_past : (al : List Bool) (n : ℕ) → length al ≤ n → is_alive al n ≡ false
+alive_past al n past = elim (cases_Bool (is_alive al n)) [ inl t ↦ absurd (let lt = alive_below al n t in omega (arith, lt)) | inr f ↦ f ]
 
 -- whether something is on the way, by what waits
-pub pending_is : (box : Waiting) (m : ℕ) → HaveSent box → is_pending (map bare_packet (queue_of box m)) ≡ is_waiting box m
+pub pending_is : (box : Waiting) (m : ℕ) → HaveSent box → is_pending (map packet_of (queue_of box m)) ≡ is_waiting box m
 pending_is [] m h = refl
 pending_is (e ∷ es) m h = go (pending_is es m h.1) (e.0 == m)
   where
-    some : (qs : List TreePacket) → (qs ≡ [] → ⊥) → is_pending (map bare_packet qs) ≡ true
+    some : (qs : List (List ℕ)) → (qs ≡ [] → ⊥) → is_pending (map packet_of qs) ≡ true
     some [] k = absurd (k refl)
     some (q ∷ qs) k = refl
 
-    go : is_pending (map bare_packet (queue_of es m)) ≡ is_waiting es m → (b : Bool) → is_pending (map bare_packet (cond b e.1 (queue_of es m))) ≡ (b || is_waiting es m)
+    go : is_pending (map packet_of (queue_of es m)) ≡ is_waiting es m → (b : Bool) → is_pending (map packet_of (cond b e.1 (queue_of es m))) ≡ (b || is_waiting es m)
     go rest true = some e.1 h.0
     go rest false = rest
 
@@ -336,66 +324,114 @@ less_test m n lt = elim (cases_Bool (nat_lt m n)) [ inl t ↦ t | inr f ↦ absu
 pub node_there : (p : Plan) (xs : List NodeView) (n : ℕ) (x : NodeView) → slice_get xs n ≡ Some x → node_at p xs n ≡ node_of x
 node_there p xs n x at = ap (λ (o : Option NodeView). elim o [ None ↦ start_node p n | Some x ↦ node_of x ]) at
 
--- each node of the parts is in their state
-pub node_in_state : (p : Plan) (xs : List NodeView) (inboxes : List Waiting) (releases : List TreeRelease) (x : NodeView) → p.faults ≡ [] → AreParts p xs inboxes → slice_get xs x.number ≡ Some x → x.number < nodes p → IsNodeIn p (state_with p xs inboxes releases) x (inbox_at inboxes x.number)
-node_in_state p xs inboxes releases x no_faults parts at lt = record {
-  active = active_is p (state_with p xs inboxes releases) x.number no_faults ∙ less_test x.number (nodes p) lt;
-  node = node_there p xs x.number x at;
-  links = λ m. pending_is (inbox_at inboxes x.number) m (parts.sent x.number);
-  stays = stays_is p (state_with p xs inboxes releases) x.number no_faults;
-  increasing = increasing_from_sorted (senders_of (inbox_at inboxes x.number)) (parts.increasing x.number);
-  senders = λ m w. parts.senders m x.number w;
-}
-
 -- a number that is not less fails the test
 pub not_less : (m n : ℕ) → n ≤ m → nat_lt m n ≡ false
 not_less m n le = elim (cases_Bool (nat_lt m n)) [ inl t ↦ absurd (let lt : m < n = ltb-true m n t in omega arith) | inr f ↦ f ]
 
 -- what is read at an index of the list of nodes is a node
-pub node_read : (p : Plan) (xs : List NodeView) (inboxes : List Waiting) (n : ℕ) (x : NodeView) → AreParts p xs inboxes → n < nodes p → x ≡ get_or xs n x → slice_get xs n ≡ Some x
-node_read p xs inboxes n x parts lt is = slice_get_read xs (nodes p) n x (sym parts.node_count) lt is
+pub node_read : (p : Plan) (al : List Bool) (xs : List NodeView) (inboxes : List Waiting) (n : ℕ) (x : NodeView) → AreParts p al xs inboxes → n < nodes p → x ≡ get_or xs n x → slice_get xs n ≡ Some x
+node_read p al xs inboxes n x parts lt is = slice_get_read xs (nodes p) n x (sym parts.node_count) lt is
 
 -- what is read at an index of the list of inboxes is the inbox of the node
-pub inbox_read : (p : Plan) (xs : List NodeView) (inboxes : List Waiting) (n : ℕ) (box : Waiting) → AreParts p xs inboxes → n < nodes p → box ≡ get_or inboxes n box → box ≡ inbox_at inboxes n
-inbox_read p xs inboxes n box parts lt is = get_or_read inboxes n box (subst (λ k. n < k) (sym parts.inbox_count) lt) is []
+pub inbox_read : (p : Plan) (al : List Bool) (xs : List NodeView) (inboxes : List Waiting) (n : ℕ) (box : Waiting) → AreParts p al xs inboxes → n < nodes p → box ≡ get_or inboxes n box → box ≡ inbox_at inboxes n
+inbox_read p al xs inboxes n box parts lt is = get_or_read inboxes n box (subst (λ k. n < k) (sym parts.inbox_count) lt) is []
 
--- a node of the plan can do something
-pub active_at : (p : Plan) (xs : List NodeView) (inboxes : List Waiting) (releases : List TreeRelease) (n : ℕ) → p.faults ≡ [] → n < nodes p → is_active p (state_with p xs inboxes releases) n ≡ true
-active_at p xs inboxes releases n no_faults lt = active_is p (state_with p xs inboxes releases) n no_faults ∙ less_test n (nodes p) lt
+-- ---- a node of the parts in their state
 
--- what isn't a node can do nothing
-pub idle_at : (p : Plan) (xs : List NodeView) (inboxes : List Waiting) (releases : List TreeRelease) (n : ℕ) → p.faults ≡ [] → nodes p ≤ n → is_active p (state_with p xs inboxes releases) n ≡ false
-idle_at p xs inboxes releases n no_faults le = active_is p (state_with p xs inboxes releases) n no_faults ∙ not_less n (nodes p) le
+-- a node that can do nothing has no events but its loss
+none_active : (p : Plan) (st : State) (n : ℕ) → is_active p st n ≡ false → filter (is_enabled p st) (samples_of n (waves_of p.streams) ++ map (λ m. Recv n m) (up_to (nodes p)) ++ Tick n ∷ []) ≡ []
+none_active p st n idle =
+    filter-append (is_enabled p st) (samples_of n (waves_of p.streams) ++ map (λ m. Recv n m) (up_to (nodes p))) (Tick n ∷ [])
+    ∙ ap (λ (es : List Event). es ++ filter (is_enabled p st) (Tick n ∷ [])) (filter-append (is_enabled p st) (samples_of n (waves_of p.streams)) (map (λ m. Recv n m) (up_to (nodes p))))
+    ∙ ap (λ (es : List Event). (es ++ filter (is_enabled p st) (map (λ m. Recv n m) (up_to (nodes p)))) ++ filter (is_enabled p st) (Tick n ∷ [])) (none (waves_of p.streams))
+    ∙ ap (λ (es : List Event). es ++ filter (is_enabled p st) (Tick n ∷ [])) received
+    ∙ ap (λ (b : Bool). cond {A = List Event} (b && list_any (λ v. is_running ((st.node n).book v.0 v.1)) (waves_at p n)) (Tick n ∷ []) []) idle
+  where
+    none : (vs : List (ℕ × ℕ)) → filter (is_enabled p st) (samples_of n vs) ≡ []
+    none [] = refl
+    none (v ∷ vs) =
+        ap (λ (b : Bool). cond ((b && member n (daemons p v.0)) && is_wave (next_sample p (st.node n) v.0) v.1) (Sample n v.0 v.1 ∷ filter (is_enabled p st) (samples_of n vs)) (filter (is_enabled p st) (samples_of n vs))) idle
+        ∙ none vs
 
--- whether a node takes a sample next
-pub sample_enabled : (p : Plan) (xs : List NodeView) (inboxes : List Waiting) (releases : List TreeRelease) (n s w : ℕ) (x : NodeView) → p.faults ≡ [] → AreParts p xs inboxes → n < nodes p → slice_get xs n ≡ Some x
-    → is_enabled p (state_with p xs inboxes releases) (Sample n s w) ≡ (member x.number (daemons p s) && is_wave (next_sample p (node_of x) s) w)
-sample_enabled p xs inboxes releases n s w x no_faults parts lt at =
-    ap (λ (b : Bool). (b && member n (daemons p s)) && is_wave (next_sample p (node_at p xs n) s) w) (active_at p xs inboxes releases n no_faults lt)
-    ∙ ap (λ k. member n (daemons p s) && is_wave (next_sample p k s) w) (node_there p xs n x at)
-    ∙ ap (λ k. member k (daemons p s) && is_wave (next_sample p (node_of x) s) w) (sym (parts.node n x at).0)
+    received : filter (is_enabled p st) (map (λ m. Recv n m) (up_to (nodes p))) ≡ []
+    received =
+        filter_mapped (is_enabled p st) (λ m. Recv n m) (up_to (nodes p))
+        ∙ ap (map (λ m. Recv n m)) (filter_none (λ m. is_enabled p st (Recv n m)) (up_to (nodes p)) (λ m i. ap (λ (b : Bool). b && is_pending (st.link m n)) idle))
 
--- what isn't a node takes no sample
-pub sample_idle : (p : Plan) (xs : List NodeView) (inboxes : List Waiting) (releases : List TreeRelease) (n s w : ℕ) → p.faults ≡ [] → nodes p ≤ n → is_enabled p (state_with p xs inboxes releases) (Sample n s w) ≡ false
-sample_idle p xs inboxes releases n s w no_faults le = ap (λ (b : Bool). (b && member n (daemons p s)) && is_wave (next_sample p (node_at p xs n) s) w) (idle_at p xs inboxes releases n no_faults le)
+-- such a node may only be lost
+idle_offers : (p : Plan) (st : State) (n : ℕ) → is_active p st n ≡ false → filter (is_enabled p st) (events_of p n) ≡ cond (is_enabled p st (Lose n)) (Lose n ∷ []) []
+idle_offers p st n idle = ap (λ (es : List Event). cond (is_enabled p st (Lose n)) (Lose n ∷ es) es) (none_active p st n idle)
 
--- what isn't a node has no timers that go on
-pub tick_idle : (p : Plan) (xs : List NodeView) (inboxes : List Waiting) (releases : List TreeRelease) (n : ℕ) → p.faults ≡ [] → nodes p ≤ n → is_enabled p (state_with p xs inboxes releases) (Tick n) ≡ false
-tick_idle p xs inboxes releases n no_faults le = ap (λ (b : Bool). b && list_any (λ v. is_running ((node_at p xs n).book v.0 v.1)) (waves_at p n)) (idle_at p xs inboxes releases n no_faults le)
+and_assoc : (a b c : Bool) → ((a && b) && c) ≡ (a && (b && c))
+and_assoc true b c = refl
+and_assoc false b c = refl
 
--- whether a node receives next from another one
-pub recv_enabled : (p : Plan) (xs : List NodeView) (inboxes : List Waiting) (releases : List TreeRelease) (n m : ℕ) → p.faults ≡ [] → AreParts p xs inboxes → n < nodes p → is_enabled p (state_with p xs inboxes releases) (Recv n m) ≡ is_waiting (inbox_at inboxes n) m
-recv_enabled p xs inboxes releases n m no_faults parts lt =
-    ap (λ (b : Bool). b && is_pending (map bare_packet (queue_of (inbox_at inboxes n) m))) (active_at p xs inboxes releases n no_faults lt)
-    ∙ pending_is (inbox_at inboxes n) m (parts.sent n)
+module _ (p : Plan) (al : List Bool) (xs : List NodeView) (inboxes : List Waiting) (releases : List TreeRelease) where
+  abbrev st : State
+  st = state_with p al xs inboxes releases
 
--- whether a node's timers go on next
-pub tick_enabled : (p : Plan) (xs : List NodeView) (inboxes : List Waiting) (releases : List TreeRelease) (n : ℕ) (x : NodeView) → p.faults ≡ [] → AreParts p xs inboxes → n < nodes p → slice_get xs n ≡ Some x
-    → is_enabled p (state_with p xs inboxes releases) (Tick n) ≡ list_any (λ v. is_running (book_of x.entries v.0 v.1)) (waves_at p x.number)
-tick_enabled p xs inboxes releases n x no_faults parts lt at =
-    ap (λ (b : Bool). b && list_any (λ v. is_running ((node_at p xs n).book v.0 v.1)) (waves_at p n)) (active_at p xs inboxes releases n no_faults lt)
-    ∙ ap (λ k. list_any (λ v. is_running (k.book v.0 v.1)) (waves_at p n)) (node_there p xs n x at)
-    ∙ ap (λ k. list_any (λ v. is_running (book_of x.entries v.0 v.1)) (waves_at p k)) (sym (parts.node n x at).0)
+  -- whether a node is doomed
+  doomed_is : (n : ℕ) (x : NodeView) → slice_get xs n ≡ Some x → x.number ≡ n → is_doomed p st n ≡ is_doomed_node p x
+  unfolding is_doomed
+  doomed_is n x at number = λ i. is_spent (fault p (sym number i)) (node_there p xs n x at i).count
+
+  -- whether a node can do something
+  active_is : (n : ℕ) (x : NodeView) → slice_get xs n ≡ Some x → x.number ≡ n → is_active p st n ≡ (is_alive al n && not (is_doomed_node p x))
+  unfolding is_active
+  active_is n x at number = ap (λ (b : Bool). is_alive al n && not b) (doomed_is n x at number)
+
+  -- a node that is lost can do nothing
+  dead_is : (n : ℕ) → is_alive al n ≡ false → is_active p st n ≡ false
+  unfolding is_active
+  dead_is n dead = ap (λ (b : Bool). b && not (is_doomed p st n)) dead
+
+  -- whether an event of a living node may come next
+  pub enabled_is : (e : Event) (x : NodeView) → AreParts p al xs inboxes → is_alive al (event_node e) ≡ true → slice_get xs (event_node e) ≡ Some x → is_enabled p st e ≡ may_come p x (inbox_at inboxes (event_node e)) e
+  enabled_is (Sample n s w) x parts up at =
+      let number = (parts.node n x at).0 in
+      ap (λ (b : Bool). (b && member n (daemons p s)) && is_wave (next_sample p (node_at p xs n) s) w) (active_is n x at number ∙ ap (λ (b : Bool). b && not (is_doomed_node p x)) up)
+      ∙ and_assoc (not (is_doomed_node p x)) (member n (daemons p s)) (is_wave (next_sample p (node_at p xs n) s) w)
+      ∙ (λ i. not (is_doomed_node p x) && (member (sym number i) (daemons p s) && is_wave (next_sample p (node_there p xs n x at i) s) w))
+  enabled_is (Recv n m) x parts up at =
+      let number = (parts.node n x at).0 in
+      ap (λ (b : Bool). b && is_pending (map packet_of (queue_of (inbox_at inboxes n) m))) (active_is n x at number ∙ ap (λ (b : Bool). b && not (is_doomed_node p x)) up)
+      ∙ ap (λ (b : Bool). not (is_doomed_node p x) && b) (pending_is (inbox_at inboxes n) m (parts.sent n))
+  enabled_is (Tick n) x parts up at =
+      let number = (parts.node n x at).0 in
+      ap (λ (b : Bool). b && list_any (λ v. is_running ((node_at p xs n).book v.0 v.1)) (waves_at p n)) (active_is n x at number ∙ ap (λ (b : Bool). b && not (is_doomed_node p x)) up)
+      ∙ (λ i. not (is_doomed_node p x) && list_any (λ v. is_running ((node_there p xs n x at i).book v.0 v.1)) (waves_at p (sym number i)))
+  enabled_is (Lose n) x parts up at = λ i. up i && doomed_is n x at (parts.node n x at).0 i
+
+  -- no event of a lost node may come next
+  pub none_of_dead : (e : Event) → is_alive al (event_node e) ≡ false → is_enabled p st e ≡ false
+  none_of_dead (Sample n s w) dead = ap (λ (b : Bool). (b && member n (daemons p s)) && is_wave (next_sample p (node_at p xs n) s) w) (dead_is n dead)
+  none_of_dead (Recv n m) dead = ap (λ (b : Bool). b && is_pending (map packet_of (queue_of (inbox_at inboxes n) m))) (dead_is n dead)
+  none_of_dead (Tick n) dead = ap (λ (b : Bool). b && list_any (λ v. is_running ((node_at p xs n).book v.0 v.1)) (waves_at p n)) (dead_is n dead)
+  none_of_dead (Lose n) dead = ap (λ (b : Bool). b && is_doomed p st n) dead
+
+  -- the events of a node of the parts that may come next, of all that can be named
+  pub part_offers : (x : NodeView) → IsPlan p → AreParts p al xs inboxes → slice_get xs x.number ≡ Some x → filter (is_enabled p st) (events_of p x.number) ≡ node_events p (is_alive al x.number) x (inbox_at inboxes x.number)
+  part_offers x plan parts at = go (is_alive al x.number) (is_doomed_node p x) refl refl
+    where
+      go : (u d : Bool) → is_alive al x.number ≡ u → is_doomed_node p x ≡ d → filter (is_enabled p st) (events_of p x.number) ≡ cond u (cond d (Lose x.number ∷ []) (active_events p x (inbox_at inboxes x.number))) []
+      go true true eu ed =
+          idle_offers p st x.number (active_is x.number x at refl ∙ (λ i. eu i && not (ed i)))
+          ∙ ap (λ (b : Bool). cond {A = List Event} b (Lose x.number ∷ []) []) (λ i. eu i && (doomed_is x.number x at refl ∙ ed) i)
+      go true false eu ed = node_offers p st x (inbox_at inboxes x.number) plan (record {
+        active = active_is x.number x at refl ∙ (λ i. eu i && not (ed i));
+        node = node_there p xs x.number x at;
+        links = λ m. pending_is (inbox_at inboxes x.number) m (parts.sent x.number);
+        stays = λ i. eu i && (doomed_is x.number x at refl ∙ ed) i;
+        increasing = increasing_from_sorted (senders_of (inbox_at inboxes x.number)) (parts.increasing x.number);
+        senders = λ m w. parts.senders m x.number w;
+      })
+      go false d eu ed =
+          idle_offers p st x.number (dead_is x.number eu)
+          ∙ ap (λ (b : Bool). cond {A = List Event} (b && is_doomed p st x.number) (Lose x.number ∷ []) []) eu
+
+-- who lives is a node of the plan
+pub living_below : (p : Plan) (al : List Bool) (xs : List NodeView) (inboxes : List Waiting) (n : ℕ) → AreParts p al xs inboxes → is_alive al n ≡ true → n < nodes p
+living_below p al xs inboxes n parts up = subst (λ k. n < k) parts.alive_count (alive_below al n up)
 
 -- each index of a list has an element
 some_at : (xs : List NodeView) (n : ℕ) → n < length xs → (x : NodeView) × (slice_get xs n ≡ Some x)
@@ -404,38 +440,37 @@ some_at (x ∷ xs) zero lt = (x, refl)
 some_at (x ∷ xs) (suc n) lt = some_at xs n (omega arith)
 
 -- the node of each number
-pub part_at : (p : Plan) (xs : List NodeView) (inboxes : List Waiting) (n : ℕ) → AreParts p xs inboxes → n < nodes p → (x : NodeView) × (slice_get xs n ≡ Some x) × (x.number ≡ n)
-part_at p xs inboxes n parts lt = let s = some_at xs n (subst (λ k. n < k) (sym parts.node_count) lt) in (s.0, s.1, (parts.node n s.0 s.1).0)
+pub part_at : (p : Plan) (al : List Bool) (xs : List NodeView) (inboxes : List Waiting) (n : ℕ) → AreParts p al xs inboxes → n < nodes p → (x : NodeView) × (slice_get xs n ≡ Some x) × (x.number ≡ n)
+part_at p al xs inboxes n parts lt = let s = some_at xs n (subst (λ k. n < k) (sym parts.node_count) lt) in (s.0, s.1, (parts.node n s.0 s.1).0)
 
 -- the events of a node that may come next, of all that can be named, by its number
-pub offers_at : (p : Plan) (xs : List NodeView) (inboxes : List Waiting) (releases : List TreeRelease) (n : ℕ) → IsPlan p → p.faults ≡ [] → AreParts p xs inboxes → n < nodes p → filter (is_enabled p (state_with p xs inboxes releases)) (events_of p n) ≡ events_at p xs inboxes n
-offers_at p xs inboxes releases n plan no_faults parts lt =
-    let s = part_at p xs inboxes n parts lt in
+pub offers_at : (p : Plan) (al : List Bool) (xs : List NodeView) (inboxes : List Waiting) (releases : List TreeRelease) (n : ℕ) → IsPlan p → AreParts p al xs inboxes → n < nodes p → filter (is_enabled p (state_with p al xs inboxes releases)) (events_of p n) ≡ events_at p al xs inboxes n
+offers_at p al xs inboxes releases n plan parts lt =
+    let s = part_at p al xs inboxes n parts lt in
     let x = s.0 in
     let at : slice_get xs x.number ≡ Some x = subst (λ k. slice_get xs k ≡ Some x) (sym s.2) s.1 in
-    let own : x.number < nodes p = subst (λ k. k < nodes p) (sym s.2) lt in
-    subst (λ k. filter (is_enabled p (state_with p xs inboxes releases)) (events_of p k) ≡ node_events p x (inbox_at inboxes k)) s.2 (node_offers p (state_with p xs inboxes releases) x (inbox_at inboxes x.number) plan (node_in_state p xs inboxes releases x no_faults parts at own))
-    ∙ ap (λ (o : Option NodeView). elim o [ None ↦ [] | Some x ↦ node_events p x (inbox_at inboxes n) ]) (sym s.1)
+    subst (λ k. filter (is_enabled p (state_with p al xs inboxes releases)) (events_of p k) ≡ node_events p (is_alive al k) x (inbox_at inboxes k)) s.2 (part_offers p al xs inboxes releases x plan parts at)
+    ∙ ap (λ (o : Option NodeView). elim o [ None ↦ [] | Some x ↦ node_events p (is_alive al n) x (inbox_at inboxes n) ]) (sym s.1)
 
 -- the events of the first nodes that may come next, of all that can be named
-offers_below : (p : Plan) (xs : List NodeView) (inboxes : List Waiting) (releases : List TreeRelease) (k : ℕ) → IsPlan p → p.faults ≡ [] → AreParts p xs inboxes → k ≤ nodes p → filter (is_enabled p (state_with p xs inboxes releases)) (events_below p k) ≡ flat_map (events_at p xs inboxes) (up_to k)
-offers_below p xs inboxes releases zero plan no_faults parts le = refl
-offers_below p xs inboxes releases (suc k) plan no_faults parts le =
-    filter-append (is_enabled p (state_with p xs inboxes releases)) (events_below p k) (events_of p k)
-    ∙ ap (λ (es : List Event). es ++ filter (is_enabled p (state_with p xs inboxes releases)) (events_of p k)) (offers_below p xs inboxes releases k plan no_faults parts (omega arith))
-    ∙ ap (λ (es : List Event). flat_map (events_at p xs inboxes) (up_to k) ++ es) (offers_at p xs inboxes releases k plan no_faults parts (omega arith) ∙ sym (append-nil (events_at p xs inboxes k)))
-    ∙ sym (flat_map-append (events_at p xs inboxes) (up_to k) (k ∷ []))
+offers_below : (p : Plan) (al : List Bool) (xs : List NodeView) (inboxes : List Waiting) (releases : List TreeRelease) (k : ℕ) → IsPlan p → AreParts p al xs inboxes → k ≤ nodes p → filter (is_enabled p (state_with p al xs inboxes releases)) (events_below p k) ≡ flat_map (events_at p al xs inboxes) (up_to k)
+offers_below p al xs inboxes releases zero plan parts le = refl
+offers_below p al xs inboxes releases (suc k) plan parts le =
+    filter-append (is_enabled p (state_with p al xs inboxes releases)) (events_below p k) (events_of p k)
+    ∙ ap (λ (es : List Event). es ++ filter (is_enabled p (state_with p al xs inboxes releases)) (events_of p k)) (offers_below p al xs inboxes releases k plan parts (omega arith))
+    ∙ ap (λ (es : List Event). flat_map (events_at p al xs inboxes) (up_to k) ++ es) (offers_at p al xs inboxes releases k plan parts (omega arith) ∙ sym (append-nil (events_at p al xs inboxes k)))
+    ∙ sym (flat_map-append (events_at p al xs inboxes) (up_to k) (k ∷ []))
 
 -- the events that may come next are those of the nodes, node by node
-pub all_offers : (p : Plan) (xs : List NodeView) (inboxes : List Waiting) (releases : List TreeRelease) → IsPlan p → p.faults ≡ [] → AreParts p xs inboxes → enabled_events p (state_with p xs inboxes releases) ≡ flat_map (events_at p xs inboxes) (up_to (nodes p))
+pub all_offers : (p : Plan) (al : List Bool) (xs : List NodeView) (inboxes : List Waiting) (releases : List TreeRelease) → IsPlan p → AreParts p al xs inboxes → enabled_events p (state_with p al xs inboxes releases) ≡ flat_map (events_at p al xs inboxes) (up_to (nodes p))
 unfolding enabled_events
-all_offers p xs inboxes releases plan no_faults parts = offers_below p xs inboxes releases (nodes p) plan no_faults parts (omega arith)
+all_offers p al xs inboxes releases plan parts = offers_below p al xs inboxes releases (nodes p) plan parts (omega arith)
 
 -- whether the node of a number has an event that may come next
-pub ready_at : (p : Plan) (xs : List NodeView) (inboxes : List Waiting) (ready : List ℕ) (n : ℕ) → AreParts p xs inboxes → AreReady p xs inboxes ready → n < nodes p → is_listed ready n ≡ has_some (events_at p xs inboxes n)
-ready_at p xs inboxes ready n parts listed lt =
-    let s = part_at p xs inboxes n parts lt in
-    listed.has_event n s.0 s.1 ∙ ap (λ (o : Option NodeView). has_some (elim o [ None ↦ [] | Some x ↦ node_events p x (inbox_at inboxes n) ])) (sym s.1)
+pub ready_at : (p : Plan) (al : List Bool) (xs : List NodeView) (inboxes : List Waiting) (ready : List ℕ) (n : ℕ) → AreParts p al xs inboxes → AreReady p al xs inboxes ready → n < nodes p → is_listed ready n ≡ has_some (events_at p al xs inboxes n)
+ready_at p al xs inboxes ready n parts listed lt =
+    let s = part_at p al xs inboxes n parts lt in
+    listed.has_event n s.0 s.1 ∙ ap (λ (o : Option NodeView). has_some (elim o [ None ↦ [] | Some x ↦ node_events p (is_alive al n) x (inbox_at inboxes n) ])) (sym s.1)
 
 -- parts with no events put none together
 nothing_below : (g : ℕ → List Event) (n : ℕ) → ((m : ℕ) → m < n → has_some (g m) ≡ false) → flat_map g (up_to n) ≡ []
@@ -461,10 +496,10 @@ part_empty g (x ∷ xs) m (inr i) e = part_empty g xs m i (rest (g x) e)
     rest (a ∷ es) e = absurd (cc)
 
 -- no event may come next exactly if no node has one
-pub none_is_ready : (p : Plan) (xs : List NodeView) (inboxes : List Waiting) (releases : List TreeRelease) (ready : List ℕ) → IsPlan p → p.faults ≡ [] → AreParts p xs inboxes → AreReady p xs inboxes ready → (ready ≡ [] → enabled_events p (state_with p xs inboxes releases) ≡ []) × (enabled_events p (state_with p xs inboxes releases) ≡ [] → ready ≡ [])
-none_is_ready p xs inboxes releases ready plan no_faults parts listed = (
-  λ none. all_offers p xs inboxes releases plan no_faults parts ∙ nothing_below (events_at p xs inboxes) (nodes p) (λ m lt. sym (ready_at p xs inboxes ready m parts listed lt) ∙ ap (λ r. is_listed r m) none),
-  λ none. empty ready listed.below (λ m lt. ready_at p xs inboxes ready m parts listed lt ∙ part_empty (events_at p xs inboxes) (up_to (nodes p)) m (in_up_to (nodes p) m lt) (sym (all_offers p xs inboxes releases plan no_faults parts) ∙ none)),
+pub none_is_ready : (p : Plan) (al : List Bool) (xs : List NodeView) (inboxes : List Waiting) (releases : List TreeRelease) (ready : List ℕ) → IsPlan p → AreParts p al xs inboxes → AreReady p al xs inboxes ready → (ready ≡ [] → enabled_events p (state_with p al xs inboxes releases) ≡ []) × (enabled_events p (state_with p al xs inboxes releases) ≡ [] → ready ≡ [])
+none_is_ready p al xs inboxes releases ready plan parts listed = (
+  λ none. all_offers p al xs inboxes releases plan parts ∙ nothing_below (events_at p al xs inboxes) (nodes p) (λ m lt. sym (ready_at p al xs inboxes ready m parts listed lt) ∙ ap (λ r. is_listed r m) none),
+  λ none. empty ready listed.below (λ m lt. ready_at p al xs inboxes ready m parts listed lt ∙ part_empty (events_at p al xs inboxes) (up_to (nodes p)) m (in_up_to (nodes p) m lt) (sym (all_offers p al xs inboxes releases plan parts) ∙ none)),
 )
   where
     empty : (r : List ℕ) → ((n : ℕ) → is_listed r n ≡ true → n < nodes p) → ((n : ℕ) → n < nodes p → is_listed r n ≡ false) → r ≡ []
@@ -472,19 +507,19 @@ none_is_ready p xs inboxes releases ready plan no_faults parts listed = (
     empty (n ∷ r) below h = let t : is_listed (n ∷ r) n ≡ true = listed_from_in (n ∷ r) n (inl refl) in absurd (true≢false (sym t ∙ h n (below n t)))
 
 -- where the nodes with an event are listed in order, the events that may come next are theirs, node by node
-pub all_ready : (p : Plan) (xs : List NodeView) (inboxes : List Waiting) (releases : List TreeRelease) (ready : List ℕ) → IsPlan p → p.faults ≡ [] → AreParts p xs inboxes → AreReady p xs inboxes ready → IsStrictlyIncreasing ready → enabled_events p (state_with p xs inboxes releases) ≡ flat_map (events_at p xs inboxes) ready
-all_ready p xs inboxes releases ready plan no_faults parts listed increasing =
-    all_offers p xs inboxes releases plan no_faults parts
-    ∙ flat_ready (events_at p xs inboxes) (nodes p) ready increasing (λ m i. listed.below m (listed_from_in ready m i)) (λ m lt. ready_at p xs inboxes ready m parts listed lt)
+pub all_ready : (p : Plan) (al : List Bool) (xs : List NodeView) (inboxes : List Waiting) (releases : List TreeRelease) (ready : List ℕ) → IsPlan p → AreParts p al xs inboxes → AreReady p al xs inboxes ready → IsStrictlyIncreasing ready → enabled_events p (state_with p al xs inboxes releases) ≡ flat_map (events_at p al xs inboxes) ready
+all_ready p al xs inboxes releases ready plan parts listed increasing =
+    all_offers p al xs inboxes releases plan parts
+    ∙ flat_ready (events_at p al xs inboxes) (nodes p) ready increasing (λ m i. listed.below m (listed_from_in ready m i)) (λ m lt. ready_at p al xs inboxes ready m parts listed lt)
 
 -- the events of a node that was read
-pub events_read : (p : Plan) (xs : List NodeView) (inboxes : List Waiting) (n : ℕ) (x : NodeView) (box : Waiting) → slice_get xs n ≡ Some x → box ≡ inbox_at inboxes n → events_at p xs inboxes n ≡ node_events p x box
-events_read p xs inboxes n x box at is =
-    ap (λ (o : Option NodeView). elim o [ None ↦ [] | Some x ↦ node_events p x (inbox_at inboxes n) ]) at ∙ ap (node_events p x) (sym is)
+pub events_read : (p : Plan) (al : List Bool) (xs : List NodeView) (inboxes : List Waiting) (n : ℕ) (u : Bool) (x : NodeView) (box : Waiting) → u ≡ is_alive al n → slice_get xs n ≡ Some x → box ≡ inbox_at inboxes n → events_at p al xs inboxes n ≡ node_events p u x box
+events_read p al xs inboxes n u x box up at is =
+    ap (λ (o : Option NodeView). elim o [ None ↦ [] | Some x ↦ node_events p (is_alive al n) x (inbox_at inboxes n) ]) at ∙ (λ i. node_events p (sym up i) x (sym is i))
 
 -- a listed node that comes next is a node of the plan
-pub turn_below : (p : Plan) (xs : List NodeView) (inboxes : List Waiting) (ready ns rest : List ℕ) (n : ℕ) → AreReady p xs inboxes ready → ((m : ℕ) → In m ns → In m ready) → ns ≡ n ∷ rest → n < nodes p
-turn_below p xs inboxes ready ns rest n listed within split = listed.below n (listed_from_in ready n (within n (subst (λ ms. In n ms) (sym split) (inl refl))))
+pub turn_below : (p : Plan) (al : List Bool) (xs : List NodeView) (inboxes : List Waiting) (ready ns rest : List ℕ) (n : ℕ) → AreReady p al xs inboxes ready → ((m : ℕ) → In m ns → In m ready) → ns ≡ n ∷ rest → n < nodes p
+turn_below p al xs inboxes ready ns rest n listed within split = listed.below n (listed_from_in ready n (within n (subst (λ ms. In n ms) (sym split) (inl refl))))
 
 -- an event of the next node
 pub turn_found : (g : ℕ → List Event) (ns rest : List ℕ) (n : ℕ) (es : List Event) (i : ℕ) (e : Event) → ns ≡ n ∷ rest → g n ≡ es → slice_get es i ≡ Some e → slice_get (flat_map g ns) i ≡ Some e

@@ -8,7 +8,6 @@ use Rattle.stat_desk.specs.Events.{event_node}
 use Rattle.overlay_core.specs.Nodes.{Release}
 use Rattle.overlay_core.specs.Releases.{next_release}
 use Rattle.overlay_core.specs.TreeReleases.{numbers_after}
-use Rattle.overlay_node.specs.Packets.{TreePacket}
 use Rattle.overlay_net.specs.Inboxes.{Waiting, HaveSent, IsInbox, is_waiting, queue_of, senders_of}
 use Rattle.overlay_net.specs.Nets.{inbox_at}
 use Rattle.overlay_net.specs.Events.{has_some}
@@ -45,7 +44,7 @@ waits_where_some es m some = elim (cases_Bool (is_waiting es m)) [ inl t ↦ t |
 -- ---- what was taken
 
 -- each other inbox is unchanged
-pub taken_others : (ia ib : List Waiting) (e : Event) (packet : Option TreePacket) → IsTaken ia e packet ib → (b : ℕ) → (b == event_node e) ≡ false → inbox_at ib b ≡ inbox_at ia b
+pub taken_others : (ia ib : List Waiting) (e : Event) (packet : Option (List ℕ)) → IsTaken ia e packet ib → (b : ℕ) → (b == event_node e) ≡ false → inbox_at ib b ≡ inbox_at ia b
 taken_others ia ib (Sample n s w) packet h b f = ap (λ (l : List Waiting). inbox_at l b) h.1
 taken_others ia ib (Recv n m) None h b f = absurd h
 taken_others ia ib (Recv n m) (Some q) h b f = h.others b f
@@ -53,7 +52,7 @@ taken_others ia ib (Tick n) packet h b f = ap (λ (l : List Waiting). inbox_at l
 taken_others ia ib (Lose n) packet h b f = ap (λ (l : List Waiting). inbox_at l b) h.1
 
 -- there are as many inboxes as there were
-pub taken_all : (ia ib : List Waiting) (e : Event) (packet : Option TreePacket) → IsTaken ia e packet ib → length ib ≡ length ia
+pub taken_all : (ia ib : List Waiting) (e : Event) (packet : Option (List ℕ)) → IsTaken ia e packet ib → length ib ≡ length ia
 taken_all ia ib (Sample n s w) packet h = ap (λ (l : List Waiting). length l) h.1
 taken_all ia ib (Recv n m) None h = absurd h
 taken_all ia ib (Recv n m) (Some q) h = h.inbox_count
@@ -61,7 +60,7 @@ taken_all ia ib (Tick n) packet h = ap (λ (l : List Waiting). length l) h.1
 taken_all ia ib (Lose n) packet h = ap (λ (l : List Waiting). length l) h.1
 
 -- inboxes stay inboxes
-pub taken_kept : (ia ib : List Waiting) (e : Event) (packet : Option TreePacket) → IsTaken ia e packet ib → ((b : ℕ) → IsInbox (inbox_at ia b)) → (b : ℕ) → IsInbox (inbox_at ib b)
+pub taken_kept : (ia ib : List Waiting) (e : Event) (packet : Option (List ℕ)) → IsTaken ia e packet ib → ((b : ℕ) → IsInbox (inbox_at ia b)) → (b : ℕ) → IsInbox (inbox_at ib b)
 taken_kept ia ib (Sample n s w) packet h is b = subst (λ (l : List Waiting). IsInbox (inbox_at l b)) (sym h.1) (is b)
 taken_kept ia ib (Recv n m) None h is b = absurd h
 taken_kept ia ib (Recv n m) (Some q) h is b = h.inboxes is b
@@ -69,8 +68,8 @@ taken_kept ia ib (Tick n) packet h is b = subst (λ (l : List Waiting). IsInbox 
 taken_kept ia ib (Lose n) packet h is b = subst (λ (l : List Waiting). IsInbox (inbox_at l b)) (sym h.1) (is b)
 
 -- what is true of an unchanged queue, and of a queue without its first packet, is true of the queue afterwards
-left_over : (R : List TreePacket → Type 0) (ia ib : List Waiting) (n m : ℕ) (q : TreePacket) → IsFirst m n q ia ib
-    → ((rest : List TreePacket) → R (q ∷ rest) → R rest)
+left_over : (R : List (List ℕ) → Type 0) (ia ib : List Waiting) (n m : ℕ) (q : (List ℕ)) → IsFirst m n q ia ib
+    → ((rest : List (List ℕ)) → R (q ∷ rest) → R rest)
     → (a b : ℕ) → R (queue_of (inbox_at ia b) a) → R (queue_of (inbox_at ib b) a)
 left_over R ia ib n m q h less a b r = go (b == n) (a == m) refl refl
   where
@@ -87,8 +86,8 @@ left_over R ia ib n m q h less a b r = go (b == n) (a == m) refl refl
         subst (λ k. R (queue_of (inbox_at ib k) a)) (sym eb) (subst (λ k. R (queue_of (inbox_at ib n) k)) (sym ea) here)
 
 -- what is true of each queue, also of one without its first packet, is true after an event has taken what it receives
-pub taken_left : (R : List TreePacket → Type 0) → ((q : TreePacket) (rest : List TreePacket) → R (q ∷ rest) → R rest)
-    → (ia ib : List Waiting) (e : Event) (packet : Option TreePacket) → IsTaken ia e packet ib
+pub taken_left : (R : List (List ℕ) → Type 0) → ((q : (List ℕ)) (rest : List (List ℕ)) → R (q ∷ rest) → R rest)
+    → (ia ib : List Waiting) (e : Event) (packet : Option (List ℕ)) → IsTaken ia e packet ib
     → (a b : ℕ) → R (queue_of (inbox_at ia b) a) → R (queue_of (inbox_at ib b) a)
 taken_left R less ia ib (Sample n s w) packet h a b r = subst (λ (l : List Waiting). R (queue_of (inbox_at l b) a)) (sym h.1) r
 taken_left R less ia ib (Recv n m) None h a b r = absurd h
@@ -97,13 +96,13 @@ taken_left R less ia ib (Tick n) packet h a b r = subst (λ (l : List Waiting). 
 taken_left R less ia ib (Lose n) packet h a b r = subst (λ (l : List Waiting). R (queue_of (inbox_at l b) a)) (sym h.1) r
 
 -- where a queue was empty, it is empty after an event has taken what it receives
-pub taken_none : (ia ib : List Waiting) (e : Event) (packet : Option TreePacket) → IsTaken ia e packet ib → (a b : ℕ) → queue_of (inbox_at ia b) a ≡ [] → queue_of (inbox_at ib b) a ≡ []
-taken_none ia ib e packet h a b none = taken_left (λ (l : List TreePacket). l ≡ []) (λ q rest k. absurd (some_first q rest k)) ia ib e packet h a b none
+pub taken_none : (ia ib : List Waiting) (e : Event) (packet : Option (List ℕ)) → IsTaken ia e packet ib → (a b : ℕ) → queue_of (inbox_at ia b) a ≡ [] → queue_of (inbox_at ib b) a ≡ []
+taken_none ia ib e packet h a b none = taken_left (λ (l : List (List ℕ)). l ≡ []) (λ q rest k. absurd (some_first q rest k)) ia ib e packet h a b none
 
 -- ---- what was sent
 
 -- what is true of each packet that was sent is true of those that go to b
-pub sent_fit : (R : TreePacket → Type 0) (b : ℕ) (sends : List (ℕ × TreePacket)) → AllByRecursion (λ v. R v.1) sends → AllByRecursion R (packets_to b sends)
+pub sent_fit : (R : (List ℕ) → Type 0) (b : ℕ) (sends : List (ℕ × (List ℕ))) → AllByRecursion (λ v. R v.1) sends → AllByRecursion R (packets_to b sends)
 sent_fit R b [] h = tt
 sent_fit R b (v ∷ vs) h = go (v.0 == b) (sent_fit R b vs h.1)
   where
@@ -112,7 +111,7 @@ sent_fit R b (v ∷ vs) h = go (v.0 == b) (sent_fit R b vs h.1)
     go false rest = rest
 
 -- a receiver is below the number that the receivers are below
-pub receiver_below : (count b : ℕ) (sends : List (ℕ × TreePacket)) → GoBelow count sends → is_receiver sends b ≡ true → b < count
+pub receiver_below : (count b : ℕ) (sends : List (ℕ × (List ℕ))) → GoBelow count sends → is_receiver sends b ≡ true → b < count
 receiver_below count b [] below h = absurd (true≢false (sym h))
 receiver_below count b (v ∷ vs) below h = elim (or_cases (v.0 == b) (is_receiver vs b) h) [
   | inl t ↦ subst (λ k. k < count) (eqb-true v.0 b t) below.0
@@ -120,7 +119,7 @@ receiver_below count b (v ∷ vs) below h = elim (or_cases (v.0 == b) (is_receiv
 ]
 
 -- a receiver gets something
-pub receiver_gets : (b : ℕ) (sends : List (ℕ × TreePacket)) → is_receiver sends b ≡ true → packets_to b sends ≢ []
+pub receiver_gets : (b : ℕ) (sends : List (ℕ × (List ℕ))) → is_receiver sends b ≡ true → packets_to b sends ≢ []
 receiver_gets b [] h = absurd (true≢false (sym h))
 receiver_gets b (v ∷ vs) h = go (v.0 == b) h (receiver_gets b vs)
   where

@@ -1,17 +1,13 @@
 -- What a change of one sender's queue does to what waits.
-use Rattle.std.proofs.Common.{◌≡◌, ◌≢◌, ◌∙◌, ℕ, Bool, true, false, ◌==◌, ◌||◌, cond, List, [], ◌∷◌, ◌++◌, map, Option, Some, None, IsSome, refl, sym, ap, subst, eqb-true, eq-eqb, arith, length, Less, Equal, Greater}
+use Rattle.std.proofs.Common.{◌≡◌, ◌≢◌, ◌∙◌, ℕ, zero, suc, take, Bool, true, false, ◌==◌, ◌||◌, cond, List, [], ◌∷◌, ◌++◌, Option, Some, None, IsSome, refl, sym, ap, subst, eqb-true, eq-eqb, arith, length, Less, Equal, Greater}
 use Rattle.std.proofs.lemmas.Bool.{true≢false}
 use Rattle.std.proofs.lemmas.Bool.Decides.{nat_tests}
-use Rattle.std.proofs.lemmas.List.{map-append}
 use Rattle.std.specs.Ordering.{nat_cmp, match_ordering}
 use Rattle.std.specs.Map.{keys_of, lookup, set_value, remove_entry}
 use Rattle.std.specs.Option.{is_some}
 use Rattle.std.specs.BTreeMap.{insert_entry, is_at}
 use Rattle.std.specs.List.Sorted.{IsStrictlySortedBy}
 use Rattle.std.specs.declared.collections.VecDeque.{VecDeque}
-use Rattle.prefix_tree.specs.Tree.{Tree}
-use Rattle.overlay_node.specs.declared.packet.Packet.{Packet}
-use Rattle.overlay_node.specs.Packets.{TreePacket, packet_view}
 use Rattle.overlay_net.specs.Inboxes.{waiting_view, queue_of, is_waiting, senders_of, HaveSent, IsInbox}
 
 -- a comparison finds the key itself
@@ -19,94 +15,87 @@ pub finds_key : (k q : ℕ) → is_at (nat_cmp k) q ≡ (q == k)
 finds_key k q = grind (arith, nat_tests)
 
 -- what a queue has where a key is found
-abbrev pub found : {X A : Type 0} → (X → Tree) → Option (VecDeque (Packet X) A) → List TreePacket
-found tree None = []
-found tree (Some v) = map (packet_view tree) v.items
+abbrev pub found : {A : Type 0} → Option (VecDeque (List ℕ) A) → List (List ℕ)
+found None = []
+found (Some v) = v.items
 
-pub queue_by_lookup : {X A : Type 0} (tree : X → Tree) (k : ℕ) (es : List (ℕ × VecDeque (Packet X) A)) → queue_of (waiting_view tree es) k ≡ found tree (lookup (is_at (nat_cmp k)) es)
-queue_by_lookup tree k [] = refl
-queue_by_lookup tree k (e ∷ es) =
-    ap (cond (e.0 == k) (map (packet_view tree) e.1.items)) (queue_by_lookup tree k es)
+pub queue_by_lookup : {A : Type 0} (k : ℕ) (es : List (ℕ × VecDeque (List ℕ) A)) → queue_of (waiting_view es) k ≡ found (lookup (is_at (nat_cmp k)) es)
+queue_by_lookup k [] = refl
+queue_by_lookup k (e ∷ es) =
+    ap (cond (e.0 == k) (e.1.items)) (queue_by_lookup k es)
     ∙ choose (e.0 == k) (is_at (nat_cmp k) e.0) (sym (finds_key k e.0))
   where
-    choose : (b c : Bool) → b ≡ c → cond b (map (packet_view tree) e.1.items) (found tree (lookup (is_at (nat_cmp k)) es)) ≡ found tree (cond c (Some e.1) (lookup (is_at (nat_cmp k)) es))
-    choose true c h = ap (λ b. found tree (cond b (Some e.1) (lookup (is_at (nat_cmp k)) es))) h
-    choose false c h = ap (λ b. found tree (cond b (Some e.1) (lookup (is_at (nat_cmp k)) es))) h
+    choose : (b c : Bool) → b ≡ c → cond b (e.1.items) (found (lookup (is_at (nat_cmp k)) es)) ≡ found (cond c (Some e.1) (lookup (is_at (nat_cmp k)) es))
+    choose true c h = ap (λ b. found (cond b (Some e.1) (lookup (is_at (nat_cmp k)) es))) h
+    choose false c h = ap (λ b. found (cond b (Some e.1) (lookup (is_at (nat_cmp k)) es))) h
 
 -- at one key the queue has w, or is gone, and each other key has what it had
-abbrev pub Changes : {X A : Type 0} → ℕ → Option (VecDeque (Packet X) A) → List (ℕ × VecDeque (Packet X) A) → List (ℕ × VecDeque (Packet X) A) → Type 0
+abbrev pub Changes : {A : Type 0} → ℕ → Option (VecDeque (List ℕ) A) → List (ℕ × VecDeque (List ℕ) A) → List (ℕ × VecDeque (List ℕ) A) → Type 0
 Changes k w es ns = (q : ℕ) → lookup (is_at (nat_cmp q)) ns ≡ cond (is_at (nat_cmp k) q) w (lookup (is_at (nat_cmp q)) es)
 
-pub changed_queue : {X A : Type 0} (tree : X → Tree) (k : ℕ) (w : Option (VecDeque (Packet X) A)) (es ns : List (ℕ × VecDeque (Packet X) A)) → Changes k w es ns
-    → (m : ℕ) → queue_of (waiting_view tree ns) m ≡ cond (m == k) (found tree w) (queue_of (waiting_view tree es) m)
-changed_queue tree k w es ns h m =
-    queue_by_lookup tree m ns
-    ∙ ap (found tree) (h m)
+pub changed_queue : {A : Type 0} (k : ℕ) (w : Option (VecDeque (List ℕ) A)) (es ns : List (ℕ × VecDeque (List ℕ) A)) → Changes k w es ns
+    → (m : ℕ) → queue_of (waiting_view ns) m ≡ cond (m == k) (found w) (queue_of (waiting_view es) m)
+changed_queue k w es ns h m =
+    queue_by_lookup m ns
+    ∙ ap found (h m)
     ∙ choose (is_at (nat_cmp k) m) (m == k) (finds_key k m)
   where
-    choose : (b c : Bool) → b ≡ c → found tree (cond b w (lookup (is_at (nat_cmp m)) es)) ≡ cond c (found tree w) (queue_of (waiting_view tree es) m)
-    choose true c e = ap (λ x. cond x (found tree w) (queue_of (waiting_view tree es) m)) e
-    choose false c e = sym (queue_by_lookup tree m es) ∙ ap (λ x. cond x (found tree w) (queue_of (waiting_view tree es) m)) e
+    choose : (b c : Bool) → b ≡ c → found (cond b w (lookup (is_at (nat_cmp m)) es)) ≡ cond c (found w) (queue_of (waiting_view es) m)
+    choose true c e = ap (λ x. cond x (found w) (queue_of (waiting_view es) m)) e
+    choose false c e = sym (queue_by_lookup m es) ∙ ap (λ x. cond x (found w) (queue_of (waiting_view es) m)) e
 
 -- a packet more at one key
-pub put_queue : {X A : Type 0} (tree : X → Tree) (k : ℕ) (w : VecDeque (Packet X) A) (x : TreePacket) (es ns : List (ℕ × VecDeque (Packet X) A)) → Changes k (Some w) es ns
-    → map (packet_view tree) w.items ≡ queue_of (waiting_view tree es) k ++ x ∷ []
-    → (m : ℕ) → queue_of (waiting_view tree ns) m ≡ cond (m == k) (queue_of (waiting_view tree es) m ++ x ∷ []) (queue_of (waiting_view tree es) m)
-put_queue tree k w x es ns h more m = changed_queue tree k (Some w) es ns h m ∙ go (m == k) refl
+pub put_queue : {A : Type 0} (k : ℕ) (w : VecDeque (List ℕ) A) (x : (List ℕ)) (es ns : List (ℕ × VecDeque (List ℕ) A)) → Changes k (Some w) es ns
+    → w.items ≡ queue_of (waiting_view es) k ++ x ∷ []
+    → (m : ℕ) → queue_of (waiting_view ns) m ≡ cond (m == k) (queue_of (waiting_view es) m ++ x ∷ []) (queue_of (waiting_view es) m)
+put_queue k w x es ns h more m = changed_queue k (Some w) es ns h m ∙ go (m == k) refl
   where
-    go : (b : Bool) → (m == k) ≡ b → cond b (map (packet_view tree) w.items) (queue_of (waiting_view tree es) m) ≡ cond b (queue_of (waiting_view tree es) m ++ x ∷ []) (queue_of (waiting_view tree es) m)
-    go true e = more ∙ ap (λ n. queue_of (waiting_view tree es) n ++ x ∷ []) (sym (eqb-true m k e))
+    go : (b : Bool) → (m == k) ≡ b → cond b (w.items) (queue_of (waiting_view es) m) ≡ cond b (queue_of (waiting_view es) m ++ x ∷ []) (queue_of (waiting_view es) m)
+    go true e = more ∙ ap (λ n. queue_of (waiting_view es) n ++ x ∷ []) (sym (eqb-true m k e))
     go false e = refl
 
 -- where a key isn't found, nothing waits
-pub nothing_waits : {X A : Type 0} (tree : X → Tree) (k : ℕ) (es : List (ℕ × VecDeque (Packet X) A)) → lookup (is_at (nat_cmp k)) es ≡ None → queue_of (waiting_view tree es) k ≡ []
-nothing_waits tree k es h = queue_by_lookup tree k es ∙ ap (found tree) h
+pub nothing_waits : {A : Type 0} (k : ℕ) (es : List (ℕ × VecDeque (List ℕ) A)) → lookup (is_at (nat_cmp k)) es ≡ None → queue_of (waiting_view es) k ≡ []
+nothing_waits k es h = queue_by_lookup k es ∙ ap found h
 
 -- where a key is found, its queue waits
-pub what_waits : {X A : Type 0} (tree : X → Tree) (k : ℕ) (v : VecDeque (Packet X) A) (es : List (ℕ × VecDeque (Packet X) A)) → lookup (is_at (nat_cmp k)) es ≡ Some v → queue_of (waiting_view tree es) k ≡ map (packet_view tree) v.items
-what_waits tree k v es h = queue_by_lookup tree k es ∙ ap (found tree) h
+pub what_waits : {A : Type 0} (k : ℕ) (v : VecDeque (List ℕ) A) (es : List (ℕ × VecDeque (List ℕ) A)) → lookup (is_at (nat_cmp k)) es ≡ Some v → queue_of (waiting_view es) k ≡ v.items
+what_waits k v es h = queue_by_lookup k es ∙ ap found h
 
 -- the key that was changed has the new value
-pub changed_here : {X A : Type 0} (tree : X → Tree) (k : ℕ) (w : Option (VecDeque (Packet X) A)) (es ns : List (ℕ × VecDeque (Packet X) A)) → Changes k w es ns → queue_of (waiting_view tree ns) k ≡ found tree w
-changed_here tree k w es ns h = changed_queue tree k w es ns h k ∙ ap (λ b. cond b (found tree w) (queue_of (waiting_view tree es) k)) (eq-eqb k k refl)
+pub changed_here : {A : Type 0} (k : ℕ) (w : Option (VecDeque (List ℕ) A)) (es ns : List (ℕ × VecDeque (List ℕ) A)) → Changes k w es ns → queue_of (waiting_view ns) k ≡ found w
+changed_here k w es ns h = changed_queue k w es ns h k ∙ ap (λ b. cond b (found w) (queue_of (waiting_view es) k)) (eq-eqb k k refl)
 
 -- each other one has what it had
-pub changed_else : {X A : Type 0} (tree : X → Tree) (k : ℕ) (w : Option (VecDeque (Packet X) A)) (es ns : List (ℕ × VecDeque (Packet X) A)) → Changes k w es ns
-    → (m : ℕ) → (m == k) ≡ false → queue_of (waiting_view tree ns) m ≡ queue_of (waiting_view tree es) m
-changed_else tree k w es ns h m e = changed_queue tree k w es ns h m ∙ ap (λ b. cond b (found tree w) (queue_of (waiting_view tree es) m)) e
+pub changed_else : {A : Type 0} (k : ℕ) (w : Option (VecDeque (List ℕ) A)) (es ns : List (ℕ × VecDeque (List ℕ) A)) → Changes k w es ns
+    → (m : ℕ) → (m == k) ≡ false → queue_of (waiting_view ns) m ≡ queue_of (waiting_view es) m
+changed_else k w es ns h m e = changed_queue k w es ns h m ∙ ap (λ b. cond b (found w) (queue_of (waiting_view es) m)) e
 
 -- ---- no queue is empty
 
-packets_stay : {X : Type 0} (tree : X → Tree) (xs : List (Packet X)) → xs ≢ [] → map (packet_view tree) xs ≢ []
-packets_stay tree [] h = λ e. h refl
-packets_stay tree (x ∷ xs) h = λ e. some (sym e)
-  where
-    some : ([] ≡ packet_view tree x ∷ map (packet_view tree) xs) → ⊥
-    some e = cc
-
-pub set_sent : {X A : Type 0} (tree : X → Tree) (test : ℕ → Bool) (w : VecDeque (Packet X) A) (es : List (ℕ × VecDeque (Packet X) A)) → HaveSent (waiting_view tree es) → w.items ≢ [] → HaveSent (waiting_view tree (set_value test es w))
-set_sent tree test w [] h some = tt
-set_sent tree test w (e ∷ es) h some =
-    elim (test e.0) as (λ b. HaveSent (waiting_view tree (cond b ((e.0, w) ∷ es) (e ∷ set_value test es w)))) [
-      | true ↦ (packets_stay tree w.items some, h.1)
-      | false ↦ (h.0, set_sent tree test w es h.1 some)
+pub set_sent : {A : Type 0} (test : ℕ → Bool) (w : VecDeque (List ℕ) A) (es : List (ℕ × VecDeque (List ℕ) A)) → HaveSent (waiting_view es) → w.items ≢ [] → HaveSent (waiting_view (set_value test es w))
+set_sent test w [] h some = tt
+set_sent test w (e ∷ es) h some =
+    elim (test e.0) as (λ b. HaveSent (waiting_view (cond b ((e.0, w) ∷ es) (e ∷ set_value test es w)))) [
+      | true ↦ (some, h.1)
+      | false ↦ (h.0, set_sent test w es h.1 some)
     ]
 
-pub removed_sent : {X A : Type 0} (tree : X → Tree) (test : ℕ → Bool) (w : VecDeque (Packet X) A) (es : List (ℕ × VecDeque (Packet X) A)) → HaveSent (waiting_view tree es) → HaveSent (waiting_view tree (remove_entry test (set_value test es w)))
-removed_sent tree test w [] h = tt
-removed_sent tree test w (e ∷ es) h = go (test e.0) refl (removed_sent tree test w es h.1)
+pub removed_sent : {A : Type 0} (test : ℕ → Bool) (w : VecDeque (List ℕ) A) (es : List (ℕ × VecDeque (List ℕ) A)) → HaveSent (waiting_view es) → HaveSent (waiting_view (remove_entry test (set_value test es w)))
+removed_sent test w [] h = tt
+removed_sent test w (e ∷ es) h = go (test e.0) refl (removed_sent test w es h.1)
   where
-    go : (b : Bool) → test e.0 ≡ b → HaveSent (waiting_view tree (remove_entry test (set_value test es w))) → HaveSent (waiting_view tree (remove_entry test (cond b ((e.0, w) ∷ es) (e ∷ set_value test es w))))
-    go true t rest = subst (λ b. HaveSent (waiting_view tree (cond b es ((e.0, w) ∷ remove_entry test es)))) (sym t) h.1
-    go false t rest = subst (λ b. HaveSent (waiting_view tree (cond b (set_value test es w) (e ∷ remove_entry test (set_value test es w))))) (sym t) (h.0, rest)
+    go : (b : Bool) → test e.0 ≡ b → HaveSent (waiting_view (remove_entry test (set_value test es w))) → HaveSent (waiting_view (remove_entry test (cond b ((e.0, w) ∷ es) (e ∷ set_value test es w))))
+    go true t rest = subst (λ b. HaveSent (waiting_view (cond b es ((e.0, w) ∷ remove_entry test es)))) (sym t) h.1
+    go false t rest = subst (λ b. HaveSent (waiting_view (cond b (set_value test es w) (e ∷ remove_entry test (set_value test es w))))) (sym t) (h.0, rest)
 
-pub inserted_sent : {X A : Type 0} (tree : X → Tree) (k : ℕ) (w : VecDeque (Packet X) A) (es : List (ℕ × VecDeque (Packet X) A)) → HaveSent (waiting_view tree es) → w.items ≢ [] → HaveSent (waiting_view tree (insert_entry nat_cmp es k w))
-inserted_sent tree k w [] h some = (packets_stay tree w.items some, tt)
-inserted_sent tree k w (e ∷ es) h some =
-    elim (nat_cmp k e.0) as (λ o. HaveSent (waiting_view tree (match_ordering o ((k, w) ∷ e ∷ es) ((e.0, w) ∷ es) (e ∷ insert_entry nat_cmp es k w)))) [
-      | Less ↦ (packets_stay tree w.items some, h)
-      | Equal ↦ (packets_stay tree w.items some, h.1)
-      | Greater ↦ (h.0, inserted_sent tree k w es h.1 some)
+pub inserted_sent : {A : Type 0} (k : ℕ) (w : VecDeque (List ℕ) A) (es : List (ℕ × VecDeque (List ℕ) A)) → HaveSent (waiting_view es) → w.items ≢ [] → HaveSent (waiting_view (insert_entry nat_cmp es k w))
+inserted_sent k w [] h some = (some, tt)
+inserted_sent k w (e ∷ es) h some =
+    elim (nat_cmp k e.0) as (λ o. HaveSent (waiting_view (match_ordering o ((k, w) ∷ e ∷ es) ((e.0, w) ∷ es) (e ∷ insert_entry nat_cmp es k w)))) [
+      | Less ↦ (some, h)
+      | Equal ↦ (some, h.1)
+      | Greater ↦ (h.0, inserted_sent k w es h.1 some)
     ]
 
 not_empty : {X : Type 0} (xs : List X) (x : X) → xs ++ x ∷ [] ≡ [] → ⊥
@@ -118,15 +107,15 @@ pub pushed_some : {X : Type 0} (xs ys : List X) (x : X) → ys ≡ xs ++ x ∷ [
 pushed_some xs ys x is = λ e. not_empty xs x (sym is ∙ e)
 
 -- what a queue and a packet more show
-pub shown_more : {X : Type 0} (tree : X → Tree) (xs ys : List (Packet X)) (x : Packet X) (q : List TreePacket) → ys ≡ xs ++ x ∷ [] → q ≡ map (packet_view tree) xs → map (packet_view tree) ys ≡ q ++ packet_view tree x ∷ []
-shown_more tree xs ys x q is eq = ap (map (packet_view tree)) is ∙ map-append (packet_view tree) xs (x ∷ []) ∙ ap (λ l. l ++ packet_view tree x ∷ []) (sym eq)
+pub shown_more : (xs ys : List (List ℕ)) (x : List ℕ) (q : List (List ℕ)) → ys ≡ xs ++ x ∷ [] → q ≡ xs → ys ≡ q ++ x ∷ []
+shown_more xs ys x q is eq = is ∙ ap (λ l. l ++ x ∷ []) (sym eq)
 
 -- a change of a list that is this one
-pub changes_same : {X A : Type 0} (k : ℕ) (w : Option (VecDeque (Packet X) A)) (es fs ns : List (ℕ × VecDeque (Packet X) A)) → fs ≡ es → Changes k w fs ns → Changes k w es ns
+pub changes_same : {A : Type 0} (k : ℕ) (w : Option (VecDeque (List ℕ) A)) (es fs ns : List (ℕ × VecDeque (List ℕ) A)) → fs ≡ es → Changes k w fs ns → Changes k w es ns
 changes_same k w es fs ns is h q = h q ∙ ap (λ l. cond (is_at (nat_cmp k) q) w (lookup (is_at (nat_cmp q)) l)) is
 
 -- a change after a change at the same key
-pub changes_again : {X A : Type 0} (k : ℕ) (v w : Option (VecDeque (Packet X) A)) (es ms ns : List (ℕ × VecDeque (Packet X) A)) → Changes k v es ms → Changes k w ms ns → Changes k w es ns
+pub changes_again : {A : Type 0} (k : ℕ) (v w : Option (VecDeque (List ℕ) A)) (es ms ns : List (ℕ × VecDeque (List ℕ) A)) → Changes k v es ms → Changes k w ms ns → Changes k w es ns
 changes_again k v w es ms ns h i q = i q ∙ ap (cond (is_at (nat_cmp k) q) w) (h q) ∙ twice (is_at (nat_cmp k) q)
   where
     twice : (b : Bool) → cond b w (cond b v (lookup (is_at (nat_cmp q)) es)) ≡ cond b w (lookup (is_at (nat_cmp q)) es)
@@ -153,22 +142,22 @@ not_none [] e = absurd (true≢false e)
 not_none (x ∷ xs) e = λ is. some_not_none x xs is
 
 -- what waits, with the first packet taken
-pub first_waits : {X A : Type 0} (tree : X → Tree) (k : ℕ) (v : VecDeque (Packet X) A) (x : Packet X) (rest : List (Packet X)) (es : List (ℕ × VecDeque (Packet X) A)) → lookup (is_at (nat_cmp k)) es ≡ Some v → v.items ≡ x ∷ rest
-    → queue_of (waiting_view tree es) k ≡ packet_view tree x ∷ map (packet_view tree) rest
-first_waits tree k v x rest es h is = what_waits tree k v es h ∙ ap (map (packet_view tree)) is
+pub first_waits : {A : Type 0} (k : ℕ) (v : VecDeque (List ℕ) A) (x : List ℕ) (rest : List (List ℕ)) (es : List (ℕ × VecDeque (List ℕ) A)) → lookup (is_at (nat_cmp k)) es ≡ Some v → v.items ≡ x ∷ rest
+    → queue_of (waiting_view es) k ≡ x ∷ rest
+first_waits k v x rest es h is = what_waits k v es h ∙ is
 
 -- the senders are the keys
-pub senders_are_keys : {X A : Type 0} (tree : X → Tree) (es : List (ℕ × VecDeque (Packet X) A)) → senders_of (waiting_view tree es) ≡ keys_of es
-senders_are_keys tree [] = refl
-senders_are_keys tree (e ∷ es) = ap (λ l. e.0 ∷ l) (senders_are_keys tree es)
+pub senders_are_keys : {A : Type 0} (es : List (ℕ × VecDeque (List ℕ) A)) → senders_of (waiting_view es) ≡ keys_of es
+senders_are_keys [] = refl
+senders_are_keys (e ∷ es) = ap (λ l. e.0 ∷ l) (senders_are_keys es)
 
 -- a key is found where something waits
-pub found_waits : {X A : Type 0} (tree : X → Tree) (k : ℕ) (es : List (ℕ × VecDeque (Packet X) A)) → is_some (lookup (is_at (nat_cmp k)) es) ≡ is_waiting (waiting_view tree es) k
-found_waits tree k [] = refl
-found_waits tree k (e ∷ es) =
+pub found_waits : {A : Type 0} (k : ℕ) (es : List (ℕ × VecDeque (List ℕ) A)) → is_some (lookup (is_at (nat_cmp k)) es) ≡ is_waiting (waiting_view es) k
+found_waits k [] = refl
+found_waits k (e ∷ es) =
     choose (is_at (nat_cmp k) e.0)
     ∙ ap (λ b. b || is_some (lookup (is_at (nat_cmp k)) es)) (finds_key k e.0)
-    ∙ ap (λ b. (e.0 == k) || b) (found_waits tree k es)
+    ∙ ap (λ b. (e.0 == k) || b) (found_waits k es)
   where
     choose : (b : Bool) → is_some (cond b (Some e.1) (lookup (is_at (nat_cmp k)) es)) ≡ (b || is_some (lookup (is_at (nat_cmp k)) es))
     choose true = refl
@@ -177,19 +166,24 @@ found_waits tree k (e ∷ es) =
 no_some : {X : Type 0} (x : X) → Some x ≡ None → ⊥
 no_some x e = true≢false (ap is_some e)
 
-abbrev items_or : {X A : Type 0} → Option (VecDeque (Packet X) A) → VecDeque (Packet X) A → List (Packet X)
+abbrev items_or : {A : Type 0} → Option (VecDeque (List ℕ) A) → VecDeque (List ℕ) A → List (List ℕ)
 items_or None v = v.items
 items_or (Some w) v = w.items
 
 -- what is found has a packet
-pub found_sent : {X A : Type 0} (tree : X → Tree) (k : ℕ) (v : VecDeque (Packet X) A) (es : List (ℕ × VecDeque (Packet X) A)) → HaveSent (waiting_view tree es) → lookup (is_at (nat_cmp k)) es ≡ Some v → v.items ≢ []
-found_sent tree k v [] h e = absurd (no_some v (sym e))
-found_sent tree k v (x ∷ es) h e = go (is_at (nat_cmp k) x.0) e (found_sent tree k v es h.1)
+pub found_sent : {A : Type 0} (k : ℕ) (v : VecDeque (List ℕ) A) (es : List (ℕ × VecDeque (List ℕ) A)) → HaveSent (waiting_view es) → lookup (is_at (nat_cmp k)) es ≡ Some v → v.items ≢ []
+found_sent k v [] h e = absurd (no_some v (sym e))
+found_sent k v (x ∷ es) h e = go (is_at (nat_cmp k) x.0) e (found_sent k v es h.1)
   where
     go : (b : Bool) → cond b (Some x.1) (lookup (is_at (nat_cmp k)) es) ≡ Some v → (lookup (is_at (nat_cmp k)) es ≡ Some v → v.items ≢ []) → v.items ≢ []
-    go true is rest = λ none. h.0 (ap (map (packet_view tree)) (ap (λ o. items_or o x.1) is ∙ none))
+    go true is rest = λ none. h.0 ((ap (λ o. items_or o x.1) is ∙ none))
     go false is rest = rest is
 
 -- queues of which none is empty, by ordered keys, are an inbox
-pub inbox_from : {X A : Type 0} (tree : X → Tree) (es : List (ℕ × VecDeque (Packet X) A)) → HaveSent (waiting_view tree es) → IsStrictlySortedBy nat_cmp (keys_of es) → IsInbox (waiting_view tree es)
-inbox_from tree es sent increasing = record { sent = sent; increasing = subst (IsStrictlySortedBy nat_cmp) (sym (senders_are_keys tree es)) increasing }
+pub inbox_from : {A : Type 0} (es : List (ℕ × VecDeque (List ℕ) A)) → HaveSent (waiting_view es) → IsStrictlySortedBy nat_cmp (keys_of es) → IsInbox (waiting_view es)
+inbox_from es sent increasing = record { sent = sent; increasing = subst (IsStrictlySortedBy nat_cmp) (sym (senders_are_keys es)) increasing }
+
+-- of nothing nothing is kept
+pub take_none : {X : Type 0} (k : ℕ) → take {A = X} k [] ≡ []
+take_none zero = refl
+take_none (suc k) = refl

@@ -1,37 +1,29 @@
 -- The state after an event, by its parts.
-use Rattle.std.proofs.Common.{◌≡◌, ◌≢◌, ◌∙◌, ◌<◌, ◌≤◌, ℕ, suc, Bool, true, false, ◌==◌, ◌&&◌, nat_lt, cond, List, [], ◌∷◌, ◌++◌, map, length, slice_get, slice_set, Option, Some, None, refl, sym, ap, subst, inl, inr, eqb-true, arith, append-nil}
+use Rattle.std.proofs.Common.{◌≡◌, ◌≢◌, ◌∙◌, ◌<◌, ◌≤◌, ℕ, suc, Bool, true, false, ◌==◌, ◌&&◌, nat_lt, cond, List, [], ◌∷◌, ◌++◌, map, length, slice_get, slice_set, Option, Some, None, refl, sym, ap, subst, inl, inr, eqb-true, arith}
 use Rattle.std.proofs.lemmas.Bool.{cases_Bool, eqb-false}
 use Rattle.std.proofs.lemmas.Bool.Decides.{nat_tests}
 use Rattle.std.proofs.lemmas.List.{map-append, length-set, get_or-set_same, get_or-set_other}
 use Rattle.std.proofs.lemmas.Option.{slice_get-get_or, slice_get_past, slice_get_within}
-use Rattle.stat_plan.specs.Plans.{Plan, nodes}
+use Rattle.stat_plan.specs.Plans.{Plan}
 use Rattle.stat_plan.specs.Machine.Waves.{put_at}
 use Rattle.overlay_core.specs.Nodes.{Node, Outcome}
 use Rattle.overlay_core.specs.Machine.{State, start_node, to, commit, with_link}
 use Rattle.overlay_core.specs.TreeReleases.{TreeRelease, bare_release, bare_releases}
-use Rattle.overlay_node.specs.Packets.{TreePacket, bare_packet, bare_sends}
+use Rattle.overlay_node.specs.Frames.{packet_of}
+use Rattle.overlay_node.specs.Outputs.{packets_of}
 use Rattle.overlay_node.specs.NodeViews.{NodeView, node_of}
 use Rattle.overlay_net.specs.Inboxes.{Waiting, queue_of}
-use Rattle.overlay_net.specs.Nets.{inbox_at, node_at, state_with}
-use Rattle.overlay_net.specs.Sends.{packets_to, GoBelow}
+use Rattle.overlay_net.specs.Nets.{inbox_at, is_alive, node_at, state_with}
+use Rattle.overlay_net.specs.Sends.{packets_to}
 
 -- bare, what goes to b
-pub bare_to : (b : ℕ) (sends : List (ℕ × TreePacket)) → map bare_packet (packets_to b sends) ≡ to b (bare_sends sends)
+pub bare_to : (b : ℕ) (sends : List (ℕ × (List ℕ))) → map packet_of (packets_to b sends) ≡ to b (packets_of sends)
 bare_to b [] = refl
 bare_to b (v ∷ vs) = go (v.0 == b) (bare_to b vs)
   where
-    go : (t : Bool) → map bare_packet (packets_to b vs) ≡ to b (bare_sends vs) → map bare_packet (cond t (v.1 ∷ packets_to b vs) (packets_to b vs)) ≡ cond t (bare_packet v.1 ∷ to b (bare_sends vs)) (to b (bare_sends vs))
-    go true rest = ap (λ l. bare_packet v.1 ∷ l) rest
+    go : (t : Bool) → map packet_of (packets_to b vs) ≡ to b (packets_of vs) → map packet_of (cond t (v.1 ∷ packets_to b vs) (packets_to b vs)) ≡ cond t (packet_of v.1 ∷ to b (packets_of vs)) (to b (packets_of vs))
+    go true rest = ap (λ l. packet_of v.1 ∷ l) rest
     go false rest = rest
-
--- nothing goes beyond the receivers
-pub nothing_beyond : (count b : ℕ) (sends : List (ℕ × TreePacket)) → GoBelow count sends → nat_lt b count ≡ false → packets_to b sends ≡ []
-nothing_beyond count b [] below over = refl
-nothing_beyond count b (v ∷ vs) below over = go (v.0 == b) refl (nothing_beyond count b vs below.1 over)
-  where
-    go : (t : Bool) → (v.0 == b) ≡ t → packets_to b vs ≡ [] → cond t (v.1 ∷ packets_to b vs) (packets_to b vs) ≡ []
-    go true t rest = let e : v.0 ≡ b = eqb-true v.0 b t in let k : v.0 < count = below.0 in absurd (grind (arith, nat_tests))
-    go false t rest = rest
 
 -- an element that replaces another one
 pub set_here : {X : Type 0} (xs : List X) (n : ℕ) (y : X) → n < length xs → slice_get (slice_set xs n y) n ≡ Some y
@@ -69,47 +61,46 @@ inbox_here ib n w below = get_or-set_same ib n w [] below
 pub inbox_else : (ib : List Waiting) (n b : ℕ) (w : Waiting) → b ≢ n → inbox_at (slice_set ib n w) b ≡ inbox_at ib b
 inbox_else ib n b w other = get_or-set_other ib n b w [] other
 
-and_false : (u : Bool) → (u && false) ≡ false
+pub and_false : (u : Bool) → (u && false) ≡ false
 and_false true = refl
 and_false false = refl
 
-module _ (p : Plan) (xs : List NodeView) (rs : List TreeRelease) (n : ℕ) where
+module _ (p : Plan) (al : List Bool) (xs : List NodeView) (rs : List TreeRelease) (n : ℕ) where
   -- The first packet of a link was taken.
-  pub popped_state : (ib ic : List Waiting) (m : ℕ) (rest : List TreePacket)
+  pub popped_state : (ib ic : List Waiting) (m : ℕ) (rest : List (List ℕ))
       → queue_of (inbox_at ic n) m ≡ rest
       → ((a b : ℕ) → ((b == n) && (a == m)) ≡ false → queue_of (inbox_at ic b) a ≡ queue_of (inbox_at ib b) a)
-      → ◌≡◌ {A = State} (with_link (state_with p xs ib rs) m n (map bare_packet rest)) (state_with p xs ic rs)
+      → ◌≡◌ {A = State} (with_link (state_with p al xs ib rs) m n (map packet_of rest)) (state_with p al xs ic rs)
   unfolding with_link
   popped_state ib ic m rest here else = λ i. record {
-    alive = λ a. nat_lt a (nodes p);
+    alive = is_alive al;
     node = node_at p xs;
     link = λ a b. links a b i;
     releases = bare_releases rs;
   }
     where
-      links : (a b : ℕ) → cond ((a == m) && (b == n)) (map bare_packet rest) (map bare_packet (queue_of (inbox_at ib b) a)) ≡ map bare_packet (queue_of (inbox_at ic b) a)
+      links : (a b : ℕ) → cond ((a == m) && (b == n)) (map packet_of rest) (map packet_of (queue_of (inbox_at ib b) a)) ≡ map packet_of (queue_of (inbox_at ic b) a)
       links a b = go (a == m) (b == n) refl refl
         where
-          go : (t u : Bool) → (a == m) ≡ t → (b == n) ≡ u → cond (t && u) (map bare_packet rest) (map bare_packet (queue_of (inbox_at ib b) a)) ≡ map bare_packet (queue_of (inbox_at ic b) a)
+          go : (t u : Bool) → (a == m) ≡ t → (b == n) ≡ u → cond (t && u) (map packet_of rest) (map packet_of (queue_of (inbox_at ib b) a)) ≡ map packet_of (queue_of (inbox_at ic b) a)
           go true true et eu =
               let ea : a ≡ m = eqb-true a m et in
               let eb : b ≡ n = eqb-true b n eu in
-              ap (map bare_packet) (sym here ∙ (λ i. queue_of (inbox_at ic (sym eb i)) (sym ea i)))
-          go true false et eu = ap (map bare_packet) (sym (else a b (λ i. eu i && et i)))
-          go false u et eu = ap (map bare_packet) (sym (else a b ((λ i. eu i && et i) ∙ and_false u)))
+              ap (map packet_of) (sym here ∙ (λ i. queue_of (inbox_at ic (sym eb i)) (sym ea i)))
+          go true false et eu = ap (map packet_of) (sym (else a b (λ i. eu i && et i)))
+          go false u et eu = ap (map packet_of) (sym (else a b ((λ i. eu i && et i) ∙ and_false u)))
 
   -- The event's node was replaced, and what it sent was added to the queues.
-  pub commit_state : (ib ic : List Waiting) (x y : NodeView) (o : Outcome) (sends : List (ℕ × TreePacket)) (more : List TreeRelease)
+  pub commit_state : (ib ic : List Waiting) (x y : NodeView) (o : Outcome) (sends : List (ℕ × (List ℕ))) (more : List TreeRelease)
       → slice_get xs n ≡ Some x
       → ◌≡◌ {A = Node} (node_of y) (record { kin = o.kin; book = o.work.book; count = suc x.count })
-      → bare_sends sends ≡ o.work.sends
+      → packets_of sends ≡ o.work.sends
       → bare_releases more ≡ o.work.releases
-      → GoBelow (nodes p) sends
-      → ((a b : ℕ) → queue_of (inbox_at ic b) a ≡ cond (a == n) (queue_of (inbox_at ib b) a ++ packets_to b sends) (queue_of (inbox_at ib b) a))
-      → ◌≡◌ {A = State} (commit (state_with p xs ib rs) n o) (state_with p (slice_set xs n y) ic (rs ++ more))
+      → ((a b : ℕ) → queue_of (inbox_at ic b) a ≡ cond ((a == n) && is_alive al b) (queue_of (inbox_at ib b) a ++ packets_to b sends) (queue_of (inbox_at ib b) a))
+      → ◌≡◌ {A = State} (commit (state_with p al xs ib rs) n o) (state_with p al (slice_set xs n y) ic (rs ++ more))
   unfolding commit
-  commit_state ib ic x y o sends more at after sent released below queues = λ i. record {
-    alive = λ a. nat_lt a (nodes p);
+  commit_state ib ic x y o sends more at after sent released queues = λ i. record {
+    alive = is_alive al;
     node = λ a. node_now a i;
     link = λ a b. links a b i;
     releases = ((λ j. bare_releases rs ++ sym released j) ∙ sym (map-append bare_release rs more)) i;
@@ -124,23 +115,9 @@ module _ (p : Plan) (xs : List NodeView) (rs : List TreeRelease) (n : ℕ) where
       node_now : (a : ℕ) → put_at (node_at p xs) n (record { kin = o.kin; book = o.work.book; count = suc (node_at p xs n).count }) a ≡ node_at p (slice_set xs n y) a
       node_now a = sym (node_set p xs n y _ (slice_get_within xs n x at) leaves a)
 
-      links : (a b : ℕ) → cond ((a == n) && nat_lt b (nodes p)) (map bare_packet (queue_of (inbox_at ib b) a) ++ to b o.work.sends) (map bare_packet (queue_of (inbox_at ib b) a)) ≡ map bare_packet (queue_of (inbox_at ic b) a)
-      links a b = go (a == n) (nat_lt b (nodes p)) refl refl
+      links : (a b : ℕ) → cond ((a == n) && is_alive al b) (map packet_of (queue_of (inbox_at ib b) a) ++ to b o.work.sends) (map packet_of (queue_of (inbox_at ib b) a)) ≡ map packet_of (queue_of (inbox_at ic b) a)
+      links a b = both ((a == n) && is_alive al b) ∙ sym (ap (map packet_of) (queues a b))
         where
-          moved : cond (a == n) (map bare_packet (queue_of (inbox_at ib b) a) ++ to b o.work.sends) (map bare_packet (queue_of (inbox_at ib b) a)) ≡ map bare_packet (queue_of (inbox_at ic b) a)
-          moved = both (a == n) ∙ sym (ap (map bare_packet) (queues a b))
-            where
-              both : (t : Bool) → cond t (map bare_packet (queue_of (inbox_at ib b) a) ++ to b o.work.sends) (map bare_packet (queue_of (inbox_at ib b) a)) ≡ map bare_packet (cond t (queue_of (inbox_at ib b) a ++ packets_to b sends) (queue_of (inbox_at ib b) a))
-              both true = ap (λ l. map bare_packet (queue_of (inbox_at ib b) a) ++ l) (sym (bare_to b sends ∙ ap (to b) sent)) ∙ sym (map-append bare_packet (queue_of (inbox_at ib b) a) (packets_to b sends))
-              both false = refl
-
-          as_moved : (t : Bool) → (a == n) ≡ t → cond t (map bare_packet (queue_of (inbox_at ib b) a) ++ to b o.work.sends) (map bare_packet (queue_of (inbox_at ib b) a)) ≡ map bare_packet (queue_of (inbox_at ic b) a)
-          as_moved t et = ap (λ c. cond c (map bare_packet (queue_of (inbox_at ib b) a) ++ to b o.work.sends) (map bare_packet (queue_of (inbox_at ib b) a))) (sym et) ∙ moved
-
-          nothing : nat_lt b (nodes p) ≡ false → to b o.work.sends ≡ []
-          nothing over = sym (bare_to b sends ∙ ap (to b) sent) ∙ ap (map bare_packet) (nothing_beyond (nodes p) b sends below over)
-
-          go : (t u : Bool) → (a == n) ≡ t → nat_lt b (nodes p) ≡ u → cond (t && u) (map bare_packet (queue_of (inbox_at ib b) a) ++ to b o.work.sends) (map bare_packet (queue_of (inbox_at ib b) a)) ≡ map bare_packet (queue_of (inbox_at ic b) a)
-          go true true et eu = as_moved true et
-          go true false et eu = sym (append-nil (map bare_packet (queue_of (inbox_at ib b) a))) ∙ ap (λ l. map bare_packet (queue_of (inbox_at ib b) a) ++ l) (sym (nothing eu)) ∙ as_moved true et
-          go false u et eu = as_moved false et
+          both : (t : Bool) → cond t (map packet_of (queue_of (inbox_at ib b) a) ++ to b o.work.sends) (map packet_of (queue_of (inbox_at ib b) a)) ≡ map packet_of (cond t (queue_of (inbox_at ib b) a ++ packets_to b sends) (queue_of (inbox_at ib b) a))
+          both true = ap (λ l. map packet_of (queue_of (inbox_at ib b) a) ++ l) (sym (bare_to b sends ∙ ap (to b) sent)) ∙ sym (map-append packet_of (queue_of (inbox_at ib b) a) (packets_to b sends))
+          both false = refl

@@ -5,20 +5,17 @@ use Rattle.std.specs.List.{AllByRecursion}
 use Rattle.std.specs.List.Sorted.{IsStrictlySortedBy}
 use Rattle.std.specs.Ordering.{nat_cmp}
 use Rattle.std.specs.declared.collections.VecDeque.{VecDeque}
-use Rattle.prefix_tree.specs.Tree.{Tree}
-use Rattle.overlay_node.specs.declared.packet.Packet.{Packet}
-use Rattle.overlay_node.specs.Packets.{TreePacket, coded_packet, packet_view}
 
 -- the senders with packets waiting, ascending, each with its packets in order
 abbrev pub Waiting : Type 0
-Waiting = List (ℕ × List TreePacket)
+Waiting = List (ℕ × List (List ℕ))
 
--- the queues of a program, where `tree` says what a packet's tree is
-abbrev pub waiting_view : {X A : Type 0} → (X → Tree) → List (ℕ × VecDeque (Packet X) A) → Waiting
-waiting_view tree queues = map (λ e. (e.0, map (packet_view tree) e.1.items)) queues
+-- the queues of a program
+abbrev pub waiting_view : {A : Type 0} → List (ℕ × VecDeque (List ℕ) A) → Waiting
+waiting_view queues = map (λ e. (e.0, e.1.items)) queues
 
 -- the packets that wait from a sender, in order
-abbrev pub queue_of : Waiting → ℕ → List TreePacket
+abbrev pub queue_of : Waiting → ℕ → List (List ℕ)
 queue_of [] m = []
 queue_of (e ∷ es) m = cond (e.0 == m) e.1 (queue_of es m)
 
@@ -31,11 +28,11 @@ abbrev pub HaveSent : Waiting → Type 0
 HaveSent es = AllByRecursion (λ e. e.1 ≢ []) es
 
 -- the sender's new queue is the old one with the packet at its end, and each other queue is unchanged
-abbrev pub Enqueues : Waiting → Waiting → ℕ → TreePacket → Type 0
+abbrev pub Enqueues : Waiting → Waiting → ℕ → (List ℕ) → Type 0
 Enqueues old new sender packet = (m : ℕ) → queue_of new m ≡ cond (m == sender) (queue_of old m ++ packet ∷ []) (queue_of old m)
 
 -- the packet was the first of the sender's queue
-abbrev pub Dequeues : Waiting → Waiting → ℕ → TreePacket → Type 0
+abbrev pub Dequeues : Waiting → Waiting → ℕ → (List ℕ) → Type 0
 Dequeues old new sender packet = queue_of old sender ≡ packet ∷ queue_of new sender
 
 -- each other queue is unchanged
@@ -54,4 +51,4 @@ is_waiting (e ∷ es) m = (e.0 == m) || is_waiting es m
 
 -- the inbox is stored as the list that it is
 abbrev pub coded_waiting : Coded Waiting
-coded_waiting = coded_list (coded× coded_ℕ (coded_list coded_packet))
+coded_waiting = coded_list (coded× coded_ℕ (coded_list (coded_list coded_ℕ)))

@@ -3,4 +3,5 @@ pub mod Nets
 pub mod Events
 pub mod Sends
 pub mod Handled
+pub mod Losses
 pub mod States

@@ -1,11 +1,11 @@
 -- The mutable state of a net, as a value.
 use Rattle.std.specs.Prelude.{◌≡◌, ◌<◌, ◌^◌, ℕ, Bool, true, false, List, [], length, slice_get, slice_set, Option, Some}
+use Rattle.std.specs.List.{AllByRecursion}
 use Rattle.prefix_tree.specs.Tree.{Tree}
 use Rattle.stat_plan.specs.Plans.{Plan}
 use Rattle.stat_desk.specs.declared.event.Event.{Event}
 use Rattle.stat_desk.specs.Events.{event_node}
 use Rattle.overlay_core.specs.TreeReleases.{TreeRelease, releases_view}
-use Rattle.overlay_node.specs.Packets.{TreePacket}
 use Rattle.overlay_core.specs.Nodes.{Node}
 use Rattle.overlay_core.specs.Machine.{State, start_node}
 use Rattle.overlay_node.specs.NodeViews.{Counts, IsNodeOf, MayHandle, NodeView, node_of}
@@ -18,11 +18,11 @@ use Rattle.overlay_net.specs.declared.state.NetState.{NetState}
 
 -- the net of a plan and this state, where `tree` says what a release's tree is
 abbrev pub net_view : {X : Type 0} → (X → Tree) → Plan → NetState X → Bool → NetView
-net_view tree p st failed = net_view_of p st.nodes.items st.inboxes.items (releases_view tree st.releases.items) failed
+net_view tree p st failed = net_view_of p st.alive.items st.nodes.items st.inboxes.items (releases_view tree st.releases.items) failed
 
 -- An event's packet was taken from the inboxes, and its node has handled the event.
-pub record IsHandedOver (p : Plan) (e : Event) (xs ys : List NodeView) (old new : List Waiting) (sends : List (ℕ × TreePacket)) (more : List TreeRelease) : Type 0 where
-  pub packet : Option TreePacket
+pub record IsHandedOver (p : Plan) (e : Event) (xs ys : List NodeView) (old new : List Waiting) (sends : List (ℕ × (List ℕ))) (more : List TreeRelease) : Type 0 where
+  pub packet : Option (List ℕ)
   pub before : NodeView
   pub after : NodeView
   pub taken : IsTaken old e packet new
@@ -36,20 +36,22 @@ pub record MayHandOver (p : Plan) (xs : List NodeView) (old : List Waiting) (e :
   pub below : event_node e < length xs
   pub take : CanTake old e
   pub fits : (x : NodeView) → slice_get xs (event_node e) ≡ Some x → IsNodeOf p x
-  pub handle : (new : List Waiting) (packet : Option TreePacket) (x : NodeView) → IsTaken old e packet new → slice_get xs (event_node e) ≡ Some x → MayHandle p x e packet
+  pub handle : (new : List Waiting) (packet : Option (List ℕ)) (x : NodeView) → IsTaken old e packet new → slice_get xs (event_node e) ≡ Some x → MayHandle p x e packet
   pub within_limit : (x : NodeView) → slice_get xs (event_node e) ≡ Some x → x.count < 2 ^ 62
 
--- The first `count` nodes have done no event yet, no packet waits for them, and exactly those with an event that may come next
+-- The first `count` nodes live, have done no event yet, no packet waits for them, and exactly those with an event that may come next
 -- are listed.
-pub record AreInitial (p : Plan) (count : ℕ) (xs : List NodeView) (inboxes : List Waiting) (listed : List ℕ) : Type 0 where
+pub record AreInitial (p : Plan) (count : ℕ) (alive : List Bool) (xs : List NodeView) (inboxes : List Waiting) (listed : List ℕ) : Type 0 where
   pub node_count : length xs ≡ count
   pub inbox_count : length inboxes ≡ count
+  pub alive_count : length alive ≡ count
+  pub all_alive : AllByRecursion (λ t. t ≡ true) alive
   pub numbers : (n : ℕ) (x : NodeView) → slice_get xs n ≡ Some x → (x.number ≡ n) × IsNodeOf p x
   pub start : (n : ℕ) (x : NodeView) → slice_get xs n ≡ Some x → ◌≡◌ {A = Node} (node_of x) (start_node p n)
-  pub counts : (n : ℕ) (x : NodeView) → slice_get xs n ≡ Some x → Counts x.entries []
+  pub counts : (n : ℕ) (x : NodeView) → slice_get xs n ≡ Some x → Counts x.held []
   pub empty : (n : ℕ) → inbox_at inboxes n ≡ []
   pub below : (n : ℕ) → is_listed listed n ≡ true → n < count
-  pub has_event : (n : ℕ) (x : NodeView) → slice_get xs n ≡ Some x → is_listed listed n ≡ has_some (node_events p x [])
+  pub has_event : (n : ℕ) (x : NodeView) → slice_get xs n ≡ Some x → is_listed listed n ≡ has_some (node_events p true x [])
 
 -- the invariant of a net of this plan and state that has not run out of memory
 abbrev pub IsNetState : {X : Type 0} → (X → Tree) → Plan → NetState X → Type 0

@@ -1,9 +1,9 @@
 //! The events that may come next: those of a node by index, and whether an event is one of them.
 
-ghost use Rattle.std.specs.Prelude.{◌≡◌, ◌&&◌, ◌↔◌, [], map, slice_get, ℕ, List};
+ghost use Rattle.std.specs.Prelude.{◌≡◌, ◌&&◌, ◌∷◌, ◌↔◌, [], Bool, map, slice_get, ℕ, List};
 ghost use Rattle.std.specs.List.{flat_map};
 ghost use Rattle.stat_desk.specs.declared.event.Event.{Event};
-ghost use Rattle.stat_desk.specs.declared.event.Event.TheVariants.{Recv};
+ghost use Rattle.stat_desk.specs.declared.event.Event.TheVariants.{Lose, Recv};
 ghost use Rattle.stat_plan.specs.Invariants.{IsPlan};
 ghost use Rattle.overlay_setup.specs.NodeSets.{In, member};
 ghost use Rattle.stat_plan.specs.Plans.{Plan, daemons};
@@ -11,8 +11,8 @@ ghost use Rattle.overlay_core.specs.Machine.{enabled_events, is_enabled, is_wave
 ghost use Rattle.overlay_core.specs.TreeReleases.{TreeRelease};
 ghost use Rattle.overlay_node.specs.NodeViews.{IsNodeOf, NodeView, node_of};
 ghost use Rattle.overlay_net.specs.Inboxes.{Waiting, senders_of};
-ghost use Rattle.overlay_net.specs.Nets.{node_events, sample_of, state_with};
-ghost use Rattle.overlay_net.specs.Events.{AreParts, AreReady, IsNth, has_some, sample_at};
+ghost use Rattle.overlay_net.specs.Nets.{active_events, is_alive, is_doomed_node, node_events, sample_of, state_with};
+ghost use Rattle.overlay_net.specs.Events.{AreParts, AreReady, IsNth, has_some, may_come, sample_at};
 
 use crate::inbox::Inbox;
 use overlay_node::Node;
@@ -67,7 +67,7 @@ fn sample_event<T: PrefixTree>(plan: &Plan, node: &Node<T>, i: u64) -> Nth
 }
 
 /// The `i`-th of the events by which a node receives, from 0.
-fn receive_event<T: PrefixTree>(n: u32, inbox: &Inbox<T>, i: u64) -> Nth
+fn receive_event(n: u32, inbox: &Inbox, i: u64) -> Nth
     ensures { IsNth (map (λ m. Recv n m) (senders_of inbox.now)) i result }
 {
     match inbox.sender(i as usize) {
@@ -76,10 +76,10 @@ fn receive_event<T: PrefixTree>(n: u32, inbox: &Inbox<T>, i: u64) -> Nth
     }
 }
 
-/// The `i`-th of a node's events that may come next, from 0.
-pub fn node_event<T: PrefixTree>(plan: &Plan, node: &Node<T>, inbox: &Inbox<T>, i: u64) -> Nth
+/// The `i`-th of the events of a node that is not to be lost next, from 0.
+fn active_event<T: PrefixTree>(plan: &Plan, node: &Node<T>, inbox: &Inbox, i: u64) -> Nth
     requires { IsNodeOf plan.now node.now }
-    ensures { IsNth (node_events plan.now node.now inbox.now) i result }
+    ensures { IsNth (active_events plan.now node.now inbox.now) i result }
 {
     plan.invariant();
     let left = match sample_event(plan, node, i) {
@@ -101,40 +101,97 @@ pub fn node_event<T: PrefixTree>(plan: &Plan, node: &Node<T>, inbox: &Inbox<T>, 
     })
 }
 
-/// Whether an event of the node may come next.
-pub fn has_event<T: PrefixTree>(plan: &Plan, node: &Node<T>, inbox: &Inbox<T>) -> bool
-    requires { IsNodeOf plan.now node.now }
-    ensures { result ≡ has_some (node_events plan.now node.now inbox.now) }
+/// Whether its loss is all that may happen to the node.
+fn is_doomed<T: PrefixTree>(plan: &Plan, node: &Node<T>) -> bool
+    ensures { result ≡ is_doomed_node plan.now node.now }
 {
-    match node_event(plan, node, inbox, 0) {
+    match plan.fault(node.number()) {
+        Some(fault) => node.count() == fault.after as u64,
+        None => false,
+    }
+}
+
+/// The loss of a node, if `i` is 0.
+fn loss_event(n: u32, i: u64) -> Nth
+    ensures { IsNth (Lose n ∷ []) i result }
+{
+    if i == 0 {
+        Nth::Found(Event::Lose { node: n })
+    } else {
+        Nth::Beyond(i - 1)
+    }
+}
+
+/// The `i`-th of the events of a node that may come next, from 0. A node that is lost has none.
+pub fn node_event<T: PrefixTree>(
+    plan: &Plan,
+    up: bool,
+    node: &Node<T>,
+    inbox: &Inbox,
+    i: u64,
+) -> Nth
+    requires { IsNodeOf plan.now node.now }
+    ensures { IsNth (node_events plan.now up node.now inbox.now) i result }
+{
+    if !up {
+        return Nth::Beyond(i);
+    }
+    if is_doomed(plan, node) {
+        return loss_event(node.number(), i);
+    }
+    active_event(plan, node, inbox, i)
+}
+
+/// Whether an event of the node may come next.
+pub fn has_event<T: PrefixTree>(plan: &Plan, up: bool, node: &Node<T>, inbox: &Inbox) -> bool
+    requires { IsNodeOf plan.now node.now }
+    ensures { result ≡ has_some (node_events plan.now up node.now inbox.now) }
+{
+    match node_event(plan, up, node, inbox, 0) {
         Nth::Found(_) => true,
         Nth::Beyond(_) => false,
+    }
+}
+
+/// Whether a node lives.
+pub fn is_up(alive: &[bool], n: u32) -> bool
+    ensures { result ≡ is_alive alive.now n }
+{
+    let i = n as usize;
+    i < alive.len() && alive[i]
+}
+
+/// Whether an event of a living node may come next.
+fn may_be_next<T: PrefixTree>(plan: &Plan, node: &Node<T>, inbox: &Inbox, event: Event) -> bool
+    requires { IsNodeOf plan.now node.now }
+    ensures { result ≡ may_come plan.now node.now inbox.now event }
+{
+    let doomed = is_doomed(plan, node);
+    match event {
+        Event::Sample { stream, wave, .. } => !doomed && is_next_wave(plan, node, stream, wave),
+        Event::Recv { from, .. } => !doomed && inbox.is_waiting(from),
+        Event::Tick { .. } => !doomed && node.has_running(),
+        Event::Lose { .. } => doomed,
     }
 }
 
 /// Whether an event may come next. Events of nodes, streams and waves that the plan doesn't have may be asked for too.
 pub fn is_enabled<T: PrefixTree>(
     plan: &Plan,
+    alive: &[bool],
     nodes: &[Node<T>],
-    inboxes: &[Inbox<T>],
+    inboxes: &[Inbox],
     event: Event,
 ) -> bool
-    requires no_faults { plan.now.faults ≡ [] }
-    requires parts { AreParts plan.now nodes.now inboxes.now }
+    requires { AreParts plan.now alive.now nodes.now inboxes.now }
     ensures { (releases : List TreeRelease)
-        → result ≡ is_enabled plan.now (state_with plan.now nodes.now inboxes.now releases) event }
+        → result ≡ is_enabled plan.now (state_with plan.now alive.now nodes.now inboxes.now releases) event }
 {
-    plan.invariant();
-    match event {
-        Event::Sample { node, stream, wave } => {
-            node < plan.nodes() && is_next_wave(plan, &nodes[node as usize], stream, wave)
-        }
-        Event::Recv { node, from } => {
-            node < plan.nodes() && inboxes[node as usize].is_waiting(from)
-        }
-        Event::Tick { node } => node < plan.nodes() && nodes[node as usize].has_running(),
-        Event::Lose { .. } => false,
+    let n = event.node();
+    if !is_up(alive, n) {
+        return false;
     }
+    may_be_next(plan, &nodes[n as usize], &inboxes[n as usize], event)
 }
 
 /// Whether the plan has the stream, and this is the wave whose samples the node takes next.
@@ -150,25 +207,27 @@ fn is_next_wave<T: PrefixTree>(plan: &Plan, node: &Node<T>, s: u8, wave: u8) -> 
     }
 }
 
-/// The `i`-th of the events that may come next, from 0. They are ordered by node, and those of a node as its samples by
-/// stream, what it may receive by sender, and its tick. Only nodes in `ready` are searched, up to the event.
+/// The `i`-th of the events that may come next, from 0. They are ordered by node, and those of a node as its loss, its
+/// samples by stream, what it may receive by sender, and its tick. Only nodes in `ready` are searched, up to the event.
 pub fn nth_enabled<T: PrefixTree>(
     plan: &Plan,
+    alive: &[bool],
     nodes: &[Node<T>],
-    inboxes: &[Inbox<T>],
+    inboxes: &[Inbox],
     ready: &BTreeSet<u32>,
     i: u64,
 ) -> Option<Event>
-    requires no_faults { plan.now.faults ≡ [] }
-    requires parts { AreParts plan.now nodes.now inboxes.now }
-    requires ready { AreReady plan.now nodes.now inboxes.now ready.now.keys }
+    requires parts { AreParts plan.now alive.now nodes.now inboxes.now }
+    requires ready { AreReady plan.now alive.now nodes.now inboxes.now ready.now.keys }
     ensures { (releases : List TreeRelease)
-        → result ≡ slice_get (enabled_events plan.now (state_with plan.now nodes.now inboxes.now releases)) i }
+        → result
+        ≡ slice_get (enabled_events plan.now (state_with plan.now alive.now nodes.now inboxes.now releases)) i }
 {
     plan.invariant();
     let mut left = i;
     for n in ready.iter() {
-        match node_event(plan, &nodes[*n as usize], &inboxes[*n as usize], left) {
+        let up = is_up(alive, *n);
+        match node_event(plan, up, &nodes[*n as usize], &inboxes[*n as usize], left) {
             Nth::Found(event) => return Some(event),
             Nth::Beyond(beyond) => left = beyond,
         }
@@ -178,7 +237,7 @@ pub fn nth_enabled<T: PrefixTree>(
 
 /// A law: no event may come next exactly if no node has one.
 pub fn no_event_where_none_is_ready()
-    ensures { (p : Plan) (xs : List NodeView) (inboxes : List Waiting) (releases : List TreeRelease) (ready : List ℕ)
-        → IsPlan p → p.faults ≡ [] → AreParts p xs inboxes → AreReady p xs inboxes ready
-        → (ready ≡ []) ↔ (enabled_events p (state_with p xs inboxes releases) ≡ []) }
+    ensures { (p : Plan) (alive : List Bool) (xs : List NodeView) (inboxes : List Waiting) (releases : List TreeRelease) (ready : List ℕ)
+        → IsPlan p → AreParts p alive xs inboxes → AreReady p alive xs inboxes ready
+        → (ready ≡ []) ↔ (enabled_events p (state_with p alive xs inboxes releases) ≡ []) }
 {}

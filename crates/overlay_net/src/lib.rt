@@ -4,6 +4,7 @@
 mod delivery;
 mod events;
 mod inbox;
+mod loss;
 mod net;
 mod state;
 

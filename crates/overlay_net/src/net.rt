@@ -50,9 +50,8 @@ impl<'p, T: PrefixTree> Model for Net<'p, T> {
 }
 
 impl<'p, T: PrefixTree> Net<'p, T> {
-    /// The overlay of a plan in its initial state, that of the empty journal. The plan must have no nodes to be lost.
+    /// The overlay of a plan in its initial state, that of the empty journal.
     pub fn new(alloc: Global, plan: &'p Plan) -> Result<Net<'p, T>, AllocError>
-        requires { plan.now.faults ≡ [] }
         ensures plan { IfOk result (λ net. net.plan ≡ plan.now) }
         ensures start { IfOk result (λ net. IsReachedBy net []) }
         ensures usable { IfOk result (λ net. net.failed ≡ false) }
@@ -82,9 +81,10 @@ impl<'p, T: PrefixTree> Net<'p, T> {
         if self.failed {
             return Err(NetError::OutOfMemory);
         }
+        let alive = self.state.alive.as_slice();
         let nodes = self.state.nodes.as_slice();
         let inboxes = self.state.inboxes.as_slice();
-        if !is_enabled(self.plan, nodes, inboxes, event) {
+        if !is_enabled(self.plan, alive, nodes, inboxes, event) {
             return Err(NetError::NotEnabled);
         }
         match apply(self.plan, &mut self.state, event) {
@@ -97,13 +97,14 @@ impl<'p, T: PrefixTree> Net<'p, T> {
     }
 
     /// The `i`-th of the events that may come next, from 0; none past the last. They are ordered by node, and those of
-    /// a node as its samples by stream, what it may receive by sender, and its tick.
+    /// a node as its loss, its samples by stream, what it may receive by sender, and its tick.
     pub fn enabled(&self, i: u64) -> Option<Event>
         requires { self.now.failed ≡ false }
         ensures { result ≡ slice_get (enabled_events self.now.plan (state_of self.now)) i }
     {
         nth_enabled(
             self.plan,
+            self.state.alive.as_slice(),
             self.state.nodes.as_slice(),
             self.state.inboxes.as_slice(),
             &self.state.ready,

@@ -1,5 +1,5 @@
 -- How a node starts.
-use Rattle.std.proofs.Common.{◌≡◌, inl, inr, ℕ, ◌+◌, ◌<◌, ◌≤◌, Bool, true, false, cond, List, [], ◌∷◌, ◌++◌, map, filter, length, get_or, drop, refl, sym, ap, subst, ◌∙◌, add-one}
+use Rattle.std.proofs.Common.{◌≡◌, inl, inr, ℕ, ◌+◌, ◌<◌, ◌≤◌, Bool, true, false, cond, List, [], ◌∷◌, ◌++◌, map, filter, length, get_or, drop, refl, sym, ap, subst, ◌∙◌, add-one, drop-cons, arith}
 use Rattle.std.proofs.lemmas.List.{drop_all, map-append, append_assoc}
 use Rattle.std.proofs.lemmas.List.Elements.{filter-append}
 use Rattle.std.specs.List.{AllByRecursion}
@@ -7,33 +7,37 @@ use Rattle.rank_set.specs.Ranks.{none}
 use Rattle.overlay_setup.specs.NodeSets.{In, up_to}
 use Rattle.stat_plan.specs.Plans.{Plan, waves_of}
 use Rattle.overlay_setup.specs.Scripts.{Stream}
-use Rattle.stat_plan.specs.Machine.Waves.{Book, Open}
+use Rattle.stat_plan.specs.Machine.Waves.{Book}
 use Rattle.stat_plan.specs.declared.machine.Timer.TheVariants.{Off}
 use Rattle.stat_plan.proofs.InLists.{append_left, append_right, in_at, in_map}
 use Rattle.overlay_core.proofs.Whole.{in_up_to}
-use Rattle.overlay_node.specs.NodeViews.{EntryView, EntryFits, book_of, release_count_of, is_entry_of, keys_of}
-use Rattle.overlay_node.specs.Starts.{HasWaves, IsUntouched, first_waves}
-use Rattle.overlay_node.proofs.Reading.{drop_read}
+use Rattle.wave_resend.specs.Books.{first_waves, untouched}
+use Rattle.overlay_node.specs.NodeViews.{AreHeldFits, HeldFits, HeldView, OpenFits, held_keys, is_held_of, release_count_of}
+use Rattle.overlay_node.specs.Starts.{AreFresh, HasWaves, IsFresh}
 
 -- the waves of those streams whose number passes a test
 abbrev pub passing_waves : (ℕ → Bool) → List Stream → List (ℕ × ℕ)
 passing_waves test xs = filter (λ v. test v.0) (waves_of xs)
 
+-- from an index on, a list has the item at that index and the rest
+drop_read : {A : Type 0} (xs : List A) (i : ℕ) (x : A) → i < length xs → x ≡ get_or xs i x → drop i xs ≡ x ∷ drop (i + 1) xs
+drop_read xs i x lt is = drop-cons xs i x lt ∙ (λ j. sym is j ∷ drop (sym (add-one i) j) xs)
+
 -- ---- the waves of one stream
 
--- an entry added at the end adds its key at the end
-pub keys-push : (es new : List EntryView) (e : EntryView) → new ≡ es ++ e ∷ [] → keys_of new ≡ keys_of es ++ (e.stream, e.wave) ∷ []
-keys-push es new e is = ap keys_of is ∙ go es
+-- a wave added at the end adds its key at the end
+pub keys-push : (es new : List HeldView) (e : HeldView) → new ≡ es ++ e ∷ [] → held_keys new ≡ held_keys es ++ (e.stream, e.wave) ∷ []
+keys-push es new e is = ap held_keys is ∙ go es
   where
-    go : (es : List EntryView) → keys_of (es ++ e ∷ []) ≡ keys_of es ++ (e.stream, e.wave) ∷ []
+    go : (es : List HeldView) → held_keys (es ++ e ∷ []) ≡ held_keys es ++ (e.stream, e.wave) ∷ []
     go [] = refl
     go (d ∷ ds) = ap (λ (l : List (ℕ × ℕ)). (d.stream, d.wave) ∷ l) (go ds)
 
--- untouched entries with an untouched one at the end
-pub untouched_push : (p : Plan) (es new : List EntryView) (e : EntryView) → new ≡ es ++ e ∷ [] → AllByRecursion (IsUntouched p) es → IsUntouched p e → AllByRecursion (IsUntouched p) new
-untouched_push p es new e is h k = subst (λ (l : List EntryView). AllByRecursion (IsUntouched p) l) (sym is) (go es h)
+-- fresh waves with a fresh one at the end
+pub fresh_push : (p : Plan) (es new : List HeldView) (e : HeldView) → new ≡ es ++ e ∷ [] → AllByRecursion (IsFresh p) es → IsFresh p e → AllByRecursion (IsFresh p) new
+fresh_push p es new e is h k = subst (λ (l : List HeldView). AllByRecursion (IsFresh p) l) (sym is) (go es h)
   where
-    go : (es : List EntryView) → AllByRecursion (IsUntouched p) es → AllByRecursion (IsUntouched p) (es ++ e ∷ [])
+    go : (es : List HeldView) → AllByRecursion (IsFresh p) es → AllByRecursion (IsFresh p) (es ++ e ∷ [])
     go [] h = (k, tt)
     go (d ∷ ds) h = (h.0, go ds h.1)
 
@@ -95,11 +99,11 @@ stream_passed test xs i x keys lt is f left =
     ∙ ap (λ (l : List (ℕ × ℕ)). keys ++ l) (sym (waves_from test xs i x lt is))
     ∙ left
 
--- entries to which the waves of a stream that passes were added have the keys of the streams so far
-pub entries_taken : (test : ℕ → Bool) (xs : List Stream) (i : ℕ) (x : Stream) (s waves : ℕ) (old new : List EntryView) → i < length xs → x ≡ get_or xs i x → s ≡ x.number → waves ≡ x.waves → test s ≡ true → keys_of new ≡ keys_of old ++ first_waves s waves → keys_of old ++ passing_waves test (drop i xs) ≡ passing_waves test xs → keys_of new ++ passing_waves test (drop (i + 1) xs) ≡ passing_waves test xs
-entries_taken test xs i x s waves old new lt is es ew t more left =
-    (λ j. (more ∙ (λ k. keys_of old ++ first_waves (es k) (ew k))) j ++ passing_waves test (drop (i + 1) xs))
-    ∙ stream_taken test xs i x (keys_of old) lt is (ap test (sym es) ∙ t) left
+-- what is held to which the waves of a stream that passes were added have the keys of the streams so far
+pub held_taken : (test : ℕ → Bool) (xs : List Stream) (i : ℕ) (x : Stream) (s waves : ℕ) (old new : List HeldView) → i < length xs → x ≡ get_or xs i x → s ≡ x.number → waves ≡ x.waves → test s ≡ true → held_keys new ≡ held_keys old ++ first_waves s waves → held_keys old ++ passing_waves test (drop i xs) ≡ passing_waves test xs → held_keys new ++ passing_waves test (drop (i + 1) xs) ≡ passing_waves test xs
+held_taken test xs i x s waves old new lt is es ew t more left =
+    (λ j. (more ∙ (λ k. held_keys old ++ first_waves (es k) (ew k))) j ++ passing_waves test (drop (i + 1) xs))
+    ∙ stream_taken test xs i x (held_keys old) lt is (ap test (sym es) ∙ t) left
 
 -- past the last stream all are taken
 pub all_taken : (test : ℕ → Bool) (xs ys : List Stream) (i : ℕ) (keys : List (ℕ × ℕ)) → length xs ≤ i → xs ≡ ys → keys ++ passing_waves test (drop i xs) ≡ passing_waves test xs → keys ≡ passing_waves test ys
@@ -113,30 +117,32 @@ all_taken test xs ys i keys le same left =
     append_none [] = refl
     append_none (v ∷ vs) = ap (λ (l : List (ℕ × ℕ)). v ∷ l) (append_none vs)
 
--- ---- untouched entries
-
--- each wave of untouched entries is as at the start
-pub untouched_book : (p : Plan) (es : List EntryView) → AllByRecursion (IsUntouched p) es → ◌≡◌ {A = Book} (book_of es) (λ s w. Open none none Off)
-untouched_book p es h = λ i s w. at es h s w i
-  where
-    both : (b : Bool) → cond b (Open none none Off) (Open none none Off) ≡ Open none none Off
-    both true = refl
-    both false = refl
-
-    at : (es : List EntryView) → AllByRecursion (IsUntouched p) es → (s w : ℕ) → book_of es s w ≡ Open none none Off
-    at [] h s w = refl
-    at (e ∷ es) h s w = (λ i. cond (is_entry_of s w e) (h.0.wave i) (at es h.1 s w i)) ∙ both (is_entry_of s w e)
+-- ---- waves of which nothing has come in
 
 -- there was no release of a wave
-pub untouched_given : (p : Plan) (es : List EntryView) → AllByRecursion (IsUntouched p) es → (s w : ℕ) → release_count_of es s w ≡ 0
-untouched_given p [] h s w = refl
-untouched_given p (e ∷ es) h s w = (λ i. cond (is_entry_of s w e) (h.0.release_count i) (untouched_given p es h.1 s w i)) ∙ both (is_entry_of s w e)
+pub fresh_given : (p : Plan) (hs : List HeldView) → AreFresh p hs → (s w : ℕ) → release_count_of hs s w ≡ 0
+fresh_given p [] h s w = refl
+fresh_given p (x ∷ xs) h s w = (λ i. cond (is_held_of s w x) (h.0.release_count i) (fresh_given p xs h.1 s w i)) ∙ both (is_held_of s w x)
   where
     both : (b : Bool) → ◌≡◌ {A = ℕ} (cond b 0 0) 0
     both true = refl
     both false = refl
 
--- each entry fits the plan
-pub untouched_fits : (p : Plan) (es : List EntryView) → AllByRecursion (IsUntouched p) es → AllByRecursion (EntryFits p) es
-untouched_fits p [] h = tt
-untouched_fits p (e ∷ es) h = (h.0.fits, untouched_fits p es h.1)
+fresh_fits : (p : Plan) (n : ℕ) (x : HeldView) → IsFresh p x → OpenFits p n x none none Off
+fresh_fits p n x f = record {
+  part = f.part;
+  is = f.is;
+  stream = f.stream;
+  wave = f.wave;
+  merge = f.merge;
+  covers = f.empty;
+  within = λ r there. there;
+  within_limit = let a : x.release_count ≡ 0 = f.release_count in omega (arith, a);
+  at_front = λ low. f.release_count;
+  timer_fits = tt;
+}
+
+-- what is held fits a book of untouched waves
+pub fresh_all : (p : Plan) (n : ℕ) (book : Book) (hs : List HeldView) → ◌≡◌ {A = Book} book (λ s w. untouched) → AreFresh p hs → AreHeldFits p n book hs
+fresh_all p n book [] e h = tt
+fresh_all p n book (x ∷ xs) e h = (subst (HeldFits p n x) (sym (ap (λ (k : Book). k x.stream x.wave) e)) (fresh_fits p n x h.0), fresh_all p n book xs e h.1)

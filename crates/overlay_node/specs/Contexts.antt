@@ -1,54 +1,69 @@
 -- The context of a node, and the machine's steps in it.
-use Rattle.std.specs.Prelude.{ℕ, List, [], Option}
+use Rattle.std.specs.Prelude.{ℕ, List}
 use Rattle.stat_plan.specs.Machine.Kin.{Kin}
 use Rattle.stat_plan.specs.Machine.Waves.{Wave}
 use Rattle.stat_plan.specs.declared.machine.Act.{Act}
-use Rattle.stat_desk.specs.declared.event.Event.{Event}
-use Rattle.overlay_core.specs.Nodes.{Effects}
-use Rattle.overlay_node.specs.Packets.{Output, TreePacket}
-use Rattle.overlay_node.specs.NodeViews.{EntryView, NodeView}
-use Rattle.overlay_node.specs.Acting.{ContextFits, StepsEntries, StepsEntry, act_changed, act_fired, acted_entry, acted_output, each_fired, end, ended_output, entry_by, output_by, step_of, tick}
+use Rattle.loss_adoption.specs.NodeKins.{IsKinOf, NodeKin}
+use Rattle.wave_resend.specs.Books.{WaveAt, book_of}
+use Rattle.overlay_core.specs.Nodes.{Effects, Packet, act, dones}
+use Rattle.overlay_node.specs.Outputs.{Output, Sends}
+use Rattle.overlay_node.specs.NodeViews.{AreHeldFits, HeldFits, HeldView, NodeView}
+use Rattle.overlay_node.specs.Acting.{StepsHeld, StepsWave, act_changed, act_fired, each_by, end, due_as, tick}
 use Rattle.overlay_node.specs.declared.context.NodeContext.{NodeContext}
 
--- the node's kin; no node is known to be lost
+-- the node's kin
 abbrev pub kin_of : NodeContext → Kin
-kin_of context = record { parent = context.parent; children = context.children.now; lost = [] }
+kin_of context = context.kin.now.kin
+
+-- the node's number
+abbrev pub number_at : NodeContext → ℕ
+number_at context = context.kin.now.node
 
 -- it is the context of a node of its plan
 abbrev pub IsNodeContext : NodeContext → Type 0
-IsNodeContext context = ContextFits context.plan.now context.node (kin_of context)
+IsNodeContext context = IsKinOf context.plan.now context.kin.now
 
--- the node with these entries; how many events it has done is left out
-abbrev pub node_at : NodeContext → List EntryView → NodeView
-node_at context es = record { number = context.node; kin = kin_of context; entries = es; count = 0 }
+-- what is held of a wave fits the book
+abbrev pub FitsAt : NodeContext → List WaveAt → HeldView → Type 0
+FitsAt context b h = HeldFits context.plan.now (number_at context) h (book_of b h.stream h.wave)
 
--- ---- an entry and the output, after an act
+-- what is held of each wave fits the book
+abbrev pub AllFitAt : NodeContext → List WaveAt → List HeldView → Type 0
+AllFitAt context b hs = AreHeldFits context.plan.now (number_at context) (book_of b) hs
 
--- the entry after this act
-abbrev pub entry_after_act : NodeContext → Act → EntryView → EntryView
-entry_after_act context a e = entry_by context.plan.now a e e.part
+-- what a step does to what is held of one wave, to the book and to the output
+abbrev pub StepsWaveAt : NodeContext → (Effects → Effects) → HeldView → HeldView → List WaveAt → List WaveAt → Output → Output → Type 0
+StepsWaveAt context does h g b c o q = StepsWave context.plan.now (number_at context) does h g b c o q
 
--- the output after this act on an entry
-abbrev pub output_after_act : NodeContext → Act → EntryView → Output → Output
-output_after_act context a e o = output_by context.plan.now (kin_of context) a e o e.part
+-- what a step does to what is held of all waves, to the book and to the output
+abbrev pub StepsHeldAt : NodeContext → (Effects → Effects) → List HeldView → List HeldView → List WaveAt → List WaveAt → Output → Output → Type 0
+StepsHeldAt context does hs new b c o q = StepsHeld context.plan.now (number_at context) does hs new b c o q
 
--- the entry after what is due for it
-abbrev pub entry_after_due : NodeContext → EntryView → EntryView
-entry_after_due context e = acted_entry context.plan.now context.node e
-
--- the output after what is due for an entry
-abbrev pub output_after_due : NodeContext → EntryView → Output → Output
-output_after_due context e o = acted_output context.plan.now context.node (kin_of context) e o
-
--- the output after an entry's wave has ended
-abbrev pub output_after_end : NodeContext → EntryView → Output → Output
-output_after_end context e o = ended_output context.plan.now (kin_of context) e.stream e.wave o e.part
+-- frames of these packets were added
+abbrev pub SendsAt : NodeContext → List (ℕ × Packet) → List (ℕ × List ℕ) → List (ℕ × List ℕ) → Type 0
+SendsAt context more old new = Sends context.plan.now more old new
 
 -- ---- the machine's steps
 
+-- what is due
+abbrev pub act_at : NodeContext → ℕ → ℕ → Effects → Effects
+act_at context s w = act context.plan.now (number_at context) (kin_of context) s w
+
+-- what is due for a wave in this state
+abbrev pub due_in : NodeContext → ℕ → Wave → Act
+due_in context s v = due_as context.plan.now (number_at context) (kin_of context).lost s v
+
 -- a wave is changed, and then acted on
 abbrev pub changed_at : NodeContext → ℕ → ℕ → (Wave → Wave) → Effects → Effects
-changed_at context s w change = act_changed context.plan.now context.node (kin_of context) s w change
+changed_at context s w f = act_changed context.plan.now (number_at context) (kin_of context) s w f
+
+-- a step for each of these waves, one after another
+abbrev pub each_at : (ℕ → ℕ → Effects → Effects) → List (ℕ × ℕ) → Effects → Effects
+each_at does vs = each_by does vs
+
+-- all timers go on by one, and these waves are acted on if their timers have run out
+abbrev pub tick_at : NodeContext → List (ℕ × ℕ) → Effects → Effects
+tick_at context vs = tick context.plan.now (number_at context) (kin_of context) vs
 
 -- a wave ends
 abbrev pub end_at : NodeContext → ℕ → ℕ → Effects → Effects
@@ -56,24 +71,12 @@ end_at context s w = end context.plan.now (kin_of context) s w
 
 -- a wave is acted on if its timer has run out
 abbrev pub fired_at : NodeContext → ℕ → ℕ → Effects → Effects
-fired_at context s w = act_fired context.plan.now context.node (kin_of context) s w
+fired_at context s w = act_fired context.plan.now (number_at context) (kin_of context) s w
 
--- these waves are acted on if their timers have run out, one after another
-abbrev pub each_fired_at : NodeContext → List (ℕ × ℕ) → Effects → Effects
-each_fired_at context vs = each_fired context.plan.now context.node (kin_of context) vs
+-- Done to each child that serves the stream
+abbrev pub dones_at : NodeContext → ℕ → ℕ → List (ℕ × Packet)
+dones_at context s w = dones context.plan.now (kin_of context) s w
 
--- all timers go on by one, and these waves are acted on if their timers have run out
-abbrev pub tick_at : NodeContext → List (ℕ × ℕ) → Effects → Effects
-tick_at context vs = tick context.plan.now context.node (kin_of context) vs
-
--- the step of an event, at a node of these waves
-abbrev pub step_at : NodeContext → List (ℕ × ℕ) → Event → Option TreePacket → Effects → Effects
-step_at context vs event packet = step_of context.plan.now context.node (kin_of context) vs event packet
-
--- what a step does to an entry, and to the output. `does` is the machine's step.
-abbrev pub StepsEntryAt : NodeContext → (Effects → Effects) → EntryView → EntryView → Output → Output → Type 0
-StepsEntryAt context does e f o q = StepsEntry context.plan.now does e f o q
-
--- what a step does to the entries, and to the output. `does` is the machine's step.
-abbrev pub StepsEntriesAt : NodeContext → (Effects → Effects) → List EntryView → List EntryView → Output → Output → Type 0
-StepsEntriesAt context does es new o q = StepsEntries context.plan.now does es new o q
+-- the node of these parts; how many events it has done is left out
+abbrev pub node_with : NodeKin → List WaveAt → List HeldView → NodeView
+node_with kin book held = record { number = kin.node; kin = kin.kin; book = book; held = held; count = 0 }

@@ -1,4 +1,5 @@
-pub mod Packets
+pub mod Frames
+pub mod Outputs
 pub mod NodeViews
 pub mod Acting
 pub mod Contexts

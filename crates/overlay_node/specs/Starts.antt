@@ -1,27 +1,24 @@
--- The waves of a node that has done no event yet.
-use Rattle.std.specs.Prelude.{◌≡◌, ℕ, ◌<◌, List, map}
+-- What a node holds that has done no event yet.
+use Rattle.std.specs.Prelude.{◌≡◌, ◌<◌, ℕ, List, Some}
 use Rattle.std.specs.List.{AllByRecursion}
 use Rattle.rank_set.specs.Ranks.{none}
 use Rattle.stat_plan.specs.Plans.{Plan}
-use Rattle.overlay_setup.specs.NodeSets.{up_to}
-use Rattle.stat_plan.specs.Machine.Waves.{Open}
-use Rattle.stat_plan.specs.declared.machine.Timer.TheVariants.{Off}
-use Rattle.merge_filter.specs.Contributions.{HasWave}
-use Rattle.overlay_node.specs.NodeViews.{EntryView, EntryFits, wave_of}
+use Rattle.merge_filter.specs.Contributions.{Contrib, HasWave, IsPartialMerge, coverage_of}
+use Rattle.overlay_node.specs.NodeViews.{HeldView}
 
--- a wave of which nothing has come in or was passed on, whose timer is off, and of which there was no release
-pub record IsUntouched (p : Plan) (e : EntryView) : Type 0 where
-  pub fits : EntryFits p e
-  pub wave : wave_of e ≡ Open none none Off
-  pub release_count : e.release_count ≡ 0
+-- nothing has come in of the wave, and there was no release
+pub record IsFresh (p : Plan) (h : HeldView) : Type 0 where
+  pub part : Contrib
+  pub is : h.part ≡ Some part
+  pub stream : part.stream ≡ h.stream
+  pub wave : part.wave ≡ h.wave
+  pub merge : IsPartialMerge p part
+  pub empty : coverage_of part ≡ none
+  pub release_count : h.release_count ≡ 0
 
--- entries of such waves
-abbrev pub AreUntouched : Plan → List EntryView → Type 0
-AreUntouched p es = AllByRecursion (IsUntouched p) es
-
--- the first waves of a stream
-abbrev pub first_waves : ℕ → ℕ → List (ℕ × ℕ)
-first_waves s waves = map (λ w. (s, w)) (up_to waves)
+-- nothing has come in of any wave
+abbrev pub AreFresh : Plan → List HeldView → Type 0
+AreFresh p hs = AllByRecursion (IsFresh p) hs
 
 -- the plan has each of the first waves of a stream
 abbrev pub HasWaves : Plan → ℕ → ℕ → Type 0

@@ -1,5 +1,6 @@
 //! The context of a node's events.
 
+use loss_adoption::Kin;
 use stat_plan::Plan;
 
 /// What the events of a node need to know besides its waves.
@@ -7,10 +8,6 @@ use stat_plan::Plan;
 pub struct NodeContext<'a> {
     /// The plan.
     pub plan: &'a Plan,
-    /// The node's number.
-    pub node: u32,
-    /// The node's parent, none at the front end.
-    pub parent: Option<u32>,
-    /// The node's children, ascending.
-    pub children: &'a [u32],
+    /// The node's number and its kin.
+    pub kin: &'a Kin,
 }

@@ -1,18 +1,19 @@
 //! What is due for a wave at a node.
 
-ghost use Rattle.std.specs.Prelude.{◌≡◌, ◌<◌, IsSome, []};
-ghost use Rattle.stat_plan.specs.Machine.Kin.{complete};
-ghost use Rattle.stat_plan.specs.Plans.{mode, nodes, stream_of};
-ghost use Rattle.overlay_core.specs.Nodes.{due_at};
+ghost use Rattle.std.specs.Prelude.{◌≡◌};
+ghost use Rattle.stat_plan.specs.Machine.Waves.{ticks};
+ghost use Rattle.stat_plan.specs.Plans.{mode};
+ghost use Rattle.wave_resend.specs.Books.{IsIn, book_of};
+ghost use Rattle.overlay_node.specs.Contexts.{IsNodeContext, due_in};
 
 use crate::context::NodeContext;
 use overlay_setup::Mode;
-use rank_set::RankSet;
-use stat_plan::{Act, Plan, Timer};
+use stat_plan::{Act, Plan};
 use sync_filter::due;
+use wave_resend::{WaveBook, WaveState};
 
-/// When the nodes of a stream pass on what they have of a wave.
-pub fn mode_of(plan: &Plan, s: u8) -> Mode
+// When the nodes of a stream pass on what they have of a wave.
+fn mode_of(plan: &Plan, s: u8) -> Mode
     ensures { result ≡ mode plan.now s }
 {
     match plan.stream(s) {
@@ -21,35 +22,46 @@ pub fn mode_of(plan: &Plan, s: u8) -> Mode
     }
 }
 
-/// Whether everything that can come in of a wave has come in, if these ranks have and no node is lost.
-fn is_complete(context: &NodeContext<'_>, s: u8, covered: &RankSet) -> bool
-    requires node { context.now.node < nodes context.now.plan.now }
-    requires stream { IsSome (stream_of context.now.plan.now s) }
-    ensures { result ≡ complete context.now.plan.now context.now.node [] s covered.now }
+// How many ticks a timer of the mode runs.
+fn ticks_of(mode: Mode) -> u16
+    ensures { result ≡ ticks mode }
 {
-    context.plan.expected(context.node, s).is_subset(covered)
+    match mode {
+        Mode::TimeOut(t) => t,
+        _ => 0,
+    }
 }
 
-/// What is due for an open wave of the node.
-pub fn due_for(
-    context: &NodeContext<'_>,
-    s: u8,
-    covered: &RankSet,
-    sent: &RankSet,
-    timer: Timer,
-) -> Act
-    requires node { context.now.node < nodes context.now.plan.now }
-    requires stream { IsSome (stream_of context.now.plan.now s) }
-    ensures { result ≡ due_at context.now.plan.now context.now.node [] s covered.now sent.now timer }
+/// How many ticks a timer of the stream runs.
+pub fn ticks_in(plan: &Plan, s: u8) -> u16
+    ensures { result ≡ ticks (mode plan.now s) }
 {
-    let complete = is_complete(context, s, covered);
-    let front = context.node == context.plan.front();
-    due(
-        mode_of(context.plan, s),
-        complete,
-        covered,
-        sent,
-        timer,
-        front,
-    )
+    ticks_of(mode_of(plan, s))
+}
+
+/// What is due for a wave of the node.
+pub fn due_for(context: &NodeContext<'_>, book: &WaveBook, s: u8, w: u8) -> Act
+    requires context { IsNodeContext context.now }
+    requires known { IsIn s w book.now }
+    ensures { result ≡ due_in context.now s (book_of book.now s w) }
+{
+    match book.state(s, w) {
+        WaveState::Open {
+            covered,
+            sent,
+            timer,
+        } => {
+            let complete = context.kin.complete(context.plan, s, covered);
+            let front = context.kin.node() == context.plan.front();
+            due(
+                mode_of(context.plan, s),
+                complete,
+                covered,
+                sent,
+                timer,
+                front,
+            )
+        }
+        WaveState::Closed => Act::Hold,
+    }
 }

@@ -1,38 +1,62 @@
 //! What a node's events do to its waves.
 
-ghost use Rattle.std.specs.Prelude.{◌≡◌, ◌<◌, ℕ, length, map, IsTrue, OnOk};
-ghost use Rattle.std.specs.List.{AllByRecursion};
+ghost use Rattle.std.specs.Prelude.{◌≡◌, ◌<◌, ℕ, length, true, false, OnOk};
 ghost use Rattle.rank_set.specs.Ranks.{union};
 ghost use Rattle.overlay_setup.specs.NodeSets.{In};
 ghost use Rattle.stat_plan.specs.Plans.{daemons, ranks};
-ghost use Rattle.stat_plan.specs.Machine.Waves.{covering, growing, is_fired, ticked_timer};
+ghost use Rattle.stat_plan.specs.Machine.Waves.{covering, growing, is_fired, is_empty_open};
+ghost use Rattle.stat_plan.specs.Machine.Waves.{is_closed};
 ghost use Rattle.merge_filter.specs.Contributions.{HasWave, IsPartialMerge, contrib, coverage_of};
-ghost use Rattle.overlay_core.specs.Machine.{is_empty_open};
-ghost use Rattle.overlay_node.specs.NodeViews.{EntryFits, wave_of, keys_of, book_of};
-ghost use Rattle.overlay_node.specs.Contexts.{IsNodeContext, StepsEntriesAt, StepsEntryAt, changed_at, each_fired_at, end_at, fired_at, output_after_end, tick_at};
-ghost use Rattle.overlay_node.specs.Acting.{AreDistinct, ended_entry, entry_index, grown_entry, partial_merge, ticked_entry};
+ghost use Rattle.wave_resend.specs.Books.{IsIn, book_of, keys_of};
+ghost use Rattle.overlay_node.specs.NodeViews.{held_keys};
+ghost use Rattle.overlay_node.specs.Contexts.{AllFitAt, FitsAt, IsNodeContext, StepsHeldAt, StepsWaveAt, act_at, changed_at, each_at, end_at, fired_at, tick_at};
+ghost use Rattle.overlay_node.specs.Acting.{AreDistinct, held_index, partial_merge};
 
-use crate::actions::{act, send_dones};
+use crate::actions::act;
 use crate::context::NodeContext;
-use crate::entry::WaveEntry;
-use crate::packet::Outgoing;
+use crate::held::HeldWave;
+use crate::output::Outgoing;
+use crate::sending::send_dones;
 use merge_filter::Contribution;
 use prefix_tree::PrefixTree;
 use stat_plan::{Plan, Timer};
-use std::alloc::{AllocError, Global};
+use std::alloc::AllocError;
+use wave_resend::{WaveBook, WaveState};
 
-// The index of a wave's entry.
-fn entry_index<T: PrefixTree>(entries: &[WaveEntry<T>], s: u8, w: u8) -> usize
-    requires { In {X = ℕ × ℕ} (s, w) (keys_of entries.now) }
-    ensures index { result ≡ entry_index s w entries.now }
-    ensures in_range { result < length entries.now }
+// The index of what is held of a wave.
+fn held_index<T: PrefixTree>(held: &[HeldWave<T>], s: u8, w: u8) -> usize
+    requires { In {X = ℕ × ℕ} (s, w) (held_keys held.now) }
+    ensures index { result ≡ held_index s w held.now }
+    ensures in_range { result < length held.now }
 {
-    for (i, entry) in entries.iter().enumerate() {
-        if entry.stream == s && entry.wave == w {
+    for (i, wave) in held.iter().enumerate() {
+        if wave.stream == s && wave.wave == w {
             return i;
         }
     }
-    entries.len()
+    held.len()
+}
+
+/// Whether a wave has ended at the node.
+pub fn is_closed(book: &WaveBook, s: u8, w: u8) -> bool
+    requires { IsIn s w book.now }
+    ensures { result ≡ is_closed (book_of book.now s w) }
+{
+    match book.state(s, w) {
+        WaveState::Open { .. } => false,
+        WaveState::Closed => true,
+    }
+}
+
+// Whether a wave is open and its timer has run out.
+fn is_fired(book: &WaveBook, s: u8, w: u8) -> bool
+    requires { IsIn s w book.now }
+    ensures { result ≡ is_fired (book_of book.now s w) }
+{
+    match book.state(s, w) {
+        WaveState::Open { timer, .. } => timer == Timer::Fired,
+        WaveState::Closed => false,
+    }
 }
 
 // Unites what was received of a wave with what has come in of it.
@@ -55,195 +79,196 @@ fn unite<T: PrefixTree>(
     part.absorb(plan, &received)
 }
 
-// Unites what was received of a wave with what has come in of it, where the wave is open.
+// Unites what was received of an open wave with what has come in of it, and does what is due then.
 fn grow<T: PrefixTree>(
-    plan: &Plan,
-    entry: &mut WaveEntry<T>,
-    received: Contribution<T>,
-) -> Result<(), AllocError>
-    requires fits { EntryFits plan.now entry.old }
-    requires received_merge { IsPartialMerge plan.now received }
-    requires stream { received.stream ≡ entry.old.stream }
-    requires wave { received.wave ≡ entry.old.wave }
-    ensures { OnOk result (entry.new ≡ grown_entry plan.now (coverage_of received) entry.old) }
-{
-    match &mut entry.part {
-        Some(part) => unite(plan, part, received),
-        None => Ok(()),
-    }
-}
-
-// Unites what was received of a wave with what has come in of it, and does what is due then.
-fn take_up<T: PrefixTree>(
     context: &NodeContext<'_>,
-    entry: &mut WaveEntry<T>,
+    book: &mut WaveBook,
+    held: &mut HeldWave<T>,
     received: Contribution<T>,
     out: &mut Outgoing<T>,
 ) -> Result<(), AllocError>
     requires context { IsNodeContext context.now }
-    requires fits { EntryFits context.now.plan.now entry.old }
+    requires known { IsIn held.old.stream held.old.wave book.old }
+    requires fits { FitsAt context.now book.old held.old }
+    requires open { is_closed (book_of book.old held.old.stream held.old.wave) ≡ false }
     requires received_merge { IsPartialMerge context.now.plan.now received }
-    requires stream { received.stream ≡ entry.old.stream }
-    requires wave { received.wave ≡ entry.old.wave }
-    ensures { OnOk result (StepsEntryAt context.now
-        (changed_at context.now entry.old.stream entry.old.wave (growing (coverage_of received)))
-        entry.old entry.new out.old out.new) }
+    requires stream { received.stream ≡ held.old.stream }
+    requires wave { received.wave ≡ held.old.wave }
+    ensures { OnOk result (StepsWaveAt context.now
+        (changed_at context.now held.old.stream held.old.wave (growing (coverage_of received)))
+        held.old held.new book.old book.new out.old out.new) }
 {
-    context.plan.invariant();
-    grow(context.plan, entry, received)?;
-    act(context, entry, out)
+    book.grew(held.stream, held.wave, received.coverage())?;
+    match &mut held.part {
+        Some(part) => unite(context.plan, part, received)?,
+        None => unreachable!(),
+    }
+    act(context, book, held, out)
+}
+
+// Takes what was received of a wave, which means nothing if the wave has ended.
+fn take_up<T: PrefixTree>(
+    context: &NodeContext<'_>,
+    book: &mut WaveBook,
+    held: &mut HeldWave<T>,
+    received: Contribution<T>,
+    out: &mut Outgoing<T>,
+) -> Result<(), AllocError>
+    requires context { IsNodeContext context.now }
+    requires known { IsIn held.old.stream held.old.wave book.old }
+    requires fits { FitsAt context.now book.old held.old }
+    requires received_merge { IsPartialMerge context.now.plan.now received }
+    requires stream { received.stream ≡ held.old.stream }
+    requires wave { received.wave ≡ held.old.wave }
+    ensures { OnOk result (StepsWaveAt context.now
+        (changed_at context.now held.old.stream held.old.wave (growing (coverage_of received)))
+        held.old held.new book.old book.new out.old out.new) }
+{
+    if is_closed(book, held.stream, held.wave) {
+        return Ok(());
+    }
+    grow(context, book, held, received, out)
 }
 
 // Takes a daemon's own part of a wave of which nothing has come in, and does what is due then.
 fn take_sample<T: PrefixTree>(
     context: &NodeContext<'_>,
-    entry: &mut WaveEntry<T>,
+    book: &mut WaveBook,
+    held: &mut HeldWave<T>,
     own: Contribution<T>,
     out: &mut Outgoing<T>,
 ) -> Result<(), AllocError>
     requires context { IsNodeContext context.now }
-    requires fits { EntryFits context.now.plan.now entry.old }
-    requires empty { IsTrue (is_empty_open (wave_of entry.old)) }
+    requires known { IsIn held.old.stream held.old.wave book.old }
+    requires fits { FitsAt context.now book.old held.old }
+    requires empty { is_empty_open (book_of book.old held.old.stream held.old.wave) ≡ true }
     requires partial_merge { IsPartialMerge context.now.plan.now own }
-    requires stream { own.stream ≡ entry.old.stream }
-    requires wave { own.wave ≡ entry.old.wave }
-    ensures { OnOk result (StepsEntryAt context.now
-        (changed_at context.now entry.old.stream entry.old.wave (covering (coverage_of own)))
-        entry.old entry.new out.old out.new) }
+    requires stream { own.stream ≡ held.old.stream }
+    requires wave { own.wave ≡ held.old.wave }
+    ensures { OnOk result (StepsWaveAt context.now
+        (changed_at context.now held.old.stream held.old.wave (covering (coverage_of own)))
+        held.old held.new book.old book.new out.old out.new) }
 {
-    context.plan.invariant();
-    entry.part = Some(own);
-    act(context, entry, out)
+    book.grew(held.stream, held.wave, own.coverage())?;
+    held.part = Some(own);
+    act(context, book, held, out)
 }
 
 // Ends a wave that is open, and tells the children.
 fn end<T: PrefixTree>(
     context: &NodeContext<'_>,
-    entry: &mut WaveEntry<T>,
+    book: &mut WaveBook,
+    held: &mut HeldWave<T>,
     out: &mut Outgoing<T>,
 ) -> Result<(), AllocError>
     requires context { IsNodeContext context.now }
-    ensures entry { OnOk result (entry.new ≡ ended_entry entry.old) }
-    ensures out { OnOk result (out.new ≡ output_after_end context.now entry.old out.old) }
+    requires known { IsIn held.old.stream held.old.wave book.old }
+    requires fits { FitsAt context.now book.old held.old }
+    ensures { OnOk result (StepsWaveAt context.now (end_at context.now held.old.stream held.old.wave)
+        held.old held.new book.old book.new out.old out.new) }
 {
-    if entry.part.take().is_some() {
-        send_dones(context, entry.stream, entry.wave, &mut out.sends)?;
+    if is_closed(book, held.stream, held.wave) {
+        return Ok(());
     }
+    send_dones::<T>(context, held.stream, held.wave, &mut out.sends)?;
+    book.close(held.stream, held.wave);
+    held.part = None;
     Ok(())
 }
 
 /// A daemon takes its samples of a wave of which nothing has come in yet.
 pub fn on_sample<T: PrefixTree>(
-    alloc: Global,
     context: &NodeContext<'_>,
-    entries: &mut [WaveEntry<T>],
+    book: &mut WaveBook,
+    held: &mut [HeldWave<T>],
     s: u8,
     w: u8,
     out: &mut Outgoing<T>,
 ) -> Result<(), AllocError>
     requires context { IsNodeContext context.now }
-    requires fits { AllByRecursion (EntryFits context.now.plan.now) entries.old }
-    requires has_entry { In {X = ℕ × ℕ} (s, w) (keys_of entries.old) }
+    requires keys { held_keys held.old ≡ keys_of book.old }
+    requires distinct { AreDistinct (held_keys held.old) }
+    requires fits { AllFitAt context.now book.old held.old }
+    requires known { In {X = ℕ × ℕ} (s, w) (held_keys held.old) }
     requires wave { HasWave context.now.plan.now s w }
-    requires daemon { In context.now.node (daemons context.now.plan.now s) }
-    requires empty { IsTrue (is_empty_open (book_of entries.old s w)) }
-    ensures { OnOk result (StepsEntriesAt context.now
-        (changed_at context.now s w (covering (ranks context.now.plan.now context.now.node)))
-        entries.old entries.new out.old out.new) }
+    requires daemon { In context.now.kin.now.node (daemons context.now.plan.now s) }
+    requires empty { is_empty_open (book_of book.old s w) ≡ true }
+    ensures { OnOk result (StepsHeldAt context.now
+        (changed_at context.now s w (covering (ranks context.now.plan.now context.now.kin.now.node)))
+        held.old held.new book.old book.new out.old out.new) }
 {
-    let own = Contribution::of_daemon(alloc, context.plan, context.node, s, w)?;
-    let i = entry_index(entries, s, w);
-    let entry = &mut entries[i];
-    take_sample(context, entry, own, out)?;
+    let alloc = *out.sends.allocator();
+    let own = Contribution::of_daemon(alloc, context.plan, context.kin.node(), s, w)?;
+    let i = held_index(held, s, w);
+    let wave = &mut held[i];
+    take_sample(context, book, wave, own, out)?;
     Ok(())
 }
 
 /// A child has sent what has come in of a wave at it.
 pub fn on_up<T: PrefixTree>(
     context: &NodeContext<'_>,
-    entries: &mut [WaveEntry<T>],
+    book: &mut WaveBook,
+    held: &mut [HeldWave<T>],
     s: u8,
     w: u8,
     tree: T,
     out: &mut Outgoing<T>,
 ) -> Result<(), AllocError>
     requires context { IsNodeContext context.now }
-    requires fits { AllByRecursion (EntryFits context.now.plan.now) entries.old }
-    requires has_entry { In {X = ℕ × ℕ} (s, w) (keys_of entries.old) }
-    requires partial_merge { IsPartialMerge context.now.plan.now (contrib s w (T.tree tree)) }
-    ensures { OnOk result (StepsEntriesAt context.now
-        (changed_at context.now s w (growing (coverage_of (contrib s w (T.tree tree)))))
-        entries.old entries.new out.old out.new) }
+    requires keys { held_keys held.old ≡ keys_of book.old }
+    requires distinct { AreDistinct (held_keys held.old) }
+    requires fits { AllFitAt context.now book.old held.old }
+    requires known { In {X = ℕ × ℕ} (s, w) (held_keys held.old) }
+    requires received_merge { IsPartialMerge context.now.plan.now (contrib s w (T.tree tree)) }
+    ensures { OnOk result (StepsHeldAt context.now (changed_at context.now s w (growing (T.tree tree).coverage))
+        held.old held.new book.old book.new out.old out.new) }
 {
     let received = Contribution::of_tree(s, w, tree);
-    let i = entry_index(entries, s, w);
-    let entry = &mut entries[i];
-    take_up(context, entry, received, out)?;
+    let i = held_index(held, s, w);
+    let wave = &mut held[i];
+    take_up(context, book, wave, received, out)?;
     Ok(())
 }
 
 /// The parent has sent that a wave has ended.
 pub fn on_done<T: PrefixTree>(
     context: &NodeContext<'_>,
-    entries: &mut [WaveEntry<T>],
+    book: &mut WaveBook,
+    held: &mut [HeldWave<T>],
     s: u8,
     w: u8,
     out: &mut Outgoing<T>,
 ) -> Result<(), AllocError>
     requires context { IsNodeContext context.now }
-    requires fits { AllByRecursion (EntryFits context.now.plan.now) entries.old }
-    requires has_entry { In {X = ℕ × ℕ} (s, w) (keys_of entries.old) }
-    ensures { OnOk result (StepsEntriesAt context.now (end_at context.now s w)
-        entries.old entries.new out.old out.new) }
+    requires keys { held_keys held.old ≡ keys_of book.old }
+    requires distinct { AreDistinct (held_keys held.old) }
+    requires fits { AllFitAt context.now book.old held.old }
+    requires known { In {X = ℕ × ℕ} (s, w) (held_keys held.old) }
+    ensures { OnOk result (StepsHeldAt context.now (end_at context.now s w)
+        held.old held.new book.old book.new out.old out.new) }
 {
-    let i = entry_index(entries, s, w);
-    let entry = &mut entries[i];
-    end(context, entry, out)?;
+    let i = held_index(held, s, w);
+    let wave = &mut held[i];
+    end(context, book, wave, out)?;
     Ok(())
-}
-
-// A timer one tick later.
-fn ticked(timer: Timer) -> Timer
-    ensures { result ≡ ticked_timer timer }
-{
-    match timer {
-        Timer::Off => Timer::Off,
-        Timer::Running(t) if t > 1 => Timer::Running(t - 1),
-        _ => Timer::Fired,
-    }
-}
-
-// The timers go on by one.
-fn tick_timers<T: PrefixTree>(entries: &mut [WaveEntry<T>])
-    ensures { entries.new ≡ map ticked_entry entries.old }
-{
-    for i in 0..entries.len() {
-        let entry = &mut entries[i];
-        entry.timer = ticked(entry.timer);
-    }
-}
-
-// Whether a wave is open and its timer has run out.
-fn is_fired<T: PrefixTree>(entry: &WaveEntry<T>) -> bool
-    ensures { result ≡ is_fired (wave_of entry.now) }
-{
-    entry.part.is_some() && entry.timer == Timer::Fired
 }
 
 // Does what is due for a wave whose timer has run out.
 fn act_if_fired<T: PrefixTree>(
     context: &NodeContext<'_>,
-    entry: &mut WaveEntry<T>,
+    book: &mut WaveBook,
+    held: &mut HeldWave<T>,
     out: &mut Outgoing<T>,
 ) -> Result<(), AllocError>
     requires context { IsNodeContext context.now }
-    requires fits { EntryFits context.now.plan.now entry.old }
-    ensures { OnOk result (StepsEntryAt context.now (fired_at context.now entry.old.stream entry.old.wave)
-        entry.old entry.new out.old out.new) }
+    requires known { IsIn held.old.stream held.old.wave book.old }
+    requires fits { FitsAt context.now book.old held.old }
+    ensures { OnOk result (StepsWaveAt context.now (fired_at context.now held.old.stream held.old.wave)
+        held.old held.new book.old book.new out.old out.new) }
 {
-    context.plan.invariant();
-    if is_fired(entry) {
-        act(context, entry, out)?;
+    if is_fired(book, held.stream, held.wave) {
+        return act(context, book, held, out);
     }
     Ok(())
 }
@@ -251,18 +276,20 @@ fn act_if_fired<T: PrefixTree>(
 // Does what is due for the waves whose timers have run out, by stream and wave.
 fn act_on_fired<T: PrefixTree>(
     context: &NodeContext<'_>,
-    entries: &mut [WaveEntry<T>],
+    book: &mut WaveBook,
+    held: &mut [HeldWave<T>],
     out: &mut Outgoing<T>,
 ) -> Result<(), AllocError>
     requires context { IsNodeContext context.now }
-    requires fits { AllByRecursion (EntryFits context.now.plan.now) entries.old }
-    requires distinct { AreDistinct (keys_of entries.old) }
-    ensures { OnOk result (StepsEntriesAt context.now (each_fired_at context.now (keys_of entries.old))
-        entries.old entries.new out.old out.new) }
+    requires keys { held_keys held.old ≡ keys_of book.old }
+    requires distinct { AreDistinct (held_keys held.old) }
+    requires fits { AllFitAt context.now book.old held.old }
+    ensures { OnOk result (StepsHeldAt context.now (each_at (fired_at context.now) (held_keys held.old))
+        held.old held.new book.old book.new out.old out.new) }
 {
-    for i in 0..entries.len() {
-        let entry = &mut entries[i];
-        act_if_fired(context, entry, out)?;
+    for i in 0..held.len() {
+        let wave = &mut held[i];
+        act_if_fired(context, book, wave, out)?;
     }
     Ok(())
 }
@@ -270,16 +297,38 @@ fn act_on_fired<T: PrefixTree>(
 /// The timers go on by one, and the waves whose timers have run out are acted on, by stream and wave.
 pub fn on_tick<T: PrefixTree>(
     context: &NodeContext<'_>,
-    entries: &mut [WaveEntry<T>],
+    book: &mut WaveBook,
+    held: &mut [HeldWave<T>],
     out: &mut Outgoing<T>,
 ) -> Result<(), AllocError>
     requires context { IsNodeContext context.now }
-    requires fits { AllByRecursion (EntryFits context.now.plan.now) entries.old }
-    requires distinct { AreDistinct (keys_of entries.old) }
-    ensures { OnOk result (StepsEntriesAt context.now (tick_at context.now (keys_of entries.old))
-        entries.old entries.new out.old out.new) }
+    requires keys { held_keys held.old ≡ keys_of book.old }
+    requires distinct { AreDistinct (held_keys held.old) }
+    requires fits { AllFitAt context.now book.old held.old }
+    ensures { OnOk result (StepsHeldAt context.now (tick_at context.now (held_keys held.old))
+        held.old held.new book.old book.new out.old out.new) }
 {
-    tick_timers(entries);
-    act_on_fired(context, entries, out)?;
+    book.tick();
+    act_on_fired(context, book, held, out)
+}
+
+/// Does what is due for each wave, by stream and wave.
+pub fn act_on_each<T: PrefixTree>(
+    context: &NodeContext<'_>,
+    book: &mut WaveBook,
+    held: &mut [HeldWave<T>],
+    out: &mut Outgoing<T>,
+) -> Result<(), AllocError>
+    requires context { IsNodeContext context.now }
+    requires keys { held_keys held.old ≡ keys_of book.old }
+    requires distinct { AreDistinct (held_keys held.old) }
+    requires fits { AllFitAt context.now book.old held.old }
+    ensures { OnOk result (StepsHeldAt context.now (each_at (act_at context.now) (held_keys held.old))
+        held.old held.new book.old book.new out.old out.new) }
+{
+    for i in 0..held.len() {
+        let wave = &mut held[i];
+        act(context, book, wave, out)?;
+    }
     Ok(())
 }

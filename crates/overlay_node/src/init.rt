@@ -1,70 +1,28 @@
-//! The initial state of a node.
+//! What a node holds that has done no event yet.
 
-ghost use Rattle.std.specs.Prelude.{◌≡◌, ◌<◌, ◌++◌, [], ℕ, IfOk, OnOk, map};
-ghost use Rattle.std.specs.List.{AllByRecursion};
-ghost use Rattle.stat_plan.specs.Machine.Kin.{is_parent, nearest};
-ghost use Rattle.stat_plan.specs.Plans.{Plan, ancestors, nodes, waves_at};
-ghost use Rattle.overlay_setup.specs.NodeSets.{up_to};
+ghost use Rattle.std.specs.Prelude.{◌≡◌, ◌<◌, ◌++◌, IfOk, OnOk};
+ghost use Rattle.stat_plan.specs.Plans.{Plan, nodes, waves_at};
 ghost use Rattle.merge_filter.specs.Contributions.{HasWave};
-ghost use Rattle.overlay_core.specs.Machine.{children_of};
-ghost use Rattle.overlay_node.specs.NodeViews.{keys_of};
-ghost use Rattle.overlay_node.specs.Starts.{AreUntouched, HasWaves, IsUntouched, first_waves};
+ghost use Rattle.wave_resend.specs.Books.{first_waves};
+ghost use Rattle.overlay_node.specs.NodeViews.{held_keys};
+ghost use Rattle.overlay_node.specs.Starts.{AreFresh, HasWaves, IsFresh};
 
-use crate::entry::WaveEntry;
+use crate::held::HeldWave;
 use merge_filter::Contribution;
 use prefix_tree::PrefixTree;
-use rank_set::RankSet;
-use stat_plan::{Plan, Timer};
+use stat_plan::Plan;
 use std::alloc::{AllocError, Global};
 
-/// A node's parent: the nearest of its ancestors.
-pub fn parent_of(plan: &Plan, n: u32) -> Option<u32>
-    requires { n < nodes plan.now }
-    ensures { result ≡ nearest (ancestors plan.now n) [] }
-{
-    plan.ancestors(n).first().copied()
-}
-
-// Whether a node's parent is `m`.
-fn is_child(plan: &Plan, n: u32, m: u32) -> bool
-    requires { n < nodes plan.now }
-    ensures { result ≡ is_parent (nearest (ancestors plan.now n) []) m }
-{
-    match parent_of(plan, n) {
-        Some(parent) => parent == m,
-        None => false,
-    }
-}
-
-/// A node's children, ascending. A daemon has none, and they are not looked for.
-pub fn children_of(alloc: Global, plan: &Plan, n: u32) -> Result<Vec<u32>, AllocError>
-    requires { n < nodes plan.now }
-    ensures { IfOk result (λ children. children.items ≡ children_of plan.now n) }
-{
-    let mut children = Vec::new(alloc);
-    if plan.is_daemon(n) {
-        return Ok(children);
-    }
-    for c in 0..plan.nodes() {
-        if is_child(plan, c, n) {
-            children.push(c)?;
-        }
-    }
-    Ok(children)
-}
-
-// A wave of which nothing has come in yet.
-fn untouched_entry<T: PrefixTree>(alloc: Global, s: u8, w: u8) -> WaveEntry<T>
+// What is held of a wave of which nothing has come in yet.
+fn fresh_wave<T: PrefixTree>(alloc: Global, s: u8, w: u8) -> HeldWave<T>
     ensures stream { result.stream ≡ s }
     ensures wave { result.wave ≡ w }
-    ensures untouched { (p : Plan) → HasWave p s w → IsUntouched p result }
+    ensures fresh { (p : Plan) → HasWave p s w → IsFresh p result }
 {
-    WaveEntry {
+    HeldWave {
         stream: s,
         wave: w,
         part: Some(Contribution::none(alloc, s, w)),
-        sent: RankSet::new(alloc),
-        timer: Timer::Off,
         release_count: 0,
     }
 }
@@ -72,36 +30,36 @@ fn untouched_entry<T: PrefixTree>(alloc: Global, s: u8, w: u8) -> WaveEntry<T>
 // Adds the waves of a stream.
 fn add_waves<T: PrefixTree>(
     alloc: Global,
-    entries: &mut Vec<WaveEntry<T>>,
+    held: &mut Vec<HeldWave<T>>,
     s: u8,
     waves: u8,
 ) -> Result<(), AllocError>
-    ensures keys { OnOk result (keys_of entries.new.items ≡ keys_of entries.old.items ++ first_waves s waves) }
-    ensures untouched { OnOk result ((p : Plan) → HasWaves p s waves
-        → AreUntouched p entries.old.items → AreUntouched p entries.new.items) }
+    ensures keys { OnOk result (held_keys held.new.items ≡ held_keys held.old.items ++ first_waves s waves) }
+    ensures fresh { OnOk result ((p : Plan) → HasWaves p s waves
+        → AreFresh p held.old.items → AreFresh p held.new.items) }
 {
     for w in 0..waves {
-        entries.push(untouched_entry(alloc, s, w))?;
+        held.push(fresh_wave(alloc, s, w))?;
     }
     Ok(())
 }
 
-/// One entry for each wave of each stream that the node serves, ordered by stream and wave. Nothing has come in yet.
-pub fn entries_of<T: PrefixTree>(
+/// One for each wave of each stream that the node serves, by stream and wave. Nothing has come in yet.
+pub fn fresh_waves<T: PrefixTree>(
     alloc: Global,
     plan: &Plan,
     n: u32,
-) -> Result<Vec<WaveEntry<T>>, AllocError>
+) -> Result<Vec<HeldWave<T>>, AllocError>
     requires { n < nodes plan.now }
-    ensures keys { IfOk result (λ entries. keys_of entries.items ≡ waves_at plan.now n) }
-    ensures untouched { IfOk result (λ entries. AreUntouched plan.now entries.items) }
+    ensures keys { IfOk result (λ held. held_keys held.items ≡ waves_at plan.now n) }
+    ensures fresh { IfOk result (λ held. AreFresh plan.now held.items) }
 {
-    let mut entries = Vec::new(alloc);
+    let mut held = Vec::new(alloc);
     for stream in plan.streams() {
         let s = stream.number();
         if plan.serves(n, s) {
-            add_waves(alloc, &mut entries, s, stream.waves())?;
+            add_waves(alloc, &mut held, s, stream.waves())?;
         }
     }
-    Ok(entries)
+    Ok(held)
 }

@@ -1,5 +1,5 @@
 //! Nodes and what they send may be handed to another thread.
-use crate::{Node, Outgoing, Packet};
+use crate::{Node, Outgoing};
 use prefix_tree::OwnedTree;
 use std::test::*;
 
@@ -8,9 +8,8 @@ fn is_sent<T: Send>() -> bool {
 }
 
 #[test]
-fn nodes_and_packets_may_change_threads(rt: HostRuntime) -> Result<(), Fail> {
+fn nodes_and_what_they_send_may_change_threads(rt: HostRuntime) -> Result<(), Fail> {
     assert!(rt; is_sent::<Node<OwnedTree>>());
-    assert!(rt; is_sent::<Packet<OwnedTree>>());
     assert!(rt; is_sent::<Outgoing<OwnedTree>>());
     Ok(())
 }

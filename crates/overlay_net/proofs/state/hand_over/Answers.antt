@@ -14,4 +14,4 @@ pub returns : goal.returns
 returns g c =
     handed c.args.plan.now c.args.event c.args.nodes.now c.args.inboxes.now c.take_packet-packet.new.inboxes _ c.node.result _ c.handle.new.self c.handle.result c.take_packet-packet.ensures c.node.ensures
     (read_at c.args.nodes.now _ c.node.result c.index-nodes-node.result c.node.ensures c.requires.below c.index-nodes-node.is)
-    c.handle.ensures.number c.handle.ensures.node c.handle.ensures.sends c.handle.ensures.releases c.handle.ensures.fits c.handle.ensures.packets c.handle.ensures.trees c.handle.ensures.numbers c.handle.ensures.counts
+    c.handle.ensures.number c.handle.ensures.node c.handle.ensures.packets c.handle.ensures.releases c.handle.ensures.fits c.handle.ensures.frames c.handle.ensures.trees c.handle.ensures.numbers c.handle.ensures.counts

@@ -1,11 +1,48 @@
-use Rattle.std.proofs.Common.{◌≤◌, subst, sym, arith}
+use Rattle.std.proofs.Common.{◌≡◌, ◌≤◌, ◌+◌, ◌∙◌, ◌++◌, ◌∷◌, [], ap, refl, sym, subst, arith}
+use Rattle.std.proofs.lemmas.List.{map-append}
 use Rattle.rank_set.specs.Ranks.{size}
 use Rattle.rank_set.specs.declared.TheConstants.{RANK_LIMIT}
-use Rattle.overlay_node.specs.NodeViews.{EntryFits}
-use Rattle.overlay_node.proofs.Fitting.{given_within}
+use Rattle.stat_plan.specs.declared.machine.Act.TheVariants.{Final}
+use Rattle.wave_resend.specs.Books.{book_of}
+use Rattle.overlay_core.specs.Nodes.{act}
+use Rattle.overlay_core.specs.TreeReleases.{release_view, releases_view}
+use Rattle.overlay_core.specs.declared.release.Kind.TheVariants.{Final as FinalRelease}
+use Rattle.overlay_node.specs.NodeViews.{HeldFits, HeldView}
+use Rattle.overlay_node.specs.Outputs.{Output}
+use Rattle.overlay_node.specs.Acting.{StepsWave, due_as, release_with}
+use Rattle.overlay_node.proofs.Fitting.{due_open, given_within}
+use Rattle.overlay_node.proofs.Steps.{final_steps}
 use Rattle.overlay_node.proofs.actions.give_final.Goals as goal
 
 pub next_release-requires-after_bounds : goal.next_release-requires-after_bounds
 next_release-requires-after_bounds g c lifetimes outlives =
-    let within_limit = given_within _ _ _ _ _ _ _ _ RANK_LIMIT (sym c.in-Some.ensures.value) (subst (EntryFits c.args.context.now.plan.now) (sym c.entry.view_is) c.requires.fits) (subst (λ set. size set ≤ RANK_LIMIT) c.coverage.ensures c.ranks_within_limit.ensures) in
-    omega (arith, within_limit)
+    let p = c.args.context.now.plan.now in
+    let kin = c.args.context.now.kin.now in
+    let h = c.args.held.now in
+    let d = due_open p kin.node kin.kin.lost h.stream (book_of c.args.book.now h.stream h.wave) Final c.requires.due (λ k. absurd (cc)) in
+    let few = given_within p kin.node h _ d.covered d.sent d.timer c.in-Some.part RANK_LIMIT d.is c.requires.fits (ap (λ (y : HeldView). y.part) (sym c.held.view_is) ∙ sym c.in-Some.ensures.value)
+    (subst (λ set. size set ≤ RANK_LIMIT) c.coverage.ensures c.ranks_within_limit.ensures) in
+    let same : c.held.inside.release_count ≡ h.release_count = ap (λ (y : HeldView). y.release_count) c.held.view_is in
+    omega (arith, few, same)
+
+pub returns : goal.returns
+returns g c =
+    let p = c.args.context.now.plan.now in
+    let n = c.args.context.now.kin.now.node in
+    let kin = c.args.context.now.kin.now.kin in
+    let b = c.args.book.now in
+    let tree = g.T.PrefixTree.tree in
+    let h : HeldView = record { stream = c.held.inside.stream; wave = c.held.inside.wave; part = c.held.inside.part; release_count = c.held.inside.release_count } in
+    let new : HeldView = record { stream = c.held.inside.stream; wave = c.held.inside.wave; part = c.take.new.self; release_count = c.held.inside.release_count + 1 } in
+    let o : Output = record { sends = c.out.inside.sends.items; releases = releases_view {X = g.row.T.Denot} tree c.out.inside.releases.items } in
+    let q : Output = record { sends = c.send_dones.new.sends.items; releases = releases_view {X = g.row.T.Denot} tree c.push.new.self.items } in
+    let more : q.releases ≡ o.releases ++ release_with h FinalRelease (tree c.into_tree.result) kin.lost ∷ [] =
+    ap (releases_view {X = g.row.T.Denot} tree) c.in_ok-push.ensures.items
+    ∙ map-append (release_view {X = g.row.T.Denot} tree) c.out.inside.releases.items (c.in_ok-release.release ∷ [])
+    ∙ ap (λ r. o.releases ++ r ∷ []) c.in_ok-release.ensures in
+    subst (λ (y : HeldView). StepsWave p n (act p n kin y.stream y.wave) y new b c.close.new.self c.args.out.now q) c.held.view_is
+    (subst (λ (x : Output). StepsWave p n (act p n kin h.stream h.wave) h new b c.close.new.self x q) c.out.view_is
+    (final_steps p n kin h new b c.close.new.self o q c.in-Some.part (tree c.into_tree.result) (sym c.in-Some.ensures.value) c.into_tree.ensures
+    (subst (λ (y : HeldView). due_as p n kin.lost y.stream (book_of b y.stream y.wave) ≡ Final) (sym c.held.view_is) c.requires.due)
+    (subst (λ (y : HeldView). HeldFits p n y (book_of b y.stream y.wave)) (sym c.held.view_is) c.requires.fits)
+    refl refl c.in-Some.ensures.after (omega arith) c.in_ok-send_dones.ensures more c.close.ensures))

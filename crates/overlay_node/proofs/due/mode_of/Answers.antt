@@ -1,5 +1,5 @@
 use Rattle.std.proofs.Common.{◌∙◌}
-use Rattle.overlay_node.proofs.Completion.{mode_at, mode_none}
+use Rattle.overlay_node.proofs.Modes.{mode_at, mode_none}
 use Rattle.overlay_node.proofs.due.mode_of.Goals as goal
 
 pub returns-in-Some : goal.returns-in-Some

@@ -1,25 +1,34 @@
-use Rattle.std.proofs.Common.{◌<◌, ◌≤◌, ap, sym, subst, get_or}
-use Rattle.overlay_node.specs.Contexts.{kin_of}
-use Rattle.overlay_node.proofs.EndPackets.{all_item}
-use Rattle.overlay_node.proofs.Ticking.{fired_all, fired_more}
+use Rattle.std.proofs.Common.{◌<◌, ◌≤◌, ◌∙◌, ap, sym, subst, get_or}
+use Rattle.overlay_node.specs.Acting.{act_fired}
+use Rattle.overlay_node.proofs.Stepping.{each_all, each_next, fits_at, item_in}
 use Rattle.overlay_node.proofs.events.act_on_fired.Goals as goal
+
+pub act_if_fired-requires-clause-known : goal.act_if_fired-requires-clause-known
+act_if_fired-requires-clause-known g c κs within =
+    let now = c.loop-i.held in
+    let i = c.loop-i.i in
+    item_in now i (get_or now i c.index-held-i.result) c.loop-i.book (c.loop-i.invariant.held_keys ∙ c.requires.keys ∙ sym c.loop-i.invariant.keys)
+    (subst (λ k. i < k) (sym c.loop-i.auto.held) c.loop-i-test.true) (ap (get_or now i) c.index-held-i.is)
 
 pub act_if_fired-requires-clause-fits : goal.act_if_fired-requires-clause-fits
 act_if_fired-requires-clause-fits g c κs within =
-    let now = c.loop-i.entries in
+    let now = c.loop-i.held in
     let i = c.loop-i.i in
-    all_item _ now i _ (subst (λ k. i < k) (sym c.loop-i.auto.entries) c.loop-i-test.true) (ap (get_or now i) c.index-entries-i.is) c.loop-i.invariant.fits
+    fits_at c.args.context.now.plan.now c.args.context.now.kin.now.node _ now i (get_or now i c.index-held-i.result)
+    (subst (λ k. i < k) (sym c.loop-i.auto.held) c.loop-i-test.true) (ap (get_or now i) c.index-held-i.is) c.loop-i.invariant.fits
 
 pub loop-i-preserved : goal.loop-i-preserved
 loop-i-preserved g c =
-    let now = c.loop-i.entries in
+    let p = c.args.context.now.plan.now in
+    let n = c.args.context.now.kin.now.node in
+    let now = c.loop-i.held in
     let i = c.loop-i.i in
-    fired_more c.args.context.now.plan.now c.args.context.now.node (kin_of c.args.context.now) c.args.entries.now now i (get_or now i c.index-entries-i.result) _ _ _ _ c.requires.distinct c.loop-i.invariant
-    (subst (λ k. i < k) (sym c.loop-i.auto.entries) c.loop-i-test.true)
-    (ap (get_or now i) c.index-entries-i.is)
-    c.in_ok-act_if_fired.ensures
+    each_next p n (act_fired p n c.args.context.now.kin.now.kin) c.args.held.now now i (get_or now i c.index-held-i.result) c.act_if_fired.new.held _ _ _ _ _ _ c.requires.distinct c.loop-i.invariant
+    (subst (λ k. i < k) (sym c.loop-i.auto.held) c.loop-i-test.true) (ap (get_or now i) c.index-held-i.is) c.in_ok-act_if_fired.ensures
 
 pub returns : goal.returns
 returns g c =
-    fired_all c.args.context.now.plan.now c.args.context.now.node (kin_of c.args.context.now) c.args.entries.now c.loop-i.entries c.loop-i.i _ _ c.loop-i.invariant
-    (subst (λ k. k ≤ c.loop-i.i) (sym c.loop-i.auto.entries) c.loop-i-test.false)
+    let p = c.args.context.now.plan.now in
+    let n = c.args.context.now.kin.now.node in
+    each_all p n (act_fired p n c.args.context.now.kin.now.kin) c.args.held.now c.loop-i.held c.loop-i.i _ _ _ _ c.loop-i.invariant
+    (subst (λ k. k ≤ c.loop-i.i) (sym c.loop-i.auto.held) c.loop-i-test.false)

@@ -1,15 +1,30 @@
 use Rattle.std.proofs.Common.{ap, get_or}
 use Rattle.overlay_node.specs.Acting.{end}
-use Rattle.overlay_node.specs.Contexts.{kin_of}
-use Rattle.overlay_node.proofs.Stepping.{finds, steps_found}
-use Rattle.overlay_node.proofs.EntrySteps.{end_steps}
+use Rattle.overlay_node.proofs.Stepping.{finds, fits_at, found_in, steps_found}
 use Rattle.overlay_node.proofs.events.on_done.Goals as goal
+
+pub end-requires-clause-known : goal.end-requires-clause-known
+end-requires-clause-known g c κs within =
+    let hs = c.args.held.now in
+    let i = c.held_index-i.result in
+    let h = get_or hs i c.index-held-i.result in
+    let found = finds c.args.s c.args.w hs i h c.requires.known c.held_index-i.ensures.index (ap (get_or hs i) c.index-held-i.is) in
+    found_in c.args.s c.args.w hs i h c.args.book.now c.requires.keys found
+
+pub end-requires-clause-fits : goal.end-requires-clause-fits
+end-requires-clause-fits g c κs within =
+    let hs = c.args.held.now in
+    let i = c.held_index-i.result in
+    let h = get_or hs i c.index-held-i.result in
+    let found = finds c.args.s c.args.w hs i h c.requires.known c.held_index-i.ensures.index (ap (get_or hs i) c.index-held-i.is) in
+    fits_at c.args.context.now.plan.now c.args.context.now.kin.now.node _ hs i h found.below found.item c.requires.fits
 
 pub returns : goal.returns
 returns g c =
     let p = c.args.context.now.plan.now in
-    let es = c.args.entries.now in
-    let i = c.entry_index-i.result in
-    let found = finds p c.args.s c.args.w es i (get_or es i c.index-entries-i.result) c.requires.has_entry c.entry_index-i.ensures.index (ap (get_or es i) c.index-entries-i.is) in
-    steps_found p (end p (kin_of c.args.context.now)) c.args.s c.args.w es i (get_or es i c.index-entries-i.result) _ _ _ c.requires.fits found
-    (end_steps p (kin_of c.args.context.now) _ _ _ _ c.in_ok-end.ensures.entry c.in_ok-end.ensures.out)
+    let n = c.args.context.now.kin.now.node in
+    let hs = c.args.held.now in
+    let i = c.held_index-i.result in
+    let h = get_or hs i c.index-held-i.result in
+    let found = finds c.args.s c.args.w hs i h c.requires.known c.held_index-i.ensures.index (ap (get_or hs i) c.index-held-i.is) in
+    steps_found p n (end p c.args.context.now.kin.now.kin) c.args.s c.args.w hs i h c.end.new.held _ _ _ _ c.requires.distinct c.requires.fits found c.in_ok-end.ensures

@@ -1,16 +1,24 @@
-use Rattle.std.proofs.Common.{◌∙◌, ap, sym, subst}
-use Rattle.std.specs.List.{AllByRecursion}
-use Rattle.overlay_node.specs.NodeViews.{EntryFits, EntryView, keys_of}
-use Rattle.overlay_node.specs.Acting.{AreDistinct}
-use Rattle.overlay_node.specs.Contexts.{kin_of}
-use Rattle.overlay_node.proofs.Ticking.{ticked_all, ticked_keys, steps_tick}
+use Rattle.std.proofs.lemmas.Result.{on_ok_weaker}
+use Rattle.stat_plan.specs.Machine.Waves.{ticked}
+use Rattle.overlay_node.specs.NodeViews.{held_keys}
+use Rattle.overlay_node.specs.Acting.{act_fired, each_by, tick_all}
+use Rattle.overlay_node.proofs.Fitting.{held_ticked}
+use Rattle.overlay_node.proofs.Stepping.{all_changed, steps_then}
+use Rattle.overlay_node.proofs.Ticking.{steps_ticked}
 use Rattle.overlay_node.proofs.events.on_tick.Goals as goal
 
 pub act_on_fired-requires-clause-fits : goal.act_on_fired-requires-clause-fits
-act_on_fired-requires-clause-fits g c κs within = subst (AllByRecursion {X = EntryView} (EntryFits c.args.context.now.plan.now)) (sym c.tick_timers.ensures) (ticked_all c.args.context.now.plan.now _ c.requires.fits)
-
-pub act_on_fired-requires-clause-distinct : goal.act_on_fired-requires-clause-distinct
-act_on_fired-requires-clause-distinct g c κs within = subst AreDistinct (sym (ap keys_of c.tick_timers.ensures ∙ ticked_keys c.args.entries.now)) c.requires.distinct
+act_on_fired-requires-clause-fits g c κs within =
+    let p = c.args.context.now.plan.now in
+    let n = c.args.context.now.kin.now.node in
+    all_changed p n ticked c.args.held.now c.args.book.now c.tick.new.self c.tick.ensures (held_ticked p n) c.requires.fits
 
 pub returns : goal.returns
-returns g c = steps_tick c.args.context.now.plan.now c.args.context.now.node (kin_of c.args.context.now) _ _ _ _ _ c.requires.fits c.tick_timers.ensures c.in_ok-act_on_fired.ensures
+returns g c =
+    let p = c.args.context.now.plan.now in
+    let n = c.args.context.now.kin.now.node in
+    let kin = c.args.context.now.kin.now.kin in
+    on_ok_weaker c.act_on_fired.result
+    (λ steps. steps_then p n tick_all (each_by (act_fired p n kin) (held_keys c.args.held.now)) c.args.held.now c.args.held.now c.act_on_fired.new.held c.args.book.now c.tick.new.self c.act_on_fired.new.book c.args.out.now c.args.out.now c.act_on_fired.new.out
+    (steps_ticked p n c.args.held.now c.args.book.now c.tick.new.self c.args.out.now c.tick.ensures c.requires.fits) steps)
+    c.act_on_fired.ensures

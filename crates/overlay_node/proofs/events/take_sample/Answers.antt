@@ -1,30 +1,41 @@
-use Rattle.std.proofs.Common.{◌≡◌, Some, ap, subst, sym, ◌∙◌}
-use Rattle.merge_filter.specs.Contributions.{Contrib, coverage_of}
-use Rattle.overlay_node.specs.NodeViews.{EntryView, OpenFits}
-use Rattle.overlay_node.specs.Acting.{covered_entry}
-use Rattle.overlay_node.proofs.Fitting.{own_fits, own_is}
-use Rattle.overlay_node.proofs.Results.{both_ok}
-use Rattle.overlay_node.proofs.EntrySteps.{act_steps, entry, sample_steps}
+use Rattle.std.proofs.Common.{◌≡◌, ◌∙◌, Some, true, ap, refl, sym, subst}
+use Rattle.std.proofs.lemmas.Result.{on_ok_weaker}
+use Rattle.stat_plan.specs.Machine.Waves.{covering, growing, is_empty_open}
+use Rattle.wave_resend.specs.Books.{HasSet, book_of}
+use Rattle.merge_filter.specs.Contributions.{coverage_of}
+use Rattle.overlay_node.specs.NodeViews.{HeldFits, HeldView}
+use Rattle.overlay_node.specs.Acting.{StepsWave, act_changed}
+use Rattle.overlay_node.proofs.Growing.{changed_steps, growing_is_covering, own_held}
 use Rattle.overlay_node.proofs.events.take_sample.Goals as goal
 
 pub act-requires-clause-fits : goal.act-requires-clause-fits
 act-requires-clause-fits g c κs within =
-    let e = c.args.entry.now in
-    subst (λ (y : EntryView). OpenFits c.args.context.now.plan.now y.stream y.wave y.sent y.timer y.release_count c.args.own) (sym c.entry.view_is)
-    (own_fits c.args.context.now.plan.now c.args.own e.stream e.wave e.part e.sent e.timer e.release_count c.requires.partial_merge c.requires.stream c.requires.wave c.requires.fits c.requires.empty)
+    let p = c.args.context.now.plan.now in
+    let n = c.args.context.now.kin.now.node in
+    let b = c.args.book.now in
+    let h : HeldView = record { stream = c.held.inside.stream; wave = c.held.inside.wave; part = c.held.inside.part; release_count = c.held.inside.release_count } in
+    let new : HeldView = record { stream = c.held.inside.stream; wave = c.held.inside.wave; part = Some c.args.own; release_count = c.held.inside.release_count } in
+    own_held p n h new b c.grew.new.self c.args.own
+    (subst (λ (y : HeldView). is_empty_open (book_of b y.stream y.wave) ≡ true) (sym c.held.view_is) c.requires.empty)
+    (subst (λ (y : HeldView). HeldFits p n y (book_of b y.stream y.wave)) (sym c.held.view_is) c.requires.fits)
+    (subst (λ set. HasSet h.stream h.wave (growing set (book_of b h.stream h.wave)) b c.grew.new.self) c.coverage.ensures c.in_ok-grew.ensures.ok)
+    c.requires.partial_merge
+    (c.requires.stream ∙ ap (λ (y : HeldView). y.stream) (sym c.held.view_is)) (c.requires.wave ∙ ap (λ (y : HeldView). y.wave) (sym c.held.view_is))
+    refl refl refl refl
 
 pub returns : goal.returns
 returns g c =
     let p = c.args.context.now.plan.now in
-    let e = c.args.entry.now in
-    let x = c.entry.inside in
-    let with_own : EntryView → EntryView = λ y. entry y.stream y.wave (Some c.args.own) y.sent y.timer y.release_count in
-    let f : EntryView = entry x.stream x.wave (Some c.args.own) x.sent x.timer x.release_count in
-    let is : f ≡ covered_entry p (coverage_of c.args.own) (entry e.stream e.wave e.part e.sent e.timer e.release_count) =
-    ap with_own c.entry.view_is ∙ ap (λ (y : Contrib). entry e.stream e.wave (Some y) e.sent e.timer e.release_count) (own_is p c.args.own e.stream e.wave c.requires.partial_merge c.requires.stream c.requires.wave) in
-    both_ok c.act.result c.act.ensures.entry c.act.ensures.out
-    (λ new out. sample_steps p c.args.context.now.node _ (coverage_of c.args.own) _ f _ _ _ c.requires.empty is
-    (act_steps p c.args.context.now.node _ f _ _ _ c.invariant.ensures c.requires.context
-    (subst (λ (y : EntryView). OpenFits p y.stream y.wave y.sent y.timer y.release_count c.args.own) (sym c.entry.view_is)
-    (own_fits p c.args.own e.stream e.wave e.part e.sent e.timer e.release_count c.requires.partial_merge c.requires.stream c.requires.wave c.requires.fits c.requires.empty))
-    new out))
+    let n = c.args.context.now.kin.now.node in
+    let kin = c.args.context.now.kin.now.kin in
+    let b = c.args.book.now in
+    let h : HeldView = record { stream = c.held.inside.stream; wave = c.held.inside.wave; part = c.held.inside.part; release_count = c.held.inside.release_count } in
+    let mid : HeldView = record { stream = c.held.inside.stream; wave = c.held.inside.wave; part = Some c.args.own; release_count = c.held.inside.release_count } in
+    let empty = subst (λ (y : HeldView). is_empty_open (book_of b y.stream y.wave) ≡ true) (sym c.held.view_is) c.requires.empty in
+    on_ok_weaker c.act.result
+    (λ step.
+    subst (λ (y : HeldView). StepsWave p n (act_changed p n kin y.stream y.wave (covering (coverage_of c.args.own))) y c.act.new.held b c.act.new.book c.args.out.now c.act.new.out) c.held.view_is
+    (changed_steps p n kin (covering (coverage_of c.args.own)) h mid c.act.new.held b c.grew.new.self c.act.new.book c.args.out.now c.act.new.out refl refl refl
+    (subst (λ v. HasSet h.stream h.wave v b c.grew.new.self) (growing_is_covering (coverage_of c.args.own) (book_of b h.stream h.wave) empty)
+    (subst (λ set. HasSet h.stream h.wave (growing set (book_of b h.stream h.wave)) b c.grew.new.self) c.coverage.ensures c.in_ok-grew.ensures.ok)) step))
+    c.act.ensures

@@ -6,7 +6,7 @@ use Rattle.overlay_net.proofs.Queues.{senders_are_keys}
 use Rattle.overlay_net.proofs.inbox.Inbox.sender.Goals as goal
 
 pub returns : goal.returns
-returns g c =
+returns c =
     c.copied.ensures
     ∙ nth_from_yields_List c.nth.result c.nth.new.self c.args.i c.nth.ensures.ran (YieldsList-from_rest _ c.keys.ensures.rest)
-    ∙ ap (λ ks. slice_get ks c.args.i) (sym (senders_are_keys g.T.PrefixTree.tree c.self.inside.queues.entries) ∙ ap senders_of c.self.view_is)
+    ∙ ap (λ ks. slice_get ks c.args.i) (sym (senders_are_keys c.self.inside.queues.entries) ∙ ap senders_of c.self.view_is)

@@ -1,0 +1,22 @@
+use Rattle.std.proofs.Common.{◌∙◌, None, refl, sym, subst}
+use Rattle.overlay_core.specs.TreeReleases.{releases_view}
+use Rattle.overlay_node.specs.NodeViews.{HeldView}
+use Rattle.overlay_node.specs.Outputs.{Output}
+use Rattle.overlay_node.specs.Acting.{StepsWave, end}
+use Rattle.overlay_node.proofs.Steps.{end_steps}
+use Rattle.overlay_node.proofs.events.end.Goals as goal
+
+pub returns : goal.returns
+returns g c =
+    let p = c.args.context.now.plan.now in
+    let n = c.args.context.now.kin.now.node in
+    let kin = c.args.context.now.kin.now.kin in
+    let b = c.args.book.now in
+    let tree = g.T.PrefixTree.tree in
+    let h : HeldView = record { stream = c.held.inside.stream; wave = c.held.inside.wave; part = c.held.inside.part; release_count = c.held.inside.release_count } in
+    let new : HeldView = record { stream = c.held.inside.stream; wave = c.held.inside.wave; part = None; release_count = c.held.inside.release_count } in
+    let o : Output = record { sends = c.out.inside.sends.items; releases = releases_view {X = g.row.T.Denot} tree c.out.inside.releases.items } in
+    let q : Output = record { sends = c.send_dones.new.sends.items; releases = releases_view {X = g.row.T.Denot} tree c.out.inside.releases.items } in
+    subst (λ (y : HeldView). StepsWave p n (end p kin y.stream y.wave) y new b c.close.new.self c.args.out.now q) c.held.view_is
+    (subst (λ (x : Output). StepsWave p n (end p kin h.stream h.wave) h new b c.close.new.self x q) c.out.view_is
+    (end_steps p n kin h new b c.close.new.self o q (sym c.is_closed.ensures ∙ c.if-is_closed.false) refl refl refl refl c.in_ok-send_dones.ensures refl c.close.ensures))

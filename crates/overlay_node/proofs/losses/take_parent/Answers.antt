@@ -1,0 +1,28 @@
+use Rattle.std.proofs.Common.{◌≡◌, ◌∙◌, Some, ap, refl, subst, sym}
+use Rattle.std.proofs.lemmas.Result.{on_ok_weaker}
+use Rattle.stat_plan.specs.Machine.Kin.{after_loss, is_parent}
+use Rattle.loss_adoption.specs.NodeKins.{NodeKin}
+use Rattle.loss_adoption.specs.Reactions.{IsReactionTo}
+use Rattle.overlay_core.specs.Nodes.{Attach, to_parent}
+use Rattle.overlay_core.specs.TreeReleases.{releases_view}
+use Rattle.overlay_node.specs.Outputs.{Output, Sends}
+use Rattle.overlay_node.specs.Acting.{StepsHeld, adopt}
+use Rattle.overlay_node.proofs.Ticking.{adopted_steps}
+use Rattle.overlay_node.proofs.losses.take_parent.Goals as goal
+
+pub returns-in-NewParent-clause-steps : goal.returns-in-NewParent-clause-steps
+returns-in-NewParent-clause-steps g c =
+    let p = c.args.plan.now in
+    let v = c.args.kin.now in
+    let b = c.args.book.now in
+    let kin = after_loss p v.node v.kin c.args.lost in
+    let o : Output = record { sends = c.out.inside.sends.items; releases = releases_view {X = g.row.T.Denot} g.T.PrefixTree.tree c.out.inside.releases.items } in
+    let q : Output = record { sends = c.send_attach.new.sends.items; releases = releases_view {X = g.row.T.Denot} g.T.PrefixTree.tree c.out.inside.releases.items } in
+    let lost = subst (IsReactionTo v c.args.lost c.on_down.new.self) c.in-NewParent.is c.in_ok-parent.ensures.reaction in
+    let parent : Some c.in-NewParent.parent ≡ kin.parent = sym lost.1 ∙ ap (λ (x : NodeKin). x.kin.parent) c.in_ok-parent.ensures.kin in
+    on_ok_weaker c.send_attach.result
+    (λ sends.
+    subst (λ (x : Output). StepsHeld p v.node (adopt (is_parent v.kin.parent c.args.lost) kin) c.args.held.now c.args.held.now b c.reset_for_parent.new.self x q) c.out.view_is
+    (adopted_steps p v c.args.lost kin c.args.held.now b c.reset_for_parent.new.self o q c.invariant.ensures c.requires.kin lost.0 c.reset_for_parent.ensures c.requires.fits
+    (subst (λ m. Sends p (to_parent m Attach) o.sends q.sends) parent sends) refl))
+    c.send_attach.ensures
