@@ -12,7 +12,7 @@ use Rattle.stat_tool.specs.Call.{Answered, DeskChange, IsDetermined, SinkChange,
 use Rattle.stat_tool.specs.NextStep.{Agrees, Answers, Bytes, Does, AreReadResults, ReadResult, Step, TooLong, Wants, at_samples, at_script, by_samples, by_topology, next_step, limit}
 use Rattle.stat_tool.specs.Words.{Names, in_order}
 use Rattle.stat_tool.specs.declared.status.Status.{Status}
-use Rattle.stat_tool.specs.declared.status.Status.TheVariants.{Done, BadWords, DeskFault, BadInput, OverLimit, SinkFault, OutOfMemory, NotYet}
+use Rattle.stat_tool.specs.declared.status.Status.TheVariants.{Done, BadWords, DeskFault, BadInput, OverLimit, SinkFault, OutOfMemory}
 
 -- ---- the texts that the desk can tell determine what is read
 
@@ -95,8 +95,6 @@ determined names desk out journal (BadInput file line reason) a t s c first seco
     inl (answers names desk.contents t s c first second third a.0 (Answers (BadInput file line reason)) a.1.0 a.1.1.0 tt)
 determined names desk out journal (OverLimit file line what most) a t s c first second third no_fault no_loss =
     inl (answers names desk.contents t s c first second third a.0 (Answers (OverLimit file line what most)) a.1.0 a.1.1.0 tt)
-determined names desk out journal (NotYet role) a t s c first second third no_fault no_loss =
-    inl (answers names desk.contents t s c first second third a.0 (Answers (NotYet role)) a.1.0 a.1.1.0 tt)
 determined names desk out journal (DeskFault role) a t s c first second third no_fault no_loss = absurd (no_fault a.1.1.0.1.rose)
 determined names desk out journal (SinkFault target) a t s c first second third no_fault no_loss = absurd (no_loss a.1.1.written.rose)
 determined names desk out journal (BadWords fault) a t s c first second third no_fault no_loss = absurd a.1.1.0

@@ -1,6 +1,5 @@
--- How a run ends that loses no node.
-use Rattle.std.proofs.Common.{◌≡◌, ◌≢◌, inl, ◌==◌, ◌&&◌, ℕ, Bool, true, false, List, [], ◌∷◌, filter, refl, sym, subst, ◌∙◌, eqb-true}
-use Rattle.std.specs.Prelude.{cond}
+-- How a run ends.
+use Rattle.std.proofs.Common.{◌≡◌, ◌≢◌, inl, inr, ◌==◌, ◌&&◌, ℕ, Bool, false, List, [], ◌∷◌, refl, sym, subst, ◌∙◌, eqb-true}
 use Rattle.std.specs.List.{AllByRecursion}
 use Rattle.std.proofs.lemmas.Bool.{and_parts}
 use Rattle.rank_set.specs.Ranks.{Ranks, none}
@@ -9,6 +8,7 @@ use Rattle.stat_plan.specs.Invariants.{IsPlan}
 use Rattle.overlay_setup.specs.NodeSets.{In}
 use Rattle.stat_plan.specs.Plans.{Plan, daemons, front, samples, waves_of}
 use Rattle.stat_desk.specs.declared.event.Event.{Event}
+use Rattle.stat_desk.specs.declared.event.Event.TheVariants.{Sample, Recv, Tick, Lose}
 use Rattle.merge_filter.proofs.WaveSamples.{samples_have_paths}
 use Rattle.overlay_core.specs.History.{of_wave, ByKind, IsHistory, MissesOnlyLost}
 use Rattle.overlay_core.specs.declared.release.Kind.{Kind}
@@ -18,22 +18,22 @@ use Rattle.overlay_core.specs.Machine.{start}
 use Rattle.overlay_core.specs.Nodes.{Release}
 use Rattle.overlay_core.specs.Runs.{IsWhole, after}
 use Rattle.overlay_core.specs.TreeReleases.{AreNumberedInOrder, TreeRelease, bare_releases}
-use Rattle.overlay_core.specs.Whole.{EndsFinally, HasOneRelease}
+use Rattle.overlay_core.specs.Whole.{EndsFinally, HasOneRelease, LosesNoDaemon}
 use Rattle.overlay_core.proofs.Ended.{all_of_stream, whole_has_ended, waits_for_all}
 use Rattle.overlay_core.proofs.Whole.{legal_is_sound}
 use Rattle.overlay_core.proofs.PlanFacts.{plan_facts}
 use Rattle.overlay_core.proofs.Lists.{append_right, filter_from}
 use Rattle.overlay_core.proofs.NamedLosses.{none_is_lost}
 use Rattle.overlay_core.proofs.Releases.{legal_log}
-use Rattle.overlay_node.specs.Packets.{ReleaseFits}
+use Rattle.overlay_node.specs.Outputs.{ReleaseFits}
 use Rattle.front_end.specs.Report.{IsDirect, IsReport}
 use Rattle.front_end.proofs.Direct.{direct_where_all_wait}
-use Rattle.stat_tool.specs.RunOutput.{CoveragesGrow, EndsWithAll, HasRun, TakesFirst}
+use Rattle.stat_tool.specs.RunOutput.{CoveragesGrow, EndsWithAll, HasRun, TakesFirst, losses_of}
 
 -- ---- each wave ends with all ranks of its stream
 
-ends_with_all : (p : Plan) (journal : List Event) → IsPlan p → p.faults ≡ [] → IsWhole p journal → (s w : ℕ) → In (s, w) (waves_of p.streams) → EndsWithAll p s (of_wave s w (after p journal).releases)
-ends_with_all p journal plan no_faults whole s w wave =
+ends_with_all : (p : Plan) (journal : List Event) → IsPlan p → IsWhole p journal → (s w : ℕ) → In (s, w) (waves_of p.streams) → LosesNoDaemon p journal s → EndsWithAll p s (of_wave s w (after p journal).releases)
+ends_with_all p journal plan whole s w wave none_lost =
     let ended : EndsFinally p journal s (of_wave s w (after p journal).releases) = (whole_has_ended p journal (plan_facts p plan) whole).final s w wave in
     let among : In ended.final (of_wave s w (after p journal).releases) = subst (λ (rs : List Release). In ended.final rs) (sym ended.all) (append_right ended.final ended.before (ended.final ∷ []) (inl refl)) in
     let found = filter_from (λ (r : Release). (r.stream == s) && (r.wave == w)) (after p journal).releases ended.final among in
@@ -47,7 +47,7 @@ ends_with_all p journal plan no_faults whole s w wave =
       final = ended.kind;
       covers = all_of_stream p s ended.final.covered
           (λ r has. let from = sound.whole r has in (from.daemon, subst (λ (s : ℕ). In from.daemon (daemons p s)) own from.place.listed, from.holds))
-          (λ d there. ended.covers d there (none_is_lost p journal no_faults whole.0 d));
+          (λ d there. ended.covers d there (none_lost d there));
     }
 
 -- ---- each release is of the samples
@@ -72,19 +72,28 @@ coverages_grow p alive s last (r ∷ rs) v h = by r.kind refl h.1 (λ more. cove
     by Partial is more rest = (h.0, (λ _. more.0), rest more.1)
     by Final is more rest = (h.0, (λ e. absurd (final_is_not_partial (sym is ∙ e))), subst (λ (qs : List Release). CoveragesGrow r.covered qs) (sym more.1) tt)
 
+-- ---- losses
+
+-- where no node is lost there are no losses
+no_losses : (es : List Event) → ((d : ℕ) → In (Lose d) es → ⊥) → losses_of es ≡ []
+no_losses [] h = refl
+no_losses (Sample n s w ∷ es) h = no_losses es (λ d i. h d (inr i))
+no_losses (Recv n m ∷ es) h = no_losses es (λ d i. h d (inr i))
+no_losses (Tick n ∷ es) h = no_losses es (λ d i. h d (inr i))
+no_losses (Lose n ∷ es) h = absurd (h n (inl refl))
+
 -- ---- the run
 
 -- what is known of a run that has ended, and of its report
 pub record RunFacts (p : Plan) (journal : List Event) (report : List ℕ) : Type 0 where
   pub plan : IsPlan p
-  pub no_faults : p.faults ≡ []
   pub whole : IsWhole p journal
   pub serial : TakesFirst p (start p) journal
   pub releases : List TreeRelease
   pub reached : bare_releases releases ≡ (after p journal).releases
   pub numbered : AreNumberedInOrder [] releases
   pub trees : AllByRecursion (ReleaseFits p) releases
-  pub text : IsReport p releases [] report
+  pub text : IsReport p releases (losses_of journal) report
 
 -- so it is a run of the plan, as the headline says
 pub whole_run : (p : Plan) (journal : List Event) (report : List ℕ) → RunFacts p journal report → HasRun p journal report
@@ -93,7 +102,6 @@ whole_run p journal report run =
     let direct : AllByRecursion (IsDirect p) run.releases = all_direct p run.plan run.releases run.trees in
     record {
       plan = run.plan;
-      no_faults = run.no_faults;
       whole = run.whole;
       serial = run.serial;
       releases = run.releases;
@@ -104,9 +112,11 @@ whole_run p journal report run =
       direct = direct;
       grow = λ s w. subst (λ (rs : List Release). CoveragesGrow none (of_wave s w rs)) (sym run.reached)
           (coverages_grow p (after p journal).alive s none (of_wave s w (after p journal).releases) (((after p journal).node (front p)).book s w) ((legal_is_sound p journal facts run.whole.0).history.releases s w));
-      waves = λ s w wave. subst (λ (rs : List Release). EndsWithAll p s (of_wave s w rs)) (sym run.reached) (ends_with_all p journal run.plan run.no_faults run.whole s w wave);
-      once = λ s w wave waits. subst (λ (rs : List Release). HasOneRelease p s (of_wave s w rs)) (sym run.reached)
-          (waits_for_all p journal s w facts run.whole waits (λ d there. none_is_lost p journal run.no_faults run.whole.0 d) wave);
-      all_wait = λ waits.
-          direct_where_all_wait p journal run.releases run.plan run.no_faults waits (record { whole = run.whole; reached = run.reached; numbered = run.numbered; direct = direct }) report run.text;
+      waves = λ s w wave. subst (λ (rs : List Release). EndsFinally p journal s (of_wave s w rs)) (sym run.reached) ((whole_has_ended p journal facts run.whole).final s w wave);
+      whole_waves = λ s w wave none_lost. subst (λ (rs : List Release). EndsWithAll p s (of_wave s w rs)) (sym run.reached) (ends_with_all p journal run.plan run.whole s w wave none_lost);
+      once = λ s w wave waits none_lost. subst (λ (rs : List Release). HasOneRelease p s (of_wave s w rs)) (sym run.reached)
+          (waits_for_all p journal s w facts run.whole waits none_lost wave);
+      all_wait = λ waits no_faults.
+          direct_where_all_wait p journal run.releases run.plan no_faults waits (record { whole = run.whole; reached = run.reached; numbered = run.numbered; direct = direct }) report
+          (subst (λ lost. IsReport p run.releases lost report) (no_losses journal (none_is_lost p journal no_faults run.whole.0)) run.text);
     }

@@ -1,4 +1,5 @@
 pub mod Determined
 pub mod Headline
+pub mod Losses
 pub mod Serial
 pub mod Stopping

@@ -19,7 +19,7 @@ use Rattle.stat_tool.specs.Words.{Names, in_order, name_of}
 use Rattle.stat_tool.specs.declared.status.FileRole.{FileRole}
 use Rattle.stat_tool.specs.declared.status.FileRole.TheVariants.{Topology, Samples, Script}
 use Rattle.stat_tool.specs.declared.status.Status.{Status}
-use Rattle.stat_tool.specs.declared.status.Status.TheVariants.{Done, BadWords, DeskFault, BadInput, OverLimit, SinkFault, OutOfMemory, NotYet}
+use Rattle.stat_tool.specs.declared.status.Status.TheVariants.{Done, BadWords, DeskFault, BadInput, OverLimit, SinkFault, OutOfMemory}
 
 -- a file that did not come was not read
 pub stops_unread : {A : Type 0} (read : List ℕ → Result A TextError) (role : FileRole) (name : List ℕ) (desk : DeskChange) (status : Status) → Refuses role name desk status → StopsAt read role name desk status
@@ -30,7 +30,6 @@ stops_unread read role name desk Done r = absurd r
 stops_unread read role name desk (BadWords fault) r = absurd r
 stops_unread read role name desk (BadInput file line reason) r = absurd r
 stops_unread read role name desk (SinkFault target) r = absurd r
-stops_unread read role name desk (NotYet at) r = absurd r
 
 -- a text that was refused
 pub stops_refused : {A : Type 0} (read : List ℕ → Result A TextError) (role : FileRole) (name : List ℕ) (desk : DeskChange) (error : TextError) (bytes text : List ℕ) (status : Status)
@@ -57,7 +56,6 @@ stops_earlier read role name old mid (OverLimit file line what most) le now last
 stops_earlier read role name old mid Done le now last contents r = absurd r
 stops_earlier read role name old mid (BadWords fault) le now last contents r = absurd r
 stops_earlier read role name old mid (SinkFault target) le now last contents r = absurd r
-stops_earlier read role name old mid (NotYet at) le now last contents r = absurd r
 
 -- the call stops at a file whose text was not read, where all files before it were read
 module _ {A : Type 0} (names : Names) (desk : DeskChange) (role : FileRole) (read : List ℕ → Result A TextError) (before : List ReadResult)
@@ -81,7 +79,6 @@ module _ {A : Type 0} (names : Names) (desk : DeskChange) (role : FileRole) (rea
   stops Done r = absurd r
   stops (BadWords fault) r = absurd r
   stops (SinkFault target) r = absurd r
-  stops (NotYet at) r = absurd r
 
 -- a file that was read, as the desk had it at the start
 pub tells_earlier : {A : Type 0} (old mid : List ℕ → Option (List ℕ)) (name : List ℕ) (read : List ℕ → Result A TextError) (x : A) → mid ≡ old → Tells (mid name) read x → Tells (old name) read x
@@ -131,7 +128,6 @@ module _ (names : Names) (desk : DeskChange) (t : Nodes) (topology : Tells (desk
       pub stops_plan : (status : Status) → IsPlanRefusal (plan_step (plan_of t s c)) status → Prevented names desk status
       stops_plan OutOfMemory r = (all_results, (all_are_read, tt))
       stops_plan (OverLimit file line what most) r = (all_results, (all_are_read, with_script ∙ r))
-      stops_plan (NotYet role) r = (all_results, (all_are_read, with_script ∙ r))
       stops_plan (DeskFault role) r = absurd r
       stops_plan (BadInput file line reason) r = absurd r
       stops_plan Done r = absurd r

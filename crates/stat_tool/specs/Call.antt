@@ -4,17 +4,16 @@ use Rattle.std.specs.Io.KnownBytes.{Appends}
 use Rattle.stat_desk.specs.Desk.{FailedAt, IsLonger, IsWhole}
 use Rattle.stat_desk.specs.Faults.{Rose}
 use Rattle.stat_desk.specs.Sink.{AppendsPrefix}
-use Rattle.stat_plan.specs.Plans.{Plan}
 use Rattle.text_lines.specs.declared.text_error.TextError.{TextError}
 use Rattle.stat_desk.specs.declared.event.Event.{Event}
 use Rattle.stat_tool.specs.Status.{refusal_of}
 use Rattle.stat_tool.specs.NextStep.{Answers, Bytes, Does, AreReadResults, ReadResult, Step, TooLong, Wants, next_step, limit, too_long}
 use Rattle.stat_tool.specs.Words.{Names, in_order, name_of}
-use Rattle.stat_tool.specs.RunOutput.{HasOutput, Job, RunJob, RunOutput}
+use Rattle.stat_tool.specs.RunOutput.{HasOutput, Job, RunOutput}
 use Rattle.stat_tool.specs.declared.status.FileRole.{FileRole}
 use Rattle.stat_tool.specs.declared.status.WordFault.TheVariants.{Options}
 use Rattle.stat_tool.specs.declared.status.Status.{Status}
-use Rattle.stat_tool.specs.declared.status.Status.TheVariants.{Done, BadWords, DeskFault, BadInput, OverLimit, SinkFault, OutOfMemory, NotYet}
+use Rattle.stat_tool.specs.declared.status.Status.TheVariants.{Done, BadWords, DeskFault, BadInput, OverLimit, SinkFault, OutOfMemory}
 
 -- a desk before and after a call: its count of faults, the last name at which it rose, and the contents of its files
 pub record DeskChange : Type 0 where
@@ -80,7 +79,6 @@ Prevents names desk next OutOfMemory = Unit {0}
 Prevents names desk next (DeskFault role) = (next ≡ Wants role) × FailedAt desk.before desk.now desk.last_fault (name_of names role)
 Prevents names desk next (BadInput file line reason) = next ≡ Answers (BadInput file line reason)
 Prevents names desk next (OverLimit file line what most) = next ≡ Answers (OverLimit file line what most)
-Prevents names desk next (NotYet role) = next ≡ Answers (NotYet role)
 Prevents names desk next Done = ⊥
 Prevents names desk next (BadWords fault) = ⊥
 Prevents names desk next (SinkFault target) = ⊥
@@ -130,7 +128,6 @@ Refuses role name desk Done = ⊥
 Refuses role name desk (BadWords fault) = ⊥
 Refuses role name desk (BadInput file line reason) = ⊥
 Refuses role name desk (SinkFault target) = ⊥
-Refuses role name desk (NotYet r) = ⊥
 
 -- a file with these contents was read as this
 abbrev pub Tells : {A : Type 0} → Option (List ℕ) → (List ℕ → Result A TextError) → A → Type 0
@@ -150,7 +147,6 @@ StopsAt read role name desk (OverLimit file line what most) =
 StopsAt read role name desk Done = ⊥
 StopsAt read role name desk (BadWords fault) = ⊥
 StopsAt read role name desk (SinkFault target) = ⊥
-StopsAt read role name desk (NotYet r) = ⊥
 
 -- what the files gave leads to this output
 abbrev pub Prepared : Names → (List ℕ → Option (List ℕ)) → RunOutput → Type 0
@@ -161,11 +157,10 @@ Prepared names contents work = (results : List ReadResult) × (AreReadResults co
 abbrev pub Prevented : Names → DeskChange → Status → Type 0
 Prevented names desk status = (results : List ReadResult) × (AreReadResults desk.contents (in_order names) results × Prevents names desk (next_step results) status)
 
--- why the plan of three good files is not run: it passes the limit of prefixes, it is not supported yet, or out of memory
+-- why three good files give no plan: it passes the limit of prefixes, or memory is out
 abbrev pub IsPlanRefusal : Step → Status → Type 0
 IsPlanRefusal next OutOfMemory = Unit {0}
 IsPlanRefusal next (OverLimit file line what most) = next ≡ Answers (OverLimit file line what most)
-IsPlanRefusal next (NotYet role) = next ≡ Answers (NotYet role)
 IsPlanRefusal next (DeskFault role) = ⊥
 IsPlanRefusal next (BadInput file line reason) = ⊥
 IsPlanRefusal next Done = ⊥

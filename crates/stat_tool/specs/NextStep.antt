@@ -1,5 +1,5 @@
 -- What a call does next, by the files that it has read, one after another.
-use Rattle.std.specs.Prelude.{ℕ, List, [], ◌∷◌, Bool, true, false, Option, Some, None, Result, Ok, Err, if◌then◌else◌}
+use Rattle.std.specs.Prelude.{ℕ, List, [], ◌∷◌, Option, Some, None, Result, Ok, Err}
 use Rattle.stat_desk.specs.Desk.{IsLonger, IsWhole}
 use Rattle.stat_plan.specs.Limits.{first_over}
 use Rattle.stat_plan.specs.Plans.{Plan, Sampled, plan_of}
@@ -15,7 +15,7 @@ use Rattle.stat_tool.specs.RunOutput.{Job, RunJob}
 use Rattle.stat_tool.specs.declared.status.FileRole.{FileRole}
 use Rattle.stat_tool.specs.declared.status.FileRole.TheVariants.{Topology, Samples, Script}
 use Rattle.stat_tool.specs.declared.status.Status.{Status}
-use Rattle.stat_tool.specs.declared.status.Status.TheVariants.{OverLimit, NotYet}
+use Rattle.stat_tool.specs.declared.status.Status.TheVariants.{OverLimit}
 
 -- what a read returned: all bytes of a file, or that it has more than the limit
 pub data ReadResult : Type 0 where
@@ -36,17 +36,9 @@ limit = 33554432
 abbrev pub too_long : FileRole → Status
 too_long role = OverLimit role 0 TheBytes limit
 
-abbrev pub is_empty : {X : Type 0} → List X → Bool
-is_empty [] = true
-is_empty (x ∷ xs) = false
-
--- what can be run: for now each plan whose script loses no node
-abbrev pub runnable : Plan → Step
-runnable p = if is_empty p.faults then Does (RunJob p) else Answers (NotYet Script)
-
 -- a plan whose first wave over the limit of prefixes is this one
 abbrev pub by_limit : Plan → Option (ℕ × ℕ) → Step
-by_limit p None = runnable p
+by_limit p None = Does (RunJob p)
 by_limit p (Some v) = Answers (OverLimit Samples 0 Prefixes 2048)
 
 -- a plan: it is run, where it is within the limit of prefixes

@@ -1,5 +1,7 @@
 //! Worked jobs: their files, as texts and in a desk, and the reports that their runs must write.
-use stat_desk::MemDesk;
+use crate::{Status, stat};
+use prefix_tree::OwnedTree;
+use stat_desk::{Event, MemDesk, MemSink};
 use std::alloc::{AllocError, Global};
 
 pub const TWO_TOP: &str = "fe:0 => a:0 b:0 ;\n";
@@ -16,6 +18,21 @@ pub const DONT_WAIT_SCR: &str = "stream 0 dont-wait waves 1 samples 1 on all\n";
 
 pub const FOUR_SMP: &str =
     "daemon a:0 0-1\ndaemon b:0 2-3\nstack 0 0,2-3 main;MPI_Barrier\nstack 0 1 main;compute\n";
+
+// The release of the four ranks, whatever stands between the front end and their daemons.
+pub const FOUR_RELEASE: &str = "stream 0 wave 0 release 1 final
+covered 4:[0-3]
+tree
+4:[0-3] - /
+  4:[0-3] - main
+    3:[0,2-3] 3:[0,2-3] MPI_Barrier
+    1:[1] 1:[1] compute
+classes
+class 3:[0,2-3] paths 1
+  main;MPI_Barrier
+class 1:[1] paths 1
+  main;compute
+";
 
 // The report of the four ranks, whatever stands between the front end and their daemons.
 const FOUR_REPORT: &str = "stream 0 wave 0 release 1 final
@@ -59,6 +76,42 @@ class 63:[0-16,18-63] paths 1
 class 1:[17] paths 1
   main;solver::step(Grid&);solver::exchange<double, 3>(Grid const&, int);MPI_Recv
 end
+";
+
+// Eight daemons of two ranks each, below six inner nodes.
+pub const STORM_TOP: &str = "fe:0 => c0:0 c1:0 ;
+c0:0 => c2:0 c3:0 ;
+c1:0 => c4:0 c5:0 ;
+c2:0 => d0:0 d1:0 ;
+c3:0 => d2:0 d3:0 ;
+c4:0 => d4:0 d5:0 ;
+c5:0 => d6:0 d7:0 ;
+";
+
+pub const STORM_SMP: &str = "daemon d0:0 0-1
+daemon d1:0 2-3
+daemon d2:0 4-5
+daemon d3:0 6-7
+daemon d4:0 8-9
+daemon d5:0 10-11
+daemon d6:0 12-13
+daemon d7:0 14-15
+stack 0 0-15 main
+stack 0 3,9 main;recv
+";
+
+pub const STORM_RELEASE: &str = "stream 0 wave 0 release 1 final
+covered 16:[0-15]
+tree
+16:[0-15] - /
+  16:[0-15] 16:[0-15] main
+    2:[3,9] 2:[3,9] recv
+classes
+class 14:[0-2,4-8,10-15] paths 1
+  main
+class 2:[3,9] paths 2
+  main
+  main;recv
 ";
 
 // A job's three files, and the report that the run of it must write.
@@ -378,4 +431,38 @@ pub fn desk_of(
         samples.as_bytes(),
         script.as_bytes(),
     )
+}
+
+pub const WORDS: [&str; 7] = ["run", "--topology", "t", "--samples", "s", "--script", "c"];
+
+pub fn words_of(alloc: Global, texts: &[&str]) -> Result<Vec<String>, AllocError> {
+    let mut words = Vec::new(alloc);
+    for text in texts {
+        words.push(String::from_str(alloc, text)?)?;
+    }
+    Ok(words)
+}
+
+// The status of a run on a desk, and what it writes, sixteen bytes at a time.
+pub fn run_on(alloc: Global, desk: &mut MemDesk) -> Result<(Status, MemSink), AllocError> {
+    let words = words_of(alloc, WORDS.as_slice())?;
+    let mut out = MemSink::new(alloc, 16, 20_000)?;
+    let outcome = stat::<OwnedTree, _, _>(alloc, words.as_slice(), desk, &mut out);
+    Ok((outcome.status, out))
+}
+
+pub fn sample(node: u32) -> Event {
+    Event::Sample {
+        node,
+        stream: 0,
+        wave: 0,
+    }
+}
+
+pub fn recv(node: u32, from: u32) -> Event {
+    Event::Recv { node, from }
+}
+
+pub fn lose(node: u32) -> Event {
+    Event::Lose { node }
 }

@@ -15,6 +15,10 @@ pub use status::{FileRole, Outcome, Status, Target, WordFault};
 #[cfg(test)]
 mod fixtures;
 #[cfg(test)]
+mod kin_tests;
+#[cfg(test)]
+mod loss_tests;
+#[cfg(test)]
 mod net_tests;
 #[cfg(test)]
 mod shy_tree;

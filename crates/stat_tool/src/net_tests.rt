@@ -1,6 +1,6 @@
 //! A net, event by event, and the report of what it has released; in what order a plan's lines are gone through.
 
-ghost use Rattle.std.specs.Prelude.{◌≡◌, [], false, IfOk, OnOk};
+ghost use Rattle.std.specs.Prelude.{◌≡◌, false, OnOk};
 
 use crate::fixtures::{FOUR_SMP, TWO_TOP, desk_of};
 use crate::read::read_plan;
@@ -9,7 +9,7 @@ use crate::status::Status;
 use crate::words::Files;
 use overlay_net::{Net, NetError};
 use prefix_tree::OwnedTree;
-use stat_desk::Event;
+use stat_desk::{Event, Journal};
 use stat_plan::Plan;
 use std::alloc::Global;
 
@@ -44,9 +44,7 @@ class 1:[1] paths 1
 end
 ";
 
-fn plan(alloc: Global, samples: &str) -> Result<Plan, Status>
-    ensures { IfOk result (λ plan. plan.faults ≡ []) }
-{
+fn plan(alloc: Global, samples: &str) -> Result<Plan, Status> {
     let mut desk = match desk_of(alloc, TWO_TOP, samples, SCRIPT) {
         Ok(desk) => desk,
         Err(_) => return Err(Status::OutOfMemory),
@@ -97,7 +95,7 @@ fn seven_events_release_a_part_and_the_whole(rt: HostRuntime) {
     assert!(rt; !net.is_quiet());
     last_release(&mut net).expect(&rt, "four events");
     assert!(rt; net.is_quiet());
-    let report = report_of(alloc, &plan, &net).expect(&rt, "a report");
+    let report = report_of(alloc, &plan, &net, &Journal::new(alloc)).expect(&rt, "a report");
     assert_eq!(rt; report.as_slice(), REPORT.as_bytes());
 }
 

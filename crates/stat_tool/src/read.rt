@@ -140,8 +140,8 @@ fn read_script<D: Desk>(
     }
 }
 
-/// The plan of what three files say, where it can be run.
-fn runnable_plan(
+/// The plan of what three files say.
+fn plan_of_files(
     alloc: Global,
     topology: Topology,
     samples: Samples,
@@ -150,31 +150,23 @@ fn runnable_plan(
     requires samples { SamplesFit topology samples }
     requires script { ScriptFits topology script }
     ensures ok { IfOk result (λ plan. plan_step (plan_of topology samples script) ≡ Does (RunJob plan)) }
-    ensures no_faults { IfOk result (λ plan. plan.faults ≡ []) }
     ensures err { IfErr result (IsPlanRefusal (plan_step (plan_of topology samples script))) }
 {
-    let plan = match Plan::build(alloc, topology, samples, script) {
-        Ok(plan) => plan,
-        Err(PlanError::TooManyPrefixes { .. }) => {
-            return Err(Status::OverLimit {
-                file: FileRole::Samples,
-                line: 0,
-                what: Quantity::Prefixes,
-                limit: PREFIX_LIMIT as u64,
-            });
-        }
-        Err(PlanError::OutOfMemory) => return Err(Status::OutOfMemory),
-    };
-    if !plan.faults().is_empty() {
-        return Err(Status::NotYet(FileRole::Script));
+    match Plan::build(alloc, topology, samples, script) {
+        Ok(plan) => Ok(plan),
+        Err(PlanError::TooManyPrefixes { .. }) => Err(Status::OverLimit {
+            file: FileRole::Samples,
+            line: 0,
+            what: Quantity::Prefixes,
+            limit: PREFIX_LIMIT as u64,
+        }),
+        Err(PlanError::OutOfMemory) => Err(Status::OutOfMemory),
     }
-    Ok(plan)
 }
 
 /// The plan of the three files.
 pub fn read_plan<D: Desk>(alloc: Global, files: Files<'_>, desk: &mut D) -> Result<Plan, Status>
     ensures ok { IfOk result (λ plan. IsPlanned (names_of files.entry) (D.contents desk.old) (RunJob plan)) }
-    ensures no_faults { IfOk result (λ plan. plan.faults ≡ []) }
     ensures err { IfErr result (Prevented (names_of files.entry)
         (desk_change D.faults D.last_fault D.contents desk.old desk.new)) }
     ensures reads { AreReadInOrder (D.reads desk.old) (D.reads desk.new) (in_order (names_of files.entry)) }
@@ -191,5 +183,5 @@ pub fn read_plan<D: Desk>(alloc: Global, files: Files<'_>, desk: &mut D) -> Resu
         Ok(script) => script,
         Err(status) => return Err(status),
     };
-    runnable_plan(alloc, topology, samples, script)
+    plan_of_files(alloc, topology, samples, script)
 }

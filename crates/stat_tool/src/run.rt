@@ -5,12 +5,12 @@ ghost use Rattle.overlay_core.specs.Machine.{start};
 ghost use Rattle.overlay_core.specs.Runs.{IsQuiet, after};
 ghost use Rattle.front_end.specs.Report.{IsReport};
 ghost use Rattle.overlay_net.specs.Nets.{IsReachedBy};
-ghost use Rattle.stat_tool.specs.RunOutput.{HasRun, TakesFirst};
+ghost use Rattle.stat_tool.specs.RunOutput.{HasRun, TakesFirst, losses_of};
 
 use front_end::{numbered_releases_are_distinct, report_text};
 use overlay_net::{Net, NetError};
 use prefix_tree::PrefixTree;
-use stat_desk::Journal;
+use stat_desk::{Event, Journal};
 use stat_plan::Plan;
 use std::alloc::{AllocError, Global};
 
@@ -23,31 +23,45 @@ pub struct Ran {
     pub report: Vec<u8>,
 }
 
-/// Runs a plan that loses no node, and writes the report of its releases.
+/// Runs a plan, and writes the report of its releases and of what came of its faults.
 pub fn run_plan<T: PrefixTree>(alloc: Global, plan: &Plan) -> Result<Ran, AllocError>
-    requires { plan.now.faults ≡ [] }
     ensures { IfOk result (λ ran. HasRun plan.now ran.journal ran.report.items) }
 {
     plan.invariant();
     let mut net: Net<'_, T> = Net::new(alloc, plan)?;
     let mut journal = Journal::new(alloc);
     run_to_end(&mut net, &mut journal)?;
-    let report = report_of(alloc, plan, &net)?;
+    let report = report_of(alloc, plan, &net, &journal)?;
     Ok(Ran { journal, report })
 }
 
-/// The report of what a net has released. No node is lost.
+// The nodes that the events of a journal lose, in order.
+fn losses_of(alloc: Global, journal: &Journal) -> Result<Vec<u32>, AllocError>
+    ensures { IfOk result (λ lost. lost.items ≡ losses_of journal.now) }
+{
+    let mut lost = Vec::new(alloc);
+    for number in 0..journal.len() {
+        if let Event::Lose { node } = journal.at(number) {
+            lost.push(node)?;
+        }
+    }
+    Ok(lost)
+}
+
+/// The report of what a net has released, and of what came of the plan's faults in this journal.
 pub fn report_of<T: PrefixTree>(
     alloc: Global,
     plan: &Plan,
     net: &Net<'_, T>,
+    journal: &Journal,
 ) -> Result<Vec<u8>, AllocError>
     requires { net.now.failed ≡ false }
-    ensures { IfOk result (λ report. IsReport plan.now net.now.releases [] report.items) }
+    ensures { IfOk result (λ report. IsReport plan.now net.now.releases (losses_of journal.now) report.items) }
 {
     net.invariant();
     numbered_releases_are_distinct();
-    report_text(alloc, plan, net.releases(), &[])
+    let lost = losses_of(alloc, journal)?;
+    report_text(alloc, plan, net.releases(), &lost)
 }
 
 // Does the first enabled event, again and again, until none is enabled.

@@ -59,8 +59,6 @@ pub enum Status {
     SinkFault(Target),
     /// Out of memory.
     OutOfMemory,
-    /// What the file says isn't supported yet.
-    NotYet(FileRole),
 }
 
 impl Status {
@@ -76,7 +74,6 @@ impl Status {
             Status::OverLimit { .. } => 5,
             Status::SinkFault(_) => 6,
             Status::OutOfMemory => 7,
-            Status::NotYet(_) => 11,
         }
     }
 }
@@ -106,7 +103,6 @@ impl fmt::Display for Status {
             } => write!(f, "{file} line {line}: {what:?} over {limit}"),
             Status::SinkFault(Target::Report) => write!(f, "cannot write report"),
             Status::OutOfMemory => write!(f, "out of memory"),
-            Status::NotYet(role) => write!(f, "{role} not supported yet"),
         }
     }
 }

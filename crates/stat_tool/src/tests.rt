@@ -1,7 +1,7 @@
 //! Whole calls over a desk and a sink in memory, with worked jobs, and one over the real files.
 use crate::fixtures::{
     ALL_SCR, DONT_WAIT_SCR, FOUR_SMP, INNER_TOP, ONE_TOP, SOLVER_SMP, TWO_INNER_TOP, TWO_TOP,
-    WORKED, desk_of, desk_of_bytes, put,
+    WORDS, WORKED, desk_of, desk_of_bytes, put, recv, run_on, sample, words_of,
 };
 use crate::shy_tree::ShyTree;
 use crate::{FileRole, Status, Target, WordFault, stat};
@@ -10,8 +10,6 @@ use stat_desk::{Event, FileDesk, MemDesk, MemSink, StdSink};
 use std::alloc::{AllocError, Global};
 use std::fs;
 use text_lines::{Quantity, Reason};
-
-const WORDS: [&str; 7] = ["run", "--topology", "t", "--samples", "s", "--script", "c"];
 
 // A text of each file, and its first fault: its line and its reason. The other files are good.
 const BAD_TOPOLOGY: [(&[u8], u64, Reason); 9] = [
@@ -114,28 +112,8 @@ const GOOD_SCRIPTS: [&str; 7] = [
     "stream 0 wait-for-all waves 1 samples 1 on all\nstream 1 time-out 2 waves 2 samples 1 on b:0\n",
 ];
 
-// A script that is good, and isn't run yet.
-const LOSING_SCR: &str =
-    "stream 0 wait-for-all waves 1 samples 1 on all\nlose a:0 after 0 keep 0\n";
-
 fn bad(file: FileRole, line: u64, reason: Reason) -> Status {
     Status::BadInput { file, line, reason }
-}
-
-fn words_of(alloc: Global, texts: &[&str]) -> Result<Vec<String>, AllocError> {
-    let mut words = Vec::new(alloc);
-    for text in texts {
-        words.push(String::from_str(alloc, text)?)?;
-    }
-    Ok(words)
-}
-
-// The status of a run on a desk, and what it writes, sixteen bytes at a time.
-fn run_on(alloc: Global, desk: &mut MemDesk) -> Result<(Status, MemSink), AllocError> {
-    let words = words_of(alloc, WORDS.as_slice())?;
-    let mut out = MemSink::new(alloc, 16, 20_000)?;
-    let outcome = stat::<OwnedTree, _, _>(alloc, words.as_slice(), desk, &mut out);
-    Ok((outcome.status, out))
 }
 
 // The front end merges the parts of two inner nodes, of 32 ranks each. A program that merged the daemons' samples at the
@@ -238,14 +216,12 @@ fn reads_the_files_in_order(rt: HostRuntime) -> Result<(), AllocError> {
 }
 
 #[test]
-fn runs_scripts_that_lose_no_node(rt: HostRuntime) -> Result<(), AllocError> {
+fn runs_good_scripts(rt: HostRuntime) -> Result<(), AllocError> {
     let alloc = rt.alloc();
     for script in GOOD_SCRIPTS.as_slice() {
         let end = ends_with(alloc, FileRole::Script, script.as_bytes())?;
         assert_eq!(rt; end, (Status::Done, false));
     }
-    let end = ends_with(alloc, FileRole::Script, LOSING_SCR.as_bytes())?;
-    assert_eq!(rt; end, (Status::NotYet(FileRole::Script), true));
     Ok(())
 }
 
@@ -289,18 +265,6 @@ fn reports_each_wave_of_each_stream(rt: HostRuntime) -> Result<(), AllocError> {
     Ok(())
 }
 
-fn sample(node: u32) -> Event {
-    Event::Sample {
-        node,
-        stream: 0,
-        wave: 0,
-    }
-}
-
-fn recv(node: u32, from: u32) -> Event {
-    Event::Recv { node, from }
-}
-
 // The events of a run of the small job by this topology and script.
 fn events_of(alloc: Global, topology: &str, script: &str) -> Result<Vec<Event>, AllocError> {
     let mut desk = desk_of(alloc, topology, FOUR_SMP, script)?;
@@ -339,8 +303,6 @@ fn gives_the_events_back(rt: HostRuntime) -> Result<(), AllocError> {
         recv(2, 0),
     ];
     assert_eq!(rt; events.as_slice(), expected.as_slice());
-    let events = events_of(alloc, TWO_TOP, LOSING_SCR)?;
-    assert!(rt; events.is_empty());
     Ok(())
 }
 
@@ -540,7 +502,7 @@ fn refuses_other_words(rt: HostRuntime) -> Result<(), AllocError> {
     Ok(())
 }
 
-const TEXTS: [(Status, &str, u8); 8] = [
+const TEXTS: [(Status, &str, u8); 6] = [
     (
         Status::BadWords(WordFault::Options),
         "bad words: options",
@@ -572,16 +534,6 @@ const TEXTS: [(Status, &str, u8); 8] = [
     ),
     (Status::SinkFault(Target::Report), "cannot write report", 6),
     (Status::OutOfMemory, "out of memory", 7),
-    (
-        Status::NotYet(FileRole::Topology),
-        "topology not supported yet",
-        11,
-    ),
-    (
-        Status::NotYet(FileRole::Script),
-        "script not supported yet",
-        11,
-    ),
 ];
 
 #[test]

@@ -1,6 +1,5 @@
-use Rattle.std.proofs.Common.{List, [], sym, subst}
-use Rattle.std.specs.Prelude.{IfOk}
-use Rattle.front_end.specs.Report.{AreDistinct, IsReport}
+use Rattle.std.proofs.Common.{sym, subst}
+use Rattle.front_end.specs.Report.{AreDistinct}
 use Rattle.stat_tool.proofs.run.report_of.Goals as goal
 
 pub report_text-requires-clause-distinct : goal.report_text-requires-clause-distinct

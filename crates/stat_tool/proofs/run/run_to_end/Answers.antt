@@ -1,4 +1,4 @@
-use Rattle.std.proofs.Common.{◌≡◌, ◌+◌, ◌<◌, ◌++◌, Bool, true, [], ◌∷◌, List, Err, length, sym, ap, subst, ◌∙◌, arith, length-append}
+use Rattle.std.proofs.Common.{◌≡◌, ◌+◌, ◌<◌, [], ◌∷◌, List, Err, length, sym, ap, subst, ◌∙◌, arith, length-append}
 use Rattle.stat_desk.specs.declared.event.Event.{Event}
 use Rattle.overlay_core.specs.Bound.{bound}
 use Rattle.overlay_core.specs.Machine.{start}
