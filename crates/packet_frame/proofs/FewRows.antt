@@ -1,5 +1,5 @@
 -- The tree of rows that go on from one another has no more rows than they.
-use Rattle.std.proofs.Common.{◌≡◌, ℕ, suc, ◌+◌, ◌-◌, ◌≤◌, Bool, true, false, ◌&&◌, ◌||◌, cond, not, List, [], ◌∷◌, ◌++◌, length, map, take, string_bytes, Option, Some, None, refl, sym, ap, ◌∙◌, ◌⊎◌, inl, inr, arith}
+use Rattle.std.proofs.Common.{◌≡◌, ℕ, suc, ◌+◌, ◌-◌, ◌≤◌, Bool, true, false, ◌&&◌, ◌||◌, cond, not, List, [], ◌∷◌, ◌++◌, length, map, take, Option, Some, None, refl, sym, ap, ◌∙◌, ◌⊎◌, inl, inr, arith}
 use Rattle.std.specs.Prelude.{is_some}
 use Rattle.std.specs.List.{list_any}
 use Rattle.std.specs.FinMap as finmap
@@ -13,7 +13,7 @@ use Rattle.prefix_tree.specs.Tree.{Marks, tree_of, count_below}
 use Rattle.prefix_tree.specs.Joined.{Below, seen, if_some}
 use Rattle.prefix_tree.proofs.PairLemmas.{pair_from_passes}
 use Rattle.prefix_tree.proofs.TreeLemmas.{IsTreeOf-tree_of}
-use Rattle.packet_frame.specs.declared.scan.FrameRow.{FrameRow}
+use Rattle.packet_frame.specs.FrameRows.{NamedRow}
 use Rattle.packet_frame.specs.Frame.{Row}
 use Rattle.packet_frame.specs.Scanning.{path_behind, rows_view}
 use Rattle.packet_frame.specs.Sent.{pairs_of_rows}
@@ -128,14 +128,14 @@ pub go_on : (C : Ranks) (before : Path) (ended : Bool) (rows more : List Row) �
 go_on C before ended [] more may = tt
 go_on C before ended (r ∷ rs) more may = (record { keep = may.0.keep; name = may.0.name; path = may.0.path }, go_on C r.path (not (is_empty r.ends)) rs more may.1)
 
-views_go_on : (before : Path) (rs : List FrameRow) → GoOn before (rows_view before rs)
+views_go_on : (before : Path) (rs : List NamedRow) → GoOn before (rows_view before rs)
 views_go_on before [] = tt
-views_go_on before (r ∷ rs) = (record { keep = r.keep; name = string_bytes r.name; path = refl }, views_go_on (path_behind before r) rs)
+views_go_on before (r ∷ rs) = (record { keep = r.keep; name = r.name; path = refl }, views_go_on (path_behind before r) rs)
 
-length_views : (before : Path) (rs : List FrameRow) → length (rows_view before rs) ≡ length rs
+length_views : (before : Path) (rs : List NamedRow) → length (rows_view before rs) ≡ length rs
 length_views before [] = refl
 length_views before (r ∷ rs) = ap suc (length_views (path_behind before r) rs)
 
 -- so has the tree of rows that a scan has read
-pub few_views : (C : Ranks) (rs : List FrameRow) → count_below (tree_of (pairs_of_rows (rows_view [] rs)) C) ≤ length rs
+pub few_views : (C : Ranks) (rs : List NamedRow) → count_below (tree_of (pairs_of_rows (rows_view [] rs)) C) ≤ length rs
 few_views C rs = omega (arith, few_rows C (rows_view [] rs) (views_go_on [] rs), length_views [] rs)

@@ -9,7 +9,7 @@ use Rattle.call_path.specs.Path.{Path}
 use Rattle.call_path.specs.Pairs.{pairs_at}
 use Rattle.prefix_tree.specs.Tree.{Tree, tree_of, added, count_below, Covers}
 use Rattle.prefix_tree.proofs.TreeLaws.{added-tree_of}
-use Rattle.packet_frame.specs.declared.scan.FrameRow.{FrameRow}
+use Rattle.packet_frame.specs.FrameRows.{NamedRow}
 use Rattle.packet_frame.specs.Frame.{Row, row_of}
 use Rattle.packet_frame.specs.Sent.{pairs_of_rows}
 use Rattle.packet_frame.specs.Scanning.{path_behind, rows_view, last_path}
@@ -19,7 +19,7 @@ use Rattle.packet_frame.proofs.FewRows.{few_views}
 use Rattle.packet_frame.proofs.Rowing.{rows_view-push}
 
 -- the first rows, and the path behind them
-pub row_at : (cover : Ranks) (before : Path) (rs : List FrameRow) (i : ℕ) (r : FrameRow) → AreRowsBuilt cover before (take i rs ++ r ∷ []) → MayBeRow cover (last_path before (take i rs)) r
+pub row_at : (cover : Ranks) (before : Path) (rs : List NamedRow) (i : ℕ) (r : NamedRow) → AreRowsBuilt cover before (take i rs ++ r ∷ []) → MayBeRow cover (last_path before (take i rs)) r
 row_at cover before [] i r built = built_first i built
   where
     built_first : (i : ℕ) → AreRowsBuilt cover before (take i [] ++ r ∷ []) → MayBeRow cover (last_path before (take i [])) r
@@ -29,11 +29,11 @@ row_at cover before (q ∷ qs) zero r built = built.0
 row_at cover before (q ∷ qs) (suc i) r built = row_at cover (path_behind before q) qs i r built.1
 
 -- the first of such rows are such rows
-pub built_front : (cover : Ranks) (before : Path) (xs ys : List FrameRow) → AreRowsBuilt cover before (xs ++ ys) → AreRowsBuilt cover before xs
+pub built_front : (cover : Ranks) (before : Path) (xs ys : List NamedRow) → AreRowsBuilt cover before (xs ++ ys) → AreRowsBuilt cover before xs
 built_front cover before [] ys built = tt
 built_front cover before (x ∷ xs) ys built = (built.0, built_front cover (path_behind before x) xs ys built.1)
 
-pub rows_view-length : (before : Path) (rs : List FrameRow) → length (rows_view before rs) ≡ length rs
+pub rows_view-length : (before : Path) (rs : List NamedRow) → length (rows_view before rs) ≡ length rs
 rows_view-length before [] = refl
 rows_view-length before (r ∷ rs) = ap suc (rows_view-length (path_behind before r) rs)
 
@@ -58,7 +58,7 @@ grown_is cover rows row t is =
     ]
 
 -- the tree of the first rows, and of one more
-module _ (cover : Ranks) (front : List FrameRow) (r : FrameRow) (t : Tree) (is : t ≡ tree_of (pairs_of_rows (rows_view [] front)) cover) where
+module _ (cover : Ranks) (front : List NamedRow) (r : NamedRow) (t : Tree) (is : t ≡ tree_of (pairs_of_rows (rows_view [] front)) cover) where
   pub next_tree : grown t r.ends (path_behind (last_path [] front) r) ≡ tree_of (pairs_of_rows (rows_view [] (front ++ r ∷ []))) cover
   next_tree = grown_is cover (rows_view [] front) (row_of (path_behind (last_path [] front) r) r.ends) t is ∙ ap (λ rows. tree_of (pairs_of_rows rows) cover) (sym (rows_view-push [] front r))
 
@@ -69,12 +69,12 @@ module _ (cover : Ranks) (front : List FrameRow) (r : FrameRow) (t : Tree) (is :
       subst (λ u. count_below u ≤ 2048) (sym next_tree) (omega (arith, le, len, few))
 
 -- row i, and the rows up to it
-pub record IsRowAt (cover : Ranks) (rs : List FrameRow) (i : ℕ) (r : FrameRow) : Type 0 where
+pub record IsRowAt (cover : Ranks) (rs : List NamedRow) (i : ℕ) (r : NamedRow) : Type 0 where
   pub next : take (i + 1) rs ≡ take i rs ++ r ∷ []
   pub row : MayBeRow cover (last_path [] (take i rs)) r
   pub count : length (take i rs) ≡ i
 
-pub at_row : (cover : Ranks) (rs : List FrameRow) (i : ℕ) (r : FrameRow) → AreRowsBuilt cover [] rs → i < length rs → r ≡ get_or rs i r → IsRowAt cover rs i r
+pub at_row : (cover : Ranks) (rs : List NamedRow) (i : ℕ) (r : NamedRow) → AreRowsBuilt cover [] rs → i < length rs → r ≡ get_or rs i r → IsRowAt cover rs i r
 at_row cover rs i r built lt is =
     let more : i + 1 ≡ suc i = omega arith in
     let next : take (i + 1) rs ≡ take i rs ++ r ∷ [] = ap (λ (n : ℕ). take n rs) more ∙ take-suc rs i r lt ∙ ap (λ q. take i rs ++ q ∷ []) (sym is) in

@@ -1,10 +1,12 @@
 pub mod Binding
+pub mod Blocks
 pub mod Built
 pub mod Covering
 pub mod Feeds
 pub mod FewRows
 pub mod FormLaws
 pub mod Growing
+pub mod Naming
 pub mod ReadFields
 pub mod ReadRows
 pub mod ReadSets

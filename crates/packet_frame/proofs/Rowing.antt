@@ -4,7 +4,7 @@ use Rattle.std.proofs.Math.Seq.{take-suc, take-length}
 use Rattle.std.proofs.lemmas.Option.{slice_get-get_or}
 use Rattle.rank_set.specs.Ranks.{Ranks, is_empty}
 use Rattle.call_path.specs.Path.{Path}
-use Rattle.packet_frame.specs.declared.scan.FrameRow.{FrameRow}
+use Rattle.packet_frame.specs.FrameRows.{NamedRow}
 use Rattle.packet_frame.specs.declared.scan.Scan.{Scan}
 use Rattle.packet_frame.specs.declared.packet.Packet.TheVariants.{Up}
 use Rattle.packet_frame.specs.Frame.{Row, row_of, sent_of, path_at, Message, depth_form, name_length_form, name_form, ends_form, row_form, next_row, after_row, set_form, word_limit, ends_needed, ends_rule, ranks_at}
@@ -12,11 +12,11 @@ use Rattle.packet_frame.proofs.Binding.{bind_assoc, bind_same, first_and_rest}
 use Rattle.packet_frame.specs.Fields.{Form, whole, ◌>>=◌, list_form}
 use Rattle.packet_frame.specs.Scanning.{path_behind, rows_view, last_path, rows_left, after_ends, IsNamed}
 
-pub last_path-push : (before : Path) (rs : List FrameRow) (r : FrameRow) → last_path before (rs ++ r ∷ []) ≡ path_behind (last_path before rs) r
+pub last_path-push : (before : Path) (rs : List NamedRow) (r : NamedRow) → last_path before (rs ++ r ∷ []) ≡ path_behind (last_path before rs) r
 last_path-push before [] r = refl
 last_path-push before (q ∷ qs) r = last_path-push (path_behind before q) qs r
 
-pub rows_view-push : (before : Path) (rs : List FrameRow) (r : FrameRow) → rows_view before (rs ++ r ∷ []) ≡ rows_view before rs ++ row_of (path_behind (last_path before rs) r) r.ends ∷ []
+pub rows_view-push : (before : Path) (rs : List NamedRow) (r : NamedRow) → rows_view before (rs ++ r ∷ []) ≡ rows_view before rs ++ row_of (path_behind (last_path before rs) r) r.ends ∷ []
 rows_view-push before [] r = refl
 rows_view-push before (q ∷ qs) r = let path = path_behind before q in (λ i. row_of path q.ends ∷ rows_view-push path qs r i)
 
@@ -32,7 +32,7 @@ last_frame p d name len some at =
     same_some f g e = cc
 
 -- the path of a named row follows the last row's
-pub named_path : (s : Scan) (name : List ℕ) → IsNamed s → slice_get s.path (s.depth - 1) ≡ Some name → path_at (last_path [] s.rows.items) s.depth name ≡ s.path
+pub named_path : (s : Scan) (name : List ℕ) → IsNamed s → slice_get s.path (s.depth - 1) ≡ Some name → path_at (last_path [] s.rows) s.depth name ≡ s.path
 named_path s name is at = ap (λ front. front ++ name ∷ []) (sym is.kept) ∙ last_frame s.path s.depth name is.len is.depth at
 
 -- what follows the depth of a row

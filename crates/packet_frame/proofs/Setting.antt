@@ -1,24 +1,25 @@
 -- Words of a set, one after another.
-use Rattle.std.proofs.Common.{◌≡◌, ℕ, suc, ◌+◌, ◌-◌, ◌<◌, Bool, true, false, ◌||◌, nat_eq, List, [], ◌∷◌, ◌++◌, length, Option, None, refl, sym, ap, ◌∙◌, arith, append_assoc, length-append}
+use Rattle.std.proofs.Common.{◌≡◌, ℕ, suc, ◌+◌, ◌-◌, ◌<◌, Bool, true, false, ◌&&◌, ◌||◌, nat_eq, List, [], ◌∷◌, ◌++◌, length, Option, None, refl, sym, ap, ◌∙◌, arith, append_assoc, length-append}
 use Rattle.std.proofs.lemmas.List.{append-nil}
 use Rattle.std.proofs.Math.Seq.{get_or-append_seam}
 use Rattle.std.specs.List.{list_all}
 use Rattle.std.proofs.Common.{subst, get_or, not, take, cond, nat_lt, inl, inr, ◌≤◌}
 use Rattle.std.proofs.lemmas.Bool.{ltb-true, or_cases, true≢false}
-use Rattle.rank_set.specs.Ranks.{Ranks, Has, has, has-union, has-none, has-in_order, in_order, all_have, size, is_subset}
+use Rattle.rank_set.specs.Ranks.{Ranks, Has, has, none, same_ranks, has-those, has-union, has-none, has-in_order, in_order, all_have, size, is_subset}
+use Rattle.rank_places.specs.Places.{place, from_places}
 use Rattle.rank_set.proofs.WordSets.{ranks_in-none}
 use Rattle.rank_set.proofs.WordLists.{ranks_in-push}
 use Rattle.rank_set.specs.Words.{ranks_in}
 use Rattle.packet_frame.specs.declared.error.FrameReason.{FrameReason}
 use Rattle.packet_frame.specs.declared.error.FrameReason.TheVariants.{NotCanonical}
 use Rattle.packet_frame.specs.Fields.{Form, whole, ◌>>=◌, list_form, Rules, broken}
-use Rattle.packet_frame.specs.Frame.{word_form, next_word, after_word, words_form, offset_form, word_count_form, set_form, word_limit, is_first, ends_rule}
+use Rattle.packet_frame.specs.Frame.{word_form, next_word, after_word, words_form, offset_form, word_count_form, set_form, word_limit, is_first, ends_rule, ranks_at, Message}
 use Rattle.call_path.specs.Path.{Path}
 use Rattle.packet_frame.specs.declared.scan.Scan.{Scan}
-use Rattle.packet_frame.specs.declared.scan.FrameRow.{FrameRow}
+use Rattle.packet_frame.specs.FrameRows.{NamedRow}
 use Rattle.packet_frame.specs.declared.scan.Part.{Part}
 use Rattle.packet_frame.specs.declared.scan.Part.TheVariants as parts
-use Rattle.packet_frame.specs.Scanning.{words_left, word_rule, IsInPart, IsInSet, last_path}
+use Rattle.packet_frame.specs.Scanning.{words_left, word_rule, IsInPart, IsInSet, last_path, after_ends, after_set, set_then, rows_view}
 use Rattle.packet_frame.proofs.Binding.{bind_assoc, bind_same, first_and_rest}
 
 module _ {B : Type 0} (of_word : ℕ → ℕ → Rules) (k : Ranks → Form B) where
@@ -128,7 +129,7 @@ with_word s t w is some left words offset part ready version cover fine places =
     }
 
 -- the part stays ready where nothing of it changes
-pub part_kept : (part : Part) (s t : Scan) → s.kind ≡ t.kind → s.version ≡ t.version → s.covered ≡ t.covered → s.places ≡ t.places → s.cover ≡ t.cover → s.rows_left ≡ t.rows_left → s.depth ≡ t.depth → s.path ≡ t.path → s.rows.items ≡ t.rows.items → IsInPart part s → IsInPart part t
+pub part_kept : (part : Part) (s t : Scan) → s.kind ≡ t.kind → s.version ≡ t.version → s.covered ≡ t.covered → s.places ≡ t.places → s.cover ≡ t.cover → s.rows_left ≡ t.rows_left → s.depth ≡ t.depth → s.path ≡ t.path → s.rows ≡ t.rows → IsInPart part s → IsInPart part t
 part_kept parts.Coverage s t kind version covered places cover count depth path rows h = (sym kind ∙ h.0, sym version ∙ h.1)
 part_kept parts.Ends s t kind version covered places cover count depth path rows h = record {
   kind = sym kind ∙ h.kind;
@@ -137,10 +138,10 @@ part_kept parts.Ends s t kind version covered places cover count depth path rows
   depth = subst (λ (n : ℕ). 1 ≤ n) depth h.depth;
   depth_limit = subst (λ (n : ℕ). n ≤ 128) depth h.depth_limit;
   len = ap length (sym path) ∙ h.len ∙ depth;
-  kept = same_front s.depth t.depth s.path t.path s.rows.items t.rows.items depth path rows h.kept;
+  kept = same_front s.depth t.depth s.path t.path s.rows t.rows depth path rows h.kept;
 }
   where
-    same_front : (d e : ℕ) (p q : Path) (rs qs : List FrameRow) → d ≡ e → p ≡ q → rs ≡ qs → take (d - 1) p ≡ take (d - 1) (last_path [] rs) → take (e - 1) q ≡ take (e - 1) (last_path [] qs)
+    same_front : (d e : ℕ) (p q : Path) (rs qs : List NamedRow) → d ≡ e → p ≡ q → rs ≡ qs → take (d - 1) p ≡ take (d - 1) (last_path [] rs) → take (e - 1) q ≡ take (e - 1) (last_path [] qs)
     same_front d e p q rs qs de pq rq k = ap (λ (n : ℕ). take (n - 1) q) (sym de) ∙ ap (take (d - 1)) (sym pq) ∙ k ∙ ap (λ xs. take (d - 1) (last_path [] xs)) rq ∙ ap (λ (n : ℕ). take (n - 1) (last_path [] qs)) de
 
 -- the limit of words of either version
@@ -150,3 +151,31 @@ within_words version n = by_case (is_first version)
     by_case : (b : Bool) → n ≤ cond b 256 16384 → n ≤ 16384
     by_case true h = omega (arith, h)
     by_case false h = h
+
+-- ---- a row with no ends
+
+from_no_places : (cover : Ranks) → from_places cover none ≡ none
+unfolding from_places
+from_no_places cover = same_ranks _ _ (λ r. has-those (λ q. has none (place cover q)) cover r ∙ ap (λ b. has cover r && b) (has-none (place cover r)) ∙ never (has cover r) ∙ sym (has-none r))
+  where
+    never : (b : Bool) → (b && false) ≡ false
+    never true = refl
+    never false = refl
+
+ranks_at_none : (version : ℕ) (cover : Ranks) → ranks_at version cover none ≡ none
+ranks_at_none version cover = by_case (is_first version)
+  where
+    by_case : (first : Bool) → cond first none (from_places cover none) ≡ none
+    by_case true = refl
+    by_case false = from_no_places cover
+
+-- no words are no ends
+pub no_ends : (s : Scan) → s.part ≡ parts.Ends → s.words.items ≡ [] → after_ends s.version s.stream s.wave s.cover (rows_view [] s.rows) s.path s.rows_left none ≡ set_then s (ranks_in s.offset s.words.items)
+no_ends s part empty =
+    let then : Ranks → Form Message = after_ends s.version s.stream s.wave s.cover (rows_view [] s.rows) s.path s.rows_left in
+    sym (
+    ap (λ (p : Part). after_set p s.version s.stream s.wave s.cover (rows_view [] s.rows) s.path s.rows_left (ranks_in s.offset s.words.items)) part
+    ∙ ap (λ ws. then (ranks_at s.version s.cover (ranks_in s.offset ws))) empty
+    ∙ ap (λ r. then (ranks_at s.version s.cover r)) (ranks_in-none s.offset)
+    ∙ ap then (ranks_at_none s.version s.cover)
+    )

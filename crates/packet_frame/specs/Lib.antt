@@ -1,5 +1,6 @@
 pub mod Fields
 pub mod Frame
+pub mod FrameRows
 pub mod Scanning
 pub mod Reading
 pub mod Spelling

@@ -1,10 +1,11 @@
 -- What is left to read of a frame, once some of its fields were read.
-use Rattle.std.specs.Prelude.{◌≡◌, ℕ, ◌+◌, ◌-◌, ◌<◌, ◌≤◌, Bool, true, false, cond, not, nat_eq, List, [], ◌∷◌, ◌++◌, length, take, get_or, string_bytes, Option, Some, Result, Ok, Err}
+use Rattle.std.specs.Prelude.{◌≡◌, ℕ, ◌+◌, ◌-◌, ◌<◌, ◌≤◌, Bool, true, false, cond, not, nat_eq, nat_lt, ◌&&◌, List, [], ◌∷◌, ◌++◌, length, take, get_or, Option, Some, Result, Ok, Err}
 use Rattle.rank_set.specs.declared.TheConstants.{RANK_LIMIT}
 use Rattle.rank_set.specs.Ranks.{Ranks, none, union, size, is_empty, Has}
 use Rattle.rank_set.specs.Runs.{ranks_between, ranks_of_runs}
 use Rattle.rank_set.specs.Words.{ranks_in}
 use Rattle.call_path.specs.Path.{Path}
+use Rattle.call_path.specs.Good.{is_plain}
 use Rattle.packet_frame.specs.declared.error.FrameReason.{FrameReason}
 use Rattle.packet_frame.specs.declared.error.FrameReason.TheVariants.{BadLength}
 use Rattle.packet_frame.specs.declared.error.FieldError.{FieldError}
@@ -15,18 +16,22 @@ use Rattle.packet_frame.specs.declared.scan.Field.TheVariants as fields
 use Rattle.packet_frame.specs.declared.scan.Part.{Part}
 use Rattle.packet_frame.specs.declared.scan.Part.TheVariants as parts
 use Rattle.packet_frame.specs.declared.scan.Scan.{Scan}
-use Rattle.packet_frame.specs.declared.scan.FrameRow.{FrameRow}
+use Rattle.packet_frame.specs.FrameRows.{NamedRow}
 use Rattle.packet_frame.specs.Fields.{Form, whole, ◌>>=◌, Rules, list_form, after_field, is_short}
 use Rattle.packet_frame.specs.Frame.{Row, row_of, sent_of, Message, next_word, after_word, word_count_form, set_form, is_first, word_limit, no_rules, run_count_form, last_rank_form, next_run, after_run, ends_rule, ranks_at, ends_needed, ends_form, name_length_form, name_form, path_at, next_row, after_row, kind_form, stream_form, wave_form, row_count_form, content_form, packet_form, frame_form}
 
 -- the path of a row behind another: the first frames of that one's path, and its own name
-abbrev pub path_behind : Path → FrameRow → Path
-path_behind before r = take r.keep before ++ string_bytes r.name ∷ []
+abbrev pub path_behind : Path → NamedRow → Path
+path_behind before r = take r.keep before ++ r.name ∷ []
 
 -- the rows that were read, each behind the path of the one before
-abbrev pub rows_view : Path → List FrameRow → List Row
+abbrev pub rows_view : Path → List NamedRow → List Row
 rows_view before [] = []
 rows_view before (r ∷ rs) = let path = path_behind before r in row_of path r.ends ∷ rows_view path rs
+
+-- a byte of a name that is a character by itself
+abbrev pub is_plain_ascii : ℕ → Bool
+is_plain_ascii b = nat_lt b 128 && is_plain b
 
 -- ---- what is left in the midst of a list
 
@@ -56,7 +61,7 @@ after_set parts.Coverage version stream wave cover rows path count numbers = aft
 after_set parts.Ends version stream wave cover rows path count numbers = after_ends version stream wave cover rows path count (ranks_at version cover numbers)
 
 abbrev pub set_then : Scan → Ranks → Form Message
-set_then s = after_set s.part s.version s.stream s.wave s.cover (rows_view [] s.rows.items) s.path s.rows_left
+set_then s = after_set s.part s.version s.stream s.wave s.cover (rows_view [] s.rows) s.path s.rows_left
 
 -- a row is the last one where no other is left
 abbrev pub is_last : ℕ → Bool
@@ -78,7 +83,7 @@ words_left of_word offset words count = do
 
 -- what was read, once it is whole
 abbrev pub message_of : Scan → Message
-message_of s = cond (nat_eq s.kind 1) (Up s.stream s.wave (sent_of s.cover (rows_view [] s.rows.items))) (cond (nat_eq s.kind 2) (Done s.stream s.wave) (cond (nat_eq s.kind 3) Attach Down))
+message_of s = cond (nat_eq s.kind 1) (Up s.stream s.wave (sent_of s.cover (rows_view [] s.rows))) (cond (nat_eq s.kind 2) (Done s.stream s.wave) (cond (nat_eq s.kind 3) Attach Down))
 
 -- the words that are left of a set, and what follows it
 abbrev pub set_left : Scan → Form Message
@@ -87,7 +92,7 @@ set_left s = words_left (word_rule s.part s.version s.cover) s.offset s.words.it
 -- ---- what is left before each field
 
 abbrev pub name_then : Scan → List ℕ → Form Message
-name_then s name = ends_form s.version s.cover s.depth (is_last s.rows_left) >>= after_ends s.version s.stream s.wave s.cover (rows_view [] s.rows.items) (path_at s.path s.depth name) s.rows_left
+name_then s name = ends_form s.version s.cover s.depth (is_last s.rows_left) >>= after_ends s.version s.stream s.wave s.cover (rows_view [] s.rows) (path_at s.path s.depth name) s.rows_left
 
 abbrev pub left_at : Field → Scan → Form Message
 left_at fields.Version s = frame_form
@@ -101,7 +106,7 @@ left_at fields.Offset s = set_form (word_limit s.version) (needed s.part s.depth
 left_at fields.WordCount s = word_count_form (word_limit s.version) (needed s.part s.depth s.rows_left) s.offset >>= λ count. words_left (word_rule s.part s.version s.cover) s.offset [] count >>= set_then s
 left_at fields.Word s = set_left s
 left_at fields.RowCount s = after_cover s.version s.stream s.wave s.cover
-left_at fields.Depth s = rows_left s.version s.stream s.wave s.cover (rows_view [] s.rows.items) s.path s.ended s.rows_left
+left_at fields.Depth s = rows_left s.version s.stream s.wave s.cover (rows_view [] s.rows) s.path s.ended s.rows_left
 left_at fields.NameLength s = name_length_form >>= λ len. name_form s.path s.depth len >>= name_then s
 left_at fields.Name s = name_form s.path s.depth s.name_length >>= name_then s
 left_at fields.End s = whole (message_of s)
@@ -127,10 +132,28 @@ field_width fields.NameLength s = 2
 field_width fields.Name s = s.name_length
 field_width fields.End s = 0
 
+-- in a row each field up to its word count is followed by one and the same
+abbrev pub IsFollowed : Field → Field → Type 0
+IsFollowed fields.Depth next = next ≡ fields.NameLength
+IsFollowed fields.NameLength next = next ≡ fields.Name
+IsFollowed fields.Name next = next ≡ fields.Offset
+IsFollowed fields.Offset next = next ≡ fields.WordCount
+IsFollowed fields.WordCount next = Unit {0}
+IsFollowed fields.Version next = Unit {0}
+IsFollowed fields.Kind next = Unit {0}
+IsFollowed fields.Stream next = Unit {0}
+IsFollowed fields.Wave next = Unit {0}
+IsFollowed fields.RunCount next = Unit {0}
+IsFollowed fields.FirstRank next = Unit {0}
+IsFollowed fields.LastRank next = Unit {0}
+IsFollowed fields.Word next = Unit {0}
+IsFollowed fields.RowCount next = Unit {0}
+IsFollowed fields.End next = Unit {0}
+
 -- ---- what was read before each field
 
 -- the path of the last row
-abbrev pub last_path : Path → List FrameRow → Path
+abbrev pub last_path : Path → List NamedRow → Path
 last_path before [] = before
 last_path before (r ∷ rs) = last_path (path_behind before r) rs
 
@@ -142,7 +165,7 @@ IsCovered count places cover = (count ≡ size cover) × (places ≡ cover)
 pub record IsBeforeRow (s : Scan) : Type 0 where
   pub kind : s.kind ≡ 1
   pub covered : IsCovered s.covered s.places s.cover
-  pub path : last_path [] s.rows.items ≡ s.path
+  pub path : last_path [] s.rows ≡ s.path
 
 -- a row's depth was read
 pub record IsInRow (s : Scan) : Type 0 where
@@ -160,7 +183,7 @@ pub record IsNamed (s : Scan) : Type 0 where
   pub depth : 1 ≤ s.depth
   pub depth_limit : s.depth ≤ 128
   pub len : length s.path ≡ s.depth
-  pub kept : take (s.depth - 1) s.path ≡ take (s.depth - 1) (last_path [] s.rows.items)
+  pub kept : take (s.depth - 1) s.path ≡ take (s.depth - 1) (last_path [] s.rows)
 
 abbrev pub IsInPart : Part → Scan → Type 0
 IsInPart parts.Coverage s = (s.kind ≡ 1) × (s.version ≡ 1)

@@ -10,6 +10,7 @@ mod encoding;
 mod error;
 mod feeder;
 mod frame;
+mod frame_rows;
 mod header;
 mod laws;
 mod number;

@@ -5,13 +5,12 @@ ghost use Rattle.std.specs.List.{list_all};
 ghost use Rattle.call_path.specs.Good.{is_plain};
 ghost use Rattle.packet_frame.specs.Frame.{is_after, is_name};
 ghost use Rattle.packet_frame.specs.declared.scan.Field.TheVariants as fields;
-ghost use Rattle.packet_frame.specs.Scanning.{left, left_at, Takes, IsReady, IsBeforeRow, IsNamed, after_ends, rows_view};
+ghost use Rattle.packet_frame.specs.Scanning.{left, left_at, Takes, IsReady, IsBeforeRow, IsNamed, after_ends, rows_view, is_plain_ascii};
 
 use crate::error::{FieldError, FrameReason};
 use crate::number::{u8_of, u16_of};
-use crate::scan::{Field, FrameRow, Part, Scan};
+use crate::scan::{Field, Part, Scan};
 use rank_set::RankSet;
-use std::alloc::Global;
 use std::cmp::Ordering;
 
 impl Scan {
@@ -27,6 +26,7 @@ impl Scan {
             return Err(FieldError::Broken(FrameReason::OverLimit));
         }
         self.rows.clear();
+        self.rows.reserve(count)?;
         self.path.cut(0);
         self.ended = true;
         self.rows_left = count;
@@ -40,6 +40,7 @@ impl Scan {
         requires width { length field.now ≡ 1 }
         ensures takes { Takes (left_at fields.Depth self.old) field.now result (left self.new) }
         ensures ready { OnOk result (IsReady self.new.field self.new) }
+        ensures next { OnOk result (self.new.field ≡ fields.NameLength) }
     {
         let depth = u8_of(field);
         if depth > 128 {
@@ -63,6 +64,7 @@ impl Scan {
         requires width { length field.now ≡ 2 }
         ensures takes { Takes (left_at fields.NameLength self.old) field.now result (left self.new) }
         ensures ready { OnOk result (IsReady self.new.field self.new) }
+        ensures next { OnOk result (self.new.field ≡ fields.Name) }
     {
         let length = u16_of(field);
         if length == 0 {
@@ -94,6 +96,7 @@ impl Scan {
         requires width { length field.now ≡ self.old.name_length }
         ensures takes { Takes (left_at fields.Name self.old) field.now result (left self.new) }
         ensures ready { OnOk result (IsReady self.new.field self.new) }
+        ensures next { OnOk result (self.new.field ≡ fields.Offset) }
     {
         let Some(name) = name_of(field) else {
             return Err(FieldError::Broken(FrameReason::NotCanonical));
@@ -121,22 +124,20 @@ impl Scan {
         }
     }
 
-    // The row is whole.
-    pub fn end_row(&mut self, alloc: Global, ends: RankSet) -> Result<(), FieldError>
+    // The row is whole. Each caller has this code in its own, and with no ends much of it falls away.
+    #[inline(always)]
+    pub fn end_row(&mut self, ends: RankSet) -> Result<(), FieldError>
         requires { IsNamed self.old }
         ensures ends { OnOk result
-            (after_ends self.old.version self.old.stream self.old.wave self.old.cover (rows_view [] self.old.rows.items)
+            (after_ends self.old.version self.old.stream self.old.wave self.old.cover (rows_view [] self.old.rows)
             self.old.path self.old.rows_left ends ≡ left self.new) }
         ensures err { IfErr result (λ e. e ≡ FieldError.OutOfMemory) }
         ensures ready { OnOk result (IsReady self.new.field self.new) }
     {
-        let name = String::from_str(alloc, self.path.frame(self.depth as usize - 1))?;
         self.ended = ends.count() != 0;
-        self.rows.push(FrameRow {
-            keep: self.depth - 1,
-            name,
-            ends,
-        })?;
+        let keep = self.depth - 1;
+        let name = self.path.frame(keep as usize);
+        self.rows.push(keep, name, ends)?;
         self.rows_left -= 1;
         self.next_row();
         Ok(())
@@ -146,7 +147,7 @@ impl Scan {
 fn is_plain(b: u8) -> bool
     ensures { result ≡ is_plain b }
 {
-    0x20 <= b && b != 0x7F && b != b';'
+    (0x20 <= b) & (b != 0x7F) & (b != b';')
 }
 
 fn are_plain(field: &[u8]) -> bool
@@ -155,8 +156,44 @@ fn are_plain(field: &[u8]) -> bool
     field.iter().all(|b| is_plain(*b))
 }
 
+fn is_plain_ascii(b: u8) -> bool
+    ensures { result ≡ is_plain_ascii b }
+{
+    (0x20 <= b) & (b < 0x7F) & (b != b';')
+}
+
+// It tests each byte, since a loop that goes to its end tests 16 bytes at once.
+#[inline(always)]
+fn all_plain_ascii(bytes: &[u8]) -> bool
+    ensures { result ≡ list_all is_plain_ascii bytes.now }
+{
+    let mut all = true;
+    for b in bytes {
+        all &= is_plain_ascii(*b);
+    }
+    all
+}
+
+// It tests blocks of 16 bytes, and the last 16 in place of those that are left, since single bytes take longer.
+fn are_plain_ascii(field: &[u8]) -> bool
+    ensures { result ≡ list_all is_plain_ascii field.now }
+{
+    if field.len() < 16 {
+        return all_plain_ascii(field);
+    }
+    let (_, last) = field.split_at(field.len() - 16);
+    let mut all = all_plain_ascii(last);
+    let mut rest = field;
+    while all && rest.len() >= 16 {
+        let (block, behind) = rest.split_at(16);
+        all = all_plain_ascii(block);
+        rest = behind;
+    }
+    all
+}
+
 // The field as text, where it is a good name.
-fn name_of(field: &[u8]) -> Option<&str>
+fn any_name_of(field: &[u8]) -> Option<&str>
     ensures some { IfSome result (λ name. name.now ≡ field.now) }
     ensures good { IfSome result (λ name. is_name field.now ≡ true) }
     ensures none { IfNone result (is_name field.now ≡ false) }
@@ -168,4 +205,16 @@ fn name_of(field: &[u8]) -> Option<&str>
         Ok(name) => Some(name),
         Err(_) => None,
     }
+}
+
+// The same, and faster where it is ASCII, as most names are.
+fn name_of(field: &[u8]) -> Option<&str>
+    ensures some { IfSome result (λ name. name.now ≡ field.now) }
+    ensures good { IfSome result (λ name. is_name field.now ≡ true) }
+    ensures none { IfNone result (is_name field.now ≡ false) }
+{
+    if are_plain_ascii(field) {
+        return Some(unsafe { str::from_utf8_unchecked(field) });
+    }
+    any_name_of(field)
 }

@@ -1,9 +1,10 @@
 //! The fields of a frame, one after another, wherever the input ends.
 
 ghost use Rattle.std.specs.Prelude.{◌≡◌, length, OnOk};
-ghost use Rattle.packet_frame.specs.Scanning.{left, Takes, IsReady, field_width};
+ghost use Rattle.packet_frame.specs.Scanning.{left, left_at, Takes, IsReady, IsFollowed, field_width};
 
 use crate::error::FieldError;
+use crate::frame_rows::FrameRows;
 use call_path::PathBuilder;
 use rank_places::CoverPlaces;
 use rank_set::RankSet;
@@ -37,16 +38,6 @@ pub enum Part {
     Ends,
 }
 
-/// A row that was read.
-#[derive(Drop)]
-pub struct FrameRow {
-    /// How many of the first frames of the row before its path keeps.
-    pub keep: u8,
-    /// The frame behind them.
-    pub name: String,
-    pub ends: RankSet,
-}
-
 /// The fields of a frame that were read so far, and which comes next.
 #[derive(Drop)]
 pub struct Scan {
@@ -69,7 +60,7 @@ pub struct Scan {
     pub words: Vec<u64>,
     /// How many words or runs are left.
     pub left: u32,
-    pub rows: Vec<FrameRow>,
+    pub rows: FrameRows,
     /// How many rows are left, the one that is being read among them.
     pub rows_left: u16,
     /// The path of the row before, or, from its name on, of the row that is being read.
@@ -99,7 +90,7 @@ impl Scan {
             offset: 0,
             words: Vec::new(alloc),
             left: 0,
-            rows: Vec::new(alloc),
+            rows: FrameRows::new(alloc),
             rows_left: 0,
             path: PathBuilder::new(alloc),
             ended: true,
@@ -108,11 +99,12 @@ impl Scan {
         }
     }
 
-    // How many bytes the next field has.
-    pub fn width(&self) -> usize
-        ensures { result ≡ field_width self.now.field self.now }
+    // How many bytes a field has that comes next.
+    #[inline(always)]
+    pub fn width(&self, field: Field) -> usize
+        ensures { result ≡ field_width field self.now }
     {
-        match self.field {
+        match field {
             Field::Version | Field::Kind | Field::Stream | Field::Wave | Field::Depth => 1,
             Field::Offset | Field::WordCount | Field::RowCount | Field::NameLength => 2,
             Field::RunCount | Field::FirstRank | Field::LastRank => 4,
@@ -122,28 +114,31 @@ impl Scan {
         }
     }
 
-    // Takes the bytes of the next field.
-    pub fn take(&mut self, alloc: Global, field: &[u8]) -> Result<(), FieldError>
-        requires ready { IsReady self.old.field self.old }
-        requires width { length field.now ≡ field_width self.old.field self.old }
-        ensures takes { Takes (left self.old) field.now result (left self.new) }
+    // Takes the bytes of the field that comes next.
+    #[inline(always)]
+    pub fn take(&mut self, alloc: Global, field: Field, bytes: &[u8]) -> Result<(), FieldError>
+        requires next { self.old.field ≡ field }
+        requires ready { IsReady field self.old }
+        requires width { length bytes.now ≡ field_width field self.old }
+        ensures takes { Takes (left_at field self.old) bytes.now result (left self.new) }
         ensures ready { OnOk result (IsReady self.new.field self.new) }
+        ensures follows { OnOk result (IsFollowed field self.new.field) }
     {
-        match self.field {
-            Field::Version => self.take_version(field),
-            Field::Kind => self.take_kind(field),
-            Field::Stream => self.take_stream(field),
-            Field::Wave => self.take_wave(field),
-            Field::RunCount => self.take_run_count(alloc, field),
-            Field::FirstRank => self.take_first_rank(field),
-            Field::LastRank => self.take_last_rank(alloc, field),
-            Field::Offset => self.take_offset(field),
-            Field::WordCount => self.take_word_count(alloc, field),
-            Field::Word => self.take_word(alloc, field),
-            Field::RowCount => self.take_row_count(field),
-            Field::Depth => self.take_depth(field),
-            Field::NameLength => self.take_name_length(field),
-            Field::Name => self.take_name(field),
+        match field {
+            Field::Version => self.take_version(bytes),
+            Field::Kind => self.take_kind(bytes),
+            Field::Stream => self.take_stream(bytes),
+            Field::Wave => self.take_wave(bytes),
+            Field::RunCount => self.take_run_count(alloc, bytes),
+            Field::FirstRank => self.take_first_rank(bytes),
+            Field::LastRank => self.take_last_rank(alloc, bytes),
+            Field::Offset => self.take_offset(bytes),
+            Field::WordCount => self.take_word_count(alloc, bytes),
+            Field::Word => self.take_word(alloc, bytes),
+            Field::RowCount => self.take_row_count(bytes),
+            Field::Depth => self.take_depth(bytes),
+            Field::NameLength => self.take_name_length(bytes),
+            Field::Name => self.take_name(bytes),
             Field::End => Ok(()),
         }
     }

@@ -31,6 +31,7 @@ impl Scan {
         requires width { length field.now ≡ 2 }
         ensures takes { Takes (left_at fields.Offset self.old) field.now result (left self.new) }
         ensures ready { OnOk result (IsReady self.new.field self.new) }
+        ensures next { OnOk result (self.new.field ≡ fields.WordCount) }
     {
         let offset = u16_of(field);
         if u32::from(offset) >= self.word_limit() {
@@ -55,6 +56,7 @@ impl Scan {
         }
     }
 
+    #[inline(always)]
     #[tactic(auto, unfolding(crate::specs::Frame::word_count_form))]
     pub fn take_word_count(&mut self, alloc: Global, field: &[u8]) -> Result<(), FieldError>
         requires ready { IsReady fields.WordCount self.old }
@@ -123,6 +125,7 @@ impl Scan {
     }
 
     // The next word, if any is left.
+    #[inline(always)]
     fn next_word(&mut self, alloc: Global) -> Result<(), FieldError>
         requires { IsInSet self.old }
         ensures left { OnOk result (set_left self.old ≡ left self.new) }
@@ -137,7 +140,26 @@ impl Scan {
     }
 
     // The set is whole.
+    #[inline(always)]
     fn end_set(&mut self, alloc: Global) -> Result<(), FieldError>
+        requires part { IsInPart self.old.part self.old }
+        requires words { AreWords self.old.offset self.old.words.items }
+        requires places { self.old.part ≡ parts.Ends → is_first self.old.version ≡ false
+            → (p : ℕ) → Has p (ranks_in self.old.offset self.old.words.items) → p < size self.old.cover }
+        ensures ends { OnOk result
+            (set_then self.old (ranks_in self.old.offset self.old.words.items) ≡ left self.new) }
+        ensures err { IfErr result (λ e. e ≡ FieldError.OutOfMemory) }
+        ensures ready { OnOk result (IsReady self.new.field self.new) }
+    {
+        // Most rows have no ends, and take no more than this.
+        if self.part == Part::Ends && self.words.is_empty() {
+            return self.end_row(RankSet::new(alloc));
+        }
+        self.end_words(alloc)
+    }
+
+    // The set is whole, and has words or is the coverage.
+    fn end_words(&mut self, alloc: Global) -> Result<(), FieldError>
         requires part { IsInPart self.old.part self.old }
         requires words { AreWords self.old.offset self.old.words.items }
         requires places { self.old.part ≡ parts.Ends → is_first self.old.version ≡ false
@@ -154,10 +176,10 @@ impl Scan {
                 self.cover = numbers;
                 self.end_cover(alloc)
             }
-            Part::Ends if self.version == 1 => self.end_row(alloc, numbers),
+            Part::Ends if self.version == 1 => self.end_row(numbers),
             Part::Ends => {
                 let ends = self.places.from_places(&numbers)?;
-                self.end_row(alloc, ends)
+                self.end_row(ends)
             }
         }
     }
