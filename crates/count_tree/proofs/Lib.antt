@@ -1,0 +1,5 @@
+pub mod Places
+pub mod Lists
+pub mod Trees
+pub mod Changes
+pub mod Descents
