@@ -1,0 +1,5 @@
+pub mod Searches
+pub mod Queues
+pub mod Written
+pub mod Emptied
+pub mod Sending
