@@ -26,7 +26,8 @@ get_none [] i e = zero-le
 get_none (y ∷ ys) zero e = absurd (cc)
 get_none (y ∷ ys) (suc i) e = let k : length ys ≤ i = get_none ys i e in omega arith
 
-none_listed : {X : Type 0} (xs : List X) (i : ℕ) → slice_get xs (i % length xs) ≡ None → xs ≡ []
+-- where an index within a list finds nothing, the list is empty
+pub none_listed : {X : Type 0} (xs : List X) (i : ℕ) → slice_get xs (i % length xs) ≡ None → xs ≡ []
 none_listed [] i e = refl
 none_listed (y ∷ ys) i e = let k : length (y ∷ ys) ≤ i % length (y ∷ ys) = get_none (y ∷ ys) (i % length (y ∷ ys)) e in absurd (omega arith)
 
@@ -56,7 +57,8 @@ list_from_quiet p st quiet = go (enabled_events p st) refl
     go [] e = refl
     go (x ∷ xs) e = absurd (true≢false (sym (listed_enabled p st x (subst (λ l. In x l) (sym e) (inl refl))) ∙ quiet x))
 
-picked_enabled : (p : Plan) (st : State) (x : ℕ) (e : Event) → picked_event p st x ≡ Some e → is_enabled p st e ≡ true
+-- an event that is picked may come next
+pub picked_enabled : (p : Plan) (st : State) (x : ℕ) (e : Event) → picked_event p st x ≡ Some e → is_enabled p st e ≡ true
 unfolding picked_event
 picked_enabled p st x e k = listed_enabled p st e (get_in (enabled_events p st) (x / 2 ^ 33 % length (enabled_events p st)) e k)
 
@@ -72,7 +74,8 @@ picks_legal p x st (e ∷ es) y h = (picked_enabled p st (next_number x) e h.0, 
 pub picks_are_legal : (p : Plan) (seed : ℕ) (journal : List Event) (y : ℕ) → Picks p seed journal y → IsLegal p journal
 picks_are_legal p seed journal y h = picks_legal p seed (start p) journal y h
 
-picks_more : (p : Plan) (x : ℕ) (st : State) (es : List Event) (y : ℕ) (e : Event) → PicksFrom p x st es y → picked_event p (run p st es) (next_number y) ≡ Some e → PicksFrom p x st (es ++ e ∷ []) (next_number y)
+-- picks from a state on, and one event more
+pub picks_more : (p : Plan) (x : ℕ) (st : State) (es : List Event) (y : ℕ) (e : Event) → PicksFrom p x st es y → picked_event p (run p st es) (next_number y) ≡ Some e → PicksFrom p x st (es ++ e ∷ []) (next_number y)
 picks_more p x st [] y e h k = (subst (λ z. picked_event p st (next_number z) ≡ Some e) (sym h) k, ap next_number h)
 picks_more p x st (f ∷ es) y e h k = (h.0, picks_more p (next_number x) (step p st f) es y e h.1 k)
 

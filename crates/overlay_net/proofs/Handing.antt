@@ -10,7 +10,7 @@ use Rattle.overlay_core.specs.TreeReleases.{bare_releases}
 use Rattle.overlay_node.specs.Frames.{IsFrame}
 use Rattle.overlay_node.specs.Outputs.{Output, ReleaseFits, packets_of}
 use Rattle.overlay_node.specs.NodeViews.{ContinueNumbers, CountMore, IsNodeAfter, IsNodeOf, NodeView, outcome_at}
-use Rattle.overlay_net.specs.Inboxes.{Waiting}
+use Rattle.overlay_net.specs.Inboxes.{FrameInbox}
 use Rattle.overlay_net.specs.Sends.{IsTaken}
 use Rattle.overlay_net.specs.States.{IsHandedOver}
 
@@ -19,7 +19,7 @@ pub read_at : (xs : List NodeView) (n k : ℕ) (x : NodeView) → k ≡ n → n 
 read_at xs n k x same below is = slice_get-get_or xs n x below ∙ ap (λ i. Some (get_or xs i x)) (sym same)
 
 -- the clauses of `handle`, put together
-pub handed : {E : Type 0} (p : Plan) (e : Event) (xs : List NodeView) (old new : List Waiting) (packet : Option (List ℕ)) (k : ℕ) (x y : NodeView) (r : Result Output E)
+pub handed : {E : Type 0} (p : Plan) (e : Event) (xs : List NodeView) (old new : List FrameInbox) (packet : Option (List ℕ)) (k : ℕ) (x y : NodeView) (r : Result Output E)
     → IsTaken old e packet new → k ≡ event_node e → slice_get xs (event_node e) ≡ Some x
     → IfOk r (λ out. y.number ≡ x.number)
     → IfOk r (λ out. IsNodeAfter p x y e packet)
@@ -43,5 +43,5 @@ handed p e xs old new packet k x y (Ok out) taken same at number node sends rele
 }
 
 -- the same of an equal output
-pub handed_same : (p : Plan) (e : Event) (xs ys : List NodeView) (old new : List Waiting) (inside out : Output) → inside ≡ out → IsHandedOver p e xs ys old new out.sends out.releases → IsHandedOver p e xs ys old new inside.sends inside.releases
+pub handed_same : (p : Plan) (e : Event) (xs ys : List NodeView) (old new : List FrameInbox) (inside out : Output) → inside ≡ out → IsHandedOver p e xs ys old new out.sends out.releases → IsHandedOver p e xs ys old new inside.sends inside.releases
 handed_same p e xs ys old new inside out is h = subst (λ (o : Output). IsHandedOver p e xs ys old new o.sends o.releases) (sym is) h

@@ -1,7 +1,6 @@
 -- The start of a net, node by node.
-use Rattle.std.proofs.Common.{◌≡◌, ◌⊎◌, ◌≢◌, ◌∙◌, ◌<◌, ◌≤◌, ◌+◌, ℕ, zero, suc, Bool, true, false, ◌==◌, cond, nat_lt, List, [], ◌∷◌, ◌++◌, map, length, slice_get, Option, Some, None, refl, sym, ap, subst, inl, inr, eqb-true, eq-eqb, arith}
+use Rattle.std.proofs.Common.{◌≡◌, ◌⊎◌, ◌≢◌, ◌∙◌, ◌<◌, ◌≤◌, ◌+◌, ℕ, zero, suc, Bool, true, false, ◌==◌, nat_lt, List, [], ◌∷◌, ◌++◌, map, length, slice_get, Option, Some, None, refl, sym, ap, subst, inl, inr, eqb-true, arith}
 use Rattle.std.proofs.lemmas.Bool.{cases_Bool, true≢false, eqb-false, ltb-true, ltb-false}
-use Rattle.std.proofs.lemmas.Option.{slice_get_within}
 use Rattle.std.specs.List.{AllByRecursion}
 use Rattle.std.specs.List.Sorted.{IsStrictlySortedBy}
 use Rattle.std.specs.Ordering.{nat_cmp}
@@ -11,9 +10,11 @@ use Rattle.overlay_core.specs.Nodes.{Node}
 use Rattle.overlay_core.specs.Machine.{State, start, start_node}
 use Rattle.overlay_core.specs.TreeReleases.{TreeRelease, bare_releases}
 use Rattle.overlay_node.specs.NodeViews.{Counts, IsNodeOf, NodeView, node_of}
-use Rattle.overlay_net.specs.Inboxes.{HaveSent, Waiting, is_waiting, queue_of, senders_of}
-use Rattle.overlay_net.specs.Nets.{IsReachedBy, inbox_at, is_alive, net_view_of, node_events, state_with}
-use Rattle.overlay_net.specs.Events.{IsNet, has_some, is_listed}
+use Rattle.node_inbox.specs.Inboxes.{HaveSent, is_waiting, queue_of, senders_of}
+use Rattle.overlay_net.specs.Inboxes.{FrameInbox}
+use Rattle.overlay_net.specs.Nets.{IsReachedBy, net_view_of, state_with}
+use Rattle.node_inbox.specs.Sends.{inbox_at, is_alive}
+use Rattle.overlay_net.specs.Events.{AreCounted, AreParts, IsNet}
 use Rattle.overlay_net.specs.States.{AreInitial}
 use Rattle.overlay_net.proofs.Offers.{alive_past}
 use Rattle.overlay_net.proofs.PartsInvariant.{all_append}
@@ -33,11 +34,11 @@ length-last : {X : Type 0} (xs : List X) (y : X) → length (xs ++ y ∷ []) ≡
 length-last [] y = refl
 length-last (x ∷ xs) y = ap suc (length-last xs y) ∙ (let e : suc (length xs + 1) ≡ suc (length xs) + 1 = omega arith in e)
 
-empty_last : (ib : List Waiting) → ((n : ℕ) → inbox_at ib n ≡ []) → (n : ℕ) → inbox_at (ib ++ [] ∷ []) n ≡ []
-empty_last [] h zero = refl
-empty_last [] h (suc n) = refl
-empty_last (w ∷ ib) h zero = h zero
-empty_last (w ∷ ib) h (suc n) = empty_last ib (λ k. h (suc k)) n
+empty_last : (ib : List FrameInbox) (box : FrameInbox) → box.waiting ≡ [] → ((n : ℕ) → inbox_at ib n ≡ []) → (n : ℕ) → inbox_at (ib ++ box ∷ []) n ≡ []
+empty_last [] box none h zero = none
+empty_last [] box none h (suc n) = refl
+empty_last (w ∷ ib) box none h zero = h zero
+empty_last (w ∷ ib) box none h (suc n) = empty_last ib box none (λ k. h (suc k)) n
 
 some_same : {X : Type 0} (x y : X) → Some x ≡ Some y → x ≡ y
 some_same x y e = ap (λ o. elim o [ None ↦ x | Some z ↦ z ]) e
@@ -58,22 +59,19 @@ at_end n e k from to is = omega arith
 
 module _ (p : Plan) where
   -- a node that has done nothing yet, behind others
-  pub initial_more : (k : ℕ) (al am : List Bool) (xs ys : List NodeView) (ib ic : List Waiting) (la lb : List ℕ) (x : NodeView) (box : Waiting) → AreInitial p k al xs ib la → am ≡ al ++ true ∷ [] → ys ≡ xs ++ x ∷ [] → ic ≡ ib ++ box ∷ [] → box ≡ []
+  pub initial_more : (k : ℕ) (al am : List Bool) (xs ys : List NodeView) (ib ic : List FrameInbox) (x : NodeView) (box : FrameInbox) → AreInitial p k al xs ib → am ≡ al ++ true ∷ [] → ys ≡ xs ++ x ∷ [] → ic ≡ ib ++ box ∷ [] → box.waiting ≡ []
       → x.number ≡ k → IsNodeOf p x → ◌≡◌ {A = Node} (node_of x) (start_node p k) → Counts x.held []
-      → ((b : ℕ) → is_listed lb b ≡ cond (b == x.number) (has_some (node_events p true x box)) (is_listed la b))
-      → AreInitial p (k + 1) am ys ic lb
-  initial_more k al am xs ys ib ic la lb x box h eam eys eic ebox number fits begins counts marked =
-      subst (λ an. AreInitial p (k + 1) an ys ic lb) (sym eam) (subst (λ zs. AreInitial p (k + 1) (al ++ true ∷ []) zs ic lb) (sym eys) (subst (λ id. AreInitial p (k + 1) (al ++ true ∷ []) (xs ++ x ∷ []) id lb) (sym (eic ∙ ap (λ w. ib ++ w ∷ []) ebox)) (record {
+      → AreInitial p (k + 1) am ys ic
+  initial_more k al am xs ys ib ic x box h eam eys eic none number fits begins counts =
+      subst (λ an. AreInitial p (k + 1) an ys ic) (sym eam) (subst (λ zs. AreInitial p (k + 1) (al ++ true ∷ []) zs ic) (sym eys) (subst (λ id. AreInitial p (k + 1) (al ++ true ∷ []) (xs ++ x ∷ []) id) (sym eic) (record {
         node_count = length-last xs x ∙ ap (λ n. n + 1) h.node_count;
-        inbox_count = length-last ib [] ∙ ap (λ n. n + 1) h.inbox_count;
+        inbox_count = length-last ib box ∙ ap (λ n. n + 1) h.inbox_count;
         alive_count = length-last al true ∙ ap (λ n. n + 1) h.alive_count;
         all_alive = all_append (λ (t : Bool). t ≡ true) al (true ∷ []) h.all_alive (refl, tt);
         numbers = λ n. each n (λ y. (y.number ≡ n) × IsNodeOf p y) (h.numbers n) (λ e. (number ∙ e, fits));
         start = λ n. each n (λ y. ◌≡◌ {A = Node} (node_of y) (start_node p n)) (h.start n) (λ e. begins ∙ ap (start_node p) e);
         counts = λ n. each n (λ y. Counts y.held []) (h.counts n) (λ e. counts);
-        empty = empty_last ib h.empty;
-        below = below;
-        has_event = λ n. each n (λ y. is_listed lb n ≡ has_some (node_events p true y [])) (λ y at. listed_else n (λ e. away n y at e) ∙ h.has_event n y at) (λ e. subst (λ m. is_listed lb m ≡ has_some (node_events p true x [])) e listed_here);
+        empty = empty_last ib box none h.empty;
       })))
     where
       here : slice_get (xs ++ x ∷ []) k ≡ Some x
@@ -85,28 +83,9 @@ module _ (p : Plan) where
         | (inr f) ↦ old y (sym (last_else xs x n (λ e. eqb-false n k f (e ∙ h.node_count))) ∙ at)
       ]
 
-      away : (n : ℕ) (y : NodeView) → slice_get xs n ≡ Some y → n ≡ k → ⊥
-      away n y at e = let lt : n < length xs = slice_get_within xs n y at in let l : length xs ≡ k = h.node_count in absurd (omega arith)
-
-      listed_else : (n : ℕ) → (n ≡ k → ⊥) → is_listed lb n ≡ is_listed la n
-      listed_else n other = marked n ∙ go (n == x.number) refl
-        where
-          go : (b : Bool) → (n == x.number) ≡ b → cond b (has_some (node_events p true x box)) (is_listed la n) ≡ is_listed la n
-          go true t = absurd (other (eqb-true n x.number t ∙ number))
-          go false t = refl
-
-      listed_here : is_listed lb k ≡ has_some (node_events p true x [])
-      listed_here = marked k ∙ ap (λ b. cond b (has_some (node_events p true x box)) (is_listed la k)) (eq-eqb k x.number (sym number)) ∙ ap (λ w. has_some (node_events p true x w)) ebox
-
-      below : (n : ℕ) → is_listed lb n ≡ true → n < k + 1
-      below n t = elim (cases_Bool (n == k)) [
-        | (inl s) ↦ let e : n ≡ k = eqb-true n k s in omega arith
-        | (inr f) ↦ let lt : n < k = h.below n (sym (listed_else n (eqb-false n k f)) ∙ t) in omega arith
-      ]
-
   -- nothing is there yet
-  pub none_initial : (listed : List ℕ) → listed ≡ [] → AreInitial p 0 [] [] [] listed
-  none_initial listed e = subst (AreInitial p 0 [] [] []) (sym e) (record {
+  pub none_initial : AreInitial p 0 [] [] []
+  none_initial = record {
     node_count = refl;
     inbox_count = refl;
     alive_count = refl;
@@ -115,18 +94,29 @@ module _ (p : Plan) where
     start = λ n x at. absurd (no_node n x at);
     counts = λ n x at. absurd (no_node n x at);
     empty = λ n. nothing n;
-    below = λ n t. absurd (true≢false (sym t));
-    has_event = λ n x at. absurd (no_node n x at);
-  })
+  }
     where
       no_node : (n : ℕ) (x : NodeView) → slice_get {X = NodeView} [] n ≡ Some x → ⊥
       no_node n x at = cc
 
-      nothing : (n : ℕ) → inbox_at [] n ≡ []
+      nothing : (n : ℕ) → inbox_at {X = List ℕ} [] n ≡ []
       nothing zero = refl
       nothing (suc n) = refl
 
-  module _ (al : List Bool) (xs : List NodeView) (ib : List Waiting) (rs : List TreeRelease) (listed : List ℕ) (h : AreInitial p (nodes p) al xs ib listed) (none : rs ≡ []) where
+  -- their parts are those of the plan
+  pub initial_parts : (al : List Bool) (xs : List NodeView) (ib : List FrameInbox) → AreInitial p (nodes p) al xs ib → AreParts p al xs ib
+  initial_parts al xs ib h = record {
+    node_count = h.node_count;
+    inbox_count = h.inbox_count;
+    alive_count = h.alive_count;
+    node = h.numbers;
+    packets = λ m n. subst (λ w. AllByRecursion (IsFrame p) (queue_of w m)) (sym (h.empty n)) tt;
+    senders = λ m n t. absurd (true≢false (sym t ∙ ap (λ w. is_waiting w m) (h.empty n)));
+    sent = λ n. subst HaveSent (sym (h.empty n)) tt;
+    increasing = λ n. subst (λ w. IsStrictlySortedBy nat_cmp (senders_of w)) (sym (h.empty n)) no_sender;
+  }
+
+  module _ (al : List Bool) (xs : List NodeView) (ib : List FrameInbox) (rs : List TreeRelease) (h : AreInitial p (nodes p) al xs ib) (none : rs ≡ []) where
     -- the state is the start
     state_starts : ◌≡◌ {A = State} (state_with p al xs ib []) (start p)
     unfolding start
@@ -152,24 +142,12 @@ module _ (p : Plan) where
     pub initial_reached : IsReachedBy (net_view_of p al xs ib rs false) []
     initial_reached = subst (λ l. IsReachedBy (net_view_of p al xs ib l false) []) (sym none) (record { legal = tt; state = state_starts; numbered = refl; trees = tt })
 
-    lives : (n : ℕ) (x : NodeView) → slice_get xs n ≡ Some x → is_alive al n ≡ true
-    lives n x at = alive_within al n h.all_alive (let lt = slice_get_within xs n x at in let a = h.node_count in let b = h.alive_count in omega (arith, lt, a, b))
-
     -- all nodes that have done nothing yet are a net
-    pub initial_net : IsNet (net_view_of p al xs ib rs false) listed
-    initial_net = record {
+    pub initial_net : (counts : List ℕ) → AreCounted p al xs ib counts → IsNet (net_view_of p al xs ib rs false) counts
+    initial_net counts counted = record {
       journal = [];
       reached = initial_reached;
-      parts = record {
-        node_count = h.node_count;
-        inbox_count = h.inbox_count;
-        alive_count = h.alive_count;
-        node = h.numbers;
-        packets = λ m n. subst (λ w. AllByRecursion (IsFrame p) (queue_of w m)) (sym (h.empty n)) tt;
-        senders = λ m n t. absurd (true≢false (sym t ∙ ap (λ w. is_waiting w m) (h.empty n)));
-        sent = λ n. subst HaveSent (sym (h.empty n)) tt;
-        increasing = λ n. subst (λ w. IsStrictlySortedBy nat_cmp (senders_of w)) (sym (h.empty n)) no_sender;
-      };
-      counts = λ x at. subst (λ l. Counts x.held (bare_releases l)) (sym none) (h.counts (front p) x at);
-      listed = record { below = h.below; has_event = λ n x at. h.has_event n x at ∙ (λ i. has_some (node_events p (sym (lives n x at) i) x (sym (h.empty n) i))) };
+      parts = initial_parts al xs ib h;
+      front = λ x at. subst (λ l. Counts x.held (bare_releases l)) (sym none) (h.counts (front p) x at);
+      counted = counted;
     }

@@ -1,4 +1,3 @@
-pub mod Queues
 pub mod Listed
 pub mod Offers
 pub mod States
@@ -7,8 +6,9 @@ pub mod EventInvariant
 pub mod NextEvents
 pub mod Handing
 pub mod SmallCounts
-pub mod Sending
+pub mod EventCounts
 pub mod WholeEvents
+pub mod Picks
 pub mod Initial
 pub mod LostLinks
 pub mod LostStates

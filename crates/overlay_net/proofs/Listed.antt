@@ -1,10 +1,8 @@
 -- Events by index, ascending lists, and filters.
 use Rattle.std.proofs.Common.{◌≡◌, inl, inr, ◌∙◌, ℕ, suc, zero, ◌+◌, ◌<◌, Bool, true, false, ◌==◌, cond, List, [], ◌∷◌, ◌++◌, map, filter, length, Some, refl, sym, ap, arith, eqb-true, eq-eqb, Less}
 use Rattle.std.specs.Prelude.{slice_get}
-use Rattle.std.specs.List.{flat_map}
 use Rattle.std.specs.List.Sorted.{IsStrictlySortedBy}
 use Rattle.std.specs.Ordering.{nat_cmp}
-use Rattle.std.specs.BTreeMap.{is_at}
 use Rattle.std.proofs.lemmas.Bool.{true≢false, or_cases, or_left, or_right}
 use Rattle.std.proofs.lemmas.Bool.Decides.{nat_tests}
 use Rattle.std.proofs.lemmas.List.{length-append}
@@ -15,11 +13,11 @@ use Rattle.stat_plan.proofs.InLists.{in_filter, in_from_filter}
 use Rattle.overlay_core.proofs.Lists.{filter_increases, up_to_increases, up_to_below}
 use Rattle.overlay_core.proofs.Whole.{in_up_to}
 use Rattle.stat_desk.specs.declared.event.Event.{Event}
-use Rattle.overlay_net.specs.Inboxes.{Waiting, is_waiting, senders_of}
-use Rattle.overlay_net.specs.Events.{IsNth, has_some, is_listed}
+use Rattle.overlay_net.specs.Inboxes.{WaitingFrames}
+use Rattle.node_inbox.specs.Inboxes.{is_waiting, senders_of}
+use Rattle.overlay_net.specs.Events.{IsNth}
 use Rattle.overlay_net.specs.declared.events.Nth.{Nth}
 use Rattle.overlay_net.specs.declared.events.Nth.TheVariants.{Found, Beyond}
-use Rattle.overlay_net.proofs.Queues.{finds_key}
 
 -- ---- events by number
 
@@ -38,11 +36,6 @@ get_before (z ∷ zs) ys (suc i) x h = get_before zs ys i x h
 pub nth_past : (xs ys : List Event) (i k : ℕ) (r : Nth) → IsNth xs i (Beyond k) → IsNth ys k r → IsNth (xs ++ ys) i r
 nth_past xs ys i k (Found e) past h = ap (slice_get (xs ++ ys)) past ∙ get_past xs ys k ∙ h
 nth_past xs ys i k (Beyond j) past h = let c = length-append xs ys in let b : i ≡ length xs + k = past in let d : k ≡ length ys + j = h in omega (arith, b, c, d)
-
--- a list without some is empty
-pub none_from_test : (xs : List Event) → has_some xs ≡ false → xs ≡ []
-none_from_test [] h = refl
-none_from_test (x ∷ xs) h = absurd (true≢false h)
 
 -- ---- ascending lists
 
@@ -72,27 +65,13 @@ unfolding IsStrictlySortedBy
 increasing_from_sorted [] h = tt
 increasing_from_sorted (x ∷ xs) h = (λ y i. less_from_order x y (all_in (λ y. nat_cmp x y ≡ Less) xs y h.0 i), increasing_from_sorted xs h.1)
 
--- what is listed is in the list
-pub in_from_listed : (ready : List ℕ) (n : ℕ) → is_listed ready n ≡ true → In n ready
-in_from_listed [] n h = absurd (true≢false (sym h))
-in_from_listed (m ∷ ready) n h = elim (or_cases (is_at (nat_cmp n) m) (is_listed ready n) h) [
-  | inl a ↦ inl (sym (eqb-true m n (sym (finds_key n m) ∙ a)))
-  | inr b ↦ inr (in_from_listed ready n b)
-]
-
--- what is in the list is listed
-pub listed_from_in : (ready : List ℕ) (n : ℕ) → In n ready → is_listed ready n ≡ true
-listed_from_in [] n i = absurd i
-listed_from_in (m ∷ ready) n (inl e) = or_left (is_at (nat_cmp n) m) (is_listed ready n) (finds_key n m ∙ eq-eqb m n (sym e))
-listed_from_in (m ∷ ready) n (inr i) = or_right (is_at (nat_cmp n) m) (is_listed ready n) (listed_from_in ready n i)
-
 -- a sender with packets waiting is one of the senders
-pub sender_listed : (es : Waiting) (m : ℕ) → is_waiting es m ≡ true → In m (senders_of es)
+pub sender_listed : (es : WaitingFrames) (m : ℕ) → is_waiting es m ≡ true → In m (senders_of es)
 sender_listed [] m h = absurd (true≢false (sym h))
 sender_listed (e ∷ es) m h = elim (or_cases (e.0 == m) (is_waiting es m) h) [ inl a ↦ inl (sym (eqb-true e.0 m a)) | inr b ↦ inr (sender_listed es m b) ]
 
 -- each of the senders has packets waiting
-pub listed_waits : (es : Waiting) (m : ℕ) → In m (senders_of es) → is_waiting es m ≡ true
+pub listed_waits : (es : WaitingFrames) (m : ℕ) → In m (senders_of es) → is_waiting es m ≡ true
 listed_waits [] m i = absurd i
 listed_waits (e ∷ es) m (inl k) = or_left (e.0 == m) (is_waiting es m) (eq-eqb e.0 m (sym k))
 listed_waits (e ∷ es) m (inr i) = or_right (e.0 == m) (is_waiting es m) (listed_waits es m i)
@@ -124,21 +103,3 @@ filter_up_to test n xs increasing each all =
     same_increasing (filter test (up_to n)) xs (filter_increases test (up_to n) (up_to_increases n)) increasing
     (λ m i. let r = in_from_filter test m (up_to n) i in all m (up_to_below n m r.0) r.1)
     (λ m i. let r = each m i in in_filter test m (up_to n) (in_up_to n m r.0) r.1)
-
--- empty lists don't count where lists are put together
-pub flat_kept : (g : ℕ → List Event) (xs : List ℕ) → flat_map g xs ≡ flat_map g (filter (λ n. has_some (g n)) xs)
-flat_kept g [] = refl
-flat_kept g (x ∷ xs) = ap (λ (es : List Event). g x ++ es) (flat_kept g xs) ∙ go (has_some (g x)) refl
-  where
-    go : (b : Bool) → has_some (g x) ≡ b → g x ++ flat_map g (filter (λ n. has_some (g n)) xs) ≡ flat_map g (cond b (x ∷ filter (λ n. has_some (g n)) xs) (filter (λ n. has_some (g n)) xs))
-    go true e = refl
-    go false e = ap (λ (es : List Event). es ++ flat_map g (filter (λ n. has_some (g n)) xs)) (none_from_test (g x) e)
-
--- the lists of an ascending list of exactly those that have one, put together
-pub flat_ready : (g : ℕ → List Event) (n : ℕ) (ready : List ℕ) → IsStrictlyIncreasing ready → ((m : ℕ) → In m ready → m < n) → ((m : ℕ) → m < n → is_listed ready m ≡ has_some (g m)) → flat_map g (up_to n) ≡ flat_map g ready
-flat_ready g n ready increasing below just =
-    flat_kept g (up_to n)
-    ∙ ap (flat_map g)
-    (filter_up_to (λ m. has_some (g m)) n ready increasing
-    (λ m i. (below m i, sym (just m (below m i)) ∙ listed_from_in ready m i))
-    (λ m lt h. in_from_listed ready m (just m lt ∙ h)))

@@ -9,8 +9,9 @@ use Rattle.overlay_core.specs.Machine.{keep_of}
 use Rattle.overlay_core.specs.Nodes.{Packet, Down}
 use Rattle.overlay_node.specs.Frames.{IsFrame, IsFrameOf, packet_of}
 use Rattle.overlay_node.proofs.Frames.{brings, is_frame}
-use Rattle.overlay_net.specs.Inboxes.{Enqueues, IsInbox, KeepsOthers, Waiting, queue_of}
-use Rattle.overlay_net.specs.Nets.{inbox_at, is_alive}
+use Rattle.node_inbox.specs.Inboxes.{Enqueues, IsInbox, KeepsOthers, queue_of}
+use Rattle.overlay_net.specs.Inboxes.{FrameInbox, WaitingFrames}
+use Rattle.node_inbox.specs.Sends.{inbox_at, is_alive, no_inbox}
 use Rattle.overlay_net.specs.Losses.{AreLost, IsCut, IsLost}
 use Rattle.overlay_net.proofs.PartsInvariant.{all_append}
 use Rattle.overlay_net.proofs.States.{inbox_here, inbox_else}
@@ -34,7 +35,7 @@ all_take R zero xs h = tt
 all_take R (suc k) [] h = tt
 all_take R (suc k) (x ∷ xs) h = (h.0, all_take R k xs h.1)
 
-module _ (p : Plan) (al : List Bool) (n b keep : ℕ) (old cut : Waiting) (kept : keep ≡ keep_of (fault p n)) (first : queue_of cut n ≡ take keep (queue_of old n)) (others : KeepsOthers old cut n) (inbox : IsInbox cut) where
+module _ (p : Plan) (al : List Bool) (n b keep : ℕ) (old cut : WaitingFrames) (kept : keep ≡ keep_of (fault p n)) (first : queue_of cut n ≡ take keep (queue_of old n)) (others : KeepsOthers old cut n) (inbox : IsInbox cut) where
   cut_packets : map packet_of (queue_of cut n) ≡ take (keep_of (fault p n)) (map packet_of (queue_of old n))
   cut_packets = ap (map packet_of) first ∙ map_take packet_of keep (queue_of old n) ∙ ap (λ k. take k (map packet_of (queue_of old n))) kept
 
@@ -51,7 +52,7 @@ module _ (p : Plan) (al : List Bool) (n b keep : ℕ) (old cut : Waiting) (kept 
   }
 
   -- the link is cut, and b is notified
-  pub cut_told : (new : Waiting) (frame : List ℕ) → Enqueues cut new n frame → IsInbox new → IsFrameOf p Down frame → is_alive al b ≡ true → is_related p n b ≡ true → IsCut p al n b old new
+  pub cut_told : (new : WaitingFrames) (frame : List ℕ) → Enqueues cut new n frame → IsInbox new → IsFrameOf p Down frame → is_alive al b ≡ true → is_related p n b ≡ true → IsCut p al n b old new
   cut_told new frame put still is up rel = record {
     cut =
         ap (map packet_of) behind
@@ -69,7 +70,7 @@ module _ (p : Plan) (al : List Bool) (n b keep : ℕ) (old cut : Waiting) (kept 
 -- ---- from node to node
 
 -- the next one
-pub more_lost : (p : Plan) (al : List Bool) (n k : ℕ) (ia ib : List Waiting) (box new : Waiting) → k < length ib → AreLost p al n k ia ib → IsLost p al n k (get_or ib k box) new → AreLost p al n (k + 1) ia (slice_set ib k new)
+pub more_lost : (p : Plan) (al : List Bool) (n k : ℕ) (ia ib : List FrameInbox) (box new : FrameInbox) → k < length ib → AreLost p al n k ia ib → IsLost p al n k (get_or ib k box).waiting new.waiting → AreLost p al n (k + 1) ia (slice_set ib k new)
 more_lost p al n k ia ib box new lt h one = record {
   inbox_count = length-set ib k new ∙ h.inbox_count;
   done = λ b below. elim (cases_Bool (b == k)) [
@@ -83,8 +84,8 @@ more_lost p al n k ia ib box new lt h one = record {
     less : (b k : ℕ) → b < k + 1 → b ≢ k → b < k
     less b k below away = elim (cases_Bool (b == k)) [ inl t ↦ absurd (away (eqb-true b k t)) | inr f ↦ grind (arith, nat_tests) ]
 
-    was : get_or ib k box ≡ inbox_at ia k
-    was = get_or_default ib k box [] lt ∙ h.rest k (omega arith)
+    was : (get_or ib k box).waiting ≡ inbox_at ia k
+    was = ap (λ (b : FrameInbox). b.waiting) (get_or_default ib k box no_inbox lt) ∙ h.rest k (omega arith)
 
     here : IsLost p al n k (inbox_at ia k) (inbox_at (slice_set ib k new) k)
-    here = subst (λ w. IsLost p al n k w (inbox_at (slice_set ib k new) k)) was (subst (IsLost p al n k (get_or ib k box)) (sym (inbox_here ib k new lt)) one)
+    here = subst (λ w. IsLost p al n k w (inbox_at (slice_set ib k new) k)) was (subst (IsLost p al n k (get_or ib k box).waiting) (sym (inbox_here ib k new lt)) one)

@@ -1,8 +1,7 @@
 -- The loss of a node, as a whole.
-use Rattle.std.proofs.Common.{◌≡◌, ◌≢◌, ◌∙◌, ◌<◌, ◌≤◌, ◌+◌, ℕ, zero, suc, Bool, true, false, ◌==◌, ◌&&◌, cond, nat_lt, List, [], ◌∷◌, ◌++◌, map, take, length, slice_get, slice_set, Option, Some, refl, sym, ap, subst, inl, inr, eqb-true, arith}
+use Rattle.std.proofs.Common.{◌≡◌, ◌≢◌, ◌∙◌, ◌<◌, ◌≤◌, ℕ, zero, suc, Bool, true, false, ◌==◌, ◌&&◌, cond, nat_lt, List, [], ◌∷◌, ◌++◌, map, take, length, slice_set, refl, sym, ap, subst, inl, inr, eqb-true, arith}
 use Rattle.std.proofs.lemmas.Bool.{cases_Bool, eqb-false, true≢false, ltb-true, ltb-false, and_parts}
 use Rattle.std.proofs.lemmas.List.{length-set, get_or-set_same, get_or-set_other}
-use Rattle.std.proofs.lemmas.Option.{slice_get_within}
 use Rattle.std.specs.List.{AllByRecursion}
 use Rattle.std.specs.List.Sorted.{IsStrictlySortedBy}
 use Rattle.stat_plan.specs.Plans.{Plan, fault, is_related, nodes}
@@ -14,25 +13,33 @@ use Rattle.overlay_core.specs.TreeReleases.{TreeRelease, bare_releases}
 use Rattle.overlay_core.proofs.Journals.{after_more, legal_more}
 use Rattle.overlay_node.specs.Frames.{IsFrame, packet_of}
 use Rattle.overlay_node.specs.NodeViews.{NodeView}
-use Rattle.overlay_net.specs.Inboxes.{IsInbox, Waiting, is_waiting, queue_of}
-use Rattle.overlay_net.specs.Nets.{inbox_at, is_alive, net_view_of, node_at, node_events, state_with}
-use Rattle.overlay_net.specs.Events.{AreParts, AreReady, IsNet, has_some, is_listed}
+use Rattle.node_inbox.specs.Inboxes.{IsInbox, is_waiting, queue_of}
+use Rattle.overlay_net.specs.Inboxes.{FrameInbox, WaitingFrames}
+use Rattle.node_inbox.specs.Sends.{inbox_at, is_alive}
+use Rattle.overlay_net.specs.Nets.{net_view_of, node_at, state_with}
+use Rattle.overlay_net.specs.Events.{AreCounted, AreCountedBut, AreParts, IsNet}
 use Rattle.overlay_net.specs.Handled.{ExtendsBy}
-use Rattle.overlay_net.specs.Losses.{AreLost, AreMarked, IsCut, IsLost}
+use Rattle.overlay_net.specs.Losses.{AreLost, IsCut, IsLost}
 use Rattle.overlay_net.proofs.Offers.{alive_past, living_below}
 use Rattle.overlay_net.proofs.PartsInvariant.{none_where_quiet, some_where_waiting}
-use Rattle.overlay_net.proofs.Queues.{take_none}
+use Rattle.overlay_net.proofs.EventCounts.{nothing_counted}
+use Rattle.overlay_setup.specs.NodeSets.{up_to}
+
+-- of nothing, nothing is kept
+take_none : {X : Type 0} (k : ℕ) → take {A = X} k [] ≡ []
+take_none zero = refl
+take_none (suc k) = refl
 
 -- nothing waits beyond the inboxes
-inbox_past : (ib : List Waiting) (n : ℕ) → length ib ≤ n → inbox_at ib n ≡ []
+inbox_past : (ib : List FrameInbox) (n : ℕ) → length ib ≤ n → inbox_at ib n ≡ []
 inbox_past [] zero past = refl
 inbox_past [] (suc n) past = refl
 inbox_past (w ∷ ib) zero past = absurd (omega arith)
 inbox_past (w ∷ ib) (suc n) past = inbox_past ib n (omega arith)
 
-module _ (p : Plan) (al : List Bool) (xs : List NodeView) (ib ic : List Waiting) (n : ℕ) (parts : AreParts p al xs ib) (lt : n < nodes p) (lost : AreLost p al n (nodes p) ib ic) where
+module _ (p : Plan) (al : List Bool) (xs : List NodeView) (ib ic : List FrameInbox) (n : ℕ) (parts : AreParts p al xs ib) (lt : n < nodes p) (lost : AreLost p al n (nodes p) ib ic) where
   -- what holds of each inbox afterwards
-  each : (P : Waiting → Type 0) (b : ℕ) → P [] → ((b == n) ≡ false → IsCut p al n b (inbox_at ib b) (inbox_at ic b) → P (inbox_at ic b)) → P (inbox_at ic b)
+  each : (P : WaitingFrames → Type 0) (b : ℕ) → P [] → ((b == n) ≡ false → IsCut p al n b (inbox_at ib b) (inbox_at ic b) → P (inbox_at ic b)) → P (inbox_at ic b)
   each P b none cut = elim (cases_Bool (nat_lt b (nodes p))) [
     | (inl t) ↦ let one = lost.done b (ltb-true b (nodes p) t) in elim (cases_Bool (b == n)) [
       | (inl s) ↦ subst P (sym (one.own s)) none
@@ -44,7 +51,7 @@ module _ (p : Plan) (al : List Bool) (xs : List NodeView) (ib ic : List Waiting)
       beyond : (b : ℕ) → nodes p ≤ b → inbox_at ic b ≡ []
       beyond b le = lost.rest b le ∙ inbox_past ib b (let c = parts.inbox_count in omega (arith, c, le))
 
-  no_sender : IsInbox []
+  no_sender : IsInbox {X = List ℕ} []
   unfolding IsStrictlySortedBy
   no_sender = record { sent = tt; increasing = tt }
 
@@ -121,7 +128,7 @@ module _ (p : Plan) (al : List Bool) (xs : List NodeView) (ib ic : List Waiting)
     releases = bare_releases rs;
   }
 
-module _ (p : Plan) (al : List Bool) (xs : List NodeView) (ib ic : List Waiting) (n : ℕ) (rs : List TreeRelease) (listed : List ℕ) (net : IsNet (net_view_of p al xs ib rs false) listed) (en : is_enabled p (state_with p al xs ib rs) (Lose n) ≡ true) where
+module _ (p : Plan) (al : List Bool) (xs : List NodeView) (ib ic : List FrameInbox) (n : ℕ) (rs : List TreeRelease) (counts : List ℕ) (net : IsNet (net_view_of p al xs ib rs false) counts) (en : is_enabled p (state_with p al xs ib rs) (Lose n) ≡ true) where
   -- it is a node of the plan
   lost_below : n < nodes p
   lost_below = living_below p al xs ib n net.parts (and_parts _ _ en).0
@@ -139,53 +146,16 @@ module _ (p : Plan) (al : List Bool) (xs : List NodeView) (ib ic : List Waiting)
       trees = h.trees;
     }
 
-    -- it is a net again
-    pub net_lost : (lc : List ℕ) → AreReady p (slice_set al n false) xs ic lc → IsNet (net_view_of p (slice_set al n false) xs ic rs false) lc
-    net_lost lc ready = record {
+    -- the events of all nodes are to be counted anew
+    pub all_to_count : AreCountedBut (up_to (nodes p)) p (slice_set al n false) xs ic counts
+    all_to_count = nothing_counted p (slice_set al n false) xs ic counts net.parts.node_count net.counted.node_count
+
+    -- then it is a net again
+    pub net_lost : (now : List ℕ) → AreCounted p (slice_set al n false) xs ic now → IsNet (net_view_of p (slice_set al n false) xs ic rs false) now
+    net_lost now counted = record {
       journal = net.journal ++ Lose n ∷ [];
       reached = loss_extends net.journal net.reached;
       parts = parts_lost;
-      counts = net.counts;
-      listed = ready;
+      front = net.front;
+      counted = counted;
     }
-
--- ---- all nodes are listed anew
-
--- the next one
-pub more_marked : (p : Plan) (al : List Bool) (xs : List NodeView) (ib : List Waiting) (k : ℕ) (la lb : List ℕ) (u : Bool) (x : NodeView) (box : Waiting) → AreParts p al xs ib → k < nodes p → u ≡ is_alive al k → slice_get xs k ≡ Some x → box ≡ inbox_at ib k
-    → ((b : ℕ) → is_listed lb b ≡ cond (b == x.number) (has_some (node_events p u x box)) (is_listed la b)) → AreMarked p al xs ib k la → AreMarked p al xs ib (k + 1) lb
-more_marked p al xs ib k la lb u x box parts lt up at is marked h = record { below = λ b t. below b t (b == k) refl; has_event = λ n y less found. event n y less found (n == k) refl }
-  where
-    here : (b : ℕ) → is_listed lb b ≡ cond (b == k) (has_some (node_events p u x box)) (is_listed la b)
-    here b = marked b ∙ ap (λ m. cond (b == m) (has_some (node_events p u x box)) (is_listed la b)) (parts.node k x at).0
-
-    below : (b : ℕ) → is_listed lb b ≡ true → (t : Bool) → (b == k) ≡ t → b < nodes p
-    below b l true e = subst (λ j. j < nodes p) (sym (eqb-true b k e)) lt
-    below b l false e = h.below b (sym (here b ∙ ap (λ t. cond t (has_some (node_events p u x box)) (is_listed la b)) e) ∙ l)
-
-    event : (n : ℕ) (y : NodeView) → n < k + 1 → slice_get xs n ≡ Some y → (t : Bool) → (n == k) ≡ t → is_listed lb n ≡ has_some (node_events p (is_alive al n) y (inbox_at ib n))
-    event n y less found true e =
-        let en : n ≡ k = eqb-true n k e in
-        here n ∙ ap (λ t. cond t (has_some (node_events p u x box)) (is_listed la n)) e
-        ∙ (λ i. has_some (node_events p (up i) x (is i)))
-        ∙ ap (λ (v : NodeView). has_some (node_events p (is_alive al k) v (inbox_at ib k))) (found_twice (slice_get xs k) x y at (subst (λ j. slice_get xs j ≡ Some y) en found))
-        ∙ ap (λ j. has_some (node_events p (is_alive al j) y (inbox_at ib j))) (sym en)
-      where
-        found_twice : (o : Option NodeView) (a b : NodeView) → o ≡ Some a → o ≡ Some b → a ≡ b
-        found_twice o a b h k = cc
-    event n y less found false e =
-        here n ∙ ap (λ t. cond t (has_some (node_events p u x box)) (is_listed la n)) e
-        ∙ h.has_event n y (let other : n ≢ k = eqb-false n k e in earlier other less) found
-      where
-        earlier : n ≢ k → n < k + 1 → n < k
-        earlier other less = elim (cases_Bool (nat_lt n k)) [ inl t ↦ ltb-true n k t | inr f ↦ absurd (other (let le = ltb-false n k f in omega (arith, le))) ]
-
--- all were
-pub all_marked : (p : Plan) (al : List Bool) (xs : List NodeView) (ib : List Waiting) (k : ℕ) (listed : List ℕ) → k ≡ nodes p → AreParts p al xs ib → AreMarked p al xs ib k listed → AreReady p al xs ib listed
-all_marked p al xs ib k listed is parts h = record {
-  below = h.below;
-  has_event = λ n x at. h.has_event n x (within n x at) at;
-}
-  where
-    within : (n : ℕ) (x : NodeView) → slice_get xs n ≡ Some x → n < k
-    within n x at = let lt = slice_get_within xs n x at in let c = parts.node_count in omega (arith, is, lt, c)

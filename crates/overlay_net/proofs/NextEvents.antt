@@ -26,10 +26,12 @@ use Rattle.overlay_core.proofs.ParentLinks.{waves_above, in_filter, in_list_any,
 use Rattle.overlay_node.specs.Frames.{IsFrame, packet_of}
 use Rattle.overlay_node.specs.Outputs.{packets_of}
 use Rattle.overlay_node.specs.NodeViews.{NodeView, MayHandle, MayReceive, received_with, outcome_at}
-use Rattle.overlay_net.specs.Inboxes.{Waiting, queue_of}
-use Rattle.overlay_net.specs.Nets.{inbox_at, state_with}
+use Rattle.overlay_net.specs.Inboxes.{FrameInbox}
+use Rattle.node_inbox.specs.Inboxes.{queue_of}
+use Rattle.node_inbox.specs.Sends.{inbox_at, AreSent, GoBelow}
+use Rattle.overlay_net.specs.Nets.{state_with}
 use Rattle.overlay_net.specs.Events.{AreParts, IsOrdinary}
-use Rattle.overlay_net.specs.Sends.{AreSent, CanTake, GoBelow, IsTaken}
+use Rattle.overlay_net.specs.Sends.{CanTake, IsTaken}
 use Rattle.overlay_net.specs.Handled.{HasHandled}
 use Rattle.overlay_net.proofs.Offers.{living_below, node_there}
 use Rattle.overlay_net.proofs.States.{popped_state, commit_state}
@@ -44,7 +46,7 @@ none_bare (r ∷ rs) e = absurd (not_none (bare_release r) (bare_releases rs) e)
 eqb-false-from : (a b : ℕ) → a ≢ b → (a == b) ≡ false
 eqb-false-from a b other = grind (arith, nat_tests)
 
-module _ (p : Plan) (plan : IsPlan p) (al : List Bool) (xs : List NodeView) (ib : List Waiting) (rs : List TreeRelease) (parts : AreParts p al xs ib) (sound : LinkInvariant p (state_with p al xs ib rs)) where
+module _ (p : Plan) (plan : IsPlan p) (al : List Bool) (xs : List NodeView) (ib : List FrameInbox) (rs : List TreeRelease) (parts : AreParts p al xs ib) (sound : LinkInvariant p (state_with p al xs ib rs)) where
   abbrev st : State
   st = state_with p al xs ib rs
 
@@ -85,14 +87,14 @@ module _ (p : Plan) (plan : IsPlan p) (al : List Bool) (xs : List NodeView) (ib 
       (sym (parts.node n x at).0, in_from_member n (daemons p s) (and_parts _ _ t.0).1, ap (λ (y : Node). is_wave (next_sample p y s) w) (sym (node_there p xs n x at)) ∙ t.1)
 
   -- the packet that it receives is the first on the link
-  pub first_waits : (ic : List Waiting) (n m : ℕ) (q : (List ℕ)) → IsTaken ib (Recv n m) (Some q) ic → st.link m n ≡ packet_of q ∷ map packet_of (queue_of (inbox_at ic n) m)
+  pub first_waits : (ic : List FrameInbox) (n m : ℕ) (q : (List ℕ)) → IsTaken ib (Recv n m) (Some q) ic → st.link m n ≡ packet_of q ∷ map packet_of (queue_of (inbox_at ic n) m)
   first_waits ic n m q taken = ap (map packet_of) taken.first
 
-  pub packet_sound : (ic : List Waiting) (n m : ℕ) (q : (List ℕ)) → IsTaken ib (Recv n m) (Some q) ic → PacketIsSound p st.alive m n (packet_of q)
+  pub packet_sound : (ic : List FrameInbox) (n m : ℕ) (q : (List ℕ)) → IsTaken ib (Recv n m) (Some q) ic → PacketIsSound p st.alive m n (packet_of q)
   packet_sound ic n m q taken = (sound.links m n).packets (packet_of q) (subst (λ (l : List Packet). In (packet_of q) l) (sym (first_waits ic n m q taken)) (inl refl))
 
   -- the node may handle it
-  pub may_handle : (ic : List Waiting) (e : Event) (x : NodeView) (packet : Option (List ℕ)) → is_enabled p st e ≡ true → IsOrdinary e → IsTaken ib e packet ic → slice_get xs (event_node e) ≡ Some x → MayHandle p x e packet
+  pub may_handle : (ic : List FrameInbox) (e : Event) (x : NodeView) (packet : Option (List ℕ)) → is_enabled p st e ≡ true → IsOrdinary e → IsTaken ib e packet ic → slice_get xs (event_node e) ≡ Some x → MayHandle p x e packet
   may_handle ic (Sample n s w) x packet en ord taken at = subst (MayHandle p x (Sample n s w)) (sym taken.0) (may_sample n s w x en at)
   may_handle ic (Recv n m) x None en ord taken at = absurd taken
   may_handle ic (Recv n m) x (Some q) en ord taken at =
@@ -103,7 +105,7 @@ module _ (p : Plan) (plan : IsPlan p) (al : List Bool) (xs : List NodeView) (ib 
   may_handle ic (Lose n) x packet en ord taken at = absurd ord
 
   -- the node is sound afterwards
-  sends_sound : (ic : List Waiting) (e : Event) (packet : Option (List ℕ)) → is_enabled p st e ≡ true → IsOrdinary e → IsTaken ib e packet ic → SendsAreSound p (event_node e) (handled p (event_node e) (st.node (event_node e)) e (received_with e packet)).work.sends
+  sends_sound : (ic : List FrameInbox) (e : Event) (packet : Option (List ℕ)) → is_enabled p st e ≡ true → IsOrdinary e → IsTaken ib e packet ic → SendsAreSound p (event_node e) (handled p (event_node e) (st.node (event_node e)) e (received_with e packet)).work.sends
   sends_sound ic (Sample n s w) packet en ord taken =
       let t = and_parts _ _ en in
       let u = and_parts _ _ t.0 in
@@ -127,7 +129,7 @@ module _ (p : Plan) (plan : IsPlan p) (al : List Bool) (xs : List NodeView) (ib 
   outcome_same e x packet at = (λ i. handled p (sym (parts.node (event_node e) x at).0 i) (node_there p xs (event_node e) x at i) e (received_with e packet))
 
   -- what is sent goes to nodes of the plan
-  pub go_below : (ic : List Waiting) (e : Event) (x y : NodeView) (packet : Option (List ℕ)) (sends : List (ℕ × (List ℕ))) (more : List TreeRelease) → is_enabled p st e ≡ true → IsOrdinary e → IsTaken ib e packet ic → slice_get xs (event_node e) ≡ Some x → HasHandled p x y e packet sends more → GoBelow (nodes p) sends
+  pub go_below : (ic : List FrameInbox) (e : Event) (x y : NodeView) (packet : Option (List ℕ)) (sends : List (ℕ × (List ℕ))) (more : List TreeRelease) → is_enabled p st e ≡ true → IsOrdinary e → IsTaken ib e packet ic → slice_get xs (event_node e) ≡ Some x → HasHandled p x y e packet sends more → GoBelow (nodes p) sends
   go_below ic e x y packet sends more en ord taken at done =
       all_below (event_node e) sends (subst (SendsAreSound p (event_node e)) (ap (λ (o : Outcome). o.work.sends) (outcome_same e x packet at) ∙ sym done.sent) (sends_sound ic e packet en ord taken))
 
@@ -161,7 +163,7 @@ module _ (p : Plan) (plan : IsPlan p) (al : List Bool) (xs : List NodeView) (ib 
   unfolding is_front
   only_front e x y packet sends more en ord at done other = none_bare more (done.released ∙ ap (λ (o : Outcome). o.work.releases) (sym (outcome_same e x packet at)) ∙ quiet e packet (eqb-false-from (event_node e) (front p) other) en ord)
 
-  else_same : (ic : List Waiting) (n m : ℕ) (q : (List ℕ)) → IsTaken ib (Recv n m) (Some q) ic → (a b : ℕ) → ((b == n) && (a == m)) ≡ false → queue_of (inbox_at ic b) a ≡ queue_of (inbox_at ib b) a
+  else_same : (ic : List FrameInbox) (n m : ℕ) (q : (List ℕ)) → IsTaken ib (Recv n m) (Some q) ic → (a b : ℕ) → ((b == n) && (a == m)) ≡ false → queue_of (inbox_at ic b) a ≡ queue_of (inbox_at ib b) a
   else_same ic n m q taken a b other = go (b == n) (a == m) refl refl other
     where
       go : (t u : Bool) → (b == n) ≡ t → (a == m) ≡ u → (t && u) ≡ false → queue_of (inbox_at ic b) a ≡ queue_of (inbox_at ib b) a
@@ -170,7 +172,7 @@ module _ (p : Plan) (plan : IsPlan p) (al : List Bool) (xs : List NodeView) (ib 
       go false u et eu f = ap (λ box. queue_of box a) (taken.others b et)
 
   -- the step takes the packet, and then the outcome is committed
-  step_is : (ic : List Waiting) (e : Event) (packet : Option (List ℕ)) → is_enabled p st e ≡ true → IsOrdinary e → IsTaken ib e packet ic
+  step_is : (ic : List FrameInbox) (e : Event) (packet : Option (List ℕ)) → is_enabled p st e ≡ true → IsOrdinary e → IsTaken ib e packet ic
       → ◌≡◌ {A = State} (step p st e) (commit (state_with p al xs ic rs) (event_node e) (handled p (event_node e) (st.node (event_node e)) e (received_with e packet)))
   step_is ic (Sample n s w) packet en ord taken = λ i. commit (state_with p al xs (sym taken.1 i) rs) n (handled p n (st.node n) (Sample n s w) None)
   step_is ic (Recv n m) None en ord taken = absurd taken
@@ -181,9 +183,9 @@ module _ (p : Plan) (plan : IsPlan p) (al : List Bool) (xs : List NodeView) (ib 
   step_is ic (Lose n) packet en ord taken = absurd ord
 
   -- the state after the event
-  pub stepped : (ic id : List Waiting) (la lb : List ℕ) (e : Event) (x y : NodeView) (packet : Option (List ℕ)) (sends : List (ℕ × (List ℕ))) (more : List TreeRelease) → is_enabled p st e ≡ true → IsOrdinary e → IsTaken ib e packet ic → slice_get xs (event_node e) ≡ Some x → HasHandled p x y e packet sends more → AreSent al (event_node e) sends ic id la lb
+  pub stepped : (ic id : List FrameInbox) (e : Event) (x y : NodeView) (packet : Option (List ℕ)) (sends : List (ℕ × (List ℕ))) (more : List TreeRelease) → is_enabled p st e ≡ true → IsOrdinary e → IsTaken ib e packet ic → slice_get xs (event_node e) ≡ Some x → HasHandled p x y e packet sends more → AreSent al (event_node e) sends ic id
       → ◌≡◌ {A = State} (state_with p al (slice_set xs (event_node e) y) id (rs ++ more)) (step p st e)
-  stepped ic id la lb e x y packet sends more en ord taken at done sent =
+  stepped ic id e x y packet sends more en ord taken at done sent =
       let same = outcome_same e x packet at in
       sym (step_is ic e packet en ord taken
       ∙ commit_state p al xs rs (event_node e) ic id x y (handled p (event_node e) (st.node (event_node e)) e (received_with e packet)) sends more at (done.node _ same)

@@ -1,13 +1,13 @@
 -- The events that may come next, by node.
 use Rattle.std.proofs.Common.{◌≡◌, ◌⊎◌, inl, inr, ◌∙◌, ℕ, suc, zero, ◌+◌, ◌-◌, ◌<◌, ◌≤◌, Bool, true, false, ◌&&◌, not, nat_eq, nat_lt, ◌==◌, ◌||◌, cond, List, [], ◌∷◌, ◌++◌, map, filter, find, length, get_or, drop, Option, Some, None, option_map, refl, sym, ap, subst, arith, eqb-true, eq-eqb}
 use Rattle.std.specs.Prelude.{slice_get}
-use Rattle.std.specs.List.{AllByRecursion, flat_map, list_any}
-use Rattle.std.proofs.lemmas.Bool.{cases_Bool, true≢false, ltb-true, ltb-false}
+use Rattle.std.specs.List.{AllByRecursion, flat_map, list_any, sum}
+use Rattle.std.proofs.lemmas.Bool.{cases_Bool, cases_lt, true≢false, ltb-true, ltb-false}
 use Rattle.std.specs.Option.{option_eq}
-use Rattle.std.proofs.lemmas.List.{append-nil, drop_more, get_or_read}
+use Rattle.std.proofs.lemmas.List.{append-nil, drop_more, get_or_read, length-map}
 use Rattle.std.proofs.lemmas.List.Elements.{filter-append}
 use Rattle.std.proofs.lemmas.Grind.{flat_map-append}
-use Rattle.std.proofs.lemmas.Option.{slice_get_read}
+use Rattle.std.proofs.lemmas.Option.{slice_get_read, slice_get-get_or}
 use Rattle.overlay_setup.specs.NodeSets.{In, IsStrictlyIncreasing, member, up_to}
 use Rattle.stat_plan.specs.Plans.{Plan, nodes, nodes_of, ancestors, is_within, daemons, stream_of, serves, waves_of, waves_at, fault}
 use Rattle.overlay_setup.specs.Scripts.{Stream, IsDaemon}
@@ -22,17 +22,22 @@ use Rattle.overlay_core.specs.TreeReleases.{TreeRelease}
 use Rattle.overlay_core.proofs.Lists.{in_member, in_from_member, up_to_below, eqb_self}
 use Rattle.overlay_core.proofs.Outcomes.{next_is_named, find_passes}
 use Rattle.overlay_core.proofs.ParentLinks.{within_from_test, test_from_within}
-use Rattle.overlay_core.proofs.Whole.{in_up_to}
 use Rattle.overlay_node.specs.Frames.{packet_of}
 use Rattle.overlay_node.specs.NodeViews.{NodeView, node_of}
 use Rattle.stat_desk.specs.declared.event.Event.{Event}
 use Rattle.stat_desk.specs.declared.event.Event.TheVariants.{Sample, Recv, Tick, Lose}
 use Rattle.stat_desk.specs.Events.{event_node}
-use Rattle.overlay_net.specs.Inboxes.{Waiting, HaveSent, is_waiting, queue_of, senders_of}
-use Rattle.overlay_net.specs.Nets.{active_events, inbox_at, is_alive, is_doomed_node, node_at, node_events, sample_of, state_with, tick_of}
-use Rattle.overlay_net.specs.Events.{AreParts, AreReady, IsNth, has_some, is_listed, may_come, sample_at}
+use Rattle.overlay_net.specs.Inboxes.{FrameInbox, WaitingFrames}
+use Rattle.node_inbox.specs.Inboxes.{HaveSent, is_waiting, queue_of, senders_of}
+use Rattle.overlay_net.specs.Nets.{active_events, is_doomed_node, node_at, node_events, sample_of, state_with, tick_of}
+use Rattle.node_inbox.specs.Sends.{inbox_at, is_alive}
+use Rattle.overlay_net.specs.Events.{AreCounted, AreParts, IsNth, may_come, sample_at}
 use Rattle.overlay_net.specs.declared.events.Nth.{Nth}
-use Rattle.overlay_net.proofs.Listed.{get_before, get_past, nth_past, filter_mapped, filter_none, filter_same, filter_up_to, flat_ready, listed_from_in, listed_waits, none_from_test, increasing_from_sorted, sender_listed}
+use Rattle.count_tree.specs.Places.{place_of}
+use Rattle.count_tree.proofs.Lists.{IsItem, finds_item, sum_of_lengths}
+use Rattle.stat_plan.proofs.TableLemmas.{at_table, length-up_to}
+use Rattle.node_inbox.specs.Sends.{no_inbox}
+use Rattle.overlay_net.proofs.Listed.{get_before, get_past, nth_past, filter_mapped, filter_none, filter_same, filter_up_to, listed_waits, increasing_from_sorted, sender_listed}
 
 -- ---- the daemons of a stream of the plan
 
@@ -215,7 +220,7 @@ samples_kept test n f (x ∷ xs) h =
     ∙ ap (λ (es : List Event). f x ++ es) (samples_kept test n f xs (λ y i. h y (inr i)))
 
 -- a node in a state: it is active, it is this node, and this is its inbox, with senders of the plan
-pub record IsNodeIn (p : Plan) (st : State) (x : NodeView) (box : Waiting) : Type 0 where
+pub record IsNodeIn (p : Plan) (st : State) (x : NodeView) (box : WaitingFrames) : Type 0 where
   pub active : is_active p st x.number ≡ true
   pub node : st.node x.number ≡ node_of x
   pub links : (m : ℕ) → is_pending (st.link m x.number) ≡ is_waiting box m
@@ -224,14 +229,14 @@ pub record IsNodeIn (p : Plan) (st : State) (x : NodeView) (box : Waiting) : Typ
   pub senders : (m : ℕ) → is_waiting box m ≡ true → m < nodes p
 
 -- whether a sample may come next
-sample_test : (p : Plan) (st : State) (x : NodeView) (box : Waiting) (s : Stream) (w : ℕ) → IsPlan p → In s p.streams → IsNodeIn p st x box → is_enabled p st (Sample x.number s.number w) ≡ (member x.number s.daemons && is_wave (next_sample p (node_of x) s.number) w)
+sample_test : (p : Plan) (st : State) (x : NodeView) (box : WaitingFrames) (s : Stream) (w : ℕ) → IsPlan p → In s p.streams → IsNodeIn p st x box → is_enabled p st (Sample x.number s.number w) ≡ (member x.number s.daemons && is_wave (next_sample p (node_of x) s.number) w)
 sample_test p st x box s w plan i h =
     ap (λ (b : Bool). (b && member x.number (daemons p s.number)) && is_wave (next_sample p (st.node x.number) s.number) w) h.active
     ∙ ap (λ (ds : List ℕ). member x.number ds && is_wave (next_sample p (st.node x.number) s.number) w) (daemons_are p s plan i)
     ∙ ap (λ n. member x.number s.daemons && is_wave (next_sample p n s.number) w) h.node
 
 -- the samples of one stream that may come next
-stream_samples : (p : Plan) (st : State) (x : NodeView) (box : Waiting) (s : Stream) → IsPlan p → In s p.streams → IsNodeIn p st x box → filter (is_enabled p st) (map (λ w. Sample x.number s.number w) (up_to s.waves)) ≡ sample_of p x s
+stream_samples : (p : Plan) (st : State) (x : NodeView) (box : WaitingFrames) (s : Stream) → IsPlan p → In s p.streams → IsNodeIn p st x box → filter (is_enabled p st) (map (λ w. Sample x.number s.number w) (up_to s.waves)) ≡ sample_of p x s
 stream_samples p st x box s plan i h =
     filter_mapped (is_enabled p st) (λ w. Sample x.number s.number w) (up_to s.waves)
     ∙ ap (map (λ w. Sample x.number s.number w)) (filter_same (λ w. is_enabled p st (Sample x.number s.number w)) (λ w. member x.number s.daemons && is_wave (next_sample p (node_of x) s.number) w) (up_to s.waves) (λ w j. sample_test p st x box s w plan i h))
@@ -249,7 +254,7 @@ stream_samples p st x box s plan i h =
     go false = ap (map (λ w. Sample x.number s.number w)) (filter_none (λ w. false) (up_to s.waves) (λ w j. refl))
 
 -- what a node may receive next
-receives : (p : Plan) (st : State) (x : NodeView) (box : Waiting) → IsNodeIn p st x box → filter (is_enabled p st) (map (λ m. Recv x.number m) (up_to (nodes p))) ≡ map (λ m. Recv x.number m) (senders_of box)
+receives : (p : Plan) (st : State) (x : NodeView) (box : WaitingFrames) → IsNodeIn p st x box → filter (is_enabled p st) (map (λ m. Recv x.number m) (up_to (nodes p))) ≡ map (λ m. Recv x.number m) (senders_of box)
 receives p st x box h =
     filter_mapped (is_enabled p st) (λ m. Recv x.number m) (up_to (nodes p))
     ∙ ap (map (λ m. Recv x.number m))
@@ -257,13 +262,13 @@ receives p st x box h =
     ∙ filter_up_to (is_waiting box) (nodes p) (senders_of box) h.increasing (λ m i. (h.senders m (listed_waits box m i), listed_waits box m i)) (λ m lt w. sender_listed box m w))
 
 -- a node's tick, where it may come next
-ticks_next : (p : Plan) (st : State) (x : NodeView) (box : Waiting) → IsNodeIn p st x box → filter (is_enabled p st) (Tick x.number ∷ []) ≡ tick_of p x
+ticks_next : (p : Plan) (st : State) (x : NodeView) (box : WaitingFrames) → IsNodeIn p st x box → filter (is_enabled p st) (Tick x.number ∷ []) ≡ tick_of p x
 ticks_next p st x box h =
     ap (λ (b : Bool). cond (b && list_any (λ v. is_running ((st.node x.number).book v.0 v.1)) (waves_at p x.number)) (Tick x.number ∷ []) []) h.active
     ∙ ap (λ n. cond (list_any (λ v. is_running (n.book v.0 v.1)) (waves_at p x.number)) (Tick x.number ∷ []) []) h.node
 
 -- the events of an active node that may come next, of all that can be named
-pub node_offers : (p : Plan) (st : State) (x : NodeView) (box : Waiting) → IsPlan p → IsNodeIn p st x box → filter (is_enabled p st) (events_of p x.number) ≡ active_events p x box
+pub node_offers : (p : Plan) (st : State) (x : NodeView) (box : WaitingFrames) → IsPlan p → IsNodeIn p st x box → filter (is_enabled p st) (events_of p x.number) ≡ active_events p x box
 node_offers p st x box plan h =
     ap (λ (b : Bool). cond b (Lose x.number ∷ filter (is_enabled p st) later) (filter (is_enabled p st) later)) h.stays
     ∙ filter-append (is_enabled p st) (samples_of x.number (waves_of p.streams) ++ map (λ m. Recv x.number m) (up_to (nodes p))) (Tick x.number ∷ [])
@@ -289,7 +294,7 @@ in_read xs k x lt is = subst (λ y. In y xs) (sym is) (in_at xs k x lt)
 -- ---- the events of all nodes
 
 -- the events of the node of this number that may come next, if there is one
-abbrev pub events_at : Plan → List Bool → List NodeView → List Waiting → ℕ → List Event
+abbrev pub events_at : Plan → List Bool → List NodeView → List FrameInbox → ℕ → List Event
 events_at p al xs inboxes n = elim (slice_get xs n) [ None ↦ [] | Some x ↦ node_events p (is_alive al n) x (inbox_at inboxes n) ]
 
 -- who lives is one of the nodes
@@ -304,7 +309,7 @@ pub alive_past : (al : List Bool) (n : ℕ) → length al ≤ n → is_alive al 
 alive_past al n past = elim (cases_Bool (is_alive al n)) [ inl t ↦ absurd (let lt = alive_below al n t in omega (arith, lt)) | inr f ↦ f ]
 
 -- whether something is on the way, by what waits
-pub pending_is : (box : Waiting) (m : ℕ) → HaveSent box → is_pending (map packet_of (queue_of box m)) ≡ is_waiting box m
+pub pending_is : (box : WaitingFrames) (m : ℕ) → HaveSent box → is_pending (map packet_of (queue_of box m)) ≡ is_waiting box m
 pending_is [] m h = refl
 pending_is (e ∷ es) m h = go (pending_is es m h.1) (e.0 == m)
   where
@@ -329,12 +334,12 @@ pub not_less : (m n : ℕ) → n ≤ m → nat_lt m n ≡ false
 not_less m n le = elim (cases_Bool (nat_lt m n)) [ inl t ↦ absurd (let lt : m < n = ltb-true m n t in omega arith) | inr f ↦ f ]
 
 -- what is read at an index of the list of nodes is a node
-pub node_read : (p : Plan) (al : List Bool) (xs : List NodeView) (inboxes : List Waiting) (n : ℕ) (x : NodeView) → AreParts p al xs inboxes → n < nodes p → x ≡ get_or xs n x → slice_get xs n ≡ Some x
+pub node_read : (p : Plan) (al : List Bool) (xs : List NodeView) (inboxes : List FrameInbox) (n : ℕ) (x : NodeView) → AreParts p al xs inboxes → n < nodes p → x ≡ get_or xs n x → slice_get xs n ≡ Some x
 node_read p al xs inboxes n x parts lt is = slice_get_read xs (nodes p) n x (sym parts.node_count) lt is
 
 -- what is read at an index of the list of inboxes is the inbox of the node
-pub inbox_read : (p : Plan) (al : List Bool) (xs : List NodeView) (inboxes : List Waiting) (n : ℕ) (box : Waiting) → AreParts p al xs inboxes → n < nodes p → box ≡ get_or inboxes n box → box ≡ inbox_at inboxes n
-inbox_read p al xs inboxes n box parts lt is = get_or_read inboxes n box (subst (λ k. n < k) (sym parts.inbox_count) lt) is []
+pub inbox_read : (p : Plan) (al : List Bool) (xs : List NodeView) (inboxes : List FrameInbox) (n : ℕ) (box : FrameInbox) → AreParts p al xs inboxes → n < nodes p → box ≡ get_or inboxes n box → box.waiting ≡ inbox_at inboxes n
+inbox_read p al xs inboxes n box parts lt is = ap (λ (b : FrameInbox). b.waiting) (get_or_read inboxes n box (subst (λ k. n < k) (sym parts.inbox_count) lt) is no_inbox)
 
 -- ---- a node of the parts in their state
 
@@ -366,7 +371,7 @@ and_assoc : (a b c : Bool) → ((a && b) && c) ≡ (a && (b && c))
 and_assoc true b c = refl
 and_assoc false b c = refl
 
-module _ (p : Plan) (al : List Bool) (xs : List NodeView) (inboxes : List Waiting) (releases : List TreeRelease) where
+module _ (p : Plan) (al : List Bool) (xs : List NodeView) (inboxes : List FrameInbox) (releases : List TreeRelease) where
   abbrev st : State
   st = state_with p al xs inboxes releases
 
@@ -430,7 +435,7 @@ module _ (p : Plan) (al : List Bool) (xs : List NodeView) (inboxes : List Waitin
           ∙ ap (λ (b : Bool). cond {A = List Event} (b && is_doomed p st x.number) (Lose x.number ∷ []) []) eu
 
 -- who lives is a node of the plan
-pub living_below : (p : Plan) (al : List Bool) (xs : List NodeView) (inboxes : List Waiting) (n : ℕ) → AreParts p al xs inboxes → is_alive al n ≡ true → n < nodes p
+pub living_below : (p : Plan) (al : List Bool) (xs : List NodeView) (inboxes : List FrameInbox) (n : ℕ) → AreParts p al xs inboxes → is_alive al n ≡ true → n < nodes p
 living_below p al xs inboxes n parts up = subst (λ k. n < k) parts.alive_count (alive_below al n up)
 
 -- each index of a list has an element
@@ -440,11 +445,11 @@ some_at (x ∷ xs) zero lt = (x, refl)
 some_at (x ∷ xs) (suc n) lt = some_at xs n (omega arith)
 
 -- the node of each number
-pub part_at : (p : Plan) (al : List Bool) (xs : List NodeView) (inboxes : List Waiting) (n : ℕ) → AreParts p al xs inboxes → n < nodes p → (x : NodeView) × (slice_get xs n ≡ Some x) × (x.number ≡ n)
+pub part_at : (p : Plan) (al : List Bool) (xs : List NodeView) (inboxes : List FrameInbox) (n : ℕ) → AreParts p al xs inboxes → n < nodes p → (x : NodeView) × (slice_get xs n ≡ Some x) × (x.number ≡ n)
 part_at p al xs inboxes n parts lt = let s = some_at xs n (subst (λ k. n < k) (sym parts.node_count) lt) in (s.0, s.1, (parts.node n s.0 s.1).0)
 
 -- the events of a node that may come next, of all that can be named, by its number
-pub offers_at : (p : Plan) (al : List Bool) (xs : List NodeView) (inboxes : List Waiting) (releases : List TreeRelease) (n : ℕ) → IsPlan p → AreParts p al xs inboxes → n < nodes p → filter (is_enabled p (state_with p al xs inboxes releases)) (events_of p n) ≡ events_at p al xs inboxes n
+pub offers_at : (p : Plan) (al : List Bool) (xs : List NodeView) (inboxes : List FrameInbox) (releases : List TreeRelease) (n : ℕ) → IsPlan p → AreParts p al xs inboxes → n < nodes p → filter (is_enabled p (state_with p al xs inboxes releases)) (events_of p n) ≡ events_at p al xs inboxes n
 offers_at p al xs inboxes releases n plan parts lt =
     let s = part_at p al xs inboxes n parts lt in
     let x = s.0 in
@@ -453,7 +458,7 @@ offers_at p al xs inboxes releases n plan parts lt =
     ∙ ap (λ (o : Option NodeView). elim o [ None ↦ [] | Some x ↦ node_events p (is_alive al n) x (inbox_at inboxes n) ]) (sym s.1)
 
 -- the events of the first nodes that may come next, of all that can be named
-offers_below : (p : Plan) (al : List Bool) (xs : List NodeView) (inboxes : List Waiting) (releases : List TreeRelease) (k : ℕ) → IsPlan p → AreParts p al xs inboxes → k ≤ nodes p → filter (is_enabled p (state_with p al xs inboxes releases)) (events_below p k) ≡ flat_map (events_at p al xs inboxes) (up_to k)
+offers_below : (p : Plan) (al : List Bool) (xs : List NodeView) (inboxes : List FrameInbox) (releases : List TreeRelease) (k : ℕ) → IsPlan p → AreParts p al xs inboxes → k ≤ nodes p → filter (is_enabled p (state_with p al xs inboxes releases)) (events_below p k) ≡ flat_map (events_at p al xs inboxes) (up_to k)
 offers_below p al xs inboxes releases zero plan parts le = refl
 offers_below p al xs inboxes releases (suc k) plan parts le =
     filter-append (is_enabled p (state_with p al xs inboxes releases)) (events_below p k) (events_of p k)
@@ -462,77 +467,80 @@ offers_below p al xs inboxes releases (suc k) plan parts le =
     ∙ sym (flat_map-append (events_at p al xs inboxes) (up_to k) (k ∷ []))
 
 -- the events that may come next are those of the nodes, node by node
-pub all_offers : (p : Plan) (al : List Bool) (xs : List NodeView) (inboxes : List Waiting) (releases : List TreeRelease) → IsPlan p → AreParts p al xs inboxes → enabled_events p (state_with p al xs inboxes releases) ≡ flat_map (events_at p al xs inboxes) (up_to (nodes p))
+pub all_offers : (p : Plan) (al : List Bool) (xs : List NodeView) (inboxes : List FrameInbox) (releases : List TreeRelease) → IsPlan p → AreParts p al xs inboxes → enabled_events p (state_with p al xs inboxes releases) ≡ flat_map (events_at p al xs inboxes) (up_to (nodes p))
 unfolding enabled_events
 all_offers p al xs inboxes releases plan parts = offers_below p al xs inboxes releases (nodes p) plan parts (omega arith)
 
--- whether the node of a number has an event that may come next
-pub ready_at : (p : Plan) (al : List Bool) (xs : List NodeView) (inboxes : List Waiting) (ready : List ℕ) (n : ℕ) → AreParts p al xs inboxes → AreReady p al xs inboxes ready → n < nodes p → is_listed ready n ≡ has_some (events_at p al xs inboxes n)
-ready_at p al xs inboxes ready n parts listed lt =
+-- as many events of the node of a number may come next as are counted
+count_at : (p : Plan) (al : List Bool) (xs : List NodeView) (inboxes : List FrameInbox) (counts : List ℕ) (n : ℕ) → AreParts p al xs inboxes → AreCounted p al xs inboxes counts → n < nodes p → slice_get counts n ≡ Some (length (events_at p al xs inboxes n))
+count_at p al xs inboxes counts n parts counted lt =
     let s = part_at p al xs inboxes n parts lt in
-    listed.has_event n s.0 s.1 ∙ ap (λ (o : Option NodeView). has_some (elim o [ None ↦ [] | Some x ↦ node_events p (is_alive al n) x (inbox_at inboxes n) ])) (sym s.1)
+    counted.events n refl s.0 s.1 ∙ ap (λ (o : Option NodeView). Some (length (elim o as (λ _. List Event) [ None ↦ [] | (Some x) ↦ node_events p (is_alive al n) x (inbox_at inboxes n) ]))) (sym s.1)
 
--- parts with no events put none together
-nothing_below : (g : ℕ → List Event) (n : ℕ) → ((m : ℕ) → m < n → has_some (g m) ≡ false) → flat_map g (up_to n) ≡ []
-nothing_below g zero h = refl
-nothing_below g (suc n) h =
-    flat_map-append g (up_to n) (n ∷ [])
-    ∙ ap (λ (es : List Event). es ++ (g n ++ [])) (nothing_below g n (λ m lt. h m (omega arith)))
-    ∙ append-nil (g n)
-    ∙ none_from_test (g n) (h n (omega arith))
-
--- what is put together is empty only where each part is
-part_empty : (g : ℕ → List Event) (xs : List ℕ) (m : ℕ) → In m xs → flat_map g xs ≡ [] → has_some (g m) ≡ false
-part_empty g [] m i e = absurd i
-part_empty g (x ∷ xs) m (inl k) e = ap (λ j. has_some (g j)) k ∙ first (g x) e
+-- lists of one length with the same items are the same
+same_items : (xs ys : List ℕ) → length xs ≡ length ys → ((n : ℕ) → n < length ys → slice_get xs n ≡ slice_get ys n) → xs ≡ ys
+same_items [] [] len h = refl
+same_items [] (y ∷ ys) len h = absurd (omega (arith, len))
+same_items (x ∷ xs) [] len h = absurd (omega (arith, len))
+same_items (x ∷ xs) (y ∷ ys) len h =
+    let first : x ≡ y = some_same x y (h 0 (omega arith)) in
+    ap (λ z. z ∷ xs) first ∙ ap (λ zs. y ∷ zs) (same_items xs ys (omega (arith, len)) (λ n lt. h (suc n) (omega (arith, lt))))
   where
-    first : (es : List Event) → es ++ flat_map g xs ≡ [] → has_some es ≡ false
-    first [] e = refl
-    first (a ∷ es) e = absurd (cc)
-part_empty g (x ∷ xs) m (inr i) e = part_empty g xs m i (rest (g x) e)
-  where
-    rest : (es : List Event) → es ++ flat_map g xs ≡ [] → flat_map g xs ≡ []
-    rest [] e = e
-    rest (a ∷ es) e = absurd (cc)
+    some_same : (x y : ℕ) → Some x ≡ Some y → x ≡ y
+    some_same x y e = cc
 
--- no event may come next exactly if no node has one
-pub none_is_ready : (p : Plan) (al : List Bool) (xs : List NodeView) (inboxes : List Waiting) (releases : List TreeRelease) (ready : List ℕ) → IsPlan p → AreParts p al xs inboxes → AreReady p al xs inboxes ready → (ready ≡ [] → enabled_events p (state_with p al xs inboxes releases) ≡ []) × (enabled_events p (state_with p al xs inboxes releases) ≡ [] → ready ≡ [])
-none_is_ready p al xs inboxes releases ready plan parts listed = (
-  λ none. all_offers p al xs inboxes releases plan parts ∙ nothing_below (events_at p al xs inboxes) (nodes p) (λ m lt. sym (ready_at p al xs inboxes ready m parts listed lt) ∙ ap (λ r. is_listed r m) none),
-  λ none. empty ready listed.below (λ m lt. ready_at p al xs inboxes ready m parts listed lt ∙ part_empty (events_at p al xs inboxes) (up_to (nodes p)) m (in_up_to (nodes p) m lt) (sym (all_offers p al xs inboxes releases plan parts) ∙ none)),
-)
-  where
-    empty : (r : List ℕ) → ((n : ℕ) → is_listed r n ≡ true → n < nodes p) → ((n : ℕ) → n < nodes p → is_listed r n ≡ false) → r ≡ []
-    empty [] below h = refl
-    empty (n ∷ r) below h = let t : is_listed (n ∷ r) n ≡ true = listed_from_in (n ∷ r) n (inl refl) in absurd (true≢false (sym t ∙ h n (below n t)))
+-- the counts are the lengths of the nodes' events
+pub counts_are : (p : Plan) (al : List Bool) (xs : List NodeView) (inboxes : List FrameInbox) (counts : List ℕ) → AreParts p al xs inboxes → AreCounted p al xs inboxes counts → counts ≡ map (λ n. length (events_at p al xs inboxes n)) (up_to (nodes p))
+counts_are p al xs inboxes counts parts counted =
+    let len : length (map (λ n. length (events_at p al xs inboxes n)) (up_to (nodes p))) ≡ nodes p = length-map (up_to (nodes p)) (λ n. length (events_at p al xs inboxes n)) ∙ length-up_to (nodes p) in
+    same_items counts (map (λ n. length (events_at p al xs inboxes n)) (up_to (nodes p))) (counted.node_count ∙ sym len)
+    (λ n lt. let below : n < nodes p = omega (arith, lt, len) in
+    count_at p al xs inboxes counts n parts counted below
+    ∙ sym (slice_get-get_or (map (λ k. length (events_at p al xs inboxes k)) (up_to (nodes p))) n 0 lt ∙ ap Some (at_table (λ k. length (events_at p al xs inboxes k)) (nodes p) n 0 below)))
 
--- where the nodes with an event are listed in order, the events that may come next are theirs, node by node
-pub all_ready : (p : Plan) (al : List Bool) (xs : List NodeView) (inboxes : List Waiting) (releases : List TreeRelease) (ready : List ℕ) → IsPlan p → AreParts p al xs inboxes → AreReady p al xs inboxes ready → IsStrictlyIncreasing ready → enabled_events p (state_with p al xs inboxes releases) ≡ flat_map (events_at p al xs inboxes) ready
-all_ready p al xs inboxes releases ready plan parts listed increasing =
-    all_offers p al xs inboxes releases plan parts
-    ∙ flat_ready (events_at p al xs inboxes) (nodes p) ready increasing (λ m i. listed.below m (listed_from_in ready m i)) (λ m lt. ready_at p al xs inboxes ready m parts listed lt)
+-- as many events may come next as are counted
+pub all_counted : (p : Plan) (al : List Bool) (xs : List NodeView) (inboxes : List FrameInbox) (releases : List TreeRelease) (counts : List ℕ) → IsPlan p → AreParts p al xs inboxes → AreCounted p al xs inboxes counts → sum counts ≡ length (enabled_events p (state_with p al xs inboxes releases))
+all_counted p al xs inboxes releases counts plan parts counted =
+    ap sum (counts_are p al xs inboxes counts parts counted)
+    ∙ sum_of_lengths (events_at p al xs inboxes) (up_to (nodes p))
+    ∙ ap (λ (es : List Event). length es) (sym (all_offers p al xs inboxes releases plan parts))
+
+-- each number below n is at its own index of those below n
+up_to_at : (n k : ℕ) → k < n → slice_get (up_to n) k ≡ Some k
+up_to_at zero k lt = absurd (omega (arith, lt))
+up_to_at (suc n) k lt = elim (cases_lt k n) [
+  | inl before ↦ get_before (up_to n) (n ∷ []) k k (up_to_at n k before)
+  | inr past ↦
+      let same : k ≡ n = omega (arith, lt, past) in
+      let place : k ≡ length (up_to n) + 0 = omega (arith, same, length-up_to n) in
+      ap (slice_get (up_to n ++ n ∷ [])) place ∙ get_past (up_to n) (n ∷ []) 0 ∙ ap Some (sym same)
+]
 
 -- the events of a node that was read
-pub events_read : (p : Plan) (al : List Bool) (xs : List NodeView) (inboxes : List Waiting) (n : ℕ) (u : Bool) (x : NodeView) (box : Waiting) → u ≡ is_alive al n → slice_get xs n ≡ Some x → box ≡ inbox_at inboxes n → events_at p al xs inboxes n ≡ node_events p u x box
+pub events_read : (p : Plan) (al : List Bool) (xs : List NodeView) (inboxes : List FrameInbox) (n : ℕ) (u : Bool) (x : NodeView) (box : WaitingFrames) → u ≡ is_alive al n → slice_get xs n ≡ Some x → box ≡ inbox_at inboxes n → events_at p al xs inboxes n ≡ node_events p u x box
 events_read p al xs inboxes n u x box up at is =
     ap (λ (o : Option NodeView). elim o [ None ↦ [] | Some x ↦ node_events p (is_alive al n) x (inbox_at inboxes n) ]) at ∙ (λ i. node_events p (sym up i) x (sym is i))
 
--- a listed node that comes next is a node of the plan
-pub turn_below : (p : Plan) (al : List Bool) (xs : List NodeView) (inboxes : List Waiting) (ready ns rest : List ℕ) (n : ℕ) → AreReady p al xs inboxes ready → ((m : ℕ) → In m ns → In m ready) → ns ≡ n ∷ rest → n < nodes p
-turn_below p al xs inboxes ready ns rest n listed within split = listed.below n (listed_from_in ready n (within n (subst (λ ms. In n ms) (sym split) (inl refl))))
+module _ (p : Plan) (al : List Bool) (xs : List NodeView) (inboxes : List FrameInbox) (counts : List ℕ) (parts : AreParts p al xs inboxes) (counted : AreCounted p al xs inboxes counts) (i : ℕ) where
+  found_item : (o : Option (ℕ × ℕ)) → place_of counts i ≡ o → IsItem (events_at p al xs inboxes) (up_to (nodes p)) i o
+  found_item o e = subst (IsItem (events_at p al xs inboxes) (up_to (nodes p)) i) (sym (ap (λ (cs : List ℕ). place_of cs i) (counts_are p al xs inboxes counts parts counted)) ∙ e) (finds_item (events_at p al xs inboxes) (up_to (nodes p)) i)
 
--- an event of the next node
-pub turn_found : (g : ℕ → List Event) (ns rest : List ℕ) (n : ℕ) (es : List Event) (i : ℕ) (e : Event) → ns ≡ n ∷ rest → g n ≡ es → slice_get es i ≡ Some e → slice_get (flat_map g ns) i ≡ Some e
-turn_found g ns rest n es i e split own at =
-    ap (λ ms. slice_get (flat_map g ms) i) split ∙ ap (λ (fs : List Event). slice_get (fs ++ flat_map g rest) i) own ∙ get_before es (flat_map g rest) i e at
+  -- what the counts find is a node of the plan
+  pub found_below : (n j : ℕ) → place_of counts i ≡ Some (n, j) → n < nodes p
+  found_below n j e = subst (λ k. n < k) (length-up_to (nodes p)) (found_item (Some (n, j)) e).0
 
--- a number that goes beyond the events of the next node
-pub turn_past : (g : ℕ → List Event) (ns rest : List ℕ) (n : ℕ) (es : List Event) (i k : ℕ) → ns ≡ n ∷ rest → g n ≡ es → i ≡ length es + k → slice_get (flat_map g ns) i ≡ slice_get (flat_map g rest) k
-turn_past g ns rest n es i k split own past =
-    ap (λ ms. slice_get (flat_map g ms) i) split
-    ∙ ap (λ (fs : List Event). slice_get (fs ++ flat_map g rest) i) own
-    ∙ ap (slice_get (es ++ flat_map g rest)) past
-    ∙ get_past es (flat_map g rest) k
+  -- it is one of that node's events
+  pub found_within : (n j : ℕ) → place_of counts i ≡ Some (n, j) → j < length (events_at p al xs inboxes n)
+  found_within n j e = ((found_item (Some (n, j)) e).1 n (up_to_at (nodes p) n (found_below n j e))).1
+
+  module _ (releases : List TreeRelease) (plan : IsPlan p) where
+    -- and that event of the node is the i-th of all
+    pub found_event : (n j : ℕ) → place_of counts i ≡ Some (n, j) → slice_get (enabled_events p (state_with p al xs inboxes releases)) i ≡ slice_get (events_at p al xs inboxes n) j
+    found_event n j e = ap (λ (es : List Event). slice_get es i) (all_offers p al xs inboxes releases plan parts) ∙ ((found_item (Some (n, j)) e).1 n (up_to_at (nodes p) n (found_below n j e))).0
+
+    -- where the counts find nothing, there is no i-th event
+    pub found_none : place_of counts i ≡ None → slice_get (enabled_events p (state_with p al xs inboxes releases)) i ≡ None
+    found_none e = ap (λ (es : List Event). slice_get es i) (all_offers p al xs inboxes releases plan parts) ∙ found_item None e
 
 -- where a list begins with one event, a number of 1 or more finds in it what one less finds in the rest
 pub one_past : (e : Event) (es rest : List Event) (left : ℕ) (r : Nth) → es ≡ e ∷ rest → 0 < left → IsNth rest (left - 1) r → IsNth es left r

@@ -1,6 +1,8 @@
 -- What a net's parts have to know of what was taken and sent.
-use Rattle.std.proofs.Common.{◌≡◌, ◌≢◌, ◌∙◌, ◌<◌, ℕ, Bool, true, false, ◌==◌, ◌||◌, cond, List, [], ◌∷◌, ◌++◌, map, length, Option, Some, None, refl, sym, ap, subst, inl, inr, eqb-true, append-nil, append_assoc}
-use Rattle.std.proofs.lemmas.Bool.{cases_Bool, true≢false, or_cases}
+use Rattle.std.proofs.Common.{◌≡◌, ◌≢◌, ◌∙◌, ◌<◌, ℕ, Bool, true, false, ◌==◌, ◌&&◌, ◌||◌, cond, List, [], ◌∷◌, ◌++◌, map, length, Option, Some, None, refl, sym, ap, subst, inl, inr, eqb-true, append-nil, append_assoc, arith}
+use Rattle.std.proofs.lemmas.Bool.{cases_Bool, true≢false}
+use Rattle.std.proofs.lemmas.Bool.Decides.{nat_tests}
+use Rattle.overlay_setup.specs.NodeSets.{member}
 use Rattle.std.specs.List.{AllByRecursion}
 use Rattle.stat_desk.specs.declared.event.Event.{Event}
 use Rattle.stat_desk.specs.declared.event.Event.TheVariants.{Sample, Recv, Tick, Lose}
@@ -8,10 +10,10 @@ use Rattle.stat_desk.specs.Events.{event_node}
 use Rattle.overlay_core.specs.Nodes.{Release}
 use Rattle.overlay_core.specs.Releases.{next_release}
 use Rattle.overlay_core.specs.TreeReleases.{numbers_after}
-use Rattle.overlay_net.specs.Inboxes.{Waiting, HaveSent, IsInbox, is_waiting, queue_of, senders_of}
-use Rattle.overlay_net.specs.Nets.{inbox_at}
-use Rattle.overlay_net.specs.Events.{has_some}
-use Rattle.overlay_net.specs.Sends.{GoBelow, IsFirst, IsTaken, is_receiver, packets_to}
+use Rattle.overlay_net.specs.Inboxes.{FrameInbox, WaitingFrames}
+use Rattle.node_inbox.specs.Inboxes.{HaveSent, IsInbox, is_waiting, queue_of}
+use Rattle.node_inbox.specs.Sends.{AreSent, GoBelow, inbox_at, is_alive, is_receiver, packets_to}
+use Rattle.overlay_net.specs.Sends.{IsFirst, IsTaken}
 
 -- a list with a first element isn't empty
 some_first : {X : Type 0} (x : X) (xs : List X) → x ∷ xs ≢ []
@@ -20,7 +22,7 @@ some_first x xs = λ e. cc
 -- ---- what waits
 
 -- where nothing waits from a sender, its queue is empty
-pub none_where_quiet : (es : Waiting) (m : ℕ) → is_waiting es m ≡ false → queue_of es m ≡ []
+pub none_where_quiet : (es : WaitingFrames) (m : ℕ) → is_waiting es m ≡ false → queue_of es m ≡ []
 none_where_quiet [] m h = refl
 none_where_quiet (e ∷ es) m h = go (e.0 == m) h (none_where_quiet es m)
   where
@@ -29,7 +31,7 @@ none_where_quiet (e ∷ es) m h = go (e.0 == m) h (none_where_quiet es m)
     go false k rest = rest k
 
 -- where something waits from a sender, its queue isn't empty
-pub some_where_waiting : (es : Waiting) (m : ℕ) → HaveSent es → is_waiting es m ≡ true → queue_of es m ≢ []
+pub some_where_waiting : (es : WaitingFrames) (m : ℕ) → HaveSent es → is_waiting es m ≡ true → queue_of es m ≢ []
 some_where_waiting [] m h w = absurd (true≢false (sym w))
 some_where_waiting (e ∷ es) m h w = go (e.0 == m) w (some_where_waiting es m h.1)
   where
@@ -38,43 +40,43 @@ some_where_waiting (e ∷ es) m h w = go (e.0 == m) w (some_where_waiting es m h
     go false k rest = rest k
 
 -- a queue that isn't empty waits
-pub waits_where_some : (es : Waiting) (m : ℕ) → queue_of es m ≢ [] → is_waiting es m ≡ true
+pub waits_where_some : (es : WaitingFrames) (m : ℕ) → queue_of es m ≢ [] → is_waiting es m ≡ true
 waits_where_some es m some = elim (cases_Bool (is_waiting es m)) [ inl t ↦ t | inr f ↦ absurd (some (none_where_quiet es m f)) ]
 
 -- ---- what was taken
 
 -- each other inbox is unchanged
-pub taken_others : (ia ib : List Waiting) (e : Event) (packet : Option (List ℕ)) → IsTaken ia e packet ib → (b : ℕ) → (b == event_node e) ≡ false → inbox_at ib b ≡ inbox_at ia b
-taken_others ia ib (Sample n s w) packet h b f = ap (λ (l : List Waiting). inbox_at l b) h.1
+pub taken_others : (ia ib : List FrameInbox) (e : Event) (packet : Option (List ℕ)) → IsTaken ia e packet ib → (b : ℕ) → (b == event_node e) ≡ false → inbox_at ib b ≡ inbox_at ia b
+taken_others ia ib (Sample n s w) packet h b f = ap (λ (l : List FrameInbox). inbox_at l b) h.1
 taken_others ia ib (Recv n m) None h b f = absurd h
 taken_others ia ib (Recv n m) (Some q) h b f = h.others b f
-taken_others ia ib (Tick n) packet h b f = ap (λ (l : List Waiting). inbox_at l b) h.1
-taken_others ia ib (Lose n) packet h b f = ap (λ (l : List Waiting). inbox_at l b) h.1
+taken_others ia ib (Tick n) packet h b f = ap (λ (l : List FrameInbox). inbox_at l b) h.1
+taken_others ia ib (Lose n) packet h b f = ap (λ (l : List FrameInbox). inbox_at l b) h.1
 
 -- there are as many inboxes as there were
-pub taken_all : (ia ib : List Waiting) (e : Event) (packet : Option (List ℕ)) → IsTaken ia e packet ib → length ib ≡ length ia
-taken_all ia ib (Sample n s w) packet h = ap (λ (l : List Waiting). length l) h.1
+pub taken_all : (ia ib : List FrameInbox) (e : Event) (packet : Option (List ℕ)) → IsTaken ia e packet ib → length ib ≡ length ia
+taken_all ia ib (Sample n s w) packet h = ap (λ (l : List FrameInbox). length l) h.1
 taken_all ia ib (Recv n m) None h = absurd h
 taken_all ia ib (Recv n m) (Some q) h = h.inbox_count
-taken_all ia ib (Tick n) packet h = ap (λ (l : List Waiting). length l) h.1
-taken_all ia ib (Lose n) packet h = ap (λ (l : List Waiting). length l) h.1
+taken_all ia ib (Tick n) packet h = ap (λ (l : List FrameInbox). length l) h.1
+taken_all ia ib (Lose n) packet h = ap (λ (l : List FrameInbox). length l) h.1
 
 -- inboxes stay inboxes
-pub taken_kept : (ia ib : List Waiting) (e : Event) (packet : Option (List ℕ)) → IsTaken ia e packet ib → ((b : ℕ) → IsInbox (inbox_at ia b)) → (b : ℕ) → IsInbox (inbox_at ib b)
-taken_kept ia ib (Sample n s w) packet h is b = subst (λ (l : List Waiting). IsInbox (inbox_at l b)) (sym h.1) (is b)
+pub taken_kept : (ia ib : List FrameInbox) (e : Event) (packet : Option (List ℕ)) → IsTaken ia e packet ib → ((b : ℕ) → IsInbox (inbox_at ia b)) → (b : ℕ) → IsInbox (inbox_at ib b)
+taken_kept ia ib (Sample n s w) packet h is b = subst (λ (l : List FrameInbox). IsInbox (inbox_at l b)) (sym h.1) (is b)
 taken_kept ia ib (Recv n m) None h is b = absurd h
 taken_kept ia ib (Recv n m) (Some q) h is b = h.inboxes is b
-taken_kept ia ib (Tick n) packet h is b = subst (λ (l : List Waiting). IsInbox (inbox_at l b)) (sym h.1) (is b)
-taken_kept ia ib (Lose n) packet h is b = subst (λ (l : List Waiting). IsInbox (inbox_at l b)) (sym h.1) (is b)
+taken_kept ia ib (Tick n) packet h is b = subst (λ (l : List FrameInbox). IsInbox (inbox_at l b)) (sym h.1) (is b)
+taken_kept ia ib (Lose n) packet h is b = subst (λ (l : List FrameInbox). IsInbox (inbox_at l b)) (sym h.1) (is b)
 
 -- what is true of an unchanged queue, and of a queue without its first packet, is true of the queue afterwards
-left_over : (R : List (List ℕ) → Type 0) (ia ib : List Waiting) (n m : ℕ) (q : (List ℕ)) → IsFirst m n q ia ib
+left_over : (R : List (List ℕ) → Type 0) (ia ib : List FrameInbox) (n m : ℕ) (q : (List ℕ)) → IsFirst m n q ia ib
     → ((rest : List (List ℕ)) → R (q ∷ rest) → R rest)
     → (a b : ℕ) → R (queue_of (inbox_at ia b) a) → R (queue_of (inbox_at ib b) a)
 left_over R ia ib n m q h less a b r = go (b == n) (a == m) refl refl
   where
     go : (t u : Bool) → (b == n) ≡ t → (a == m) ≡ u → R (queue_of (inbox_at ib b) a)
-    go false u et eu = subst (λ (w : Waiting). R (queue_of w a)) (sym (h.others b et)) r
+    go false u et eu = subst (λ (w : WaitingFrames). R (queue_of w a)) (sym (h.others b et)) r
     go true false et eu =
         let eb : b ≡ n = eqb-true b n et in
         subst (λ k. R (queue_of (inbox_at ib k) a)) (sym eb) (subst R (sym (h.rest a eu)) (subst (λ k. R (queue_of (inbox_at ia k) a)) eb r))
@@ -87,16 +89,16 @@ left_over R ia ib n m q h less a b r = go (b == n) (a == m) refl refl
 
 -- what is true of each queue, also of one without its first packet, is true after an event has taken what it receives
 pub taken_left : (R : List (List ℕ) → Type 0) → ((q : (List ℕ)) (rest : List (List ℕ)) → R (q ∷ rest) → R rest)
-    → (ia ib : List Waiting) (e : Event) (packet : Option (List ℕ)) → IsTaken ia e packet ib
+    → (ia ib : List FrameInbox) (e : Event) (packet : Option (List ℕ)) → IsTaken ia e packet ib
     → (a b : ℕ) → R (queue_of (inbox_at ia b) a) → R (queue_of (inbox_at ib b) a)
-taken_left R less ia ib (Sample n s w) packet h a b r = subst (λ (l : List Waiting). R (queue_of (inbox_at l b) a)) (sym h.1) r
+taken_left R less ia ib (Sample n s w) packet h a b r = subst (λ (l : List FrameInbox). R (queue_of (inbox_at l b) a)) (sym h.1) r
 taken_left R less ia ib (Recv n m) None h a b r = absurd h
 taken_left R less ia ib (Recv n m) (Some q) h a b r = left_over R ia ib n m q h (less q) a b r
-taken_left R less ia ib (Tick n) packet h a b r = subst (λ (l : List Waiting). R (queue_of (inbox_at l b) a)) (sym h.1) r
-taken_left R less ia ib (Lose n) packet h a b r = subst (λ (l : List Waiting). R (queue_of (inbox_at l b) a)) (sym h.1) r
+taken_left R less ia ib (Tick n) packet h a b r = subst (λ (l : List FrameInbox). R (queue_of (inbox_at l b) a)) (sym h.1) r
+taken_left R less ia ib (Lose n) packet h a b r = subst (λ (l : List FrameInbox). R (queue_of (inbox_at l b) a)) (sym h.1) r
 
 -- where a queue was empty, it is empty after an event has taken what it receives
-pub taken_none : (ia ib : List Waiting) (e : Event) (packet : Option (List ℕ)) → IsTaken ia e packet ib → (a b : ℕ) → queue_of (inbox_at ia b) a ≡ [] → queue_of (inbox_at ib b) a ≡ []
+pub taken_none : (ia ib : List FrameInbox) (e : Event) (packet : Option (List ℕ)) → IsTaken ia e packet ib → (a b : ℕ) → queue_of (inbox_at ia b) a ≡ [] → queue_of (inbox_at ib b) a ≡ []
 taken_none ia ib e packet h a b none = taken_left (λ (l : List (List ℕ)). l ≡ []) (λ q rest k. absurd (some_first q rest k)) ia ib e packet h a b none
 
 -- ---- what was sent
@@ -110,52 +112,37 @@ sent_fit R b (v ∷ vs) h = go (v.0 == b) (sent_fit R b vs h.1)
     go true rest = (h.0, rest)
     go false rest = rest
 
--- a receiver is below the number that the receivers are below
-pub receiver_below : (count b : ℕ) (sends : List (ℕ × (List ℕ))) → GoBelow count sends → is_receiver sends b ≡ true → b < count
-receiver_below count b [] below h = absurd (true≢false (sym h))
-receiver_below count b (v ∷ vs) below h = elim (or_cases (v.0 == b) (is_receiver vs b) h) [
-  | inl t ↦ subst (λ k. k < count) (eqb-true v.0 b t) below.0
-  | inr r ↦ receiver_below count b vs below.1 r
-]
+-- the receivers are below the number that all of them are below
+pub receivers_below : (count : ℕ) (sends : List (ℕ × (List ℕ))) → GoBelow count sends → AllByRecursion (λ n. n < count) (map (λ v. v.0) sends)
+receivers_below count [] below = tt
+receivers_below count (v ∷ vs) below = (below.0, receivers_below count vs below.1)
 
--- a receiver gets something
-pub receiver_gets : (b : ℕ) (sends : List (ℕ × (List ℕ))) → is_receiver sends b ≡ true → packets_to b sends ≢ []
-receiver_gets b [] h = absurd (true≢false (sym h))
-receiver_gets b (v ∷ vs) h = go (v.0 == b) h (receiver_gets b vs)
+-- the receivers are those to whom something goes
+pub receiver_is_member : (b : ℕ) (sends : List (ℕ × (List ℕ))) → member b (map (λ v. v.0) sends) ≡ is_receiver sends b
+receiver_is_member b [] = refl
+receiver_is_member b (v ∷ vs) = (λ i. same_test b v.0 i || receiver_is_member b vs i)
   where
-    go : (t : Bool) → (t || is_receiver vs b) ≡ true → (is_receiver vs b ≡ true → packets_to b vs ≢ []) → cond t (v.1 ∷ packets_to b vs) (packets_to b vs) ≢ []
-    go true k rest = some_first v.1 (packets_to b vs)
-    go false k rest = rest k
+    same_test : (a c : ℕ) → (a == c) ≡ (c == a)
+    same_test a c = grind (arith, nat_tests)
 
--- a list with something behind it isn't empty
-pub some_behind : {X : Type 0} (xs ys : List X) → ys ≢ [] → xs ++ ys ≢ []
-some_behind [] ys some = some
-some_behind (x ∷ xs) ys some = some_first x (xs ++ ys)
+-- where neither of two tests holds, each fails
+pub or_both_false : (s t : Bool) → (s || t) ≡ false → (s ≡ false) × (t ≡ false)
+or_both_false true t e = absurd (true≢false e)
+or_both_false false t e = (refl, e)
+
+-- what is sent to inboxes in which the same waits
+pub sent_from_same : (al : List Bool) (from : ℕ) (sends : List (ℕ × (List ℕ))) (ia ib ic : List FrameInbox) → ((b : ℕ) → inbox_at ib b ≡ inbox_at ia b) → length ib ≡ length ia → AreSent al from sends ib ic → AreSent al from sends ia ic
+sent_from_same al from sends ia ib ic same len h = record {
+  queues = λ a b. h.queues a b ∙ (λ i. cond ((a == from) && is_alive al b) (queue_of (same b i) a ++ packets_to b sends) (queue_of (same b i) a));
+  others = λ b e. h.others b e ∙ same b;
+  inbox_count = h.inbox_count ∙ len;
+  inboxes = λ is. h.inboxes (λ b. subst IsInbox (sym (same b)) (is b));
+}
 
 -- what is true of each element of two lists is true of both together
 pub all_append : {X : Type 0} (R : X → Type 0) (xs ys : List X) → AllByRecursion R xs → AllByRecursion R ys → AllByRecursion R (xs ++ ys)
 all_append R [] ys h k = k
 all_append R (x ∷ xs) ys h k = (h.0, all_append R xs ys h.1 k)
-
--- ---- lists that are not empty
-
--- two lists together are not empty if one of them isn't
-pub some_of_both : (xs ys : List Event) → has_some (xs ++ ys) ≡ (has_some xs || has_some ys)
-some_of_both [] ys = refl
-some_of_both (x ∷ xs) ys = refl
-
--- a list between other events that isn't empty
-pub some_between : (xs ys zs : List Event) → has_some ys ≡ true → has_some ((xs ++ ys) ++ zs) ≡ true
-some_between xs ys zs h = some_of_both (xs ++ ys) zs ∙ ap (λ t. t || has_some zs) (some_of_both xs ys ∙ ap (λ t. has_some xs || t) h) ∙ turn (has_some xs) (has_some zs)
-  where
-    turn : (t u : Bool) → ((t || true) || u) ≡ true
-    turn true u = refl
-    turn false u = refl
-
--- where something waits, something can be received
-pub some_received : (n m : ℕ) (es : Waiting) → queue_of es m ≢ [] → has_some (map (λ a. Recv n a) (senders_of es)) ≡ true
-some_received n m [] some = absurd (some refl)
-some_received n m (e ∷ es) some = refl
 
 -- ---- releases
 

@@ -1,6 +1,6 @@
 -- How many events a node has handled is a small number.
-use Rattle.std.proofs.Common.{◌≡◌, ◌+◌, ◌*◌, ◌^◌, ◌<◌, ◌≤◌, ℕ, suc, Bool, true, false, ◌==◌, cond, List, [], ◌∷◌, map, length, None, Some, refl, sym, ap, subst, inl, inr, eqb-true, arith, length-append}
-use Rattle.std.proofs.lemmas.List.{length-map}
+use Rattle.std.proofs.Common.{◌≡◌, ◌+◌, ◌*◌, ◌^◌, ◌<◌, ◌≤◌, ℕ, suc, Bool, true, false, ◌==◌, cond, List, [], ◌∷◌, map, length, None, Some, refl, sym, ap, subst, inl, inr, eqb-true, arith, length-append, ◌∙◌, drop, get_or}
+use Rattle.std.proofs.lemmas.List.{drop_more, length-map}
 use Rattle.std.proofs.Math.Nat.{mul-le-mul, max-le}
 use Rattle.std.specs.List.{AllByRecursion}
 use Rattle.overlay_setup.specs.declared.topology.TheConstants.{NODE_LIMIT}
@@ -73,7 +73,7 @@ journal_counts p journal n = let a = run_raises p (start p) journal n in let b =
 -- ---- the bound of a plan
 
 -- ascending numbers of a range are no more than it has
-ascending_within_limit : (xs : List ℕ) (low high : ℕ) → low ≤ high → IsStrictlyIncreasing xs → ((x : ℕ) → In x xs → (low ≤ x) × (x < high)) → low + length xs ≤ high
+pub ascending_within_limit : (xs : List ℕ) (low high : ℕ) → low ≤ high → IsStrictlyIncreasing xs → ((x : ℕ) → In x xs → (low ≤ x) × (x < high)) → low + length xs ≤ high
 ascending_within_limit [] low high le increasing within = omega arith
 ascending_within_limit (x ∷ xs) low high le increasing within =
     let here : (low ≤ x) × (x < high) = within x (inl refl) in
@@ -89,7 +89,7 @@ numbers_below (x ∷ xs) all n (inl e) = subst (λ k. k < 8) (sym e) all.0.numbe
 numbers_below (x ∷ xs) all n (inr i) = numbers_below xs all.1 n i
 
 -- there are at most 8 streams
-streams_within_limit : (xs : List Stream) → AllByRecursion IsStream xs → IsStrictlyIncreasing (map (λ (x : Stream). x.number) xs) → length xs ≤ 8
+pub streams_within_limit : (xs : List Stream) → AllByRecursion IsStream xs → IsStrictlyIncreasing (map (λ (x : Stream). x.number) xs) → length xs ≤ 8
 streams_within_limit xs all increasing =
     let some : 0 ≤ 8 = omega arith in
     let a : 0 + length (map (λ (x : Stream). x.number) xs) ≤ 8 = ascending_within_limit (map (λ (x : Stream). x.number) xs) 0 8 some increasing (λ n i. (omega arith, numbers_below xs all n i)) in
@@ -101,7 +101,7 @@ abbrev own_waves : Stream → List (ℕ × ℕ)
 own_waves x = map (λ w. (x.number, w)) (up_to x.waves)
 
 -- a stream has at most 16 waves
-waves_within_limit : (xs : List Stream) → AllByRecursion IsStream xs → length (waves_of xs) ≤ 16 * length xs
+pub waves_within_limit : (xs : List Stream) → AllByRecursion IsStream xs → length (waves_of xs) ≤ 16 * length xs
 waves_within_limit [] all = omega arith
 waves_within_limit (x ∷ xs) all =
     let a : length (waves_of (x ∷ xs)) ≡ length (own_waves x) + length (waves_of xs) = length-append (own_waves x) (waves_of xs) in
@@ -118,16 +118,16 @@ ticks_within_limit (TimeOut t) h = h.1
 ticks_within_limit DontWait h = omega arith
 
 -- the longest of the timers runs at most 1,000 ticks
-longest_within_limit : (xs : List Stream) → AllByRecursion IsStream xs → longest xs ≤ 1000
+pub longest_within_limit : (xs : List Stream) → AllByRecursion IsStream xs → longest xs ≤ 1000
 longest_within_limit [] all = omega arith
 longest_within_limit (x ∷ xs) all = max-le (ticks_within_limit x.mode all.0.mode) (longest_within_limit xs all.1)
 
 -- the greatest bound of a plan
-greatest_bound : bound_of 512 128 1000 < 2 ^ 62
+pub greatest_bound : bound_of 512 128 1000 < 2 ^ 62
 greatest_bound = omega arith
 
 -- the bound of nodes, waves and timeouts within their limits is below 2^62
-small_bound_of : (n m t : ℕ) → n ≤ 512 → m ≤ 128 → t ≤ 1000 → bound_of n m t ≤ bound_of 512 128 1000
+pub small_bound_of : (n m t : ℕ) → n ≤ 512 → m ≤ 128 → t ≤ 1000 → bound_of n m t ≤ bound_of 512 128 1000
 small_bound_of n m t hn hm ht =
     let n9 : n + 9 ≤ 512 + 9 = omega arith in
     let t1 : t + 1 ≤ 1000 + 1 = omega arith in
@@ -157,3 +157,18 @@ small_count p journal e n plan legal may =
     let b : length journal < bound p = legal_has_room p journal e (plan_facts p plan) legal may in
     let c : bound p < 2 ^ 62 = small_bound p plan in
     omega arith
+
+-- the waves of a plan are few
+pub waves_of_plan : (p : Plan) → IsPlan p → length (waves_of p.streams) ≤ 128
+waves_of_plan p plan =
+    let b : length (waves_of p.streams) ≤ 16 * length p.streams = waves_within_limit p.streams plan.script.streams in
+    let c : length p.streams ≤ 8 = streams_within_limit p.streams plan.script.streams plan.script.streams_increase in
+    omega (arith, b, c)
+
+-- the waves of one stream, and of those behind it
+pub waves_from : (xs : List Stream) (k : ℕ) (x : Stream) → k < length xs → x ≡ get_or xs k x → length (waves_of (drop k xs)) ≡ x.waves + length (waves_of (drop (k + 1) xs))
+waves_from xs k x lt is =
+    ap (λ (ys : List Stream). length (waves_of ys)) (drop_more xs k x lt)
+    ∙ ap (λ (y : Stream). length (waves_of (y ∷ drop (k + 1) xs))) (sym is)
+    ∙ length-append (own_waves x) (waves_of (drop (k + 1) xs))
+    ∙ ap (λ n. n + length (waves_of (drop (k + 1) xs))) (length-map (up_to x.waves) (λ w. (x.number, w)) ∙ length-up_to x.waves)

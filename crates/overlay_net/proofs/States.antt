@@ -12,9 +12,10 @@ use Rattle.overlay_core.specs.TreeReleases.{TreeRelease, bare_release, bare_rele
 use Rattle.overlay_node.specs.Frames.{packet_of}
 use Rattle.overlay_node.specs.Outputs.{packets_of}
 use Rattle.overlay_node.specs.NodeViews.{NodeView, node_of}
-use Rattle.overlay_net.specs.Inboxes.{Waiting, queue_of}
-use Rattle.overlay_net.specs.Nets.{inbox_at, is_alive, node_at, state_with}
-use Rattle.overlay_net.specs.Sends.{packets_to}
+use Rattle.overlay_net.specs.Inboxes.{FrameInbox}
+use Rattle.node_inbox.specs.Inboxes.{queue_of}
+use Rattle.node_inbox.specs.Sends.{inbox_at, is_alive, no_inbox, packets_to}
+use Rattle.overlay_net.specs.Nets.{node_at, state_with}
 
 -- bare, what goes to b
 pub bare_to : (b : ℕ) (sends : List (ℕ × (List ℕ))) → map packet_of (packets_to b sends) ≡ to b (packets_of sends)
@@ -55,11 +56,11 @@ node_set p xs n y v below is b = go (b == n) refl
     go false t = ap (shown b) (set_else xs n b y (eqb-false b n t))
 
 -- an inbox that replaces another one
-pub inbox_here : (ib : List Waiting) (n : ℕ) (w : Waiting) → n < length ib → inbox_at (slice_set ib n w) n ≡ w
-inbox_here ib n w below = get_or-set_same ib n w [] below
+pub inbox_here : (ib : List FrameInbox) (n : ℕ) (w : FrameInbox) → n < length ib → inbox_at (slice_set ib n w) n ≡ w.waiting
+inbox_here ib n w below = ap (λ (b : FrameInbox). b.waiting) (get_or-set_same ib n w no_inbox below)
 
-pub inbox_else : (ib : List Waiting) (n b : ℕ) (w : Waiting) → b ≢ n → inbox_at (slice_set ib n w) b ≡ inbox_at ib b
-inbox_else ib n b w other = get_or-set_other ib n b w [] other
+pub inbox_else : (ib : List FrameInbox) (n b : ℕ) (w : FrameInbox) → b ≢ n → inbox_at (slice_set ib n w) b ≡ inbox_at ib b
+inbox_else ib n b w other = ap (λ (b : FrameInbox). b.waiting) (get_or-set_other ib n b w no_inbox other)
 
 pub and_false : (u : Bool) → (u && false) ≡ false
 and_false true = refl
@@ -67,7 +68,7 @@ and_false false = refl
 
 module _ (p : Plan) (al : List Bool) (xs : List NodeView) (rs : List TreeRelease) (n : ℕ) where
   -- The first packet of a link was taken.
-  pub popped_state : (ib ic : List Waiting) (m : ℕ) (rest : List (List ℕ))
+  pub popped_state : (ib ic : List FrameInbox) (m : ℕ) (rest : List (List ℕ))
       → queue_of (inbox_at ic n) m ≡ rest
       → ((a b : ℕ) → ((b == n) && (a == m)) ≡ false → queue_of (inbox_at ic b) a ≡ queue_of (inbox_at ib b) a)
       → ◌≡◌ {A = State} (with_link (state_with p al xs ib rs) m n (map packet_of rest)) (state_with p al xs ic rs)
@@ -91,7 +92,7 @@ module _ (p : Plan) (al : List Bool) (xs : List NodeView) (rs : List TreeRelease
           go false u et eu = ap (map packet_of) (sym (else a b ((λ i. eu i && et i) ∙ and_false u)))
 
   -- The event's node was replaced, and what it sent was added to the queues.
-  pub commit_state : (ib ic : List Waiting) (x y : NodeView) (o : Outcome) (sends : List (ℕ × (List ℕ))) (more : List TreeRelease)
+  pub commit_state : (ib ic : List FrameInbox) (x y : NodeView) (o : Outcome) (sends : List (ℕ × (List ℕ))) (more : List TreeRelease)
       → slice_get xs n ≡ Some x
       → ◌≡◌ {A = Node} (node_of y) (record { kin = o.kin; book = o.work.book; count = suc x.count })
       → packets_of sends ≡ o.work.sends

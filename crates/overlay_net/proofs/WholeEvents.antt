@@ -1,9 +1,8 @@
 -- An event of a net, as a whole.
 use Rattle.std.specs.Prelude.{◌↔◌}
-use Rattle.std.proofs.Common.{◌≡◌, ◌≢◌, ◌∙◌, ◌<◌, ◌^◌, ℕ, Bool, true, false, ◌==◌, cond, List, [], ◌∷◌, ◌++◌, length, get_or, slice_get, Some, sym, ap, subst}
+use Rattle.std.proofs.Common.{◌≡◌, ◌≢◌, ◌∙◌, ◌<◌, ◌^◌, ℕ, Bool, true, false, ◌==◌, List, [], ◌∷◌, ◌++◌, length, slice_get, Some, refl, sym, ap, subst, eqb-true, eq-eqb, arith}
 use Rattle.std.specs.Prelude.{Result, Ok, Err, OnOk}
-use Rattle.std.proofs.lemmas.List.{get_or_default, get_or-set_same, length-set, map-append}
-use Rattle.std.proofs.lemmas.Option.{slice_get_within}
+use Rattle.std.proofs.lemmas.List.{length-set, map-append}
 use Rattle.prefix_tree.specs.Tree.{Tree}
 use Rattle.stat_plan.specs.Invariants.{IsPlan}
 use Rattle.stat_plan.specs.Plans.{Plan, nodes, front}
@@ -18,20 +17,21 @@ use Rattle.overlay_core.specs.TreeReleases.{TreeRelease, release_view, releases_
 use Rattle.overlay_core.proofs.PlanFacts.{plan_facts}
 use Rattle.overlay_core.proofs.Journals.{after_more, legal_more, quiet_where_empty}
 use Rattle.overlay_core.proofs.Steps.{legal_sound}
-use Rattle.overlay_node.specs.NodeViews.{NodeView, IsNodeOf, node_of}
-use Rattle.overlay_net.specs.Inboxes.{Waiting}
-use Rattle.overlay_net.specs.Nets.{NetView, IsReachedBy, state_of, inbox_at, is_alive, net_view_of, node_events, state_with}
-use Rattle.overlay_net.specs.Events.{IsNet, IsOrdinary, has_some, is_listed}
-use Rattle.overlay_net.specs.Sends.{AreSent, GoBelow}
-use Rattle.overlay_net.specs.Handled.{ExtendsBy, IsMarked}
+use Rattle.overlay_node.specs.NodeViews.{NodeView, node_of}
+use Rattle.overlay_net.specs.Inboxes.{FrameInbox}
+use Rattle.overlay_net.specs.Nets.{NetView, state_of, net_view_of, state_with}
+use Rattle.node_inbox.specs.Sends.{AreSent, GoBelow}
+use Rattle.overlay_net.specs.Events.{AreCounted, AreCountedBut, AreNodes, AreParts, FrontCounts, IsNet, IsOrdinary}
+use Rattle.overlay_net.specs.Handled.{ExtendsBy}
+use Rattle.overlay_net.specs.Sends.{touched}
 use Rattle.overlay_net.specs.States.{IsHandedOver, MayHandOver}
 use Rattle.overlay_net.proofs.NextEvents.{can_take, event_below, go_below, may_handle, only_front, stepped}
-use Rattle.overlay_net.proofs.EventInvariant.{parts_kept, ready_kept, counts_kept, numbers_kept, trees_kept}
-use Rattle.overlay_net.proofs.PartsInvariant.{taken_all}
+use Rattle.overlay_net.proofs.EventInvariant.{counts_kept, counts_left, numbers_kept, parts_kept, trees_kept}
+use Rattle.overlay_net.proofs.PartsInvariant.{receivers_below, taken_all}
 use Rattle.overlay_net.proofs.Offers.{node_there}
 use Rattle.overlay_net.proofs.SmallCounts.{small_count}
 
-module _ (p : Plan) (plan : IsPlan p) (al : List Bool) (xs : List NodeView) (ib : List Waiting) (rs : List TreeRelease) (listed : List ℕ) (net : IsNet (net_view_of p al xs ib rs false) listed) (e : Event) (en : is_enabled p (state_with p al xs ib rs) e ≡ true) (ord : IsOrdinary e) where
+module _ (p : Plan) (plan : IsPlan p) (al : List Bool) (xs : List NodeView) (ib : List FrameInbox) (rs : List TreeRelease) (counts : List ℕ) (net : IsNet (net_view_of p al xs ib rs false) counts) (e : Event) (en : is_enabled p (state_with p al xs ib rs) e ≡ true) (ord : IsOrdinary e) where
   abbrev st : State
   st = state_with p al xs ib rs
 
@@ -53,17 +53,13 @@ module _ (p : Plan) (plan : IsPlan p) (al : List Bool) (xs : List NodeView) (ib 
     within_limit = few;
   }
 
-  module _ (ys : List NodeView) (ic : List Waiting) (sends : List (ℕ × (List ℕ))) (more : List TreeRelease) (over : IsHandedOver p e xs ys ib ic sends more) where
+  module _ (ys : List NodeView) (ic : List FrameInbox) (sends : List (ℕ × (List ℕ))) (more : List TreeRelease) (over : IsHandedOver p e xs ys ib ic sends more) where
     all_go_below : GoBelow (nodes p) sends
     all_go_below = go_below p plan al xs ib rs net.parts sound ic e over.before over.after over.packet sends more en ord over.taken over.node_before over.handled
 
-    -- what was sent can be put where it goes
-    pub can_deliver : GoBelow (length ic) sends
-    can_deliver = subst (λ k. GoBelow k sends) (sym (taken_all ib ic e over.packet over.taken ∙ net.parts.inbox_count)) all_go_below
-
-    -- the node is at its index
-    pub node_now : (d : NodeView) → get_or ys (event_node e) d ≡ over.after
-    node_now d = ap (λ l. get_or l (event_node e) d) over.nodes_after ∙ get_or-set_same xs (event_node e) over.after d (slice_get_within xs (event_node e) over.before over.node_before)
+    -- what was sent can be put where it goes, also where room was made
+    pub can_deliver : (im : List FrameInbox) → length im ≡ length ic → GoBelow (length im) sends
+    can_deliver im len = subst (λ k. GoBelow k sends) (sym (len ∙ taken_all ib ic e over.packet over.taken ∙ net.parts.inbox_count)) all_go_below
 
     -- there are as many nodes
     pub same_nodes : length ys ≡ length xs
@@ -72,46 +68,42 @@ module _ (p : Plan) (plan : IsPlan p) (al : List Bool) (xs : List NodeView) (ib 
     front_alone : event_node e ≢ front p → more ≡ []
     front_alone = only_front p plan al xs ib rs net.parts sound e over.before over.after over.packet sends more en ord over.node_before over.handled
 
-    module _ (id : List Waiting) (lb : List ℕ) (sent : AreSent al (event_node e) sends ic id listed lb) where
+    module _ (id : List FrameInbox) (sent : AreSent al (event_node e) sends ic id) where
       -- if a journal led to the net, that journal with the event appended leads to it now
       pub extends_by : ExtendsBy e (net_view_of p al xs ib rs false) (net_view_of p al ys id (rs ++ more) false)
       extends_by journal h =
           let here = subst (λ (s : State). is_enabled p s e ≡ true) h.state en in
           record {
             legal = legal_more p journal e h.legal here;
-            state = (λ i. state_with p al (over.nodes_after i) id (rs ++ more)) ∙ stepped p plan al xs ib rs net.parts sound ic id listed lb e over.before over.after over.packet sends more en ord over.taken over.node_before over.handled sent ∙ ap (λ (s : State). step p s e) h.state ∙ sym (after_more p journal e);
-            numbered = numbers_kept p al e over.before over.after over.packet sends more over.handled xs over.node_before rs front_alone net.counts h.numbered;
+            state = (λ i. state_with p al (over.nodes_after i) id (rs ++ more)) ∙ stepped p plan al xs ib rs net.parts sound ic id e over.before over.after over.packet sends more en ord over.taken over.node_before over.handled sent ∙ ap (λ (s : State). step p s e) h.state ∙ sym (after_more p journal e);
+            numbered = numbers_kept p al e over.before over.after over.packet sends more over.handled xs over.node_before rs front_alone net.front h.numbered;
             trees = trees_kept p al e over.before over.after over.packet sends more over.handled xs over.node_before rs h.trees;
           }
 
-      -- it is a net again
-      pub is_net : (lc : List ℕ) → IsMarked p al (event_node e) over.after id lb lc → IsNet (net_view_of p al ys id (rs ++ more) false) lc
-      is_net lc marked = subst (λ zs. IsNet (net_view_of p al zs id (rs ++ more) false) lc) (sym over.nodes_after) (record {
+      -- its parts are those of the plan
+      pub parts_then : AreParts p al ys id
+      parts_then = subst (λ zs. AreParts p al zs id) (sym over.nodes_after) (parts_kept p al e over.before over.after over.packet sends more over.handled xs over.node_before ib ic id net.parts over.taken sent all_go_below)
+
+      -- the events of the nodes that it touched are to be counted anew
+      pub counted_but : AreCountedBut (touched (event_node e) sends) p al ys id counts
+      counted_but = subst (λ zs. AreCountedBut (touched (event_node e) sends) p al zs id counts) (sym over.nodes_after) (counts_left p al e over.before over.after over.packet sends more over.handled xs over.node_before ib ic id counts over.taken sent net.counted)
+
+      pub touched_below : AreNodes p (touched (event_node e) sends)
+      touched_below = (event_below p plan al xs ib rs net.parts sound e en, receivers_below (nodes p) sends all_go_below)
+
+      -- then it is a net again
+      pub is_net : (now : List ℕ) → AreCounted p al ys id now → IsNet (net_view_of p al ys id (rs ++ more) false) now
+      is_net now counted = record {
         journal = net.journal ++ e ∷ [];
-        reached = subst (λ zs. IsReachedBy (net_view_of p al zs id (rs ++ more) false) (net.journal ++ e ∷ [])) over.nodes_after (extends_by net.journal net.reached);
-        parts = parts_kept p al e over.before over.after over.packet sends more over.handled xs over.node_before ib ic id listed lb net.parts over.taken sent all_go_below;
-        counts = counts_kept p al e over.before over.after over.packet sends more over.handled xs over.node_before rs front_alone net.counts;
-        listed = ready_kept p al e over.before over.after over.packet sends more over.handled xs over.node_before ib ic id listed lb lc net.parts over.taken sent all_go_below marked net.listed;
-      })
+        reached = extends_by net.journal net.reached;
+        parts = parts_then;
+        front = subst (λ zs. FrontCounts p zs (rs ++ more)) (sym over.nodes_after) (counts_kept p al e over.before over.after over.packet sends more over.handled xs over.node_before rs front_alone net.front);
+        counted = counted;
+      }
 
-    -- the node is listed as it is now, with its inbox
-    pub is_marked : (id : List Waiting) (lb lc : List ℕ) (k : ℕ) (u : Bool) (y : NodeView) (box : Waiting) → AreSent al (event_node e) sends ic id listed lb → k ≡ event_node e → u ≡ is_alive al k
-        → ((b : ℕ) → is_listed lc b ≡ cond (b == (get_or ys k y).number) (has_some (node_events p u (get_or ys k y) (get_or id k box))) (is_listed lb b))
-        → IsMarked p al (event_node e) over.after id lb lc
-    is_marked id lb lc k u y box sent same up marked b =
-        let node : get_or ys k y ≡ over.after = ap (λ i. get_or ys i y) same ∙ node_now y in
-        let number : over.after.number ≡ event_node e = over.handled.number ∙ (net.parts.node (event_node e) over.before over.node_before).0 in
-        let below : event_node e < length id = subst (λ j. event_node e < j) (sym (sent.inbox_count ∙ taken_all ib ic e over.packet over.taken ∙ net.parts.inbox_count)) (event_below p plan al xs ib rs net.parts sound e en) in
-        let inbox : get_or id k box ≡ inbox_at id (event_node e) = ap (λ i. get_or id i box) same ∙ get_or_default id (event_node e) box [] below in
-        marked b ∙ (λ i. cond (b == (ap (λ (z : NodeView). z.number) node ∙ number) i) (has_some (node_events p ((up ∙ ap (is_alive al) same) i) (node i) (inbox i))) (is_listed lb b))
-
-    -- the node may be marked
-    pub may_mark : (k : ℕ) (y : NodeView) → k ≡ event_node e → IsNodeOf p (get_or ys k y)
-    may_mark k y same = subst (IsNodeOf p) (sym (ap (λ i. get_or ys i y) same ∙ node_now y)) over.handled.fits
-
-    -- there are as many inboxes
-    pub same_inboxes : (id : List Waiting) (lb : List ℕ) → AreSent al (event_node e) sends ic id listed lb → length id ≡ length ib
-    same_inboxes id lb sent = sent.inbox_count ∙ taken_all ib ic e over.packet over.taken
+      -- there are as many inboxes
+      pub same_inboxes : length id ≡ length ib
+      same_inboxes = sent.inbox_count ∙ taken_all ib ic e over.packet over.taken
 
 -- what follows from a clause of a call
 pub ok_then : {T E A B : Type 0} (r : Result T E) → OnOk r A → (A → B) → OnOk r B
@@ -122,9 +114,14 @@ ok_then (Err e) a f = tt
 pub releases_more : {X : Type 0} (tree : X → Tree) (xs ys zs : List (Held X)) → zs ≡ xs ++ ys → releases_view tree zs ≡ releases_view tree xs ++ releases_view tree ys
 releases_more tree xs ys zs is = ap (releases_view tree) is ∙ map-append (release_view tree) xs ys
 
--- no event may come next exactly if no node is listed
-pub quiet_where_none : (v : NetView) (ready : List ℕ) (b : Bool) → IsPlan v.plan → IsNet v ready → (b ≡ true) ↔ (enabled_events v.plan (state_of v) ≡ []) → (b ≡ true) ↔ IsQuiet v.plan (state_of v)
-quiet_where_none v ready b plan net none =
+-- no event may come next exactly if none is counted
+pub none_where_zero : (es : List Event) (count : ℕ) (b : Bool) → b ≡ (count == 0) → count ≡ length es → (b ≡ true) ↔ (es ≡ [])
+none_where_zero [] count b is len = ((λ t. refl), (λ e. is ∙ eq-eqb count 0 len))
+none_where_zero (e ∷ es) count b is len = ((λ t. absurd (let z : count ≡ 0 = eqb-true count 0 (sym is ∙ t) in omega (arith, z, len))), (λ none. absurd (cc)))
+
+-- no event may come next exactly if the state is quiet
+pub quiet_where_none : (v : NetView) (counts : List ℕ) (b : Bool) → IsPlan v.plan → IsNet v counts → (b ≡ true) ↔ (enabled_events v.plan (state_of v) ≡ []) → (b ≡ true) ↔ IsQuiet v.plan (state_of v)
+quiet_where_none v counts b plan net none =
     let same = quiet_where_empty v.plan net.journal (plan_facts v.plan plan) net.reached.legal in (
       (λ t. subst (IsQuiet v.plan) (sym net.reached.state) (same.1 (subst (λ (s : State). enabled_events v.plan s ≡ []) net.reached.state (none.0 t)))),
       (λ q. none.1 (subst (λ (s : State). enabled_events v.plan s ≡ []) (sym net.reached.state) (same.0 (subst (IsQuiet v.plan) net.reached.state q)))),

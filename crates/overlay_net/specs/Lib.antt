@@ -5,3 +5,4 @@ pub mod Sends
 pub mod Handled
 pub mod Losses
 pub mod States
+pub mod Picks

@@ -9,9 +9,10 @@ use Rattle.overlay_core.specs.TreeReleases.{TreeRelease, releases_view}
 use Rattle.overlay_core.specs.Nodes.{Node}
 use Rattle.overlay_core.specs.Machine.{State, start_node}
 use Rattle.overlay_node.specs.NodeViews.{Counts, IsNodeOf, MayHandle, NodeView, node_of}
-use Rattle.overlay_net.specs.Inboxes.{Waiting}
-use Rattle.overlay_net.specs.Nets.{NetView, inbox_at, net_view_of, node_events, state_of}
-use Rattle.overlay_net.specs.Events.{IsNet, has_some, is_listed}
+use Rattle.overlay_net.specs.Inboxes.{FrameInbox}
+use Rattle.overlay_net.specs.Nets.{NetView, net_view_of, state_of}
+use Rattle.node_inbox.specs.Sends.{inbox_at}
+use Rattle.overlay_net.specs.Events.{IsNet}
 use Rattle.overlay_net.specs.Sends.{CanTake, IsTaken}
 use Rattle.overlay_net.specs.Handled.{ExtendsBy, HasHandled}
 use Rattle.overlay_net.specs.declared.state.NetState.{NetState}
@@ -21,7 +22,7 @@ abbrev pub net_view : {X : Type 0} → (X → Tree) → Plan → NetState X → 
 net_view tree p st failed = net_view_of p st.alive.items st.nodes.items st.inboxes.items (releases_view tree st.releases.items) failed
 
 -- An event's packet was taken from the inboxes, and its node has handled the event.
-pub record IsHandedOver (p : Plan) (e : Event) (xs ys : List NodeView) (old new : List Waiting) (sends : List (ℕ × (List ℕ))) (more : List TreeRelease) : Type 0 where
+pub record IsHandedOver (p : Plan) (e : Event) (xs ys : List NodeView) (old new : List FrameInbox) (sends : List (ℕ × (List ℕ))) (more : List TreeRelease) : Type 0 where
   pub packet : Option (List ℕ)
   pub before : NodeView
   pub after : NodeView
@@ -32,16 +33,15 @@ pub record IsHandedOver (p : Plan) (e : Event) (xs ys : List NodeView) (old new 
 
 -- The event's packet may be taken, and its node may handle the event with any packet that is taken. The node has done fewer
 -- than 2^62 events.
-pub record MayHandOver (p : Plan) (xs : List NodeView) (old : List Waiting) (e : Event) : Type 0 where
+pub record MayHandOver (p : Plan) (xs : List NodeView) (old : List FrameInbox) (e : Event) : Type 0 where
   pub below : event_node e < length xs
   pub take : CanTake old e
   pub fits : (x : NodeView) → slice_get xs (event_node e) ≡ Some x → IsNodeOf p x
-  pub handle : (new : List Waiting) (packet : Option (List ℕ)) (x : NodeView) → IsTaken old e packet new → slice_get xs (event_node e) ≡ Some x → MayHandle p x e packet
+  pub handle : (new : List FrameInbox) (packet : Option (List ℕ)) (x : NodeView) → IsTaken old e packet new → slice_get xs (event_node e) ≡ Some x → MayHandle p x e packet
   pub within_limit : (x : NodeView) → slice_get xs (event_node e) ≡ Some x → x.count < 2 ^ 62
 
--- The first `count` nodes live, have done no event yet, no packet waits for them, and exactly those with an event that may come next
--- are listed.
-pub record AreInitial (p : Plan) (count : ℕ) (alive : List Bool) (xs : List NodeView) (inboxes : List Waiting) (listed : List ℕ) : Type 0 where
+-- The first `count` nodes live, have done no event yet, and no packet waits for them.
+pub record AreInitial (p : Plan) (count : ℕ) (alive : List Bool) (xs : List NodeView) (inboxes : List FrameInbox) : Type 0 where
   pub node_count : length xs ≡ count
   pub inbox_count : length inboxes ≡ count
   pub alive_count : length alive ≡ count
@@ -50,12 +50,10 @@ pub record AreInitial (p : Plan) (count : ℕ) (alive : List Bool) (xs : List No
   pub start : (n : ℕ) (x : NodeView) → slice_get xs n ≡ Some x → ◌≡◌ {A = Node} (node_of x) (start_node p n)
   pub counts : (n : ℕ) (x : NodeView) → slice_get xs n ≡ Some x → Counts x.held []
   pub empty : (n : ℕ) → inbox_at inboxes n ≡ []
-  pub below : (n : ℕ) → is_listed listed n ≡ true → n < count
-  pub has_event : (n : ℕ) (x : NodeView) → slice_get xs n ≡ Some x → is_listed listed n ≡ has_some (node_events p true x [])
 
 -- the invariant of a net of this plan and state that has not run out of memory
 abbrev pub IsNetState : {X : Type 0} → (X → Tree) → Plan → NetState X → Type 0
-IsNetState tree p st = IsNet (net_view tree p st false) st.ready.keys
+IsNetState tree p st = IsNet (net_view tree p st false) st.counts
 
 -- the machine's state of this plan and state
 abbrev pub state_at : {X : Type 0} → (X → Tree) → Plan → NetState X → State

@@ -1,7 +1,7 @@
 //! The events that may come next: those of a node by index, and whether an event is one of them.
 
-ghost use Rattle.std.specs.Prelude.{◌≡◌, ◌&&◌, ◌∷◌, ◌↔◌, [], Bool, map, slice_get, ℕ, List};
-ghost use Rattle.std.specs.List.{flat_map};
+ghost use Rattle.std.specs.Prelude.{◌≡◌, ◌&&◌, ◌∷◌, [], Bool, length, map, slice_get, ℕ, List};
+ghost use Rattle.std.specs.List.{flat_map, sum};
 ghost use Rattle.stat_desk.specs.declared.event.Event.{Event};
 ghost use Rattle.stat_desk.specs.declared.event.Event.TheVariants.{Lose, Recv};
 ghost use Rattle.stat_plan.specs.Invariants.{IsPlan};
@@ -10,17 +10,20 @@ ghost use Rattle.stat_plan.specs.Plans.{Plan, daemons};
 ghost use Rattle.overlay_core.specs.Machine.{enabled_events, is_enabled, is_wave, next_sample};
 ghost use Rattle.overlay_core.specs.TreeReleases.{TreeRelease};
 ghost use Rattle.overlay_node.specs.NodeViews.{IsNodeOf, NodeView, node_of};
-ghost use Rattle.overlay_net.specs.Inboxes.{Waiting, senders_of};
-ghost use Rattle.overlay_net.specs.Nets.{active_events, is_alive, is_doomed_node, node_events, sample_of, state_with};
-ghost use Rattle.overlay_net.specs.Events.{AreParts, AreReady, IsNth, has_some, may_come, sample_at};
+ghost use Rattle.overlay_net.specs.Inboxes.{FrameInbox, WaitingFrames};
+ghost use Rattle.node_inbox.specs.Inboxes.{senders_of};
+ghost use Rattle.overlay_net.specs.Nets.{active_events, is_doomed_node, node_events, sample_of, state_with};
+ghost use Rattle.node_inbox.specs.Sends.{is_alive};
+ghost use Rattle.overlay_net.specs.Events.{AreCounted, AreParts, IsNth, may_come, sample_at};
 
-use crate::inbox::Inbox;
+use count_tree::CountTree;
+use node_inbox::Inbox;
 use overlay_node::Node;
 use overlay_setup::StreamDef;
+use packet_frame::Frame;
 use prefix_tree::PrefixTree;
 use stat_desk::Event;
 use stat_plan::Plan;
-use std::collections::BTreeSet;
 
 /// What an index finds in a list of events.
 pub enum Nth {
@@ -31,7 +34,7 @@ pub enum Nth {
 }
 
 /// The wave of a stream whose samples the node takes next, if it takes any.
-fn next_wave<T: PrefixTree>(plan: &Plan, node: &Node<T>, stream: &StreamDef) -> Option<u8>
+pub fn next_wave<T: PrefixTree>(plan: &Plan, node: &Node<T>, stream: &StreamDef) -> Option<u8>
     requires node { IsNodeOf plan.now node.now }
     requires stream { In stream.now plan.now.streams }
     ensures { sample_of plan.now node.now stream.now ≡ sample_at node.now.number stream.now.number result }
@@ -67,8 +70,8 @@ fn sample_event<T: PrefixTree>(plan: &Plan, node: &Node<T>, i: u64) -> Nth
 }
 
 /// The `i`-th of the events by which a node receives, from 0.
-fn receive_event(n: u32, inbox: &Inbox, i: u64) -> Nth
-    ensures { IsNth (map (λ m. Recv n m) (senders_of inbox.now)) i result }
+fn receive_event(n: u32, inbox: &Inbox<Frame>, i: u64) -> Nth
+    ensures { IsNth (map (λ m. Recv n m) (senders_of inbox.now.waiting)) i result }
 {
     match inbox.sender(i as usize) {
         Some(from) => Nth::Found(Event::Recv { node: n, from }),
@@ -77,9 +80,9 @@ fn receive_event(n: u32, inbox: &Inbox, i: u64) -> Nth
 }
 
 /// The `i`-th of the events of a node that is not to be lost next, from 0.
-fn active_event<T: PrefixTree>(plan: &Plan, node: &Node<T>, inbox: &Inbox, i: u64) -> Nth
+fn active_event<T: PrefixTree>(plan: &Plan, node: &Node<T>, inbox: &Inbox<Frame>, i: u64) -> Nth
     requires { IsNodeOf plan.now node.now }
-    ensures { IsNth (active_events plan.now node.now inbox.now) i result }
+    ensures { IsNth (active_events plan.now node.now inbox.now.waiting) i result }
 {
     plan.invariant();
     let left = match sample_event(plan, node, i) {
@@ -102,7 +105,7 @@ fn active_event<T: PrefixTree>(plan: &Plan, node: &Node<T>, inbox: &Inbox, i: u6
 }
 
 /// Whether its loss is all that may happen to the node.
-fn is_doomed<T: PrefixTree>(plan: &Plan, node: &Node<T>) -> bool
+pub fn is_doomed<T: PrefixTree>(plan: &Plan, node: &Node<T>) -> bool
     ensures { result ≡ is_doomed_node plan.now node.now }
 {
     match plan.fault(node.number()) {
@@ -127,11 +130,11 @@ pub fn node_event<T: PrefixTree>(
     plan: &Plan,
     up: bool,
     node: &Node<T>,
-    inbox: &Inbox,
+    inbox: &Inbox<Frame>,
     i: u64,
 ) -> Nth
     requires { IsNodeOf plan.now node.now }
-    ensures { IsNth (node_events plan.now up node.now inbox.now) i result }
+    ensures { IsNth (node_events plan.now up node.now inbox.now.waiting) i result }
 {
     if !up {
         return Nth::Beyond(i);
@@ -140,17 +143,6 @@ pub fn node_event<T: PrefixTree>(
         return loss_event(node.number(), i);
     }
     active_event(plan, node, inbox, i)
-}
-
-/// Whether an event of the node may come next.
-pub fn has_event<T: PrefixTree>(plan: &Plan, up: bool, node: &Node<T>, inbox: &Inbox) -> bool
-    requires { IsNodeOf plan.now node.now }
-    ensures { result ≡ has_some (node_events plan.now up node.now inbox.now) }
-{
-    match node_event(plan, up, node, inbox, 0) {
-        Nth::Found(_) => true,
-        Nth::Beyond(_) => false,
-    }
 }
 
 /// Whether a node lives.
@@ -162,9 +154,14 @@ pub fn is_up(alive: &[bool], n: u32) -> bool
 }
 
 /// Whether an event of a living node may come next.
-fn may_be_next<T: PrefixTree>(plan: &Plan, node: &Node<T>, inbox: &Inbox, event: Event) -> bool
+fn may_be_next<T: PrefixTree>(
+    plan: &Plan,
+    node: &Node<T>,
+    inbox: &Inbox<Frame>,
+    event: Event,
+) -> bool
     requires { IsNodeOf plan.now node.now }
-    ensures { result ≡ may_come plan.now node.now inbox.now event }
+    ensures { result ≡ may_come plan.now node.now inbox.now.waiting event }
 {
     let doomed = is_doomed(plan, node);
     match event {
@@ -180,7 +177,7 @@ pub fn is_enabled<T: PrefixTree>(
     plan: &Plan,
     alive: &[bool],
     nodes: &[Node<T>],
-    inboxes: &[Inbox],
+    inboxes: &[Inbox<Frame>],
     event: Event,
 ) -> bool
     requires { AreParts plan.now alive.now nodes.now inboxes.now }
@@ -208,36 +205,36 @@ fn is_next_wave<T: PrefixTree>(plan: &Plan, node: &Node<T>, s: u8, wave: u8) -> 
 }
 
 /// The `i`-th of the events that may come next, from 0. They are ordered by node, and those of a node as its loss, its
-/// samples by stream, what it may receive by sender, and its tick. Only nodes in `ready` are searched, up to the event.
+/// samples by stream, what it may receive by sender, and its tick. The counts say whose it is.
 pub fn nth_enabled<T: PrefixTree>(
     plan: &Plan,
     alive: &[bool],
     nodes: &[Node<T>],
-    inboxes: &[Inbox],
-    ready: &BTreeSet<u32>,
+    inboxes: &[Inbox<Frame>],
+    counts: &CountTree,
     i: u64,
 ) -> Option<Event>
     requires parts { AreParts plan.now alive.now nodes.now inboxes.now }
-    requires ready { AreReady plan.now alive.now nodes.now inboxes.now ready.now.keys }
+    requires counted { AreCounted plan.now alive.now nodes.now inboxes.now counts.now }
     ensures { (releases : List TreeRelease)
         → result
         ≡ slice_get (enabled_events plan.now (state_with plan.now alive.now nodes.now inboxes.now releases)) i }
 {
     plan.invariant();
-    let mut left = i;
-    for n in ready.iter() {
-        let up = is_up(alive, *n);
-        match node_event(plan, up, &nodes[*n as usize], &inboxes[*n as usize], left) {
-            Nth::Found(event) => return Some(event),
-            Nth::Beyond(beyond) => left = beyond,
-        }
+    let Some((n, own)) = counts.find(i) else {
+        return None;
+    };
+    let up = is_up(alive, n);
+    match node_event(plan, up, &nodes[n as usize], &inboxes[n as usize], own) {
+        Nth::Found(event) => Some(event),
+        Nth::Beyond(_) => unreachable!(),
     }
-    None
 }
 
-/// A law: no event may come next exactly if no node has one.
-pub fn no_event_where_none_is_ready()
-    ensures { (p : Plan) (alive : List Bool) (xs : List NodeView) (inboxes : List Waiting) (releases : List TreeRelease) (ready : List ℕ)
-        → IsPlan p → AreParts p alive xs inboxes → AreReady p alive xs inboxes ready
-        → (ready ≡ []) ↔ (enabled_events p (state_with p alive xs inboxes releases) ≡ []) }
+/// A law: as many events may come next as are counted.
+pub fn all_events_are_counted()
+    ensures { (p : Plan) (alive : List Bool) (xs : List NodeView) (inboxes : List FrameInbox)
+        (releases : List TreeRelease) (counts : List ℕ)
+        → IsPlan p → AreParts p alive xs inboxes → AreCounted p alive xs inboxes counts
+        → sum counts ≡ length (enabled_events p (state_with p alive xs inboxes releases)) }
 {}

@@ -1,11 +1,11 @@
 //! The overlay as a whole: its nodes, the packets between them, and what the front end has released.
 #![tactic(auto)]
 
-mod delivery;
+mod counting;
 mod events;
-mod inbox;
 mod loss;
 mod net;
+mod pick;
 mod state;
 
 pub use net::{Net, NetError};

@@ -5,11 +5,11 @@ ghost use Rattle.stat_plan.specs.Plans.{fault, is_related, nodes};
 ghost use Rattle.overlay_core.specs.Machine.{keep_of};
 ghost use Rattle.overlay_core.specs.Nodes.{Down};
 ghost use Rattle.overlay_node.specs.Frames.{IsFrameOf};
-ghost use Rattle.overlay_net.specs.Nets.{is_alive};
+ghost use Rattle.node_inbox.specs.Sends.{is_alive};
 ghost use Rattle.overlay_net.specs.Losses.{AreLost, IsCut, IsLost};
 
 use crate::events::is_up;
-use crate::inbox::Inbox;
+use node_inbox::Inbox;
 use packet_frame::{Frame, Packet, encode};
 use prefix_tree::PrefixTree;
 use stat_plan::Plan;
@@ -49,16 +49,17 @@ fn cut_link<T: PrefixTree>(
     alive: &[bool],
     n: u32,
     b: u32,
-    inbox: &mut Inbox,
+    inbox: &mut Inbox<Frame>,
 ) -> Result<(), AllocError>
     requires n { n < nodes plan.now }
     requires b { b < nodes plan.now }
-    ensures { OnOk result (IsCut plan.now alive.now n b inbox.old inbox.new) }
+    ensures { OnOk result (IsCut plan.now alive.now n b inbox.old.waiting inbox.new.waiting) }
 {
     inbox.cut(n, kept(plan, n) as usize);
     if is_up(alive, b) && is_kin(plan, n, b) {
         let frame = down_frame::<T>(alloc, plan)?;
-        inbox.put(alloc, n, frame)?;
+        inbox.make_room(alloc, n, 1)?;
+        inbox.put(n, frame);
     }
     Ok(())
 }
@@ -70,14 +71,14 @@ fn lose_at<T: PrefixTree>(
     alive: &[bool],
     n: u32,
     b: u32,
-    inbox: &mut Inbox,
+    inbox: &mut Inbox<Frame>,
 ) -> Result<(), AllocError>
     requires n { n < nodes plan.now }
     requires b { b < nodes plan.now }
-    ensures { OnOk result (IsLost plan.now alive.now n b inbox.old inbox.new) }
+    ensures { OnOk result (IsLost plan.now alive.now n b inbox.old.waiting inbox.new.waiting) }
 {
     if b == n {
-        *inbox = Inbox::new(alloc);
+        inbox.clear();
         return Ok(());
     }
     cut_link::<T>(alloc, plan, alive, n, b, inbox)
@@ -89,7 +90,7 @@ pub fn lose_links<T: PrefixTree>(
     plan: &Plan,
     alive: &[bool],
     n: u32,
-    inboxes: &mut [Inbox],
+    inboxes: &mut [Inbox<Frame>],
 ) -> Result<(), AllocError>
     requires n { n < nodes plan.now }
     requires count { length inboxes.old ≡ nodes plan.now }

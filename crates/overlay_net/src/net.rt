@@ -1,18 +1,22 @@
 //! The overlay: its nodes, the packets between them, and what was released.
 
-ghost use Rattle.std.specs.Prelude.{◌≡◌, ◌↔◌, [], true, false, Err, IfOk, OnOk, List, slice_get};
+ghost use Rattle.std.specs.Prelude.{◌≡◌, ◌↔◌, [], true, false, Err, IfOk, IsErr, OnErr, OnOk, List, slice_get};
 ghost use Rattle.stat_desk.specs.declared.event.Event.{Event};
+ghost use Rattle.overlay_core.specs.Bound.{bound};
 ghost use Rattle.overlay_core.specs.Machine.{enabled_events, is_enabled};
+ghost use Rattle.overlay_core.specs.Pick.{picked};
 ghost use Rattle.overlay_core.specs.Runs.{IsQuiet};
 ghost use Rattle.overlay_core.specs.TreeReleases.{releases_view};
 ghost use Rattle.overlay_net.specs.Handled.{ExtendsBy};
 ghost use Rattle.overlay_net.specs.Nets.{IsReachedBy, state_of};
+ghost use Rattle.overlay_net.specs.Picks.{HasPicked};
 
-use crate::events::{is_enabled, nth_enabled};
-use crate::state::{NetState, apply, has_no_event, start};
+use crate::events::{all_events_are_counted, is_enabled, nth_enabled};
+use crate::pick::{length_bound, run_picked};
+use crate::state::{NetState, apply, start};
 use overlay_core::Release;
 use prefix_tree::PrefixTree;
-use stat_desk::Event;
+use stat_desk::{Event, Journal};
 use stat_plan::Plan;
 use std::alloc::{AllocError, Global};
 use std::marker::Model;
@@ -107,7 +111,7 @@ impl<'p, T: PrefixTree> Net<'p, T> {
             self.state.alive.as_slice(),
             self.state.nodes.as_slice(),
             self.state.inboxes.as_slice(),
-            &self.state.ready,
+            &self.state.counts,
             i,
         )
     }
@@ -119,7 +123,44 @@ impl<'p, T: PrefixTree> Net<'p, T> {
         ensures quiet { (result ≡ true) ↔ IsQuiet self.now.plan (state_of self.now) }
     {
         self.plan.invariant();
-        has_no_event(self.plan, &self.state)
+        all_events_are_counted();
+        self.state.counts.total() == 0
+    }
+
+    /// Does the events that the numbers after the seed pick, one after another, until none may come next. They are the
+    /// journal. The number after `x` is `x * 6364136223846793005 + 1442695040888963407` modulo 2^64; with `n` events
+    /// that may come next, it picks the one of number `x / 2^33` modulo `n`, in the order of
+    /// [`enabled`](Net::enabled).
+    ///
+    /// A net that has run out of memory once, here too, returns that error ever after, and must not be read any more.
+    pub fn run_picked(&mut self, seed: u64) -> Result<Journal, AllocError>
+        ensures plan { self.new.plan ≡ self.old.plan }
+        ensures picked { IfOk result (λ journal. HasPicked self.old seed journal self.new) }
+        ensures start { IsReachedBy self.old []
+            → IfOk result (λ journal. (journal ≡ picked self.old.plan seed) × IsReachedBy self.new journal) }
+        ensures usable { OnOk result (self.new.failed ≡ false) }
+        ensures failed { self.old.failed ≡ true → IsErr result }
+        ensures fails { OnErr result (self.new.failed ≡ true) }
+    {
+        self.plan.invariant();
+        if self.failed {
+            return Err(AllocError);
+        }
+        match run_picked(self.plan, &mut self.state, seed) {
+            Ok(journal) => Ok(journal),
+            Err(_) => {
+                self.failed = true;
+                Err(AllocError)
+            }
+        }
+    }
+
+    /// A number of events that no journal of the plan has more of: with `n` nodes, `m` waves of all streams and the
+    /// greatest timeout `t`, it is `n * n + 9 * n + 3 * n * m * (n + 9) * (t + 1)`.
+    pub fn length_bound(&self) -> u64
+        ensures { result ≡ bound self.now.plan }
+    {
+        length_bound(self.plan)
     }
 
     /// For the proof: a net that has not run out of memory is reached by a journal.

@@ -3,25 +3,24 @@
 ghost use Rattle.std.specs.Prelude.{◌≡◌, ◌↔◌, [], true, false, length, slice_set, OnOk, IfOk};
 ghost use Rattle.overlay_core.specs.Machine.{enabled_events, is_enabled};
 ghost use Rattle.overlay_core.specs.TreeReleases.{releases_view};
-ghost use Rattle.overlay_node.specs.NodeViews.{IsNodeOf};
 ghost use Rattle.overlay_net.specs.Nets.{IsReachedBy, net_view_of};
-ghost use Rattle.overlay_net.specs.Events.{AreParts, AreReady, IsEnabledIn, IsNetOf, IsOrdinary};
-ghost use Rattle.overlay_net.specs.Handled.{ExtendsBy, Marks};
+ghost use Rattle.overlay_net.specs.Events.{AreCounted, AreParts, IsEnabledIn, IsNetOf, IsOrdinary};
+ghost use Rattle.overlay_net.specs.Handled.{ExtendsBy};
+ghost use Rattle.overlay_net.specs.Sends.{CanTake, IsTaken};
 ghost use Rattle.stat_desk.specs.declared.event.Event.TheVariants.{Lose};
-ghost use Rattle.overlay_net.specs.Losses.{AreBelow};
-ghost use Rattle.overlay_net.specs.States.{ExtendsState, IsHandedOver, IsNetState, MayHandOver, net_view, state_at};
+ghost use Rattle.overlay_net.specs.States.{AreInitial, ExtendsState, IsHandedOver, IsNetState, MayHandOver, net_view, state_at};
 
-use crate::delivery::{deliver, take_packet};
-use crate::events::{has_event, is_up, no_event_where_none_is_ready};
-use crate::inbox::Inbox;
+use crate::counting::{all_nodes, count_nodes, touched_by};
 use crate::loss::lose_links;
+use count_tree::CountTree;
+use node_inbox::{Inbox, deliver, make_rooms};
 use overlay_core::Release;
 use overlay_node::{Node, Outgoing};
+use packet_frame::Frame;
 use prefix_tree::PrefixTree;
 use stat_desk::Event;
 use stat_plan::Plan;
 use std::alloc::{AllocError, Global};
-use std::collections::BTreeSet;
 
 /// The mutable state of a net.
 #[derive(Drop)]
@@ -31,9 +30,9 @@ pub struct NetState<T: PrefixTree> {
     /// By node number.
     pub nodes: Vec<Node<T>>,
     /// By node number.
-    pub inboxes: Vec<Inbox>,
-    /// The nodes with an event that may come next.
-    pub ready: BTreeSet<u32>,
+    pub inboxes: Vec<Inbox<Frame>>,
+    /// How many events of each node may come next, by node number.
+    pub counts: CountTree,
     /// What was released, in order.
     pub releases: Vec<Release<T>>,
 }
@@ -47,22 +46,55 @@ pub fn start<T: PrefixTree>(alloc: Global, plan: &Plan) -> Result<NetState<T>, A
     let mut alive = Vec::new(alloc);
     let mut nodes = Vec::new(alloc);
     let mut inboxes = Vec::new(alloc);
-    let mut ready = BTreeSet::new(alloc);
     for n in 0..plan.nodes() {
         let node = Node::new(alloc, plan, n)?;
         let inbox = Inbox::new(alloc);
-        mark(plan, true, &node, &inbox, &mut ready)?;
         alive.push(true)?;
         nodes.push(node)?;
         inboxes.push(inbox)?;
     }
+    let counts = first_counts(
+        alloc,
+        plan,
+        alive.as_slice(),
+        nodes.as_slice(),
+        inboxes.as_slice(),
+    )?;
     Ok(NetState {
         alive,
         nodes,
         inboxes,
-        ready,
+        counts,
         releases: Vec::new(alloc),
     })
+}
+
+// How many events of each node may come next at the start.
+fn first_counts<T: PrefixTree>(
+    alloc: Global,
+    plan: &Plan,
+    alive: &[bool],
+    nodes: &[Node<T>],
+    inboxes: &[Inbox<Frame>],
+) -> Result<CountTree, AllocError>
+    requires { AreParts plan.now alive.now nodes.now inboxes.now }
+    ensures { IfOk result (AreCounted plan.now alive.now nodes.now inboxes.now) }
+{
+    let mut counts = CountTree::new(alloc, plan.nodes())?;
+    let all = all_nodes(alloc, plan)?;
+    count_nodes(plan, alive, nodes, inboxes, all.as_slice(), &mut counts);
+    Ok(counts)
+}
+
+// Takes the packet that an event receives.
+fn take_packet(inboxes: &mut [Inbox<Frame>], event: Event) -> Option<Frame>
+    requires { CanTake inboxes.old event }
+    ensures { IsTaken inboxes.old event result inboxes.new }
+{
+    match event {
+        Event::Recv { node, from } => Some(inboxes[node as usize].take(from)),
+        _ => None,
+    }
 }
 
 // Takes the packet that an event receives, and lets the event's node handle it.
@@ -70,7 +102,7 @@ fn hand_over<T: PrefixTree>(
     alloc: Global,
     plan: &Plan,
     nodes: &mut [Node<T>],
-    inboxes: &mut [Inbox],
+    inboxes: &mut [Inbox<Frame>],
     event: Event,
 ) -> Result<Outgoing<T>, AllocError>
     requires { MayHandOver plan.now nodes.old inboxes.old event }
@@ -81,40 +113,24 @@ fn hand_over<T: PrefixTree>(
     nodes[event.node() as usize].handle(alloc, plan, event, packet)
 }
 
-// Lists a node in `ready` exactly if it has an event that may come next.
-fn mark<T: PrefixTree>(
-    plan: &Plan,
-    up: bool,
-    node: &Node<T>,
-    inbox: &Inbox,
-    ready: &mut BTreeSet<u32>,
-) -> Result<(), AllocError>
-    requires { IsNodeOf plan.now node.now }
-    ensures { OnOk result (Marks plan.now up node.now inbox.now ready.old.keys ready.new.keys) }
-{
-    if has_event(plan, up, node, inbox) {
-        ready.insert(node.number())?;
-    } else {
-        ready.remove(&node.number());
-    }
-    Ok(())
-}
-
-// Does an event that is no loss: its node handles it, what the node sends is delivered, and what it releases is added to the releases.
+// Does an event that is no loss: its node handles it, what the node sends is delivered, and what it releases is added
+// to the releases. From the delivery on nothing takes memory.
 fn do_event<T: PrefixTree>(
     plan: &Plan,
     alive: &[bool],
     nodes: &mut [Node<T>],
-    inboxes: &mut [Inbox],
-    ready: &mut BTreeSet<u32>,
+    inboxes: &mut [Inbox<Frame>],
+    counts: &mut CountTree,
     releases: &mut Vec<Release<T>>,
     event: Event,
 ) -> Result<(), AllocError>
-    requires net { IsNetOf plan.now alive.now nodes.old inboxes.old (releases_view T.tree releases.old.items) ready.old.keys }
-    requires enabled { IsEnabledIn plan.now alive.now nodes.old inboxes.old (releases_view T.tree releases.old.items) event }
+    requires net { IsNetOf plan.now alive.now nodes.old inboxes.old
+        (releases_view T.tree releases.old.items) counts.old }
+    requires enabled { IsEnabledIn plan.now alive.now nodes.old inboxes.old
+        (releases_view T.tree releases.old.items) event }
     requires ordinary { IsOrdinary event }
     ensures net { OnOk result (IsNetOf plan.now alive.now nodes.new inboxes.new
-        (releases_view T.tree releases.new.items) ready.new.keys) }
+        (releases_view T.tree releases.new.items) counts.new) }
     ensures reached { OnOk result (ExtendsBy event
         (net_view_of plan.now alive.now nodes.old inboxes.old (releases_view T.tree releases.old.items) false)
         (net_view_of plan.now alive.now nodes.new inboxes.new (releases_view T.tree releases.new.items) false)) }
@@ -125,28 +141,11 @@ fn do_event<T: PrefixTree>(
     let alloc = *releases.allocator();
     let n = event.node();
     let mut out = hand_over(alloc, plan, nodes, inboxes, event)?;
-    deliver(alloc, n, out.sends, alive, inboxes, ready)?;
+    let touched = touched_by(alloc, n, out.sends.as_slice())?;
+    make_rooms(alloc, n, out.sends.as_slice(), inboxes)?;
     releases.append(&mut out.releases)?;
-    let up = is_up(alive, n);
-    mark(plan, up, &nodes[n as usize], &inboxes[n as usize], ready)
-}
-
-// Lists all nodes anew.
-fn mark_all<T: PrefixTree>(
-    plan: &Plan,
-    alive: &[bool],
-    nodes: &[Node<T>],
-    inboxes: &[Inbox],
-    ready: &mut BTreeSet<u32>,
-) -> Result<(), AllocError>
-    requires parts { AreParts plan.now alive.now nodes.now inboxes.now }
-    requires below { AreBelow plan.now ready.old.keys }
-    ensures { OnOk result (AreReady plan.now alive.now nodes.now inboxes.now ready.new.keys) }
-{
-    for b in 0..plan.nodes() {
-        let up = is_up(alive, b);
-        mark(plan, up, &nodes[b as usize], &inboxes[b as usize], ready)?;
-    }
+    deliver(n, out.sends, alive, inboxes);
+    count_nodes(plan, alive, nodes, inboxes, touched.as_slice(), counts);
     Ok(())
 }
 
@@ -155,25 +154,29 @@ fn do_loss<T: PrefixTree>(
     plan: &Plan,
     alive: &mut [bool],
     nodes: &[Node<T>],
-    inboxes: &mut [Inbox],
-    ready: &mut BTreeSet<u32>,
+    inboxes: &mut [Inbox<Frame>],
+    counts: &mut CountTree,
     releases: &[Release<T>],
     alloc: Global,
     n: u32,
 ) -> Result<(), AllocError>
-    requires net { IsNetOf plan.now alive.old nodes.now inboxes.old (releases_view T.tree releases.now) ready.old.keys }
-    requires enabled { IsEnabledIn plan.now alive.old nodes.now inboxes.old (releases_view T.tree releases.now) (Lose n) }
+    requires net { IsNetOf plan.now alive.old nodes.now inboxes.old
+        (releases_view T.tree releases.now) counts.old }
+    requires enabled { IsEnabledIn plan.now alive.old nodes.now inboxes.old
+        (releases_view T.tree releases.now) (Lose n) }
     ensures net { OnOk result (IsNetOf plan.now alive.new nodes.now inboxes.new
-        (releases_view T.tree releases.now) ready.new.keys) }
+        (releases_view T.tree releases.now) counts.new) }
     ensures reached { OnOk result (ExtendsBy (Lose n)
         (net_view_of plan.now alive.old nodes.now inboxes.old (releases_view T.tree releases.now) false)
         (net_view_of plan.now alive.new nodes.now inboxes.new (releases_view T.tree releases.now) false)) }
     ensures alive_count { OnOk result (length alive.new ≡ length alive.old) }
     ensures inbox_count { OnOk result (length inboxes.new ≡ length inboxes.old) }
 {
+    let all = all_nodes(alloc, plan)?;
     lose_links::<T>(alloc, plan, alive, n, inboxes)?;
     alive[n as usize] = false;
-    mark_all(plan, alive, nodes, inboxes, ready)
+    count_nodes(plan, alive, nodes, inboxes, all.as_slice(), counts);
+    Ok(())
 }
 
 /// Does an event that may come next.
@@ -193,7 +196,7 @@ pub fn apply<T: PrefixTree>(
             state.alive.as_mut_slice(),
             state.nodes.as_slice(),
             state.inboxes.as_mut_slice(),
-            &mut state.ready,
+            &mut state.counts,
             state.releases.as_slice(),
             *state.releases.allocator(),
             node,
@@ -203,19 +206,9 @@ pub fn apply<T: PrefixTree>(
             state.alive.as_slice(),
             state.nodes.as_mut_slice(),
             state.inboxes.as_mut_slice(),
-            &mut state.ready,
+            &mut state.counts,
             &mut state.releases,
             event,
         ),
     }
-}
-
-/// Whether no event may come next.
-pub fn has_no_event<T: PrefixTree>(plan: &Plan, state: &NetState<T>) -> bool
-    requires { IsNetState T.tree plan.now state.now }
-    ensures { (result ≡ true) ↔ (enabled_events plan.now (state_at T.tree plan.now state.now) ≡ []) }
-{
-    plan.invariant();
-    no_event_where_none_is_ready();
-    state.ready.is_empty()
 }

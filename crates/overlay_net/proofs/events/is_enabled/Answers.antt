@@ -1,6 +1,6 @@
 use Rattle.std.proofs.Common.{◌≡◌, ◌∙◌, ◌<◌, true, Some, slice_get, sym, ap, subst}
 use Rattle.stat_plan.specs.Plans.{nodes}
-use Rattle.overlay_net.specs.Nets.{inbox_at, is_alive}
+use Rattle.node_inbox.specs.Sends.{inbox_at, is_alive}
 use Rattle.overlay_net.specs.Events.{may_come}
 use Rattle.overlay_net.proofs.Offers.{enabled_is, inbox_read, living_below, node_read, none_of_dead}
 use Rattle.overlay_net.proofs.events.is_enabled.Goals as goal

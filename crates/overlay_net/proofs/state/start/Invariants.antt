@@ -3,5 +3,5 @@ use Rattle.overlay_net.proofs.state.start.Given as goal
 
 abbrev pub invariant-loop-n : goal.invariant-loop-n
 invariant-loop-n g l = record {
-  initial : AreInitial l.plan l.n l.alive.items l.nodes.items l.inboxes.items l.ready.keys;
+  initial : AreInitial l.plan l.n l.alive.items l.nodes.items l.inboxes.items;
 }

@@ -1,0 +1,103 @@
+-- A net that does picked events, one after another.
+use Rattle.std.proofs.Common.{◌≡◌, ◌∙◌, ◌+◌, ◌/◌, ◌%◌, ◌^◌, ◌<◌, ◌≤◌, ℕ, true, List, [], ◌∷◌, ◌++◌, length, slice_get, Some, None, refl, sym, ap, subst, arith, append-nil, append_assoc}
+use Rattle.stat_plan.specs.Invariants.{IsPlan}
+use Rattle.stat_plan.specs.Plans.{Plan}
+use Rattle.stat_desk.specs.declared.event.Event.{Event}
+use Rattle.overlay_core.specs.Machine.{State, enabled_events, is_enabled, start, step}
+use Rattle.overlay_core.specs.Pick.{PicksFrom, next_number, picked, picked_event}
+use Rattle.overlay_core.specs.Runs.{after, run}
+use Rattle.overlay_core.specs.Whole.{IsSound}
+use Rattle.overlay_core.proofs.PlanFacts.{plan_facts}
+use Rattle.overlay_core.proofs.Picks.{none_listed, picked_enabled, picked_is_one, picks_more}
+use Rattle.overlay_core.proofs.Potential.{step_decreases, weight}
+use Rattle.overlay_core.proofs.Whole.{legal_is_sound}
+use Rattle.overlay_net.specs.Nets.{NetView, IsReachedBy, state_of}
+use Rattle.overlay_net.specs.Events.{IsNet}
+use Rattle.overlay_net.specs.Handled.{ExtendsBy}
+use Rattle.overlay_net.specs.Picks.{HasPicked}
+use Rattle.overlay_net.proofs.Offers.{living_below}
+
+-- the state that picked events lead to, from a net on
+pub record HasCome (old : NetView) (seed : ℕ) (journal : List Event) (number : ℕ) (new : NetView) : Type 0 where
+  pub plan : new.plan ≡ old.plan
+  pub picks : PicksFrom old.plan seed (state_of old) journal number
+  pub state : ◌≡◌ {A = State} (state_of new) (run old.plan (state_of old) journal)
+  pub reached : (earlier : List Event) → IsReachedBy old earlier → IsReachedBy new (earlier ++ journal)
+
+-- nothing was done yet
+pub none_picked : (v : NetView) (seed : ℕ) → HasCome v seed [] seed v
+none_picked v seed = record { plan = refl; picks = refl; state = refl; reached = λ earlier h. subst (IsReachedBy v) (sym (append-nil earlier)) h }
+
+run_more : (p : Plan) (st : State) (es : List Event) (e : Event) → run p st (es ++ e ∷ []) ≡ step p (run p st es) e
+run_more p st [] e = refl
+run_more p st (f ∷ es) e = run_more p (step p st f) es e
+
+-- where no event may come next, none is picked
+pub nothing_to_pick : (p : Plan) (st : State) (number : ℕ) → length (enabled_events p st) ≡ 0 → picked_event p st number ≡ None
+unfolding picked_event
+nothing_to_pick p st number none = go (enabled_events p st) none
+  where
+    go : (es : List Event) → length es ≡ 0 → slice_get es (number / 2 ^ 33 % length es) ≡ None
+    go [] e = refl
+    go (x ∷ xs) e = absurd (omega (arith, e))
+
+-- what a number picks, by its definition
+pub picks_of_all : (p : Plan) (st : State) (number : ℕ) → slice_get (enabled_events p st) (number / 2 ^ 33 % length (enabled_events p st)) ≡ picked_event p st number
+unfolding picked_event
+picks_of_all p st number = refl
+
+-- an event of a net that was picked may come next
+pub may_be_picked : (v : NetView) (number : ℕ) (e : Event) → Some e ≡ picked_event v.plan (state_of v) number → is_enabled v.plan (state_of v) e ≡ true
+may_be_picked v number e is = picked_enabled v.plan (state_of v) number e (sym is)
+
+-- an event that extends a net's journals does the machine's step
+stepped_by : (old new : NetView) (counts : List ℕ) (e : Event) → new.plan ≡ old.plan → IsNet old counts → ExtendsBy e old new → ◌≡◌ {A = State} (state_of new) (step old.plan (state_of old) e)
+stepped_by old new counts e same net extends =
+    let more = extends net.journal net.reached in
+    more.state ∙ ap (λ p. after p (net.journal ++ e ∷ [])) same ∙ run_more old.plan (start old.plan) net.journal e ∙ ap (λ st. step old.plan st e) (sym net.reached.state)
+
+-- one event more
+pub one_more : (old mid new : NetView) (counts : List ℕ) (seed number : ℕ) (journal : List Event) (e : Event) → IsNet mid counts → HasCome old seed journal number mid → Some e ≡ picked_event mid.plan (state_of mid) (next_number number) → new.plan ≡ mid.plan → ExtendsBy e mid new → HasCome old seed (journal ++ e ∷ []) (next_number number) new
+one_more old mid new counts seed number journal e net come pick same extends =
+    let found : picked_event old.plan (run old.plan (state_of old) journal) (next_number number) ≡ Some e = (λ i. picked_event (sym come.plan i) (sym come.state i) (next_number number)) ∙ sym pick in
+    record {
+      plan = same ∙ come.plan;
+      picks = picks_more old.plan seed (state_of old) journal number e come.picks found;
+      state = stepped_by mid new counts e same net extends ∙ (λ i. step (come.plan i) (come.state i) e) ∙ sym (run_more old.plan (state_of old) journal e);
+      reached = λ earlier h. subst (IsReachedBy new) (append_assoc earlier journal (e ∷ [])) (extends (earlier ++ journal) (come.reached earlier h));
+    }
+
+-- an event makes the state's weight smaller
+pub weighs_less : (v new : NetView) (counts : List ℕ) (e : Event) → IsPlan v.plan → IsNet v counts → new.plan ≡ v.plan → is_enabled v.plan (state_of v) e ≡ true → ExtendsBy e v new → weight v.plan (state_of new) < weight v.plan (state_of v)
+weighs_less v new counts e plan net same en extends =
+    let sound = subst (IsSound v.plan) (sym net.reached.state) (legal_is_sound v.plan net.journal (plan_facts v.plan plan) net.reached.legal) in
+    let less : weight v.plan (step v.plan (state_of v) e) + 1 ≤ weight v.plan (state_of v) = step_decreases v.plan (state_of v) e (plan_facts v.plan plan) sound (λ n up. living_below v.plan v.alive v.nodes v.inboxes n net.parts up) en in
+    let is : weight v.plan (state_of new) ≡ weight v.plan (step v.plan (state_of v) e) = ap (weight v.plan) (stepped_by v new counts e same net extends) in
+    omega (arith, less, is)
+
+-- where nothing is picked, nothing may come next
+none_next : (p : Plan) (st : State) (number : ℕ) → None ≡ picked_event p st number → enabled_events p st ≡ []
+unfolding picked_event
+none_next p st number is = none_listed (enabled_events p st) (number / 2 ^ 33) (sym is)
+
+-- then all is done
+pub all_picked : (old new : NetView) (seed number : ℕ) (journal : List Event) → HasCome old seed journal number new → None ≡ picked_event new.plan (state_of new) (next_number number) → HasPicked old seed journal new
+all_picked old new seed number journal come none = record {
+  plan = come.plan;
+  last = number;
+  picks = come.picks;
+  reached = come.reached;
+  ends = ap (λ p. enabled_events p (state_of new)) (sym come.plan) ∙ none_next new.plan (state_of new) (next_number number) none;
+}
+
+-- a new net does what the seed picks
+pub picked_at_start : (old new : NetView) (seed : ℕ) (journal : List Event) → IsPlan old.plan → HasPicked old seed journal new → IsReachedBy old [] → (journal ≡ picked old.plan seed) × IsReachedBy new journal
+picked_at_start old new seed journal plan done start =
+    let reached = done.reached [] start in (
+      picked_is_one old.plan seed journal (plan_facts old.plan plan) (record {
+        last = done.last;
+        picks = subst (λ st. PicksFrom old.plan seed st journal done.last) start.state done.picks;
+        ends = ap (enabled_events old.plan) (sym (reached.state ∙ ap (λ p. after p journal) done.plan)) ∙ done.ends;
+      }),
+      reached,
+    )
