@@ -1,3 +1,4 @@
 pub mod NodeKins
 pub mod Reactions
 pub mod Settled
+pub mod Rows

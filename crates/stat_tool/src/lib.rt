@@ -15,8 +15,6 @@ pub use status::{FileRole, Outcome, Status, Target, WordFault};
 #[cfg(test)]
 mod fixtures;
 #[cfg(test)]
-mod kin_tests;
-#[cfg(test)]
 mod loss_tests;
 #[cfg(test)]
 mod net_tests;

@@ -2,7 +2,7 @@
 
 ghost use Rattle.std.specs.Prelude.{◌≡◌, false, OnOk};
 
-use crate::fixtures::{FOUR_SMP, TWO_TOP, desk_of};
+use crate::fixtures::{DONT_WAIT_SCR, FOUR_SMP, TWO_TOP, desk_of, recv, sample};
 use crate::read::read_plan;
 use crate::run::report_of;
 use crate::status::Status;
@@ -44,8 +44,8 @@ class 1:[1] paths 1
 end
 ";
 
-fn plan(alloc: Global, samples: &str) -> Result<Plan, Status> {
-    let mut desk = match desk_of(alloc, TWO_TOP, samples, SCRIPT) {
+fn plan_of(alloc: Global, samples: &str, script: &str) -> Result<Plan, Status> {
+    let mut desk = match desk_of(alloc, TWO_TOP, samples, script) {
         Ok(desk) => desk,
         Err(_) => return Err(Status::OutOfMemory),
     };
@@ -89,7 +89,7 @@ fn last_release(net: &mut Net<'_, OwnedTree>) -> Result<(), NetError>
 #[test]
 fn seven_events_release_a_part_and_the_whole(rt: HostRuntime) {
     let alloc = rt.alloc();
-    let plan = plan(alloc, FOUR_SMP).expect(&rt, "a plan");
+    let plan = plan_of(alloc, FOUR_SMP, SCRIPT).expect(&rt, "a plan");
     let mut net: Net<'_, OwnedTree> = Net::new(alloc, &plan).expect(&rt, "a net");
     first_release(&mut net).expect(&rt, "three events");
     assert!(rt; !net.is_quiet());
@@ -132,7 +132,7 @@ const NOT_NEXT: [Event; 9] = [
 #[test]
 fn other_events_change_nothing(rt: HostRuntime) {
     let alloc = rt.alloc();
-    let plan = plan(alloc, FOUR_SMP).expect(&rt, "a plan");
+    let plan = plan_of(alloc, FOUR_SMP, SCRIPT).expect(&rt, "a plan");
     let mut net: Net<'_, OwnedTree> = Net::new(alloc, &plan).expect(&rt, "a net");
     for event in NOT_NEXT {
         assert_eq!(rt; net.apply(event), Err(NetError::NotEnabled));
@@ -142,7 +142,7 @@ fn other_events_change_nothing(rt: HostRuntime) {
 #[test]
 fn the_first_events_are_told_in_order(rt: HostRuntime) {
     let alloc = rt.alloc();
-    let plan = plan(alloc, FOUR_SMP).expect(&rt, "a plan");
+    let plan = plan_of(alloc, FOUR_SMP, SCRIPT).expect(&rt, "a plan");
     let net: Net<'_, OwnedTree> = Net::new(alloc, &plan).expect(&rt, "a net");
     let first = Event::Sample {
         node: 1,
@@ -159,6 +159,65 @@ fn the_first_events_are_told_in_order(rt: HostRuntime) {
     assert_eq!(rt; net.enabled(2), None);
 }
 
+// A rank on each of two daemons.
+const TWO_SMP: &str = "daemon a:0 0\ndaemon b:0 1\nstack 0 0 main\nstack 0 1 main;io\n";
+
+// What has come of the daemon b is released at once, and then what has come of both.
+const PICKED_REPORT: &str = "stream 0 wave 0 release 1 partial
+covered 1:[1]
+pending a:0 1:[0]
+tree
+1:[1] - /
+  1:[1] - main
+    1:[1] 1:[1] io
+classes
+class 1:[1] paths 1
+  main;io
+stream 0 wave 0 release 2 final
+covered 2:[0-1]
+tree
+2:[0-1] - /
+  2:[0-1] 1:[0] main
+    1:[1] 1:[1] io
+classes
+class 1:[0] paths 1
+  main
+class 1:[1] paths 1
+  main;io
+end
+";
+
+#[test]
+fn seed_0_picks_six_events(rt: HostRuntime) {
+    let alloc = rt.alloc();
+    let plan = plan_of(alloc, TWO_SMP, DONT_WAIT_SCR).expect(&rt, "a plan");
+    let mut net: Net<'_, OwnedTree> = Net::new(alloc, &plan).expect(&rt, "a net");
+    let journal = net.run_picked(0).expect(&rt, "a journal");
+    let picked = [
+        sample(2),
+        recv(0, 2),
+        sample(1),
+        recv(0, 1),
+        recv(2, 0),
+        recv(1, 0),
+    ];
+    assert!(rt; journal.len() == 6);
+    for number in 0u64..6 {
+        assert_eq!(rt; journal.at(number), picked[number as usize]);
+    }
+    let report = report_of(alloc, &plan, &net, &journal).expect(&rt, "a report");
+    assert_eq!(rt; report.as_slice(), PICKED_REPORT.as_bytes());
+}
+
+#[test]
+fn journals_are_bounded(rt: HostRuntime) {
+    let alloc = rt.alloc();
+    let plan = plan_of(alloc, FOUR_SMP, SCRIPT).expect(&rt, "a plan");
+    let net: Net<'_, OwnedTree> = Net::new(alloc, &plan).expect(&rt, "a net");
+    // 3 nodes, 1 wave, 1 tick: 3 * 3 + 9 * 3 + 3 * 3 * 1 * (3 + 9) * (1 + 1)
+    assert_eq!(rt; net.length_bound(), 252);
+}
+
 // Of the daemon a's lines, the fourth has the least path: `a;b` comes before `a!`.
 const UNORDERED_SMP: &str = "daemon a:0 0-1
 daemon b:0 2-3
@@ -171,7 +230,7 @@ stack 0 1 main;b
 
 #[test]
 fn goes_through_lines_in_the_order_of_their_paths(rt: HostRuntime) {
-    let plan = plan(rt.alloc(), UNORDERED_SMP).expect(&rt, "a plan");
+    let plan = plan_of(rt.alloc(), UNORDERED_SMP, SCRIPT).expect(&rt, "a plan");
     assert!(rt; plan.nodes() > 1);
     let own = plan.own_lines(1).lines;
     assert!(rt; own.len() == 4);
