@@ -74,10 +74,3 @@ fn takes_the_greatest_counts(rt: HostRuntime) -> Result<(), Fail> {
     assert!(rt; tree.find(12_884_901_885).is_none());
     Ok(())
 }
-
-#[test]
-fn states_its_laws_for_any_lists(_rt: HostRuntime) -> Result<(), Fail> {
-    finds_in_lists::<u32, u64>();
-    zero_total();
-    Ok(())
-}

@@ -13,6 +13,9 @@ use crate::scan::{Field, Part, Scan};
 use rank_set::RankSet;
 use std::cmp::Ordering;
 
+// For how many rows room is made when their number is read, which alone says nothing of how long the input is.
+const ROWS_AT_ONCE: u16 = 32;
+
 impl Scan {
     #[tactic(auto, unfolding(crate::specs::Frame::row_count_form))]
     pub fn take_row_count(&mut self, field: &[u8]) -> Result<(), FieldError>
@@ -26,7 +29,7 @@ impl Scan {
             return Err(FieldError::Broken(FrameReason::OverLimit));
         }
         self.rows.clear();
-        self.rows.reserve(count)?;
+        self.rows.reserve(count.min(ROWS_AT_ONCE))?;
         self.path.cut(0);
         self.ended = true;
         self.rows_left = count;
