@@ -17,7 +17,7 @@ pub use journal::Journal;
 pub use mem_desk::MemDesk;
 pub use mem_sink::MemSink;
 pub use sink::{Sink, SinkError, write_all_to};
-pub use system::{FileDesk, StdSink};
+pub use system::{FileDesk, FileSink, StdSink};
 
 #[cfg(test)]
 mod tests;

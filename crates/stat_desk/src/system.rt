@@ -1,11 +1,11 @@
-//! The real desk and sink. No contract says what the system contains; they count each of its errors.
-ghost use Rattle.std.specs.Prelude.{◌≡◌, ◌<◌, ◌≤◌, ◌^◌, [], map, None, IfOk, vec_len, option_map, string_bytes};
+//! The real desk and sinks. No contract says what the system contains; they count each of its errors.
+ghost use Rattle.std.specs.Prelude.{◌≡◌, ◌<◌, ◌≤◌, ◌^◌, [], length, map, None, IfOk, IfSome, vec_len, option_map, string_bytes};
 ghost use Rattle.stat_desk.specs.Desk.{CountsAt, FailedAt};
 
 use crate::{Desk, DeskError, Sink, SinkError};
 use std::alloc::Global;
 use std::fs;
-use std::io::Read;
+use std::io::{Read, Write};
 use std::rt::Files;
 
 /// The files of the system. A name is a path, and a file that is absent is a fault.
@@ -128,6 +128,58 @@ impl<R: Print> Sink for StdSink<'_, R> {
     fn write(&mut self, piece: &[u8]) -> Result<usize, SinkError> {
         match self.rt.write_some(piece) {
             Ok(count) if count > 0 || piece.is_empty() => Ok(count),
+            _ => {
+                self.faults = self.faults.saturating_add(1);
+                Err(SinkError::Failed)
+            }
+        }
+    }
+}
+
+/// A file of the system. It is made, or emptied, at the first write.
+#[derive(Drop)]
+pub struct FileSink<'a, R: Files> {
+    rt: &'a R,
+    name: String,
+    file: Option<R::File>,
+    faults: u64,
+    ghost fits_u64: { faults < 2 ^ 64 },
+}
+
+impl<'a, R: Files> FileSink<'a, R> {
+    /// A sink with no fault, for the file of this name. No file is made yet.
+    pub fn new(rt: &'a R, name: String) -> FileSink<'a, R>
+        ensures { ⟦<FileSink<'a, R> as Sink>⟧.faults result ≡ 0 }
+    {
+        FileSink {
+            rt,
+            name,
+            file: None,
+            faults: 0,
+        }
+    }
+
+    // Writes some of the piece, and makes the file where there is none yet.
+    fn write_some(&mut self, piece: &[u8]) -> Option<usize>
+        ensures within { IfSome result (λ count. count ≤ length piece.now) }
+        ensures faults { self.new.faults ≡ self.old.faults }
+    {
+        if self.file.is_none() {
+            self.file = fs::create(self.rt, self.name.as_str()).ok();
+        }
+        let file = self.file.as_mut()?;
+        file.write(piece).ok()
+    }
+}
+
+impl<R: Files> Sink for FileSink<'_, R> {
+    ghost faults = { λ s. s.faults };
+
+    ghost contents = { λ s. None };
+
+    fn write(&mut self, piece: &[u8]) -> Result<usize, SinkError> {
+        match self.write_some(piece) {
+            Some(count) if count > 0 || piece.is_empty() => Ok(count),
             _ => {
                 self.faults = self.faults.saturating_add(1);
                 Err(SinkError::Failed)

@@ -117,3 +117,22 @@ fn standard_output_takes_bytes(rt: HostRuntime) {
     assert_eq!(rt; write_all_to(&mut sink, b"a line\n"), Ok(()));
     assert_eq!(rt; sink.write(b""), Ok(0));
 }
+
+#[test]
+fn file_sink_makes_its_file_at_the_first_write(rt: HostRuntime) -> Result<(), AllocError> {
+    let alloc = rt.alloc();
+    assert!(rt; fs::write(&rt, "kept", "what was there").is_ok());
+    let mut sink = FileSink::new(&rt, text_of(alloc, "kept")?);
+    assert_eq!(rt; write_all_to(&mut sink, b""), Ok(()));
+    assert!(rt;
+        fs::read(&rt, "kept").is_ok_and(|bytes| bytes.as_slice() == b"what was there".as_slice())
+    );
+    assert_eq!(rt; write_all_to(&mut sink, b"two "), Ok(()));
+    assert_eq!(rt; write_all_to(&mut sink, b"pieces"), Ok(()));
+    assert!(rt;
+        fs::read(&rt, "kept").is_ok_and(|bytes| bytes.as_slice() == b"two pieces".as_slice())
+    );
+    let mut nowhere = FileSink::new(&rt, text_of(alloc, "absent/file")?);
+    assert_eq!(rt; write_all_to(&mut nowhere, b"x"), Err(SinkError::Failed));
+    Ok(())
+}
