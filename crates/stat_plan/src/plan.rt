@@ -6,7 +6,7 @@ ghost use Rattle.rank_set.specs.Ranks.{none};
 ghost use Rattle.stat_plan.specs.Invariants.{IsPlan, SamplesFit};
 ghost use Rattle.overlay_setup.specs.Scripts.{ScriptFits};
 ghost use Rattle.stat_plan.specs.Limits.{RefusesAt, first_over};
-ghost use Rattle.overlay_setup.specs.Names.{name_of};
+ghost use Rattle.overlay_setup.specs.Names.{name_of, number_of};
 ghost use Rattle.stat_plan.specs.OwnLines.{AreOwnLines};
 ghost use Rattle.stat_plan.specs.PathOrder.{IsOrderOf};
 ghost use Rattle.stat_plan.specs.Plans.{ancestors, expected, fault, front, is_under, nodes, plan_of, ranks, serves, stream_of};
@@ -152,6 +152,13 @@ impl Plan {
         ensures { result.now ≡ name_of self.now.names n }
     {
         self.job.topology().name(n)
+    }
+
+    /// The number of the node with this name.
+    pub fn number_of(&self, name: &[u8]) -> Option<u32>
+        ensures { result ≡ number_of name.now self.now.names }
+    {
+        self.job.topology().number_of(name)
     }
 
     /// Whether a node is a daemon: it has no children.
