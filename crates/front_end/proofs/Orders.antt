@@ -1,5 +1,5 @@
 -- Releases have one order, and a sort finds it.
-use Rattle.std.proofs.Common.{◌≡◌, ℕ, zero, suc, ◌+◌, ◌<◌, inl, inr, Bool, false, List, [], ◌∷◌, map, length, get_or, sym, subst, ◌∙◌, ap, arith}
+use Rattle.std.proofs.Common.{◌≡◌, ℕ, zero, suc, ◌+◌, ◌<◌, inl, inr, Bool, false, List, [], ◌∷◌, ◌++◌, map, length, get_or, sym, subst, ◌∙◌, ap, arith}
 use Rattle.std.specs.Cmp.{IsTotalOrder}
 use Rattle.std.specs.List.{All, IsDistinct}
 use Rattle.std.specs.List.Sorted.{IsPermutation, IsSortedBy, IsStrictlySortedBy}
@@ -13,13 +13,16 @@ use Rattle.std.proofs.lemmas.Map.Keys.{IsDistinct-IsPermutation, apart_from_dist
 use Rattle.std.proofs.lemmas.List.{get_or-map, length-map}
 use Rattle.std.proofs.lemmas.Simd.{map-map}
 use Rattle.std.specs.Borrow.{Bor}
+use Rattle.serde_json.specs.Written.{compact_text}
 use Rattle.prefix_tree.specs.Tree.{Tree}
 use Rattle.overlay_setup.specs.NodeSets.{In}
+use Rattle.overlay_setup.specs.declared.script.Fault.{Fault}
 use Rattle.stat_plan.specs.Plans.{Plan}
 use Rattle.stat_plan.proofs.FirstOver.{all_in}
 use Rattle.overlay_core.specs.TreeReleases.{TreeRelease, release_view, releases_view}
 use Rattle.overlay_core.specs.declared.release.Release.{Release}
 use Rattle.front_end.specs.Report.{AreDistinct, IsSortedCopy, IsReport, release_cmp, report_text}
+use Rattle.front_end.specs.JsonReport.{IsJsonReport, report_data}
 use Rattle.front_end.specs.Shown.{shown_releases}
 
 in_at : {X : Type 0} (xs : List X) (k : ℕ) (d : X) → k < length xs → In (get_or xs k d) xs
@@ -82,12 +85,19 @@ pub release_cmp_total : IsTotalOrder release_cmp
 release_cmp_total =
     then_total (then_total (on_total (λ (r : TreeRelease). r.stream) nat_cmp_total) (on_total (λ (r : TreeRelease). r.wave) nat_cmp_total)) (on_total (λ (r : TreeRelease). r.number) nat_cmp_total)
 
-pub reports_same : (p : Plan) (given : List TreeRelease) (lost text other : List ℕ) → IsReport p given lost text → IsReport p given lost other → text ≡ other
-reports_same p given lost text other one two =
-    let same : IsPermutation one.ordered two.ordered = IsPermutation-trans one.ordered given two.ordered (IsPermutation-sym given one.ordered one.in_order.same) two.in_order.same in
-    let ordered : one.ordered ≡ two.ordered =
-    one_order release_cmp release_cmp_total one.ordered two.ordered one.in_order.increasing two.in_order.increasing (in_permutation two.ordered one.ordered (IsPermutation-sym one.ordered two.ordered same)) (in_permutation one.ordered two.ordered same) in
-    one.is ∙ ap (report_text p lost) ordered ∙ sym two.is
+-- two sorted copies of the same releases are one list
+same_order : (given one two : List TreeRelease) → IsSortedCopy given one → IsSortedCopy given two → one ≡ two
+same_order given one two copy other =
+    let same : IsPermutation one two = IsPermutation-trans one given two (IsPermutation-sym given one copy.same) other.same in
+    one_order release_cmp release_cmp_total one two copy.increasing other.increasing (in_permutation two one (IsPermutation-sym one two same)) (in_permutation one two same)
+
+pub reports_same : (p : Plan) (faults : List Fault) (given : List TreeRelease) (lost text other : List ℕ) → IsReport p faults given lost text → IsReport p faults given lost other → text ≡ other
+reports_same p faults given lost text other one two =
+    one.is ∙ ap (report_text p faults lost) (same_order given one.ordered two.ordered one.in_order two.in_order) ∙ sym two.is
+
+pub json_reports_same : (p : Plan) (faults : List Fault) (given : List TreeRelease) (lost text other : List ℕ) → IsJsonReport p faults given lost text → IsJsonReport p faults given lost other → text ≡ other
+json_reports_same p faults given lost text other one two =
+    one.is ∙ ap (λ rs. compact_text (report_data p faults lost rs) ++ 10 ∷ []) (same_order given one.ordered two.ordered one.in_order two.in_order) ∙ sym two.is
 
 -- a list that is sorted by what f gives is sorted where f gave it
 sorted_map : {X Y : Type 0} (f : X → Y) (lt : Y → Y → Bool) (xs : List X) → IsSortedBy (λ x y. lt (f x) (f y)) xs → IsSortedBy lt (map f xs)

@@ -69,7 +69,7 @@ release_written p r covered lost blocks out a b c d e f g h is_covered is_lost i
     regroup out a b c d e f g h k = simp append_assoc
 
 -- the whole report
-pub report_written : (p : Plan) (lost : List ℕ) (ordered : List TreeRelease) (a b c d : List ℕ) → a ≡ [] → b ≡ a ++ flat_map (release_text p) ordered → c ≡ b ++ flat_map (fault_line p lost) p.faults → d ≡ c ++ codes "end\n" → d ≡ report_text p lost ordered
+pub report_written : (p : Plan) (faults : List Fault) (lost : List ℕ) (ordered : List TreeRelease) (a b c d : List ℕ) → a ≡ [] → b ≡ a ++ flat_map (release_text p) ordered → c ≡ b ++ flat_map (fault_line p lost) faults → d ≡ c ++ codes "end\n" → d ≡ report_text p faults lost ordered
 unfolding report_text
-report_written p lost ordered a b c d pa pb pc pd =
-    pd ∙ ap (λ ys. ys ++ codes "end\n") (pc ∙ ap (λ ys. ys ++ flat_map (fault_line p lost) p.faults) (pb ∙ ap (λ ys. ys ++ flat_map (release_text p) ordered) pa))
+report_written p faults lost ordered a b c d pa pb pc pd =
+    pd ∙ ap (λ ys. ys ++ codes "end\n") (pc ∙ ap (λ ys. ys ++ flat_map (fault_line p lost) faults) (pb ∙ ap (λ ys. ys ++ flat_map (release_text p) ordered) pa))

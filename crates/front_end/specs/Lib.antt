@@ -3,4 +3,7 @@ pub mod ClassText
 pub mod ReleaseText
 pub mod Report
 pub mod Shown
+pub mod JsonValues
+pub mod JsonTokens
+pub mod JsonReport
 pub mod Rows

@@ -1,4 +1,4 @@
--- The text of a report: its releases in order, and then what came of the faults of the plan's script.
+-- The text of a report: its releases in order, and then what came of each fault that is to be shown.
 use Rattle.std.specs.Prelude.{◌≡◌, ℕ, Bool, true, false, List, [], ◌∷◌, ◌++◌, codes, map}
 use Rattle.std.specs.Fmt.{decimal}
 use Rattle.std.specs.List.{AllByRecursion, flat_map, IsDistinct}
@@ -40,15 +40,15 @@ fate_text false fault = codes " not reached"
 abbrev pub fault_line : Plan → List ℕ → Fault → List ℕ
 fault_line p lost fault = codes "fault " ++ name_of p.names fault.node ++ fate_text (member fault.node lost) fault ++ 10 ∷ []
 
--- the whole text of releases in order
-unfoldable pub report_text : Plan → List ℕ → List TreeRelease → List ℕ
-report_text p lost ordered = flat_map (release_text p) ordered ++ flat_map (fault_line p lost) p.faults ++ codes "end\n"
+-- the whole text of releases in order, with a line for each of these faults
+unfoldable pub report_text : Plan → List Fault → List ℕ → List TreeRelease → List ℕ
+report_text p faults lost ordered = flat_map (release_text p) ordered ++ flat_map (fault_line p lost) faults ++ codes "end\n"
 
--- the text is the report of these releases of a plan, where these nodes were lost
-pub record IsReport (p : Plan) (given : List TreeRelease) (lost text : List ℕ) : Type 0 where
+-- the text is the report of these releases of a plan and of these faults, where these nodes were lost
+pub record IsReport (p : Plan) (faults : List Fault) (given : List TreeRelease) (lost text : List ℕ) : Type 0 where
   pub ordered : List TreeRelease
   pub in_order : IsSortedCopy given ordered
-  pub is : text ≡ report_text p lost ordered
+  pub is : text ≡ report_text p faults lost ordered
 
 -- a release's tree and classes are those of the wave's samples, merged directly over exactly the ranks that it covers
 pub record IsDirect (p : Plan) (r : TreeRelease) : Type 0 where

@@ -1,10 +1,13 @@
--- Worked rows: lines of a report, and two whole reports, computed.
-use Rattle.std.specs.Prelude.{◌≡◌, refl, ℕ, List, [], ◌∷◌, ◌++◌, length, codes, Some, None}
+-- Worked rows: lines of a report, and whole reports, as text and as JSON, computed.
+use Rattle.std.specs.Prelude.{◌≡◌, refl, ℕ, List, [], ◌∷◌, ◌++◌, length, codes, map, Some, None}
 use Rattle.std.specs.Fmt.{digits}
 use Rattle.std.specs.FinMap as finmap
 use Rattle.std.specs.List.{flat_map}
 use Rattle.std.proofs.Common.{sym, ap, ◌∙◌, arith}
 use Rattle.std.specs.declared.cmp.Ordering.TheVariants.{Less, Greater}
+use Rattle.json.specs.Print.{escape_byte}
+use Rattle.serde_json.specs.Data.{Data, string}
+use Rattle.serde_json.specs.Written.{compact_text}
 use Rattle.rank_set.specs.Ranks.{Ranks, none, has, with_rank, union, those, set_of, in_order}
 use Rattle.rank_set.specs.Text.{text_of}
 use Rattle.call_path.specs.Path.{Path, path_cmp, path_cmp_total}
@@ -21,7 +24,9 @@ use Rattle.overlay_core.specs.declared.release.Kind.{Kind}
 use Rattle.overlay_core.specs.declared.release.Kind.TheVariants.{Partial, Final}
 use Rattle.front_end.specs.TreeText.{row_text}
 use Rattle.front_end.specs.ClassText.{classes_text}
-use Rattle.front_end.specs.ReleaseText.{heading, missing_line, missing_lines, release_text}
+use Rattle.front_end.specs.ReleaseText.{heading, kind_text, missing_line, missing_lines, release_text}
+use Rattle.front_end.specs.JsonValues.{classes_data, count, list_of, object_of, ranks_data, row_data}
+use Rattle.front_end.specs.JsonReport.{all_missing_data, fault_data, missing_data, release_data, report_data}
 use Rattle.front_end.specs.Report.{direct_releases, fault_line, release_cmp, report_text}
 
 -- the loss of b:0, before any event of its own
@@ -131,13 +136,13 @@ only_a kind lost = release 0 0 1 kind (tree_of (stuck (0 ∷ [])) on_a) lost
 abbrev report_with : Plan → List ℕ → List ℕ → List ℕ
 report_with p lost text = text ++ flat_map (fault_line p lost) p.faults ++ codes "end\n"
 
-all_is_covered : report_text (two_daemons []) [] (all_four 1 ∷ [])
+all_is_covered : report_text (two_daemons []) [] [] (all_four 1 ∷ [])
     ≡ codes "stream 0 wave 0 release 1 final\ncovered 4:[0-3]\ntree\n4:[0-3] - /\n  4:[0-3] - main\n    3:[0,2-3] 3:[0,2-3] MPI_Barrier\n    1:[1] 1:[1] compute\n"
     ++ codes "classes\nclass 3:[0,2-3] paths 1\n  main;MPI_Barrier\nclass 1:[1] paths 1\n  main;compute\nend\n"
 unfolding report_text tree_of classes_of ranks stream_of daemons those has with_rank digits
 all_is_covered = ap (λ ys. report_with (two_daemons []) [] (ys ++ [])) (computed (two_daemons []) 0 1 Final (stuck (0 ∷ 2 ∷ 3 ∷ [])) everyone [])
 
-a_daemon_is_lost : report_text (two_daemons (loss ∷ [])) (2 ∷ []) (only_a Final (2 ∷ []) ∷ [])
+a_daemon_is_lost : report_text (two_daemons (loss ∷ [])) (loss ∷ []) (2 ∷ []) (only_a Final (2 ∷ []) ∷ [])
     ≡ codes "stream 0 wave 0 release 1 final\ncovered 2:[0-1]\nlost b:0 2:[2-3]\ntree\n2:[0-1] - /\n  2:[0-1] - main\n    1:[0] 1:[0] MPI_Barrier\n    1:[1] 1:[1] compute\n"
     ++ codes "classes\nclass 1:[0] paths 1\n  main;MPI_Barrier\nclass 1:[1] paths 1\n  main;compute\nfault b:0 lost after 0\nend\n"
 unfolding report_text tree_of classes_of ranks stream_of daemons those has with_rank digits
@@ -145,7 +150,7 @@ a_daemon_is_lost =
     ap (λ ys. report_with (two_daemons (loss ∷ [])) (2 ∷ []) (ys ++ [])) (computed (two_daemons (loss ∷ [])) 0 1 Final (stuck (0 ∷ [])) on_a (2 ∷ []))
 
 -- the ranks of b:0 come in after the first release, and its fault is not reached
-a_daemon_is_late : report_text (two_daemons (loss ∷ [])) [] (only_a Partial [] ∷ all_four 2 ∷ [])
+a_daemon_is_late : report_text (two_daemons (loss ∷ [])) (loss ∷ []) [] (only_a Partial [] ∷ all_four 2 ∷ [])
     ≡ codes "stream 0 wave 0 release 1 partial\ncovered 2:[0-1]\npending b:0 2:[2-3]\ntree\n2:[0-1] - /\n  2:[0-1] - main\n    1:[0] 1:[0] MPI_Barrier\n    1:[1] 1:[1] compute\n"
     ++ codes "classes\nclass 1:[0] paths 1\n  main;MPI_Barrier\nclass 1:[1] paths 1\n  main;compute\n"
     ++ codes "stream 0 wave 0 release 2 final\ncovered 4:[0-3]\ntree\n4:[0-3] - /\n  4:[0-3] - main\n    3:[0,2-3] 3:[0,2-3] MPI_Barrier\n    1:[1] 1:[1] compute\n"
@@ -153,6 +158,65 @@ a_daemon_is_late : report_text (two_daemons (loss ∷ [])) [] (only_a Partial []
 unfolding report_text tree_of classes_of ranks stream_of daemons those has with_rank digits
 a_daemon_is_late = λ i.
     report_with (two_daemons (loss ∷ [])) [] (computed (two_daemons (loss ∷ [])) 0 1 Partial (stuck (0 ∷ [])) on_a [] i ++ (computed (two_daemons (loss ∷ [])) 0 2 Final (stuck (0 ∷ 2 ∷ 3 ∷ [])) everyone [] i ++ []))
+
+-- a report as JSON
+
+-- the value of a release of a tree that has these rows below its root
+abbrev data_of_rows : Plan → TreeRelease → List (Path × Marks) → Data
+data_of_rows p r rows = object_of (
+    (codes "classes", classes_data (classes_of (flat_map (λ e. pairs_at (in_order e.1.1) e.0) rows) r.tree.coverage))
+    ∷ (codes "covered", ranks_data r.tree.coverage)
+    ∷ (codes "kind", string (kind_text r.kind))
+    ∷ (codes "missing", all_missing_data p r.tree.coverage r.lost (daemons p r.stream))
+    ∷ (codes "number", count r.number)
+    ∷ (codes "stream", count r.stream)
+    ∷ (codes "tree", list_of (map row_data (([], (r.tree.coverage, none)) ∷ rows)))
+    ∷ (codes "wave", count r.wave) ∷ [])
+
+-- a release of merged samples, by a function that computes
+computed_data : (p : Plan) (kind : Kind) (samples : Pairs) (covered : Ranks) (lost : List ℕ)
+    → release_data p (release 0 0 1 kind (tree_of samples covered) lost) ≡ data_of_rows p (release 0 0 1 kind (tree_of samples covered) lost) (in_order_of (rows_at samples covered (prefixes_of samples)))
+unfolding release_data tree_of
+computed_data p kind samples covered lost =
+    ap (data_of_rows p (release 0 0 1 kind (tree_of samples covered) lost)) (entries_in_order (rows_at samples covered (prefixes_of samples)))
+
+-- the line of a report of one release
+abbrev json_line : Plan → List Fault → List ℕ → Data → List ℕ
+json_line p faults lost value = compact_text (object_of ((codes "faults", list_of (map (fault_data p lost) faults)) ∷ (codes "releases", list_of (value ∷ [])) ∷ [])) ++ 10 ∷ []
+
+-- rank 0 on a:0, which is node 1 and the only daemon
+abbrev one_daemon : Plan
+one_daemon = record {
+  names = codes "fe:0" ∷ codes "a:0" ∷ [];
+  parents = None ∷ Some 0 ∷ [];
+  placed = none ∷ set_of (0 ∷ []) ∷ [];
+  lines = [];
+  streams = stream 0 WaitForAll 1 1 Line (1 ∷ []) ∷ [];
+  faults = [];
+}
+
+one_rank_as_json : compact_text (report_data one_daemon [] [] (release 0 0 1 Final (tree_of [] (set_of (0 ∷ []))) [] ∷ [])) ++ 10 ∷ []
+    ≡ codes "{\"faults\":[],\"releases\":[{\"classes\":[{\"paths\":[],\"ranks\":\"1:[0]\"}],\"covered\":\"1:[0]\",\"kind\":\"final\",\"missing\":[],\"number\":1,\"stream\":0,"
+    ++ codes "\"tree\":[{\"depth\":0,\"ends\":\"0:[]\",\"frame\":\"/\",\"label\":\"1:[0]\"}],\"wave\":0}]}\n"
+unfolding report_data tree_of classes_of ranks stream_of daemons those has with_rank digits escape_byte
+one_rank_as_json = ap (json_line one_daemon [] []) (computed_data one_daemon Final [] (set_of (0 ∷ [])) [])
+
+lost_daemon_as_json : compact_text (report_data (two_daemons (loss ∷ [])) (loss ∷ []) (2 ∷ []) (only_a Final (2 ∷ []) ∷ [])) ++ 10 ∷ []
+    ≡ codes "{\"faults\":[{\"after\":0,\"node\":\"b:0\",\"state\":\"lost\"}],\"releases\":[{\"classes\":[{\"paths\":[\"main;MPI_Barrier\"],\"ranks\":\"1:[0]\"},{\"paths\":[\"main;compute\"],\"ranks\":\"1:[1]\"}],"
+    ++ codes "\"covered\":\"2:[0-1]\",\"kind\":\"final\",\"missing\":[{\"daemon\":\"b:0\",\"ranks\":\"2:[2-3]\",\"state\":\"lost\"}],\"number\":1,\"stream\":0,"
+    ++ codes "\"tree\":[{\"depth\":0,\"ends\":\"0:[]\",\"frame\":\"/\",\"label\":\"2:[0-1]\"},{\"depth\":1,\"ends\":\"0:[]\",\"frame\":\"main\",\"label\":\"2:[0-1]\"},"
+    ++ codes "{\"depth\":2,\"ends\":\"1:[0]\",\"frame\":\"MPI_Barrier\",\"label\":\"1:[0]\"},{\"depth\":2,\"ends\":\"1:[1]\",\"frame\":\"compute\",\"label\":\"1:[1]\"}],\"wave\":0}]}\n"
+unfolding report_data tree_of classes_of ranks stream_of daemons those has with_rank digits escape_byte
+lost_daemon_as_json = ap (json_line (two_daemons (loss ∷ [])) (loss ∷ []) (2 ∷ [])) (computed_data (two_daemons (loss ∷ [])) Final (stuck (0 ∷ [])) on_a (2 ∷ []))
+
+-- missing ranks that can still come, and a fault that is not reached
+ranks_pending_as_json : compact_text (missing_data (two_daemons []) (set_of (0 ∷ 1 ∷ [])) [] 2) ≡ codes "{\"daemon\":\"b:0\",\"ranks\":\"2:[2-3]\",\"state\":\"pending\"}"
+unfolding ranks those has with_rank digits escape_byte
+ranks_pending_as_json = refl
+
+fault_not_reached_as_json : compact_text (fault_data (two_daemons (loss ∷ [])) [] loss) ≡ codes "{\"after\":0,\"node\":\"b:0\",\"state\":\"not reached\"}"
+unfolding digits escape_byte
+fault_not_reached_as_json = refl
 
 -- the order of a report
 

@@ -6,23 +6,31 @@ ghost use Rattle.rank_set.specs.Ranks.{Ranks};
 ghost use Rattle.call_path.specs.Pairs.{HasNoEmptyPath, Pairs};
 ghost use Rattle.prefix_tree.specs.Tree.{Tree, tree_of};
 ghost use Rattle.equiv_class.specs.Classes.{classes_of};
+ghost use Rattle.overlay_setup.specs.declared.script.Fault.{Fault};
 ghost use Rattle.stat_plan.specs.Invariants.{IsPlan};
 ghost use Rattle.stat_plan.specs.Plans.{Plan};
 ghost use Rattle.stat_desk.specs.declared.event.Event.{Event};
+ghost use Rattle.overlay_core.specs.Whole.{LosesNoDaemon};
 ghost use Rattle.overlay_core.specs.TreeReleases.{AreNumberedInOrder, TreeRelease};
+ghost use Rattle.front_end.specs.JsonReport.{IsJsonReport};
 ghost use Rattle.front_end.specs.ReleaseText.{classes_in};
 ghost use Rattle.front_end.specs.Report.{AllStreamsWait, AreDistinct, AreReleasesOf, IsSortedCopy, IsReport};
 ghost use Rattle.front_end.specs.Report.{direct_releases, release_cmp};
 
-/// A law: there is one report, byte for byte, of the same releases of a plan where the same nodes were lost.
+/// A law: there is one report, byte for byte, of the same releases and faults of a plan where the same nodes were lost.
 pub fn reports_are_one()
-    ensures { (p : Plan) (given : List TreeRelease) (lost text other : List ℕ) → IsReport p given lost text
-        → IsReport p given lost other → text ≡ other }
+    ensures { (p : Plan) (faults : List Fault) (given : List TreeRelease) (lost text other : List ℕ)
+        → IsReport p faults given lost text → IsReport p faults given lost other → text ≡ other }
 {}
 
 /// A law: no two releases that are numbered in order have the same stream, wave and number.
 pub fn numbered_releases_are_distinct()
     ensures { (releases : List TreeRelease) → AreNumberedInOrder [] releases → AreDistinct releases }
+{}
+
+/// A law: no two direct releases of a plan have the same stream, wave and number.
+pub fn direct_releases_are_distinct()
+    ensures { (p : Plan) → IsPlan p → AreDistinct (direct_releases p) }
 {}
 
 /// A law: releases whose stream, wave and number increase are printed as they stand.
@@ -35,10 +43,24 @@ pub fn classes_of_a_tree()
     ensures { (P : Pairs) (C : Ranks) (t : Tree) → HasNoEmptyPath P → t ≡ tree_of P C → classes_in t ≡ classes_of P C }
 {}
 
-/// A law: where every stream waits for all its daemons and no node is lost, the report of a run is that of the direct
-/// merge, whatever its journal is.
+/// A law: there is one JSON report, byte for byte, of the same releases and faults of a plan where the same nodes were
+/// lost.
+pub fn json_reports_are_one()
+    ensures { (p : Plan) (faults : List Fault) (given : List TreeRelease) (lost text other : List ℕ)
+        → IsJsonReport p faults given lost text → IsJsonReport p faults given lost other → text ≡ other }
+{}
+
+/// A law: where every stream waits for all its daemons and loses none of them, the report of a run shows the releases of
+/// the direct merge, whatever its journal is. Nodes between the daemons and the front end may be lost.
 pub fn waiting_reports_are_direct()
-    ensures { (p : Plan) (journal : List Event) (releases : List TreeRelease) (text : List ℕ) → IsPlan p
-        → p.faults ≡ [] → AllStreamsWait p → AreReleasesOf p journal releases → IsReport p releases [] text
-        → IsReport p (direct_releases p) [] text }
+    ensures { (p : Plan) (faults : List Fault) (journal : List Event) (releases : List TreeRelease) (lost text : List ℕ)
+        → IsPlan p → AllStreamsWait p → ((s : ℕ) → LosesNoDaemon p journal s) → AreReleasesOf p journal releases
+        → IsReport p faults releases lost text → IsReport p faults (direct_releases p) lost text }
+{}
+
+/// A law: so does its report as JSON.
+pub fn waiting_json_reports_are_direct()
+    ensures { (p : Plan) (faults : List Fault) (journal : List Event) (releases : List TreeRelease) (lost text : List ℕ)
+        → IsPlan p → AllStreamsWait p → ((s : ℕ) → LosesNoDaemon p journal s) → AreReleasesOf p journal releases
+        → IsJsonReport p faults releases lost text → IsJsonReport p faults (direct_releases p) lost text }
 {}

@@ -3,6 +3,10 @@
 #![tactic(auto)]
 
 mod class_text;
+mod json_release;
+mod json_report;
+mod json_text;
+mod json_tree;
 mod laws;
 mod release_text;
 mod report;
@@ -10,8 +14,10 @@ mod report;
 mod tests;
 mod tree_text;
 
+pub use json_report::{direct_json, report_json};
 pub use laws::{
-    classes_of_a_tree, numbered_releases_are_distinct, ordered_releases_are_in_order,
-    reports_are_one, waiting_reports_are_direct,
+    classes_of_a_tree, direct_releases_are_distinct, json_reports_are_one,
+    numbered_releases_are_distinct, ordered_releases_are_in_order, reports_are_one,
+    waiting_json_reports_are_direct, waiting_reports_are_direct,
 };
-pub use report::report_text;
+pub use report::{direct_text, report_text};

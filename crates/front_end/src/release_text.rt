@@ -88,8 +88,8 @@ fn write_missing(
     Ok(())
 }
 
-// The daemons of a stream; none where the plan has no such stream.
-fn daemons_of(plan: &Plan, stream: u8) -> &[u32]
+/// The daemons of a stream; none where the plan has no such stream.
+pub fn daemons_of(plan: &Plan, stream: u8) -> &[u32]
     ensures value { result.now ≡ daemons plan.now stream }
     ensures nodes { AllByRecursion (λ d. d < nodes plan.now) result.now }
 {

@@ -1,6 +1,6 @@
 //! The text of a report.
-ghost use Rattle.std.specs.Prelude.{◌≡◌, ◌++◌, ◌<◌, IfOk, OnOk, map};
-ghost use Rattle.std.specs.List.{flat_map};
+ghost use Rattle.std.specs.Prelude.{◌≡◌, ◌++◌, ◌<◌, [], IfOk, OnOk, map};
+ghost use Rattle.std.specs.List.{AllByRecursion, flat_map};
 ghost use Rattle.stat_plan.specs.Plans.{nodes};
 ghost use Rattle.overlay_core.specs.TreeReleases.{releases_view};
 ghost use Rattle.front_end.specs.ReleaseText.{release_text};
@@ -24,12 +24,43 @@ pub fn report_text<T: PrefixTree>(
     lost: &[u32],
 ) -> Result<Vec<u8>, AllocError>
     requires distinct { AreDistinct (releases_view T.tree releases.now) }
-    ensures { IfOk result (λ text. IsReport plan.now (releases_view T.tree releases.now) lost.now text.items) }
+    ensures { IfOk result
+        (λ text. IsReport plan.now plan.now.faults (releases_view T.tree releases.now) lost.now text.items) }
+{
+    plan.invariant();
+    text_with_faults(alloc, plan, plan.faults(), releases, lost)
+}
+
+/// The report of some releases without a line of any fault: its releases, by stream, wave and number, and the end. It
+/// is what `report_text` gives for a plan whose script has no fault.
+pub fn direct_text<T: PrefixTree>(
+    alloc: Global,
+    plan: &Plan,
+    releases: &[Release<T>],
+) -> Result<Vec<u8>, AllocError>
+    requires distinct { AreDistinct (releases_view T.tree releases.now) }
+    ensures { IfOk result (λ text. IsReport plan.now [] (releases_view T.tree releases.now) [] text.items) }
+{
+    text_with_faults(alloc, plan, &[], releases, &[])
+}
+
+// The report of some releases, with a line for each of these faults.
+fn text_with_faults<T: PrefixTree>(
+    alloc: Global,
+    plan: &Plan,
+    faults: &[Fault],
+    releases: &[Release<T>],
+    lost: &[u32],
+) -> Result<Vec<u8>, AllocError>
+    requires nodes { AllByRecursion (λ fault. fault.node < nodes plan.now) faults.now }
+    requires distinct { AreDistinct (releases_view T.tree releases.now) }
+    ensures { IfOk result
+        (λ text. IsReport plan.now faults.now (releases_view T.tree releases.now) lost.now text.items) }
 {
     let ordered = in_order(alloc, releases)?;
     let mut text = Vec::new(alloc);
     write_releases(plan, &ordered, &mut text)?;
-    write_faults(plan, lost, &mut text)?;
+    write_faults(plan, faults, lost, &mut text)?;
     text.extend_from_slice(b"end\n")?;
     Ok(text)
 }
@@ -74,11 +105,16 @@ fn write_releases<T: PrefixTree>(
 }
 
 // Appends a line for each fault.
-fn write_faults(plan: &Plan, lost: &[u32], out: &mut Vec<u8>) -> Result<(), AllocError>
-    ensures { OnOk result (out.new.items ≡ out.old.items ++ flat_map (fault_line plan.now lost.now) plan.now.faults) }
+fn write_faults(
+    plan: &Plan,
+    faults: &[Fault],
+    lost: &[u32],
+    out: &mut Vec<u8>,
+) -> Result<(), AllocError>
+    requires nodes { AllByRecursion (λ fault. fault.node < nodes plan.now) faults.now }
+    ensures { OnOk result (out.new.items ≡ out.old.items ++ flat_map (fault_line plan.now lost.now) faults.now) }
 {
-    plan.invariant();
-    for fault in plan.faults() {
+    for fault in faults {
         write_fault(plan, lost, *fault, out)?;
     }
     Ok(())

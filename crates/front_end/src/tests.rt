@@ -1,14 +1,15 @@
-//! The order of releases, and the text of a tree with its classes, as a report shows them.
+//! The order of releases, and a tree with its classes, as a report shows them in its text and in JSON.
 ghost use Rattle.std.specs.Prelude.{◌≡◌, IsTrue};
 ghost use Rattle.call_path.specs.Good.{is_good_frame};
 
 use crate::class_text::write_classes;
+use crate::json_text::JsonText;
 use crate::release_text::write_heading;
 use crate::report::in_order;
 use crate::tree_text::write_tree;
 use crate::{
-    classes_of_a_tree, numbered_releases_are_distinct, ordered_releases_are_in_order,
-    reports_are_one,
+    classes_of_a_tree, json_reports_are_one, json_tree, numbered_releases_are_distinct,
+    ordered_releases_are_in_order, reports_are_one,
 };
 use call_path::PathBuilder;
 use equiv_class::classes;
@@ -100,9 +101,44 @@ fn writes_a_tree_and_its_classes(rt: HostRuntime) -> Result<(), AllocError> {
     Ok(())
 }
 
+// A tree of rank 0 in one frame with a quotation mark, which JSON escapes.
+fn tree_of_one(rt: &impl Abort, alloc: Global) -> Result<OwnedTree, AllocError> {
+    let mut tree = OwnedTree::empty(alloc);
+    tree.cover(&set_of(rt, alloc, &[0]))?;
+    add(rt, alloc, &mut tree, &[0], "a\"b")?;
+    Ok(tree)
+}
+
+#[test]
+fn writes_a_tree_as_json(rt: HostRuntime) -> Result<(), AllocError> {
+    let alloc = rt.alloc();
+    let tree = tree_of_one(&rt, alloc)?;
+    let mut out = JsonText::new(alloc);
+    json_tree::write_tree(alloc, &tree, &mut out)?;
+    assert_eq!(rt;
+        out.into_line()?.as_slice(),
+        b"[{\"depth\":0,\"ends\":\"0:[]\",\"frame\":\"/\",\"label\":\"1:[0]\"},{\"depth\":1,\"ends\":\"0:[]\",\"frame\":\"main\",\"label\":\"1:[0]\"},{\"depth\":2,\"ends\":\"1:[0]\",\"frame\":\"a\\\"b\",\"label\":\"1:[0]\"}]\n".as_slice()
+    );
+    Ok(())
+}
+
+#[test]
+fn writes_classes_as_json(rt: HostRuntime) -> Result<(), AllocError> {
+    let alloc = rt.alloc();
+    let tree = tree_of_one(&rt, alloc)?;
+    let mut out = JsonText::new(alloc);
+    json_tree::write_classes(alloc, &classes(alloc, &tree)?, &mut out)?;
+    assert_eq!(rt;
+        out.into_line()?.as_slice(),
+        b"[{\"paths\":[\"main;a\\\"b\"],\"ranks\":\"1:[0]\"}]\n".as_slice()
+    );
+    Ok(())
+}
+
 #[test]
 fn laws(_rt: HostRuntime) {
     reports_are_one();
+    json_reports_are_one();
     numbered_releases_are_distinct();
     ordered_releases_are_in_order();
     classes_of_a_tree();

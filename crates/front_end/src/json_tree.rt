@@ -1,0 +1,110 @@
+//! Trees and classes as JSON.
+ghost use Rattle.std.specs.Prelude.{◌≡◌, ◌++◌, codes, map, OnOk};
+ghost use Rattle.serde_json.specs.Data.{string};
+ghost use Rattle.rank_set.specs.Text.{text_of};
+ghost use Rattle.call_path.specs.Path.{path_text as text_of_path};
+ghost use Rattle.equiv_class.specs.ClassList.{class_view, class_views};
+ghost use Rattle.front_end.specs.JsonValues.{class_data, classes_data, list_of, ranks_data, row_of, tree_data};
+ghost use Rattle.front_end.specs.JsonTokens.{member_tokens, value_tokens};
+
+use crate::json_text::{JsonText, path_text, ranks_text};
+use call_path::CallPath;
+use equiv_class::Class;
+use prefix_tree::{PrefixTree, Row};
+use std::alloc::{AllocError, Global};
+
+/// Appends the list of the tree's rows. The text of the last label is kept, as in the report's text.
+pub fn write_tree<T: PrefixTree>(
+    alloc: Global,
+    tree: &T,
+    out: &mut JsonText,
+) -> Result<(), AllocError>
+    ensures { OnOk result (out.new ≡ out.old ++ value_tokens (tree_data (T.tree tree.now))) }
+{
+    let root = tree.row(0);
+    let mut label = root.label;
+    let mut label_text = ranks_text(alloc, label)?;
+    out.begin_list()?;
+    write_row(alloc, &root, label_text.as_str(), out)?;
+    let mut at = tree.cursor(alloc)?;
+    while let Some(row) = tree.next_row(&mut at) {
+        if !row.label.equals(label) {
+            label = row.label;
+            label_text = ranks_text(alloc, label)?;
+        }
+        write_row(alloc, &row, label_text.as_str(), out)?;
+    }
+    out.end_list()
+}
+
+// Appends the object of a row, the text of whose label is at hand.
+fn write_row(
+    alloc: Global,
+    row: &Row<'_>,
+    label: &str,
+    out: &mut JsonText,
+) -> Result<(), AllocError>
+    requires { label.now ≡ text_of row.now.label.now }
+    ensures { OnOk result
+        (out.new
+        ≡ out.old ++ value_tokens (row_of row.now.depth row.now.label.now row.now.ends.now row.now.frame.now)) }
+{
+    out.begin_object()?;
+    out.count("depth", row.depth as u64)?;
+    write_ends(alloc, row, label, out)?;
+    out.text("frame", row.frame)?;
+    out.text("label", label)?;
+    out.end_object()
+}
+
+// Appends the member of the ranks whose path ends at a row.
+fn write_ends(
+    alloc: Global,
+    row: &Row<'_>,
+    label: &str,
+    out: &mut JsonText,
+) -> Result<(), AllocError>
+    requires { label.now ≡ text_of row.now.label.now }
+    ensures { OnOk result
+        (out.new ≡ out.old ++ member_tokens (codes "ends") (ranks_data row.now.ends.now)) }
+{
+    if row.ends.equals(row.label) {
+        return out.text("ends", label);
+    }
+    let ends = ranks_text(alloc, row.ends)?;
+    out.text("ends", ends.as_str())
+}
+
+/// Appends the list of the classes.
+pub fn write_classes(alloc: Global, classes: &[Class], out: &mut JsonText) -> Result<(), AllocError>
+    ensures { OnOk result (out.new ≡ out.old ++ value_tokens (classes_data (class_views classes.now))) }
+{
+    out.begin_list()?;
+    for class in classes {
+        write_class(alloc, class, out)?;
+    }
+    out.end_list()
+}
+
+fn write_class(alloc: Global, class: &Class, out: &mut JsonText) -> Result<(), AllocError>
+    ensures { OnOk result (out.new ≡ out.old ++ value_tokens (class_data (class_view class.now))) }
+{
+    out.begin_object()?;
+    out.key("paths")?;
+    write_paths(alloc, &class.paths, out)?;
+    let ranks = ranks_text(alloc, &class.ranks)?;
+    out.text("ranks", ranks.as_str())?;
+    out.end_object()
+}
+
+fn write_paths(alloc: Global, paths: &[CallPath], out: &mut JsonText) -> Result<(), AllocError>
+    ensures { OnOk result
+        (out.new ≡ out.old ++ value_tokens (list_of (map (λ path. string (text_of_path path)) paths.now))) }
+{
+    out.begin_list()?;
+    for path in paths {
+        let text = path_text(alloc, path)?;
+        out.string(text.as_str())?;
+    }
+    out.end_list()
+}

@@ -1,0 +1,17 @@
+pub mod Tokens
+pub mod Statements
+pub mod Names
+pub mod Rows
+pub mod Topology
+pub mod Lines
+pub mod RankTexts
+pub mod Nodes
+pub mod Samples
+pub mod Script
+pub mod Prefixes
+pub mod Writing
+pub mod Readings
+pub mod Counting
+pub mod Numbers
+pub mod OneLine
+pub mod OfJournal

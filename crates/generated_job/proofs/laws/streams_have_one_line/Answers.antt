@@ -1,0 +1,5 @@
+use Rattle.generated_job.proofs.OneLine.{streams_have_one}
+use Rattle.generated_job.proofs.laws.streams_have_one_line.Goals as goal
+
+pub returns : goal.returns
+returns c = streams_have_one

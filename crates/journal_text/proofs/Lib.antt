@@ -1,0 +1,10 @@
+pub mod Cuts
+pub mod Parted
+pub mod Plain
+pub mod Names
+pub mod Waves
+pub mod Lists
+pub mod OneEvent
+pub mod LineReading
+pub mod ReadBack
+pub mod Steps

@@ -1,0 +1,5 @@
+pub mod Events
+pub mod Text
+pub mod Reading
+pub mod Words
+pub mod Rows

@@ -1,0 +1,126 @@
+-- Words, and what they ask for.
+use Rattle.std.specs.Prelude.{◌≡◌, refl, ℕ, List, [], ◌∷◌, codes, Ok, Err, Some, None}
+use Rattle.clap.specs.Walk.{bundle_met, walked}
+use Rattle.clap.specs.Faults.{defaults_fault, flags_fault, walk_fault}
+use Rattle.stat_words.specs.Values.{file_name, number_of, number_between, report_form}
+use Rattle.stat_words.specs.Words.{Names, Run, Sim, Replay, Direct, Gen, asked, form_in, seed_in, workers_in}
+use Rattle.stat_words.specs.declared.words.ReportForm.TheVariants.{Text}
+use Rattle.stat_words.specs.declared.words.Opt.TheVariants.{Seed, Size}
+use Rattle.stat_words.specs.declared.words.WordFault.TheVariants.{NoMode, UnknownMode, Options, Value}
+
+-- the defaults, where an option isn't given
+four_workers : workers_in [] ≡ Ok 4
+four_workers = refl
+
+seed_zero : seed_in [] ≡ Ok 0
+seed_zero = refl
+
+text_report : form_in [] ≡ Ok Text
+text_report = refl
+
+-- zeros in front mean nothing, and 21 digits are no number
+zeros : number_of (codes "08") ≡ Some 8
+zeros = refl
+
+twenty_digits : number_of (codes "00000000000000000007") ≡ Some 7
+twenty_digits = refl
+
+twenty_one_digits : number_of (codes "000000000000000000007") ≡ None
+twenty_one_digits = refl
+
+sign : number_of (codes "+5") ≡ None
+sign = refl
+
+no_digits : number_of [] ≡ None
+no_digits = refl
+
+last_seed : number_between 0 18446744073709551615 (codes "18446744073709551615") ≡ Some 18446744073709551615
+last_seed = refl
+
+too_large : number_between 0 18446744073709551615 (codes "18446744073709551616") ≡ None
+too_large = refl
+
+-- a name that begins like an option
+dash : file_name (codes "-x") ≡ None
+dash = refl
+
+frames : report_form (codes "frames") ≡ None
+frames = refl
+
+-- the words of three files, and their names
+abbrev three_files : List (List ℕ)
+three_files = codes "--topology" ∷ codes "t" ∷ codes "--samples" ∷ codes "s" ∷ codes "--script=c" ∷ []
+
+abbrev names : Names
+names = record { topology = codes "t"; samples = codes "s"; script = codes "c" }
+
+no_word : asked [] ≡ Err NoMode
+unfolding asked
+no_word = refl
+
+unknown_mode : asked (codes "trace" ∷ []) ≡ Err UnknownMode
+unfolding asked
+unknown_mode = refl
+
+help : asked (codes "--help" ∷ []) ≡ Err UnknownMode
+unfolding asked
+help = refl
+
+-- each mode with what it requires, and the defaults
+run : asked (codes "run" ∷ three_files) ≡ Ok (Run names 4 Text)
+unfolding asked walked walk_fault bundle_met flags_fault defaults_fault
+run = refl
+
+sim : asked (codes "sim" ∷ three_files) ≡ Ok (Sim names 0 Text)
+unfolding asked walked walk_fault bundle_met flags_fault defaults_fault
+sim = refl
+
+replay : asked (codes "replay" ∷ codes "--journal-in=j" ∷ three_files) ≡ Ok (Replay names (codes "j") Text)
+unfolding asked walked walk_fault bundle_met flags_fault defaults_fault
+replay = refl
+
+direct : asked (codes "direct" ∷ three_files) ≡ Ok (Direct names Text)
+unfolding asked walked walk_fault bundle_met flags_fault defaults_fault
+direct = refl
+
+gen : asked (codes "gen" ∷ codes "--size=256" ∷ []) ≡ Ok (Gen 256 0)
+unfolding asked walked walk_fault bundle_met flags_fault defaults_fault
+gen = refl
+
+-- options of another mode, missing, given twice, with no value; a stray word; `--`
+other_mode : asked (codes "gen" ∷ codes "--size=1" ∷ codes "--workers=1" ∷ []) ≡ Err Options
+unfolding asked walked walk_fault bundle_met flags_fault defaults_fault
+other_mode = refl
+
+missing : asked (codes "replay" ∷ three_files) ≡ Err Options
+unfolding asked walked walk_fault bundle_met flags_fault defaults_fault
+missing = refl
+
+twice : asked (codes "gen" ∷ codes "--size=1" ∷ codes "--size=1" ∷ []) ≡ Err Options
+unfolding asked walked walk_fault bundle_met flags_fault defaults_fault
+twice = refl
+
+no_value : asked (codes "gen" ∷ codes "--size" ∷ []) ≡ Err Options
+unfolding asked walked walk_fault bundle_met flags_fault defaults_fault
+no_value = refl
+
+stray : asked (codes "gen" ∷ codes "--size=1" ∷ codes "x" ∷ []) ≡ Err Options
+unfolding asked walked walk_fault bundle_met flags_fault defaults_fault
+stray = refl
+
+dashes : asked (codes "gen" ∷ codes "--size=1" ∷ codes "--" ∷ []) ≡ Err Options
+unfolding asked walked walk_fault bundle_met flags_fault defaults_fault
+dashes = refl
+
+-- the first bad value, in the order of `Opt`; options before values
+first_bad : asked (codes "gen" ∷ codes "--size=0" ∷ codes "--seed=x" ∷ []) ≡ Err (Value Seed)
+unfolding asked walked walk_fault bundle_met flags_fault defaults_fault
+first_bad = refl
+
+bad_size : asked (codes "gen" ∷ codes "--size=257" ∷ []) ≡ Err (Value Size)
+unfolding asked walked walk_fault bundle_met flags_fault defaults_fault
+bad_size = refl
+
+options_first : asked (codes "gen" ∷ codes "--seed=x" ∷ []) ≡ Err Options
+unfolding asked walked walk_fault bundle_met flags_fault defaults_fault
+options_first = refl

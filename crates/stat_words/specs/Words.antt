@@ -1,0 +1,110 @@
+-- What the words of the command line ask for.
+use Rattle.std.specs.Prelude.{◌≤◌, ◌-◌, ◌^◌, ℕ, List, [], ◌∷◌, Option, Some, None, Result, Ok, Err}
+use Rattle.clap.specs.Words.{Row, Text}
+use Rattle.stat_words.specs.Modes.{mode_of, given}
+use Rattle.stat_words.specs.Outcomes.{IsReadOrOutOfMemory}
+use Rattle.stat_words.specs.Values.{file_name, number_between, report_form, value_of, value_or}
+use Rattle.stat_words.specs.declared.words.Command.{Command}
+use Rattle.stat_words.specs.declared.words.Command.TheVariants as command
+use Rattle.stat_words.specs.declared.words.Files.{Files}
+use Rattle.stat_words.specs.declared.words.Opt.TheVariants.{Topology, Samples, Script, JournalIn, Workers, Seed, Size, Report}
+use Rattle.stat_words.specs.declared.words.ReportForm.{ReportForm}
+use Rattle.stat_words.specs.declared.words.ReportForm.TheVariants as form
+use Rattle.stat_words.specs.declared.words.WordFault.{WordFault}
+use Rattle.stat_words.specs.declared.words.WordFault.TheVariants.{NoMode, UnknownMode}
+use Rattle.stat_words.specs.declared.words.WordsError.{WordsError}
+use Rattle.stat_words.specs.declared.modes.Mode.{Mode}
+use Rattle.stat_words.specs.declared.modes.Mode.TheVariants as mode
+
+-- the names of the three files
+pub record Names : Type 0 where
+  pub topology : List ℕ
+  pub samples : List ℕ
+  pub script : List ℕ
+
+-- What the words ask for: a mode, and the values of its options. A run has a number of workers, a simulation a seed, a
+-- replay the name of a journal, and a generated input its size and a seed.
+pub data Asked : Type 0 where
+  Run : Names → ℕ → ReportForm → Asked
+  Sim : Names → ℕ → ReportForm → Asked
+  Replay : Names → List ℕ → ReportForm → Asked
+  Direct : Names → ReportForm → Asked
+  Gen : ℕ → ℕ → Asked
+
+-- a second step where the first finds no fault
+abbrev pub and_then : {A B : Type 0} → Result A WordFault → (A → Result B WordFault) → Result B WordFault
+and_then (Err fault) next = Err fault
+and_then (Ok value) next = next value
+
+-- the values of the options, each with its range and its default
+abbrev pub names_in : List Row → Result Names WordFault
+names_in rows =
+    and_then (value_of Topology file_name rows) (λ topology.
+    and_then (value_of Samples file_name rows) (λ samples.
+    and_then (value_of Script file_name rows) (λ script.
+    Ok (record { topology = topology; samples = samples; script = script }))))
+
+abbrev pub journal_in : List Row → Result Text WordFault
+journal_in = value_of JournalIn file_name
+
+abbrev pub workers_in : List Row → Result ℕ WordFault
+workers_in = value_or 4 Workers (number_between 1 32)
+
+abbrev pub seed_in : List Row → Result ℕ WordFault
+seed_in = value_or 0 Seed (number_between 0 (2 ^ 64 - 1))
+
+abbrev pub size_in : List Row → Result ℕ WordFault
+size_in = value_of Size (number_between 1 256)
+
+abbrev pub form_in : List Row → Result ReportForm WordFault
+form_in = value_or form.Text Report report_form
+
+-- what a mode makes of its options; their values are tested in the order of `Opt`
+abbrev pub asked_in : Mode → List Row → Result Asked WordFault
+asked_in mode.Run rows =
+    and_then (names_in rows) (λ names. and_then (workers_in rows) (λ workers. and_then (form_in rows) (λ form.
+    Ok (Run names workers form))))
+asked_in mode.Sim rows =
+    and_then (names_in rows) (λ names. and_then (seed_in rows) (λ seed. and_then (form_in rows) (λ form.
+    Ok (Sim names seed form))))
+asked_in mode.Replay rows =
+    and_then (names_in rows) (λ names. and_then (journal_in rows) (λ journal. and_then (form_in rows) (λ form.
+    Ok (Replay names journal form))))
+asked_in mode.Direct rows =
+    and_then (names_in rows) (λ names. and_then (form_in rows) (λ form.
+    Ok (Direct names form)))
+asked_in mode.Gen rows =
+    and_then (seed_in rows) (λ seed. and_then (size_in rows) (λ size.
+    Ok (Gen size seed)))
+
+-- what the words after a mode ask for
+abbrev pub asked_after : Option Mode → List Text → Result Asked WordFault
+asked_after None words = Err UnknownMode
+asked_after (Some mode) words = and_then (given mode words) (asked_in mode)
+
+-- what the words ask for, or the first fault
+unfoldable pub asked : List (List ℕ) → Result Asked WordFault
+asked [] = Err NoMode
+asked (word ∷ words) = asked_after (mode_of word) words
+
+-- the names of the files, without where they lie
+abbrev pub names_of : Files → Names
+names_of files = record { topology = files.topology.now; samples = files.samples.now; script = files.script.now }
+
+-- what a command says
+abbrev pub asked_of : Command → Asked
+asked_of (command.Run files workers form) = Run (names_of files) workers form
+asked_of (command.Sim files seed form) = Sim (names_of files) seed form
+asked_of (command.Replay files journal form) = Replay (names_of files) journal.now form
+asked_of (command.Direct files form) = Direct (names_of files) form
+asked_of (command.Gen size seed) = Gen size seed
+
+-- the result is what the words ask for, or their fault, or memory ran out
+abbrev pub Reads : Result Asked WordFault → Result Command WordsError → Type 0
+Reads = IsReadOrOutOfMemory asked_of
+
+-- the numbers of a command are in their ranges
+abbrev pub IsInRanges : Command → Type 0
+IsInRanges (command.Run files workers form) = (1 ≤ workers) × (workers ≤ 32)
+IsInRanges (command.Gen size seed) = (1 ≤ size) × (size ≤ 256)
+IsInRanges _ = Unit {0}

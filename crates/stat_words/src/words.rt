@@ -1,0 +1,135 @@
+//! What the words ask for, and what can be wrong with them.
+ghost use Rattle.std.specs.Prelude.{◌≡◌};
+ghost use Rattle.stat_words.specs.Modes.{word_of};
+
+use std::fmt;
+use thiserror::Error;
+
+/// An option. Values are tested in this order.
+#[derive(Clone, Copy, Debug, PartialEq, Eq)]
+pub enum Opt {
+    /// `--topology`, the file of the overlay's nodes.
+    Topology,
+    /// `--samples`, the file of the ranks and of the call paths that they were seen in.
+    Samples,
+    /// `--script`, the file of the streams and waves.
+    Script,
+    /// `--journal-in`, the file of the journal that is replayed.
+    JournalIn,
+    /// `--capture`, a file of captured stacks.
+    Capture,
+    /// `--workers`, the number of threads, 1 to 32.
+    Workers,
+    /// `--seed`, the number from which chance is drawn, 0 to 18446744073709551615.
+    Seed,
+    /// `--size`, the size of a generated input, 1 to 256.
+    Size,
+    /// `--report`, the form of the report: `text` or `json`.
+    Report,
+}
+
+impl Opt {
+    /// The option's word, without its two dashes.
+    pub fn word(self) -> &'static str
+        ensures { result.now ≡ word_of self }
+    {
+        match self {
+            Opt::Topology => "topology",
+            Opt::Samples => "samples",
+            Opt::Script => "script",
+            Opt::JournalIn => "journal-in",
+            Opt::Capture => "capture",
+            Opt::Workers => "workers",
+            Opt::Seed => "seed",
+            Opt::Size => "size",
+            Opt::Report => "report",
+        }
+    }
+}
+
+impl fmt::Display for Opt {
+    fn fmt<W: fmt::Write>(&self, f: &mut fmt::Formatter<W>) -> fmt::Result {
+        f.write_str(self.word())
+    }
+}
+
+/// What is wrong with the words.
+#[derive(Clone, Copy, Debug, PartialEq, Eq, Error)]
+pub enum WordFault {
+    /// There are no words.
+    #[error("no mode")]
+    NoMode,
+    /// The first word is not a mode's.
+    #[error("unknown mode")]
+    UnknownMode,
+    /// An option is unknown, repeated or missing, a value is missing, or there is a word that is no option's.
+    #[error("options")]
+    Options,
+    /// An option's value is not one that the option can have.
+    #[error("value of --{0}")]
+    Value(Opt),
+}
+
+/// How a report is written.
+#[derive(Clone, Copy, Debug, PartialEq, Eq)]
+pub enum ReportForm {
+    /// Lines of text.
+    Text,
+    /// One JSON value.
+    Json,
+}
+
+/// The names of the three files. None is empty or begins with `-`.
+#[derive(Clone, Copy, Debug, PartialEq, Eq)]
+pub struct Files<'a> {
+    /// The file of the overlay's nodes.
+    pub topology: &'a str,
+    /// The file of the ranks and of the call paths that they were seen in.
+    pub samples: &'a str,
+    /// The file of the streams and waves.
+    pub script: &'a str,
+}
+
+/// What the words ask for.
+#[derive(Clone, Copy, Debug, PartialEq, Eq)]
+pub enum Command<'a> {
+    /// A run on threads; `workers` is 1 to 32.
+    Run {
+        files: Files<'a>,
+        workers: u8,
+        form: ReportForm,
+    },
+    /// A run in an order that is drawn from a seed.
+    Sim {
+        files: Files<'a>,
+        seed: u64,
+        form: ReportForm,
+    },
+    /// The run that a journal tells of.
+    Replay {
+        files: Files<'a>,
+        journal: &'a str,
+        form: ReportForm,
+    },
+    /// The report computed from the samples at once, with no overlay.
+    Direct {
+        files: Files<'a>,
+        form: ReportForm,
+    },
+    /// A generated input; `size` is 1 to 256.
+    Gen {
+        size: u16,
+        seed: u64,
+    },
+}
+
+/// Why words are not read.
+#[derive(Clone, Copy, Debug, PartialEq, Eq, Error)]
+pub enum WordsError {
+    /// The words are bad.
+    #[error(transparent)]
+    Fault(WordFault),
+    /// Out of memory.
+    #[error("out of memory")]
+    OutOfMemory,
+}
