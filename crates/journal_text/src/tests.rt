@@ -1,9 +1,9 @@
 //! What no clause says: texts as they are written, and that each call succeeds with ample memory.
 
-use crate::{JournalRead, read_journal, what_is_read_is_of_the_plan, write_journal};
+use crate::{JournalRead, read_journal};
 use stat_desk::Event;
 use stat_plan::Plan;
-use std::alloc::{AllocError, Global};
+use std::alloc::Global;
 use std::process::Abort;
 use std::test::Fail;
 
@@ -115,24 +115,5 @@ fn refuses_bad_lines(rt: HostRuntime) -> Result<(), Fail> {
         let read = read_journal(rt.alloc(), &plan, text)?;
         assert_eq!(rt; read.bad, Some(0), "{text:?}");
     }
-    Ok(())
-}
-
-// The text of what was read of a text.
-fn written_back(alloc: Global, plan: &Plan, text: &[u8]) -> Result<Vec<u8>, AllocError> {
-    plan.invariant();
-    what_is_read_is_of_the_plan();
-    let read = read_journal(alloc, plan, text)?;
-    write_journal(alloc, plan, &read.events)
-}
-
-#[test]
-fn writes_what_was_read(rt: HostRuntime) -> Result<(), Fail> {
-    let plan = small_plan(rt.alloc())?;
-    let text = b"sample a:0 0 11\nrecv c:0 a:0\ntick fe:0\nlose c:0\n";
-    assert_eq!(rt;
-        written_back(rt.alloc(), &plan, text)?.as_slice(),
-        text.as_slice()
-    );
     Ok(())
 }
