@@ -1,7 +1,6 @@
 -- JSON that was written piece by piece.
-use Rattle.std.proofs.Common.{◌≡◌, ℕ, ◌==◌, Bool, true, false, cond, inl, inr, List, [], ◌∷◌, ◌++◌, map, refl, sym, ap, ◌∙◌, append_assoc, eqb-true}
+use Rattle.std.proofs.Common.{◌≡◌, ℕ, Bool, true, false, cond, List, [], ◌∷◌, ◌++◌, map, refl, sym, ap, ◌∙◌, append_assoc}
 use Rattle.std.specs.Prelude.{codes, filter, not}
-use Rattle.std.proofs.lemmas.Bool.{cases_Bool}
 use Rattle.json.specs.Print.{print}
 use Rattle.json.specs.Token.{Token, begin_object, end_object, key}
 use Rattle.serde_json.specs.Data.{Data, string}
@@ -18,6 +17,7 @@ use Rattle.front_end.specs.ReleaseText.{classes_in, kind_text, missing}
 use Rattle.front_end.specs.JsonValues.{classes_data, count, list_of, object_of, ranks_data, tree_data}
 use Rattle.front_end.specs.JsonReport.{all_missing_data, fate_state, fault_data, has_missing, missing_data, missing_state, release_data, report_data}
 use Rattle.front_end.specs.JsonTokens.{member_tokens, rest_tokens, value_tokens}
+use Rattle.front_end.proofs.Written.{some_ranks}
 
 -- an object of three members
 three_members : (first second third out a b c d : List Token) → a ≡ out ++ begin_object ∷ [] → b ≡ a ++ first → c ≡ b ++ second → d ≡ c ++ third → d ++ end_object ∷ [] ≡ out ++ begin_object ∷ (first ++ (second ++ (third ++ end_object ∷ [])))
@@ -34,10 +34,6 @@ pub fault_object : (p : Plan) (lost : List ℕ) (fault : Fault) (after : ℕ) (n
 fault_object p lost fault after name state out a b c d is_after is_name is_state pa pb pc pd =
     three_members (member_tokens (codes "after") (count after)) (member_tokens (codes "node") (string name)) (member_tokens (codes "state") (string state)) out a b c d pa pb pc pd
     ∙ (λ i. out ++ value_tokens (object_of ((codes "after", count (is_after i)) ∷ (codes "node", string (is_name i)) ∷ (codes "state", string (is_state i)) ∷ [])))
-
--- ranks of which there are some are not empty
-some_ranks : (s : Ranks) → (size s ≡ 0 → ⊥) → is_empty s ≡ false
-some_ranks s some = elim (cases_Bool (size s == 0)) [ inl e ↦ absurd (some (eqb-true (size s) 0 e)) | inr e ↦ e ]
 
 -- the object of a daemon with missing ranks
 pub daemon_object : (p : Plan) (covered : Ranks) (lost : List ℕ) (daemon : ℕ) (found : Ranks) (name text state : List ℕ) (out a b c d : List Token) → found ≡ missing p covered daemon → (size found ≡ 0 → ⊥)

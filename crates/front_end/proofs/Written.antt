@@ -27,7 +27,7 @@ heading_written out stream wave number kind a b c d e f pa pb pc pd pe pf =
     regroup out a b c d e f g h k = simp append_assoc
 
 -- ranks of which there are some are not empty
-some_ranks : (s : Ranks) → (size s ≡ 0 → ⊥) → is_empty s ≡ false
+pub some_ranks : (s : Ranks) → (size s ≡ 0 → ⊥) → is_empty s ≡ false
 some_ranks s some = elim (cases_Bool (size s == 0)) [ inl e ↦ absurd (some (eqb-true (size s) 0 e)) | inr e ↦ e ]
 
 -- the line of a daemon with missing ranks

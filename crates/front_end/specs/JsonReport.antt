@@ -40,9 +40,10 @@ missing_data p covered lost daemon = object_of (
     ∷ (codes "ranks", ranks_data (missing p covered daemon))
     ∷ (codes "state", string (missing_state (is_listed daemon lost))) ∷ [])
 
--- those of some nodes that have missing ranks
+-- the daemons with missing ranks among these, in their order
 abbrev pub all_missing_data : Plan → Ranks → List ℕ → List ℕ → Data
-all_missing_data p covered lost nodes = list_of (map (missing_data p covered lost) (filter (has_missing p covered) nodes))
+all_missing_data p covered lost daemons =
+    list_of (map (missing_data p covered lost) (filter (has_missing p covered) daemons))
 
 -- all that a release says
 unfoldable pub release_data : Plan → TreeRelease → Data

@@ -24,7 +24,8 @@ pub fn write_release<T: PrefixTree>(
     release: &Release<T>,
     out: &mut JsonText,
 ) -> Result<(), AllocError>
-    ensures { OnOk result (out.new ≡ out.old ++ value_tokens (release_data plan.now (release_view T.tree release.now))) }
+    ensures { OnOk result
+        (out.new ≡ out.old ++ value_tokens (release_data plan.now (release_view T.tree release.now))) }
 {
     let classes = classes(alloc, &release.tree)?;
     let covered = release.tree.row(0).label;

@@ -50,17 +50,19 @@ pub fn json_reports_are_one()
         → IsJsonReport p faults given lost text → IsJsonReport p faults given lost other → text ≡ other }
 {}
 
-/// A law: where every stream waits for all its daemons and loses none of them, the report of a run shows the releases of
-/// the direct merge, whatever its journal is. Nodes between the daemons and the front end may be lost.
+/// A law: where every stream waits for all its daemons and loses none of them, the report of a run shows the releases
+/// of the direct merge, whatever its journal is. Nodes between the daemons and the front end may be lost.
 pub fn waiting_reports_are_direct()
-    ensures { (p : Plan) (faults : List Fault) (journal : List Event) (releases : List TreeRelease) (lost text : List ℕ)
-        → IsPlan p → AllStreamsWait p → ((s : ℕ) → LosesNoDaemon p journal s) → AreReleasesOf p journal releases
-        → IsReport p faults releases lost text → IsReport p faults (direct_releases p) lost text }
+    ensures { (p : Plan) (faults : List Fault) (journal : List Event) (releases : List TreeRelease)
+        → (lost text : List ℕ) → IsPlan p → AllStreamsWait p → ((s : ℕ) → LosesNoDaemon p journal s)
+        → AreReleasesOf p journal releases → IsReport p faults releases lost text
+        → IsReport p faults (direct_releases p) lost text }
 {}
 
 /// A law: so does its report as JSON.
 pub fn waiting_json_reports_are_direct()
-    ensures { (p : Plan) (faults : List Fault) (journal : List Event) (releases : List TreeRelease) (lost text : List ℕ)
-        → IsPlan p → AllStreamsWait p → ((s : ℕ) → LosesNoDaemon p journal s) → AreReleasesOf p journal releases
-        → IsJsonReport p faults releases lost text → IsJsonReport p faults (direct_releases p) lost text }
+    ensures { (p : Plan) (faults : List Fault) (journal : List Event) (releases : List TreeRelease)
+        → (lost text : List ℕ) → IsPlan p → AllStreamsWait p → ((s : ℕ) → LosesNoDaemon p journal s)
+        → AreReleasesOf p journal releases → IsJsonReport p faults releases lost text
+        → IsJsonReport p faults (direct_releases p) lost text }
 {}
