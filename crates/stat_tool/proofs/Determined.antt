@@ -1,34 +1,57 @@
 -- From why a call gives a status to what its texts determine, where nothing fails.
 use Rattle.std.proofs.Common.{◌≡◌, ◌≤◌, inl, inr, ℕ, Bool, List, [], ◌∷◌, Option, Some, None, Ok, Err, length, refl, sym, ap, subst, ◌∙◌}
-use Rattle.std.specs.Prelude.{Result, IfSome, if◌then◌else◌}
+use Rattle.std.specs.Prelude.{Result, IfOk, if◌then◌else◌}
 use Rattle.std.proofs.lemmas.Bool.{le-leb, lt-leb}
+use Rattle.overlay_setup.specs.Scripts.{Scripted}
 use Rattle.overlay_setup.specs.Topologies.{Nodes}
-use Rattle.stat_plan.specs.Plans.{Sampled}
+use Rattle.stat_plan.specs.Plans.{Plan, Sampled, plan_of}
+use Rattle.stat_plan.specs.Limits.{first_over}
 use Rattle.text_lines.specs.declared.text_error.TextError.{TextError}
 use Rattle.stat_desk.specs.declared.event.Event.{Event}
+use Rattle.stat_words.specs.Words.{Asked}
+use Rattle.stat_words.specs.Words.{Run, Sim, Replay, Direct, Gen}
+use Rattle.stat_words.specs.declared.words.ReportForm.{ReportForm}
+use Rattle.stat_words.specs.declared.words.WordFault.{WordFault}
 use Rattle.topology_text.specs.Whole.{topology_of}
 use Rattle.sample_text.specs.Whole.{samples_of_text}
-use Rattle.stat_tool.specs.Call.{Answered, DeskChange, IsDetermined, SinkChange, answer_of, given}
-use Rattle.stat_tool.specs.NextStep.{Agrees, Answers, Bytes, Does, AreReadResults, ReadResult, Step, TooLong, Wants, at_samples, at_script, by_samples, by_topology, next_step, limit}
-use Rattle.stat_tool.specs.Words.{Names, in_order}
+use Rattle.script_text.specs.Whole.{script_of}
+use Rattle.stat_tool.specs.Call.{Answered, AreTold, DeskChange, Finishes, IsDetermined, SinkChange, all_given, answer_of, answer_of_job, end_of, given}
+use Rattle.stat_tool.specs.Files.{NamedFile, files_of, limit_of}
+use Rattle.stat_tool.specs.Jobs.{Job, RunJob, SimJob, ReplayJob, DirectJob, GenJob, RunOutput}
+use Rattle.stat_tool.specs.NextStep.{AfterPlan, Agrees, Answers, Bytes, Does, AreReadResults, ReadResult, Step, TooLong, Wants, at_journal, at_samples, at_script, by_limit, by_samples, by_script, by_topology, next_step, plan_step}
+use Rattle.stat_tool.specs.Outputs.{HasOutput}
+use Rattle.stat_tool.specs.declared.status.Target.TheVariants.{Report, Journal}
 use Rattle.stat_tool.specs.declared.status.Status.{Status}
-use Rattle.stat_tool.specs.declared.status.Status.TheVariants.{Done, BadWords, DeskFault, BadInput, OverLimit, SinkFault, OutOfMemory}
+use Rattle.stat_tool.specs.declared.status.Status.TheVariants.{Done, BadWords, DeskFault, BadInput, OverLimit, SinkFault, OutOfMemory, BadJournal, Unfinished}
 
 -- ---- the texts that the desk can tell determine what is read
 
-same_result : (text : List ℕ) (g : ReadResult) → Agrees (Some text) g → g ≡ given text
-same_result text (Bytes bytes) agrees =
+same_result : (text : List ℕ) (limit : ℕ) (g : ReadResult) → Agrees (Some text) limit g → g ≡ given limit text
+same_result text limit (Bytes bytes) agrees =
     ap Bytes agrees.whole ∙ sym (ap (λ (b : Bool). if b then Bytes text else TooLong) (le-leb (length text) limit (subst (λ (b : List ℕ). length b ≤ limit) agrees.whole agrees.within)))
-same_result text TooLong agrees = sym (ap (λ (b : Bool). if b then Bytes text else TooLong) (lt-leb (length text) limit agrees))
-
-result_is : (contents : Option (List ℕ)) (text : List ℕ) (g : ReadResult) → contents ≡ Some text → Agrees contents g → g ≡ given text
-result_is contents text g is agrees = same_result text g (subst (λ (o : Option (List ℕ)). Agrees o g) is agrees)
+same_result text limit TooLong agrees = sym (ap (λ (b : Bool). if b then Bytes text else TooLong) (lt-leb (length text) limit agrees))
 
 -- one list is the first part of another
 abbrev BeginsAs : List ReadResult → List ReadResult → Type 0
 BeginsAs [] all = Unit {0}
 BeginsAs (g ∷ results) [] = ⊥
 BeginsAs (g ∷ results) (h ∷ all) = (g ≡ h) × BeginsAs results all
+
+given_first : (contents : List ℕ → Option (List ℕ)) (f : NamedFile) (files : List NamedFile) (text : List ℕ) → contents f.1 ≡ Some text
+    → all_given contents (f ∷ files) ≡ given (limit_of f.0) text ∷ all_given contents files
+given_first contents f files text is =
+    ap (λ (o : Option (List ℕ)). elim o [ None ↦ [] | Some text ↦ given (limit_of f.0) text ∷ all_given contents files ]) is
+
+-- what is read is the first part of what the texts give
+results_begin : (contents : List ℕ → Option (List ℕ)) (files : List NamedFile) (results : List ReadResult) → AreTold contents files → AreReadResults contents files results → BeginsAs results (all_given contents files)
+results_begin contents files [] told read = tt
+results_begin contents [] (g ∷ results) told read = absurd read
+results_begin contents (f ∷ files) (g ∷ results) told read =
+    let text = told f (inl refl) in
+    subst (BeginsAs (g ∷ results)) (sym (given_first contents f files text.0 text.1)) (
+      same_result text.0 (limit_of f.0) g (subst (λ (o : Option (List ℕ)). Agrees o (limit_of f.0) g) text.1 read.0),
+      results_begin contents files results (λ h there. told h (inr there)) read.1,
+    )
 
 -- ---- what is read later doesn't change an answer
 
@@ -38,68 +61,109 @@ IsSettled (Wants role) = ⊥
 IsSettled (Answers status) = Unit {0}
 IsSettled (Does job) = Unit {0}
 
-script_stays : (t : Nodes) (s : Sampled) (results : List ReadResult) (c : ReadResult) → BeginsAs results (c ∷ []) → IsSettled (at_script t s results) → at_script t s (c ∷ []) ≡ at_script t s results
-script_stays t s [] c front settled = absurd settled
-script_stays t s (g ∷ []) c front settled = ap (λ (h : ReadResult). at_script t s (h ∷ [])) (sym front.0)
-script_stays t s (g ∷ h ∷ results) c front settled = absurd front.1
+-- after a plan, too
+abbrev IsStable : AfterPlan → Type 0
+IsStable after = (p : Plan) (rest all : List ReadResult) → BeginsAs rest all → IsSettled (after p rest) → after p all ≡ after p rest
 
-by_samples_stays : (t : Nodes) (s : Result Sampled TextError) (results : List ReadResult) (c : ReadResult) → BeginsAs results (c ∷ []) → IsSettled (by_samples t s results) → by_samples t s (c ∷ []) ≡ by_samples t s results
-by_samples_stays t (Err e) results c front settled = refl
-by_samples_stays t (Ok s) results c front settled = script_stays t s results c front settled
+module _ (after : AfterPlan) (stable : IsStable after) where
+  limit_stays : (p : Plan) (over : Option (ℕ × ℕ)) (rest all : List ReadResult) → BeginsAs rest all → IsSettled (by_limit p over rest after) → by_limit p over all after ≡ by_limit p over rest after
+  limit_stays p None rest all front settled = stable p rest all front settled
+  limit_stays p (Some v) rest all front settled = refl
 
-same_samples : (t : Nodes) (g : ReadResult) (results : List ReadResult) (c : ReadResult) → BeginsAs results (c ∷ []) → IsSettled (at_samples t (g ∷ results)) → at_samples t (g ∷ c ∷ []) ≡ at_samples t (g ∷ results)
-same_samples t TooLong results c front settled = refl
-same_samples t (Bytes bytes) results c front settled = by_samples_stays t (samples_of_text t bytes) results c front settled
+  by_script_stays : (t : Nodes) (s : Sampled) (c : Result Scripted TextError) (rest all : List ReadResult) → BeginsAs rest all → IsSettled (by_script t s c rest after) → by_script t s c all after ≡ by_script t s c rest after
+  by_script_stays t s (Err e) rest all front settled = refl
+  by_script_stays t s (Ok c) rest all front settled = limit_stays (plan_of t s c) (first_over (plan_of t s c)) rest all front settled
 
-samples_stay : (t : Nodes) (results : List ReadResult) (b c : ReadResult) → BeginsAs results (b ∷ c ∷ []) → IsSettled (at_samples t results) → at_samples t (b ∷ c ∷ []) ≡ at_samples t results
-samples_stay t [] b c front settled = absurd settled
-samples_stay t (g ∷ results) b c front settled = ap (λ (h : ReadResult). at_samples t (h ∷ c ∷ [])) (sym front.0) ∙ same_samples t g results c front.1 settled
+  same_script : (t : Nodes) (s : Sampled) (g : ReadResult) (rest all : List ReadResult) → BeginsAs rest all → IsSettled (at_script t s (g ∷ rest) after) → at_script t s (g ∷ all) after ≡ at_script t s (g ∷ rest) after
+  same_script t s TooLong rest all front settled = refl
+  same_script t s (Bytes bytes) rest all front settled = by_script_stays t s (script_of t bytes) rest all front settled
 
-by_topology_stays : (t : Result Nodes TextError) (results : List ReadResult) (b c : ReadResult) → BeginsAs results (b ∷ c ∷ []) → IsSettled (by_topology t results) → by_topology t (b ∷ c ∷ []) ≡ by_topology t results
-by_topology_stays (Err e) results b c front settled = refl
-by_topology_stays (Ok t) results b c front settled = samples_stay t results b c front settled
+  script_stays : (t : Nodes) (s : Sampled) (rest all : List ReadResult) → BeginsAs rest all → IsSettled (at_script t s rest after) → at_script t s all after ≡ at_script t s rest after
+  script_stays t s [] all front settled = absurd settled
+  script_stays t s (g ∷ rest) [] front settled = absurd front
+  script_stays t s (g ∷ rest) (h ∷ all) front settled = ap (λ (x : ReadResult). at_script t s (x ∷ all) after) (sym front.0) ∙ same_script t s g rest all front.1 settled
 
-same_step : (g : ReadResult) (results : List ReadResult) (b c : ReadResult) → BeginsAs results (b ∷ c ∷ []) → IsSettled (next_step (g ∷ results)) → next_step (g ∷ b ∷ c ∷ []) ≡ next_step (g ∷ results)
-same_step TooLong results b c front settled = refl
-same_step (Bytes bytes) results b c front settled = by_topology_stays (topology_of bytes) results b c front settled
+  by_samples_stays : (t : Nodes) (s : Result Sampled TextError) (rest all : List ReadResult) → BeginsAs rest all → IsSettled (by_samples t s rest after) → by_samples t s all after ≡ by_samples t s rest after
+  by_samples_stays t (Err e) rest all front settled = refl
+  by_samples_stays t (Ok s) rest all front settled = script_stays t s rest all front settled
 
-step_stays : (results : List ReadResult) (a b c : ReadResult) → BeginsAs results (a ∷ b ∷ c ∷ []) → IsSettled (next_step results) → next_step (a ∷ b ∷ c ∷ []) ≡ next_step results
-step_stays [] a b c front settled = absurd settled
-step_stays (g ∷ results) a b c front settled = ap (λ (h : ReadResult). next_step (h ∷ b ∷ c ∷ [])) (sym front.0) ∙ same_step g results b c front.1 settled
+  same_samples : (t : Nodes) (g : ReadResult) (rest all : List ReadResult) → BeginsAs rest all → IsSettled (at_samples t (g ∷ rest) after) → at_samples t (g ∷ all) after ≡ at_samples t (g ∷ rest) after
+  same_samples t TooLong rest all front settled = refl
+  same_samples t (Bytes bytes) rest all front settled = by_samples_stays t (samples_of_text t bytes) rest all front settled
 
--- ---- what the call's own words determine
+  samples_stay : (t : Nodes) (rest all : List ReadResult) → BeginsAs rest all → IsSettled (at_samples t rest after) → at_samples t all after ≡ at_samples t rest after
+  samples_stay t [] all front settled = absurd settled
+  samples_stay t (g ∷ rest) [] front settled = absurd front
+  samples_stay t (g ∷ rest) (h ∷ all) front settled = ap (λ (x : ReadResult). at_samples t (x ∷ all) after) (sym front.0) ∙ same_samples t g rest all front.1 settled
 
-module _ (names : Names) (contents : List ℕ → Option (List ℕ)) (t s c : List ℕ)
-    (first : contents names.topology ≡ Some t) (second : contents names.samples ≡ Some s) (third : contents names.script ≡ Some c) where
-  -- what is read is the first part of what the texts give
-  results_begin : (results : List ReadResult) → AreReadResults contents (in_order names) results → BeginsAs results (given t ∷ given s ∷ given c ∷ [])
-  results_begin [] read = tt
-  results_begin (x ∷ []) read = (result_is (contents names.topology) t x first read.0, tt)
-  results_begin (x ∷ y ∷ []) read = (result_is (contents names.topology) t x first read.0, (result_is (contents names.samples) s y second read.1.0, tt))
-  results_begin (x ∷ y ∷ z ∷ []) read = (
-    result_is (contents names.topology) t x first read.0,
-    (result_is (contents names.samples) s y second read.1.0, (result_is (contents names.script) c z third read.1.1.0, tt)),
-  )
-  results_begin (x ∷ y ∷ z ∷ v ∷ results) read = absurd read.1.1.1
+  by_topology_stays : (t : Result Nodes TextError) (rest all : List ReadResult) → BeginsAs rest all → IsSettled (by_topology t rest after) → by_topology t all after ≡ by_topology t rest after
+  by_topology_stays (Err e) rest all front settled = refl
+  by_topology_stays (Ok t) rest all front settled = samples_stay t rest all front settled
 
-  answers : (results : List ReadResult) (p : Step) → AreReadResults contents (in_order names) results → next_step results ≡ p → IsSettled p → answer_of p ≡ answer_of (next_step (given t ∷ given s ∷ given c ∷ []))
-  answers results p read is settled =
-      ap answer_of (sym is) ∙ ap answer_of (sym (step_stays results (given t) (given s) (given c) (results_begin results read) (subst IsSettled (sym is) settled)))
+  same_topology : (g : ReadResult) (rest all : List ReadResult) → BeginsAs rest all → IsSettled (plan_step (g ∷ rest) after) → plan_step (g ∷ all) after ≡ plan_step (g ∷ rest) after
+  same_topology TooLong rest all front settled = refl
+  same_topology (Bytes bytes) rest all front settled = by_topology_stays (topology_of bytes) rest all front settled
+
+  plan_stays : (rest all : List ReadResult) → BeginsAs rest all → IsSettled (plan_step rest after) → plan_step all after ≡ plan_step rest after
+  plan_stays [] all front settled = absurd settled
+  plan_stays (g ∷ rest) [] front settled = absurd front
+  plan_stays (g ∷ rest) (h ∷ all) front settled = ap (λ (x : ReadResult). plan_step (x ∷ all) after) (sym front.0) ∙ same_topology g rest all front.1 settled
+
+same_journal : (form : ReportForm) (p : Plan) (g : ReadResult) (rest all : List ReadResult) → at_journal form p (g ∷ all) ≡ at_journal form p (g ∷ rest)
+same_journal form p TooLong rest all = refl
+same_journal form p (Bytes bytes) rest all = refl
+
+journal_stays : (form : ReportForm) → IsStable (at_journal form)
+journal_stays form p [] all front settled = absurd settled
+journal_stays form p (g ∷ rest) [] front settled = absurd front
+journal_stays form p (g ∷ rest) (h ∷ all) front settled = ap (λ (x : ReadResult). at_journal form p (x ∷ all)) (sym front.0) ∙ same_journal form p g rest all
+
+step_stays : (asked : Asked) (results all : List ReadResult) → BeginsAs results all → IsSettled (next_step asked results) → next_step asked all ≡ next_step asked results
+step_stays (Run names workers form) results all front settled = plan_stays (λ p rest. Does (RunJob p form)) (λ p rest all front settled. refl) results all front settled
+step_stays (Sim names seed form) results all front settled = plan_stays (λ p rest. Does (SimJob p seed form)) (λ p rest all front settled. refl) results all front settled
+step_stays (Replay names journal form) results all front settled = plan_stays (at_journal form) (journal_stays form) results all front settled
+step_stays (Direct names form) results all front settled = plan_stays (λ p rest. Does (DirectJob p form)) (λ p rest all front settled. refl) results all front settled
+step_stays (Gen size seed) results all front settled = refl
+
+-- ---- the answers
+
+-- a job ends as its output says
+end_of_job : (job : Job) (output : RunOutput) → HasOutput job output → end_of output.unfinished ≡ answer_of_job job
+end_of_job (RunJob p form) output has = ap end_of has.0.finished
+end_of_job (SimJob p seed form) output has = ap end_of has.0.finished
+end_of_job (ReplayJob p events form) output has = ap end_of has.unfinished
+end_of_job (DirectJob p form) output has = ap end_of has.finished
+end_of_job (GenJob size seed) output has = ap end_of has.finished
+
+module _ (asked : Asked) (contents : List ℕ → Option (List ℕ)) (told : AreTold contents (files_of asked)) where
+  answers : (results : List ReadResult) (next : Step) → AreReadResults contents (files_of asked) results → next_step asked results ≡ next → IsSettled next → answer_of next ≡ answer_of (next_step asked (all_given contents (files_of asked)))
+  answers results next read is settled =
+      ap answer_of (sym is)
+      ∙ ap answer_of (sym (step_stays asked results (all_given contents (files_of asked)) (results_begin contents (files_of asked) results told read) (subst IsSettled (sym is) settled)))
+
+  finishes : (results : List ReadResult) (out journal : SinkChange) (events : List Event) (status : Status) (f : Finishes (next_step asked results) out journal events status) → AreReadResults contents (files_of asked) results → status ≡ end_of f.output.unfinished
+      → status ≡ answer_of (next_step asked (all_given contents (files_of asked)))
+  finishes results out journal events status f read ends = ends ∙ end_of_job f.job f.output f.is_output ∙ answers results (Does f.job) read f.step tt
 
 -- the texts determine the answer, where nothing fails
-pub determined : (names : Names) (desk : DeskChange) (out : SinkChange) (journal : List Event) (status : Status) → Answered (Some names) desk out journal status → IsDetermined names desk out status
-determined names desk out journal Done a t s c first second third no_fault no_loss =
-    inl (answers names desk.contents t s c first second third a.0 (Does a.1.1.job) a.1.0 a.1.1.step tt)
-determined names desk out journal OutOfMemory a t s c first second third no_fault no_loss = inr refl
-determined names desk out journal (BadInput file line reason) a t s c first second third no_fault no_loss =
-    inl (answers names desk.contents t s c first second third a.0 (Answers (BadInput file line reason)) a.1.0 a.1.1.0 tt)
-determined names desk out journal (OverLimit file line what most) a t s c first second third no_fault no_loss =
-    inl (answers names desk.contents t s c first second third a.0 (Answers (OverLimit file line what most)) a.1.0 a.1.1.0 tt)
-determined names desk out journal (DeskFault role) a t s c first second third no_fault no_loss = absurd (no_fault a.1.1.0.1.rose)
-determined names desk out journal (SinkFault target) a t s c first second third no_fault no_loss = absurd (no_loss a.1.1.written.rose)
-determined names desk out journal (BadWords fault) a t s c first second third no_fault no_loss = absurd a.1.1.0
+pub determined : (asked : Asked) (desk : DeskChange) (out journal : SinkChange) (events : List Event) (status : Status) → Answered (Ok asked) desk out journal events status → IsDetermined asked desk out journal status
+determined asked desk out journal events Done a told no_fault no_loss no_journal_loss =
+    inl (finishes asked desk.contents told a.0 out journal events Done a.1.1 a.1.0 (ap end_of (sym a.1.1.written.0)))
+determined asked desk out journal events (Unfinished e) a told no_fault no_loss no_journal_loss =
+    inl (finishes asked desk.contents told a.0 out journal events (Unfinished e) a.1.1 a.1.0 (ap end_of (sym a.1.1.written.0)))
+determined asked desk out journal events OutOfMemory a told no_fault no_loss no_journal_loss = inr refl
+determined asked desk out journal events (BadInput file line reason) a told no_fault no_loss no_journal_loss =
+    inl (answers asked desk.contents told a.0 (Answers (BadInput file line reason)) a.1.0 a.1.1.0 tt)
+determined asked desk out journal events (OverLimit file line what most) a told no_fault no_loss no_journal_loss =
+    inl (answers asked desk.contents told a.0 (Answers (OverLimit file line what most)) a.1.0 a.1.1.0 tt)
+determined asked desk out journal events (BadJournal i) a told no_fault no_loss no_journal_loss =
+    inl (answers asked desk.contents told a.0 (Answers (BadJournal i)) a.1.0 a.1.1.0 tt)
+determined asked desk out journal events (DeskFault role) a told no_fault no_loss no_journal_loss = absurd (no_fault a.1.1.0.1.failed.rose)
+determined asked desk out journal events (SinkFault Report) a told no_fault no_loss no_journal_loss = absurd (no_loss a.1.1.written.0.rose)
+determined asked desk out journal events (SinkFault Journal) a told no_fault no_loss no_journal_loss = absurd (no_journal_loss a.1.1.written.1.rose)
+determined asked desk out journal events (BadWords fault) a told no_fault no_loss no_journal_loss = absurd a.1.1.0
 
 -- the same, for any words
-pub all_determined : (names : Option Names) (desk : DeskChange) (out : SinkChange) (journal : List Event) (status : Status) → Answered names desk out journal status → IfSome names (λ n. IsDetermined n desk out status)
-all_determined None desk out journal status a = tt
-all_determined (Some names) desk out journal status a = determined names desk out journal status a
+pub all_determined : (asked : Result Asked WordFault) (desk : DeskChange) (out journal : SinkChange) (events : List Event) (status : Status) → Answered asked desk out journal events status → IfOk asked (λ command. IsDetermined command desk out journal status)
+all_determined (Err fault) desk out journal events status a = tt
+all_determined (Ok command) desk out journal events status a = determined command desk out journal events status a

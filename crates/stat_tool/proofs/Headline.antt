@@ -1,34 +1,36 @@
--- How a run ends.
-use Rattle.std.proofs.Common.{◌≡◌, ◌≢◌, inl, inr, ◌==◌, ◌&&◌, ℕ, Bool, false, List, [], ◌∷◌, refl, sym, subst, ◌∙◌, eqb-true}
+-- How a run ends, and what its report says.
+use Rattle.std.proofs.Common.{◌≡◌, ◌≢◌, inl, ◌==◌, ◌&&◌, ℕ, Bool, false, List, [], ◌∷◌, map, refl, sym, ap, subst, ◌∙◌, eqb-true}
 use Rattle.std.specs.List.{AllByRecursion}
 use Rattle.std.proofs.lemmas.Bool.{and_parts}
 use Rattle.rank_set.specs.Ranks.{Ranks, none}
+use Rattle.prefix_tree.specs.Tree.{tree_of}
 use Rattle.equiv_class.proofs.SamePairs.{classes_of_tree}
-use Rattle.stat_plan.specs.Invariants.{IsPlan}
 use Rattle.overlay_setup.specs.NodeSets.{In}
+use Rattle.overlay_setup.specs.declared.script.Fault.{Fault}
+use Rattle.stat_plan.specs.Invariants.{IsPlan}
 use Rattle.stat_plan.specs.Plans.{Plan, daemons, front, samples, waves_of}
 use Rattle.stat_desk.specs.declared.event.Event.{Event}
-use Rattle.stat_desk.specs.declared.event.Event.TheVariants.{Sample, Recv, Tick, Lose}
 use Rattle.merge_filter.proofs.WaveSamples.{samples_have_paths}
 use Rattle.overlay_core.specs.History.{of_wave, ByKind, IsHistory, MissesOnlyLost}
 use Rattle.overlay_core.specs.declared.release.Kind.{Kind}
 use Rattle.overlay_core.specs.declared.release.Kind.TheVariants.{Partial, Final}
 use Rattle.stat_plan.specs.Machine.Waves.{Wave, is_open}
-use Rattle.overlay_core.specs.Machine.{start}
 use Rattle.overlay_core.specs.Nodes.{Release}
-use Rattle.overlay_core.specs.Runs.{IsWhole, after}
-use Rattle.overlay_core.specs.TreeReleases.{AreNumberedInOrder, TreeRelease, bare_releases}
-use Rattle.overlay_core.specs.Whole.{EndsFinally, HasOneRelease, LosesNoDaemon}
+use Rattle.overlay_core.specs.Runs.{IsLegal, IsWhole, after}
+use Rattle.overlay_core.specs.TreeReleases.{AreNumberedInOrder, TreeRelease, bare_releases, numbers_after}
+use Rattle.overlay_core.specs.Whole.{EndsFinally, LosesNoDaemon}
 use Rattle.overlay_core.proofs.Ended.{all_of_stream, whole_has_ended, waits_for_all}
 use Rattle.overlay_core.proofs.Whole.{legal_is_sound}
 use Rattle.overlay_core.proofs.PlanFacts.{plan_facts}
 use Rattle.overlay_core.proofs.Lists.{append_right, filter_from}
-use Rattle.overlay_core.proofs.NamedLosses.{none_is_lost}
 use Rattle.overlay_core.proofs.Releases.{legal_log}
 use Rattle.overlay_node.specs.Outputs.{ReleaseFits}
-use Rattle.front_end.specs.Report.{IsDirect, IsReport}
-use Rattle.front_end.proofs.Direct.{direct_where_all_wait}
-use Rattle.stat_tool.specs.RunOutput.{CoveragesGrow, EndsWithAll, HasRun, TakesFirst, losses_of}
+use Rattle.front_end.specs.Report.{AllStreamsWait, AreReleasesOf, IsDirect, direct_releases}
+use Rattle.front_end.proofs.Direct.{direct_where_all_wait, direct_json_where_all_wait}
+use Rattle.front_end.proofs.Orders.{reports_same, json_reports_same}
+use Rattle.stat_words.specs.declared.words.ReportForm.{ReportForm}
+use Rattle.stat_words.specs.declared.words.ReportForm.TheVariants.{Text, Json}
+use Rattle.stat_tool.specs.Reports.{CoveragesGrow, EndsWaves, EndsWithAll, IsReportIn, IsReportOf, losses_of}
 
 -- ---- each wave ends with all ranks of its stream
 
@@ -72,51 +74,106 @@ coverages_grow p alive s last (r ∷ rs) v h = by r.kind refl h.1 (λ more. cove
     by Partial is more rest = (h.0, (λ _. more.0), rest more.1)
     by Final is more rest = (h.0, (λ e. absurd (final_is_not_partial (sym is ∙ e))), subst (λ (qs : List Release). CoveragesGrow r.covered qs) (sym more.1) tt)
 
--- ---- losses
+-- ---- the report of a journal
 
--- where no node is lost there are no losses
-no_losses : (es : List Event) → ((d : ℕ) → In (Lose d) es → ⊥) → losses_of es ≡ []
-no_losses [] h = refl
-no_losses (Sample n s w ∷ es) h = no_losses es (λ d i. h d (inr i))
-no_losses (Recv n m ∷ es) h = no_losses es (λ d i. h d (inr i))
-no_losses (Tick n ∷ es) h = no_losses es (λ d i. h d (inr i))
-no_losses (Lose n ∷ es) h = absurd (h n (inl refl))
-
--- ---- the run
-
--- what is known of a run that has ended, and of its report
-pub record RunFacts (p : Plan) (journal : List Event) (report : List ℕ) : Type 0 where
+-- what is known of a net that a journal leads to, and of the report of its releases
+pub record ReportFacts (p : Plan) (form : ReportForm) (journal : List Event) (report : List ℕ) : Type 0 where
   pub plan : IsPlan p
-  pub whole : IsWhole p journal
-  pub serial : TakesFirst p (start p) journal
+  pub legal : IsLegal p journal
   pub releases : List TreeRelease
   pub reached : bare_releases releases ≡ (after p journal).releases
   pub numbered : AreNumberedInOrder [] releases
   pub trees : AllByRecursion (ReleaseFits p) releases
-  pub text : IsReport p releases (losses_of journal) report
+  pub text : IsReportIn form p p.faults releases (losses_of journal) report
 
--- so it is a run of the plan, as the headline says
-pub whole_run : (p : Plan) (journal : List Event) (report : List ℕ) → RunFacts p journal report → HasRun p journal report
-whole_run p journal report run =
-    let facts = plan_facts p run.plan in
-    let direct : AllByRecursion (IsDirect p) run.releases = all_direct p run.plan run.releases run.trees in
+-- so it is the report of the journal
+pub is_report : (p : Plan) (form : ReportForm) (journal : List Event) (text : List ℕ) → ReportFacts p form journal text → IsReportOf p form journal text
+is_report p form journal text facts =
+    let plan = plan_facts p facts.plan in
     record {
-      plan = run.plan;
-      whole = run.whole;
-      serial = run.serial;
-      releases = run.releases;
-      reached = run.reached;
-      numbered = run.numbered;
-      text = run.text;
-      sound = λ r there. legal_log p journal facts run.whole.0 r (subst (λ (rs : List Release). In r rs) run.reached there);
-      direct = direct;
-      grow = λ s w. subst (λ (rs : List Release). CoveragesGrow none (of_wave s w rs)) (sym run.reached)
-          (coverages_grow p (after p journal).alive s none (of_wave s w (after p journal).releases) (((after p journal).node (front p)).book s w) ((legal_is_sound p journal facts run.whole.0).history.releases s w));
-      waves = λ s w wave. subst (λ (rs : List Release). EndsFinally p journal s (of_wave s w rs)) (sym run.reached) ((whole_has_ended p journal facts run.whole).final s w wave);
-      whole_waves = λ s w wave none_lost. subst (λ (rs : List Release). EndsWithAll p s (of_wave s w rs)) (sym run.reached) (ends_with_all p journal run.plan run.whole s w wave none_lost);
-      once = λ s w wave waits none_lost. subst (λ (rs : List Release). HasOneRelease p s (of_wave s w rs)) (sym run.reached)
-          (waits_for_all p journal s w facts run.whole waits none_lost wave);
-      all_wait = λ waits no_faults.
-          direct_where_all_wait p journal run.releases run.plan no_faults waits (record { whole = run.whole; reached = run.reached; numbered = run.numbered; direct = direct }) report
-          (subst (λ lost. IsReport p run.releases lost report) (no_losses journal (none_is_lost p journal no_faults run.whole.0)) run.text);
+      legal = facts.legal;
+      releases = facts.releases;
+      reached = facts.reached;
+      numbered = facts.numbered;
+      text = facts.text;
+      sound = λ r there. legal_log p journal plan facts.legal r (subst (λ (rs : List Release). In r rs) facts.reached there);
+      direct = all_direct p facts.plan facts.releases facts.trees;
+      grow = λ s w. subst (λ (rs : List Release). CoveragesGrow none (of_wave s w rs)) (sym facts.reached)
+          (coverages_grow p (after p journal).alive s none (of_wave s w (after p journal).releases) (((after p journal).node (front p)).book s w) ((legal_is_sound p journal plan facts.legal).history.releases s w));
     }
+
+-- a whole journal ends each wave
+pub ends_waves : (p : Plan) (journal : List Event) → IsPlan p → IsWhole p journal → EndsWaves p journal
+ends_waves p journal plan whole =
+    let facts = plan_facts p plan in
+    record {
+      whole = whole;
+      waves = (whole_has_ended p journal facts whole).final;
+      whole_waves = λ s w wave none_lost. ends_with_all p journal plan whole s w wave none_lost;
+      once = λ s w wave waits none_lost. waits_for_all p journal s w facts whole waits none_lost wave;
+    }
+
+-- ---- there is one report of a journal
+
+abbrev first_or : TreeRelease → List TreeRelease → TreeRelease
+first_or r [] = r
+first_or r (q ∷ qs) = q
+
+abbrev rest_of : {X : Type 0} → List X → List X
+rest_of [] = []
+rest_of (x ∷ xs) = xs
+
+abbrev first_bare : Release → List Release → Release
+first_bare r [] = r
+first_bare r (q ∷ qs) = q
+
+abbrev first_number : ℕ → List ℕ → ℕ
+first_number n [] = n
+first_number n (m ∷ ms) = m
+
+-- the machine's releases and the numbers say all of releases that are direct merges
+one_release_list : (p : Plan) (rs qs : List TreeRelease) → bare_releases rs ≡ bare_releases qs → map (λ (r : TreeRelease). r.number) rs ≡ map (λ (r : TreeRelease). r.number) qs
+    → AllByRecursion (IsDirect p) rs → AllByRecursion (IsDirect p) qs → rs ≡ qs
+one_release_list p [] [] bare numbers direct direct' = refl
+one_release_list p [] (q ∷ qs) bare numbers direct direct' = absurd (cc)
+one_release_list p (r ∷ rs) [] bare numbers direct direct' = absurd (cc)
+one_release_list p (r ∷ rs) (q ∷ qs) bare numbers direct direct' =
+    let blank : Release = record { stream = r.stream; wave = r.wave; covered = r.tree.coverage; kind = r.kind; lost = r.lost } in
+    let same = ap (first_bare blank) bare in
+    let stream : r.stream ≡ q.stream = ap (λ (x : Release). x.stream) same in
+    let wave : r.wave ≡ q.wave = ap (λ (x : Release). x.wave) same in
+    let covered : r.tree.coverage ≡ q.tree.coverage = ap (λ (x : Release). x.covered) same in
+    let kind : r.kind ≡ q.kind = ap (λ (x : Release). x.kind) same in
+    let lost : r.lost ≡ q.lost = ap (λ (x : Release). x.lost) same in
+    let number : r.number ≡ q.number = ap (first_number 0) numbers in
+    let tree : r.tree ≡ q.tree = direct.0.tree ∙ (λ i. tree_of (samples p (stream i) (wave i)) (covered i)) ∙ sym direct'.0.tree in
+    let rest : rs ≡ qs = one_release_list p rs qs (ap rest_of bare) (ap rest_of numbers) direct.1 direct'.1 in
+    λ i. record { stream = stream i; wave = wave i; number = number i; kind = kind i; tree = tree i; lost = lost i } ∷ rest i
+
+-- in either form there is one report of the same releases
+same_in : (form : ReportForm) (p : Plan) (faults : List Fault) (releases : List TreeRelease) (lost text other : List ℕ) → IsReportIn form p faults releases lost text → IsReportIn form p faults releases lost other → text ≡ other
+same_in Text p faults releases lost text other first second = reports_same p faults releases lost text other first second
+same_in Json p faults releases lost text other first second = json_reports_same p faults releases lost text other first second
+
+pub one_report : (p : Plan) (form : ReportForm) (journal : List Event) (text other : List ℕ) → IsReportOf p form journal text → IsReportOf p form journal other → text ≡ other
+one_report p form journal text other first second =
+    let bare : bare_releases first.releases ≡ bare_releases second.releases = first.reached ∙ sym second.reached in
+    let numbers : map (λ (r : TreeRelease). r.number) first.releases ≡ map (λ (r : TreeRelease). r.number) second.releases
+    = first.numbered ∙ ap (numbers_after []) bare ∙ sym second.numbered in
+    let same : first.releases ≡ second.releases = one_release_list p first.releases second.releases bare numbers first.direct second.direct in
+    same_in form p p.faults second.releases (losses_of journal) text other
+    (subst (λ (rs : List TreeRelease). IsReportIn form p p.faults rs (losses_of journal) text) same first.text) second.text
+
+-- ---- the report where all streams wait
+
+waits_in : (form : ReportForm) (p : Plan) (journal : List Event) (releases : List TreeRelease) (lost text : List ℕ) → IsPlan p → AllStreamsWait p → ((s : ℕ) → LosesNoDaemon p journal s) → AreReleasesOf p journal releases
+    → IsReportIn form p p.faults releases lost text → IsReportIn form p p.faults (direct_releases p) lost text
+waits_in Text p journal releases lost text plan waits none_lost run report = direct_where_all_wait p journal releases plan waits none_lost run p.faults lost text report
+waits_in Json p journal releases lost text plan waits none_lost run report = direct_json_where_all_wait p journal releases plan waits none_lost run p.faults lost text report
+
+-- where every stream waits for all and no daemon is lost, it is that of the direct releases
+pub direct_where_waiting : (p : Plan) (form : ReportForm) (journal : List Event) (text : List ℕ) → IsPlan p → IsWhole p journal → IsReportOf p form journal text → AllStreamsWait p → ((s : ℕ) → LosesNoDaemon p journal s)
+    → IsReportIn form p p.faults (direct_releases p) (losses_of journal) text
+direct_where_waiting p form journal text plan whole report waits none_lost =
+    waits_in form p journal report.releases (losses_of journal) text plan waits none_lost
+    (record { whole = whole; reached = report.reached; numbered = report.numbered; direct = report.direct }) report.text

@@ -1,5 +1,10 @@
 pub mod Determined
+pub mod DirectReleases
+pub mod Forms
 pub mod Headline
+pub mod JournalTexts
 pub mod Losses
+pub mod Outputs
+pub mod Prepared
 pub mod Serial
 pub mod Stopping

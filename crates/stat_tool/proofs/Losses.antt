@@ -5,7 +5,7 @@ use Rattle.std.proofs.lemmas.List.{append_assoc, at_drop_more}
 use Rattle.std.proofs.lemmas.Option.{get_or_from_slice_get, slice_get_within}
 use Rattle.stat_desk.specs.declared.event.Event.{Event}
 use Rattle.stat_desk.specs.declared.event.Event.TheVariants.{Sample, Recv, Tick, Lose}
-use Rattle.stat_tool.specs.RunOutput.{losses_of}
+use Rattle.stat_tool.specs.Reports.{losses_of}
 
 -- what is left to go through begins with the next event
 losses_from : (es : List Event) (i : ℕ) (e : Event) → slice_get es i ≡ Some e → losses_of (drop i es) ≡ losses_of (e ∷ drop (i + 1) es)

@@ -1,7 +1,6 @@
 -- The run that takes the first enabled event, again and again.
-use Rattle.std.proofs.Common.{◌≡◌, ◌<◌, inl, ℕ, true, false, List, [], ◌∷◌, ◌++◌, Some, None, length, refl, sym, ap, subst, ◌∙◌}
+use Rattle.std.proofs.Common.{◌≡◌, ◌<◌, inl, true, false, List, [], ◌∷◌, ◌++◌, Some, None, length, refl, sym, subst, ◌∙◌}
 use Rattle.std.specs.Prelude.{slice_get}
-use Rattle.std.specs.List.{AllByRecursion}
 use Rattle.std.proofs.lemmas.Bool.{true≢false}
 use Rattle.stat_plan.specs.Invariants.{IsPlan}
 use Rattle.overlay_setup.specs.NodeSets.{In}
@@ -9,22 +8,18 @@ use Rattle.stat_plan.specs.Plans.{Plan}
 use Rattle.stat_desk.specs.declared.event.Event.{Event}
 use Rattle.overlay_core.specs.Bound.{bound}
 use Rattle.overlay_core.specs.Machine.{State, start, step, is_enabled, enabled_events}
-use Rattle.overlay_core.specs.Runs.{run, after, IsLegal, IsQuiet}
-use Rattle.overlay_core.specs.TreeReleases.{TreeRelease}
+use Rattle.overlay_core.specs.Runs.{run, after, IsQuiet}
 use Rattle.overlay_core.proofs.Enabled.{listed_enabled}
 use Rattle.overlay_core.proofs.PlanFacts.{plan_facts}
 use Rattle.overlay_core.proofs.Journals.{legal_has_room, quiet_where_empty}
-use Rattle.overlay_node.specs.Outputs.{ReleaseFits}
 use Rattle.overlay_net.specs.Nets.{NetView, IsReachedBy, state_of}
-use Rattle.front_end.specs.Report.{IsReport}
-use Rattle.stat_tool.specs.RunOutput.{HasRun, TakesFirst, losses_of}
-use Rattle.stat_tool.proofs.Headline.{whole_run}
+use Rattle.stat_tool.specs.Reports.{TakesFirst}
 
 first_in : (es : List Event) (e : Event) → Some e ≡ slice_get es 0 → In e es
 first_in [] e is = absurd (cc)
 first_in (f ∷ es) e is = inl (cc)
 
-none_there : (es : List Event) → None ≡ slice_get es 0 → es ≡ []
+pub none_there : (es : List Event) → None ≡ slice_get es 0 → es ≡ []
 none_there [] is = refl
 none_there (f ∷ es) is = absurd (cc)
 
@@ -58,19 +53,3 @@ pub is_quiet : (v : NetView) (p : Plan) (journal : List Event) → IsPlan p → 
 is_quiet v p journal is same reached found =
     subst (λ (p : Plan). IsQuiet p (after p journal)) same
     ((quiet_where_empty v.plan journal (plan_facts v.plan (subst IsPlan (sym same) is)) reached.legal).1 (none_there (enabled_events v.plan (after v.plan journal)) (subst (λ (st : State). None ≡ slice_get (enabled_events v.plan st) 0) reached.state found)))
-
--- a run that has ended, with the report of its releases, is a run of the plan
-pub has_run : (v : NetView) (q p : Plan) (journal : List Event) (releases : List TreeRelease) (report : List ℕ) → IsPlan p → v.plan ≡ q → q ≡ p → IsReachedBy v journal → TakesFirst q (start q) journal → IsQuiet q (after q journal)
-    → releases ≡ v.releases → IsReport p releases (losses_of journal) report → HasRun p journal report
-has_run v q p journal releases report is same as_given reached serial quiet given text =
-    let all : v.plan ≡ p = same ∙ as_given in
-    whole_run p journal report (record {
-      plan = is;
-      whole = (subst (λ (p : Plan). IsLegal p journal) all reached.legal, subst (λ (p : Plan). IsQuiet p (after p journal)) as_given quiet);
-      serial = subst (λ (p : Plan). TakesFirst p (start p) journal) as_given serial;
-      releases = v.releases;
-      reached = ap (λ (st : State). st.releases) reached.state ∙ ap (λ (p : Plan). (after p journal).releases) all;
-      numbered = reached.numbered;
-      trees = subst (λ (p : Plan). AllByRecursion (ReleaseFits p) v.releases) all reached.trees;
-      text = subst (λ (rs : List TreeRelease). IsReport p rs (losses_of journal) report) given text;
-    })

@@ -1,19 +1,28 @@
 -- What the call answers, and why.
-use Rattle.std.specs.Prelude.{◌≡◌, ◌⊎◌, if◌then◌else◌, nat_le, length, ℕ, List, [], ◌∷◌, ◌++◌, take, Option, Some, None, Result, Ok, Err}
+use Rattle.std.specs.Prelude.{◌≡◌, ◌⊎◌, if◌then◌else◌, nat_le, length, ℕ, List, [], ◌∷◌, ◌++◌, take, slice_get, Option, Some, None, Result, Ok, Err}
 use Rattle.std.specs.Io.KnownBytes.{Appends}
+use Rattle.overlay_setup.specs.NodeSets.{In}
+use Rattle.overlay_core.specs.Machine.{enabled_events}
+use Rattle.overlay_core.specs.Runs.{after}
 use Rattle.stat_desk.specs.Desk.{FailedAt, IsLonger, IsWhole}
 use Rattle.stat_desk.specs.Faults.{Rose}
 use Rattle.stat_desk.specs.Sink.{AppendsPrefix}
-use Rattle.text_lines.specs.declared.text_error.TextError.{TextError}
 use Rattle.stat_desk.specs.declared.event.Event.{Event}
+use Rattle.stat_plan.specs.Plans.{Plan}
+use Rattle.text_lines.specs.declared.text_error.TextError.{TextError}
+use Rattle.journal_text.specs.Reading.{ReadJournal, journal_of}
+use Rattle.stat_words.specs.Words.{Asked}
+use Rattle.stat_words.specs.declared.words.WordFault.{WordFault}
+use Rattle.stat_tool.specs.Files.{NamedFile, files_of, limit_of}
+use Rattle.stat_tool.specs.Jobs.{Job, RunJob, SimJob, ReplayJob, DirectJob, GenJob, RunOutput}
+use Rattle.stat_tool.specs.NextStep.{AfterPlan, Answers, Bytes, Does, AreReadResults, ReadResult, Step, TooLong, Wants, next_step, plan_step, too_long}
+use Rattle.stat_tool.specs.Outputs.{HasOutput}
 use Rattle.stat_tool.specs.Status.{refusal_of}
-use Rattle.stat_tool.specs.NextStep.{Answers, Bytes, Does, AreReadResults, ReadResult, Step, TooLong, Wants, next_step, limit, too_long}
-use Rattle.stat_tool.specs.Words.{Names, in_order, name_of}
-use Rattle.stat_tool.specs.RunOutput.{HasOutput, Job, RunOutput}
 use Rattle.stat_tool.specs.declared.status.FileRole.{FileRole}
-use Rattle.stat_tool.specs.declared.status.WordFault.TheVariants.{Options}
+use Rattle.stat_tool.specs.declared.status.FileRole.TheVariants.{Journal as RoleJournal}
+use Rattle.stat_tool.specs.declared.status.Target.TheVariants.{Report, Journal}
 use Rattle.stat_tool.specs.declared.status.Status.{Status}
-use Rattle.stat_tool.specs.declared.status.Status.TheVariants.{Done, BadWords, DeskFault, BadInput, OverLimit, SinkFault, OutOfMemory}
+use Rattle.stat_tool.specs.declared.status.Status.TheVariants.{Done, BadWords, DeskFault, BadInput, OverLimit, SinkFault, OutOfMemory, BadJournal, Unfinished}
 
 -- a desk before and after a call: its count of faults, the last name at which it rose, and the contents of its files
 pub record DeskChange : Type 0 where
@@ -56,86 +65,132 @@ pub record TookPrefix (sink : SinkChange) (text : List ℕ) : Type 0 where
   pub prefix : AppendsPrefix sink.contents_before sink.contents_now text
   pub rose : Rose sink.before sink.now
 
--- what the sink has of a report, by the status
-abbrev pub Written : List ℕ → SinkChange → Status → Type 0
-Written report out Done = TookWhole out report
-Written report out (SinkFault target) = TookPrefix out report
-Written report out status = ⊥
+-- What the sinks of the report and of the journal have of an output, by the status. The report is written first.
+abbrev pub Written : RunOutput → SinkChange → SinkChange → Status → Type 0
+Written output out journal Done = (output.unfinished ≡ None) × (TookWhole out output.report × TookWhole journal output.journal_text)
+Written output out journal (Unfinished e) = (output.unfinished ≡ Some e) × (TookWhole out output.report × TookWhole journal output.journal_text)
+Written output out journal (SinkFault Report) = TookPrefix out output.report × HasSameContents journal
+Written output out journal (SinkFault Journal) = TookWhole out output.report × TookPrefix journal output.journal_text
+Written output out journal status = ⊥
 
--- The job was run: the files lead to it, its output is the journal that is returned and the report that was written. What
--- the output of a run is says `HasRun`.
-pub record Finishes (next : Step) (out : SinkChange) (journal : List Event) (status : Status) : Type 0 where
+-- The job was run: the files lead to it, and its output is the journal that is returned and what was written. What the
+-- output of each job is says `HasOutput`.
+pub record Finishes (next : Step) (out journal : SinkChange) (events : List Event) (status : Status) : Type 0 where
   pub job : Job
-  pub work : RunOutput
+  pub output : RunOutput
   pub step : next ≡ Does job
-  pub output : HasOutput job work
-  pub given : journal ≡ work.journal
-  pub written : Written work.report out status
+  pub is_output : HasOutput job output
+  pub given : events ≡ output.journal
+  pub written : Written output out journal status
+
+-- nothing was written, and no event is returned
+pub record StaysSame (out journal : SinkChange) (events : List Event) : Type 0 where
+  pub same_report : HasSameContents out
+  pub same_journal : HasSameContents journal
+  pub no_events : events ≡ []
+
+-- the desk failed at this file
+pub record FailsAt (files : List NamedFile) (desk : DeskChange) (role : FileRole) : Type 0 where
+  pub name : List ℕ
+  pub is_named : In (role, name) files
+  pub failed : FailedAt desk.before desk.now desk.last_fault name
 
 -- Why a call stops before it writes: it is out of memory; the file that it reads next could not be read; or the files lead to
 -- this very answer.
-abbrev pub Prevents : Names → DeskChange → Step → Status → Type 0
-Prevents names desk next OutOfMemory = Unit {0}
-Prevents names desk next (DeskFault role) = (next ≡ Wants role) × FailedAt desk.before desk.now desk.last_fault (name_of names role)
-Prevents names desk next (BadInput file line reason) = next ≡ Answers (BadInput file line reason)
-Prevents names desk next (OverLimit file line what most) = next ≡ Answers (OverLimit file line what most)
-Prevents names desk next Done = ⊥
-Prevents names desk next (BadWords fault) = ⊥
-Prevents names desk next (SinkFault target) = ⊥
+abbrev pub Prevents : List NamedFile → DeskChange → Step → Status → Type 0
+Prevents files desk next OutOfMemory = Unit {0}
+Prevents files desk next (DeskFault role) = (next ≡ Wants role) × FailsAt files desk role
+Prevents files desk next (BadInput file line reason) = next ≡ Answers (BadInput file line reason)
+Prevents files desk next (OverLimit file line what most) = next ≡ Answers (OverLimit file line what most)
+Prevents files desk next (BadJournal i) = next ≡ Answers (BadJournal i)
+Prevents files desk next Done = ⊥
+Prevents files desk next (BadWords fault) = ⊥
+Prevents files desk next (SinkFault target) = ⊥
+Prevents files desk next (Unfinished e) = ⊥
 
--- Why a call has a status and a journal, and what it leaves in the sink: it ran the job, or it stopped before it wrote.
-abbrev pub Explains : Names → DeskChange → SinkChange → Step → List Event → Status → Type 0
-Explains names desk out next journal Done = Finishes next out journal Done
-Explains names desk out next journal (SinkFault target) = Finishes next out journal (SinkFault target)
-Explains names desk out next journal status = Prevents names desk next status × HasSameContents out × (journal ≡ [])
+-- Why a call has a status and returns events, and what it leaves in the sinks: it ran the job, or it stopped before it wrote.
+abbrev pub Explains : List NamedFile → DeskChange → SinkChange → SinkChange → Step → List Event → Status → Type 0
+Explains files desk out journal next events Done = Finishes next out journal events Done
+Explains files desk out journal next events (Unfinished e) = Finishes next out journal events (Unfinished e)
+Explains files desk out journal next events (SinkFault target) = Finishes next out journal events (SinkFault target)
+Explains files desk out journal next events status = Prevents files desk next status × StaysSame out journal events
 
 -- Good words: the answer rests on what some of the files gave, in order. Bad words are answered as such.
-abbrev pub Answered : Option Names → DeskChange → SinkChange → List Event → Status → Type 0
-Answered None desk out journal status = (status ≡ BadWords Options) × HasSameContents out × (journal ≡ [])
-Answered (Some names) desk out journal status =
-    (results : List ReadResult) × (AreReadResults desk.contents (in_order names) results × Explains names desk out (next_step results) journal status)
+abbrev pub Answered : Result Asked WordFault → DeskChange → SinkChange → SinkChange → List Event → Status → Type 0
+Answered (Err fault) desk out journal events status = ((status ≡ BadWords fault) ⊎ (status ≡ OutOfMemory)) × StaysSame out journal events
+Answered (Ok asked) desk out journal events status =
+    (results : List ReadResult) × (AreReadResults desk.contents (files_of asked) results
+    × Explains (files_of asked) desk out journal (next_step asked results) events status)
+
+-- ---- what the texts determine
 
 -- what a read of a text returns, where nothing fails
-abbrev pub given : List ℕ → ReadResult
-given text = if nat_le (length text) limit then Bytes text else TooLong
+abbrev pub given : ℕ → List ℕ → ReadResult
+given limit text = if nat_le (length text) limit then Bytes text else TooLong
+
+-- what reads of all these files return, where the desk can tell them and nothing fails
+abbrev pub all_given : (List ℕ → Option (List ℕ)) → List NamedFile → List ReadResult
+all_given contents [] = []
+all_given contents (f ∷ files) = elim (contents f.1) [ None ↦ [] | Some text ↦ given (limit_of f.0) text ∷ all_given contents files ]
+
+-- the desk can tell all these files
+abbrev pub AreTold : (List ℕ → Option (List ℕ)) → List NamedFile → Type 0
+AreTold contents files = (f : NamedFile) → In f files → (text : List ℕ) × (contents f.1 ≡ Some text)
+
+-- a replay that ends early says which event may come next
+abbrev pub end_of : Option Event → Status
+end_of None = Done
+end_of (Some e) = Unfinished e
+
+-- the answer of a job, where nothing fails
+abbrev pub answer_of_job : Job → Status
+answer_of_job (RunJob p form) = Done
+answer_of_job (SimJob p seed form) = Done
+answer_of_job (ReplayJob p events form) = end_of (slice_get (enabled_events p (after p events)) 0)
+answer_of_job (DirectJob p form) = Done
+answer_of_job (GenJob size seed) = Done
 
 -- the answer that a step leads to, where nothing fails
 abbrev pub answer_of : Step → Status
-answer_of (Does job) = Done
+answer_of (Does job) = answer_of_job job
 answer_of (Answers status) = status
 answer_of (Wants role) = OutOfMemory
 
--- Where the desk can tell the three texts and nothing fails, they determine the answer, running out of memory aside.
-abbrev pub IsDetermined : Names → DeskChange → SinkChange → Status → Type 0
-IsDetermined names desk out status = (topology samples script : List ℕ)
-    → desk.contents names.topology ≡ Some topology → desk.contents names.samples ≡ Some samples → desk.contents names.script ≡ Some script
-    → ¬ Rose desk.before desk.now → ¬ Rose out.before out.now
-    → (status ≡ answer_of (next_step (given topology ∷ given samples ∷ given script ∷ []))) ⊎ (status ≡ OutOfMemory)
+-- Where the desk can tell the files and nothing fails, they determine the answer, running out of memory aside.
+abbrev pub IsDetermined : Asked → DeskChange → SinkChange → SinkChange → Status → Type 0
+IsDetermined asked desk out journal status = AreTold desk.contents (files_of asked)
+    → ¬ Rose desk.before desk.now → ¬ Rose out.before out.now → ¬ Rose journal.before journal.now
+    → (status ≡ answer_of (next_step asked (all_given desk.contents (files_of asked)))) ⊎ (status ≡ OutOfMemory)
+
+-- whether a status says that something was written
+abbrev pub HasWritten : Status → Type 0
+HasWritten Done = Unit {0}
+HasWritten (Unfinished e) = Unit {0}
+HasWritten (SinkFault target) = Unit {0}
+HasWritten status = ⊥
 
 -- ---- the parts of the call: no clause of a public call cites what follows
-
--- what the files gave leads to this job
-abbrev pub IsPlanned : Names → (List ℕ → Option (List ℕ)) → Job → Type 0
-IsPlanned names contents job =
-    (results : List ReadResult) × (AreReadResults contents (in_order names) results × (next_step results ≡ Does job))
 
 -- why one file could not be read
 abbrev pub Refuses : FileRole → List ℕ → DeskChange → Status → Type 0
 Refuses role name desk OutOfMemory = Unit {0}
 Refuses role name desk (DeskFault r) = (r ≡ role) × FailedAt desk.before desk.now desk.last_fault name
-Refuses role name desk (OverLimit file line what most) = (OverLimit file line what most ≡ too_long role) × IsLonger (desk.contents name) limit
+Refuses role name desk (OverLimit file line what most) = (OverLimit file line what most ≡ too_long role) × IsLonger (desk.contents name) (limit_of role)
 Refuses role name desk Done = ⊥
 Refuses role name desk (BadWords fault) = ⊥
 Refuses role name desk (BadInput file line reason) = ⊥
 Refuses role name desk (SinkFault target) = ⊥
+Refuses role name desk (BadJournal i) = ⊥
+Refuses role name desk (Unfinished e) = ⊥
 
 -- a file with these contents was read as this
-abbrev pub Tells : {A : Type 0} → Option (List ℕ) → (List ℕ → Result A TextError) → A → Type 0
-Tells contents read x = (bytes : List ℕ) × (IsWhole contents limit bytes × (read bytes ≡ Ok x))
+abbrev pub Tells : {A : Type 0} → Option (List ℕ) → ℕ → (List ℕ → Result A TextError) → A → Type 0
+Tells contents limit read x = (bytes : List ℕ) × (IsWhole contents limit bytes × (read bytes ≡ Ok x))
 
 -- the file has a text whose first error makes this status
 abbrev pub IsRefused : {A : Type 0} → Option (List ℕ) → (List ℕ → Result A TextError) → FileRole → Status → Type 0
-IsRefused contents read role status = (bytes : List ℕ) × (IsWhole contents limit bytes × ((e : TextError) × ((read bytes ≡ Err e) × (refusal_of role e ≡ status))))
+IsRefused contents read role status =
+    (bytes : List ℕ) × (IsWhole contents (limit_of role) bytes × ((e : TextError) × ((read bytes ≡ Err e) × (refusal_of role e ≡ status))))
 
 -- why the text of a file was not read: the file could not be read, it is too long, or it has an error
 abbrev pub StopsAt : {A : Type 0} → (List ℕ → Result A TextError) → FileRole → List ℕ → DeskChange → Status → Type 0
@@ -143,26 +198,71 @@ StopsAt read role name desk OutOfMemory = Unit {0}
 StopsAt read role name desk (DeskFault r) = (r ≡ role) × FailedAt desk.before desk.now desk.last_fault name
 StopsAt read role name desk (BadInput file line reason) = IsRefused (desk.contents name) read role (BadInput file line reason)
 StopsAt read role name desk (OverLimit file line what most) =
-    ((OverLimit file line what most ≡ too_long role) × IsLonger (desk.contents name) limit) ⊎ IsRefused (desk.contents name) read role (OverLimit file line what most)
+    ((OverLimit file line what most ≡ too_long role) × IsLonger (desk.contents name) (limit_of role)) ⊎ IsRefused (desk.contents name) read role (OverLimit file line what most)
 StopsAt read role name desk Done = ⊥
 StopsAt read role name desk (BadWords fault) = ⊥
 StopsAt read role name desk (SinkFault target) = ⊥
+StopsAt read role name desk (BadJournal i) = ⊥
+StopsAt read role name desk (Unfinished e) = ⊥
 
 -- what the files gave leads to this output
-abbrev pub Prepared : Names → (List ℕ → Option (List ℕ)) → RunOutput → Type 0
-Prepared names contents work = (results : List ReadResult) × (AreReadResults contents (in_order names) results
-    × ((job : Job) × ((next_step results ≡ Does job) × HasOutput job work)))
+abbrev pub Prepared : Asked → (List ℕ → Option (List ℕ)) → RunOutput → Type 0
+Prepared asked contents output = (results : List ReadResult) × (AreReadResults contents (files_of asked) results
+    × ((job : Job) × ((next_step asked results ≡ Does job) × HasOutput job output)))
 
 -- what the files gave is why the call stops
-abbrev pub Prevented : Names → DeskChange → Status → Type 0
-Prevented names desk status = (results : List ReadResult) × (AreReadResults desk.contents (in_order names) results × Prevents names desk (next_step results) status)
+abbrev pub Prevented : Asked → DeskChange → Status → Type 0
+Prevented asked desk status =
+    (results : List ReadResult) × (AreReadResults desk.contents (files_of asked) results × Prevents (files_of asked) desk (next_step asked results) status)
+
+-- what the files of a plan gave leads to this plan, whatever comes after it
+pub record IsPlanned (files : List NamedFile) (contents : List ℕ → Option (List ℕ)) (p : Plan) : Type 0 where
+  pub results : List ReadResult
+  pub read : AreReadResults contents files results
+  pub all : length results ≡ length files
+  pub step : (rest : List ReadResult) (after : AfterPlan) → plan_step (results ++ rest) after ≡ after p rest
+
+-- what the files of a plan gave is why the call stops, whatever comes after a plan
+abbrev pub IsStopped : List NamedFile → DeskChange → Status → Type 0
+IsStopped files desk status =
+    (results : List ReadResult) × (AreReadResults desk.contents files results × ((after : AfterPlan) → Prevents files desk (plan_step results after) status))
 
 -- why three good files give no plan: it passes the limit of prefixes, or memory is out
-abbrev pub IsPlanRefusal : Step → Status → Type 0
+abbrev pub IsPlanRefusal : (AfterPlan → Step) → Status → Type 0
 IsPlanRefusal next OutOfMemory = Unit {0}
-IsPlanRefusal next (OverLimit file line what most) = next ≡ Answers (OverLimit file line what most)
+IsPlanRefusal next (OverLimit file line what most) = (after : AfterPlan) → next after ≡ Answers (OverLimit file line what most)
 IsPlanRefusal next (DeskFault role) = ⊥
 IsPlanRefusal next (BadInput file line reason) = ⊥
 IsPlanRefusal next Done = ⊥
 IsPlanRefusal next (BadWords fault) = ⊥
 IsPlanRefusal next (SinkFault target) = ⊥
+IsPlanRefusal next (BadJournal i) = ⊥
+IsPlanRefusal next (Unfinished e) = ⊥
+
+-- why a job that the files lead to has no output: memory is out, or the journal is refused
+abbrev pub IsJobRefusal : Step → Status → Type 0
+IsJobRefusal next OutOfMemory = Unit {0}
+IsJobRefusal next (BadJournal i) = next ≡ Answers (BadJournal i)
+IsJobRefusal next (OverLimit file line what most) = ⊥
+IsJobRefusal next (DeskFault role) = ⊥
+IsJobRefusal next (BadInput file line reason) = ⊥
+IsJobRefusal next Done = ⊥
+IsJobRefusal next (BadWords fault) = ⊥
+IsJobRefusal next (SinkFault target) = ⊥
+IsJobRefusal next (Unfinished e) = ⊥
+
+-- why an event of a journal is not done, where this is the first that may not come: memory is out, or it is this one
+abbrev pub IsEventRefusal : Option ℕ → Status → Type 0
+IsEventRefusal refused OutOfMemory = Unit {0}
+IsEventRefusal refused (BadJournal i) = refused ≡ Some i
+IsEventRefusal refused (OverLimit file line what most) = ⊥
+IsEventRefusal refused (DeskFault role) = ⊥
+IsEventRefusal refused (BadInput file line reason) = ⊥
+IsEventRefusal refused Done = ⊥
+IsEventRefusal refused (BadWords fault) = ⊥
+IsEventRefusal refused (SinkFault target) = ⊥
+IsEventRefusal refused (Unfinished e) = ⊥
+
+-- the journal of a file with these contents was read as this
+abbrev pub HasJournal : Option (List ℕ) → Plan → ReadJournal → Type 0
+HasJournal contents p read = (bytes : List ℕ) × (IsWhole contents (limit_of RoleJournal) bytes × (journal_of p bytes ≡ read))

@@ -1,6 +1,9 @@
-pub mod Words
 pub mod Status
-pub mod RunOutput
+pub mod Files
+pub mod Jobs
 pub mod NextStep
+pub mod Reports
+pub mod Outputs
 pub mod Call
 pub mod Ending
+pub mod Views

@@ -1,23 +1,30 @@
 -- What a call does next, by the files that it has read, one after another.
-use Rattle.std.specs.Prelude.{ℕ, List, [], ◌∷◌, Option, Some, None, Result, Ok, Err}
+use Rattle.std.specs.Prelude.{ℕ, suc, List, [], ◌∷◌, Option, Some, None, Result, Ok, Err, option_map, if◌then◌else◌}
 use Rattle.stat_desk.specs.Desk.{IsLonger, IsWhole}
+use Rattle.stat_desk.specs.declared.event.Event.{Event}
 use Rattle.stat_plan.specs.Limits.{first_over}
 use Rattle.stat_plan.specs.Plans.{Plan, Sampled, plan_of}
 use Rattle.overlay_setup.specs.Scripts.{Scripted}
 use Rattle.overlay_setup.specs.Topologies.{Nodes}
+use Rattle.overlay_core.specs.Machine.{State, start, step, is_enabled}
 use Rattle.text_lines.specs.declared.text_error.TextError.{TextError}
 use Rattle.text_lines.specs.declared.text_error.Quantity.TheVariants.{Bytes as TheBytes, Prefixes}
 use Rattle.topology_text.specs.Whole.{topology_of}
 use Rattle.sample_text.specs.Whole.{samples_of_text}
 use Rattle.script_text.specs.Whole.{script_of}
+use Rattle.journal_text.specs.Reading.{ReadJournal, journal_of}
+use Rattle.stat_words.specs.Words.{Asked}
+use Rattle.stat_words.specs.Words.{Run, Sim, Replay, Direct, Gen}
+use Rattle.stat_words.specs.declared.words.ReportForm.{ReportForm}
+use Rattle.stat_tool.specs.Files.{NamedFile, limit_of}
+use Rattle.stat_tool.specs.Jobs.{Job, RunJob, SimJob, ReplayJob, DirectJob, GenJob}
 use Rattle.stat_tool.specs.Status.{refusal_of}
-use Rattle.stat_tool.specs.RunOutput.{Job, RunJob}
 use Rattle.stat_tool.specs.declared.status.FileRole.{FileRole}
-use Rattle.stat_tool.specs.declared.status.FileRole.TheVariants.{Topology, Samples, Script}
+use Rattle.stat_tool.specs.declared.status.FileRole.TheVariants.{Topology, Samples, Script, Journal}
 use Rattle.stat_tool.specs.declared.status.Status.{Status}
-use Rattle.stat_tool.specs.declared.status.Status.TheVariants.{OverLimit}
+use Rattle.stat_tool.specs.declared.status.Status.TheVariants.{OverLimit, BadJournal}
 
--- what a read returned: all bytes of a file, or that it has more than the limit
+-- what a read returned: all bytes of a file, or that it has more than its limit
 pub data ReadResult : Type 0 where
   Bytes : List ℕ → ReadResult
   TooLong : ReadResult
@@ -28,61 +35,101 @@ pub data Step : Type 0 where
   Answers : Status → Step
   Does : Job → Step
 
--- the most bytes of a file
-abbrev pub limit : ℕ
-limit = 33554432
+-- what comes after a plan, by what was read after its three files
+abbrev pub AfterPlan : Type 0
+AfterPlan = Plan → List ReadResult → Step
 
--- a file of more bytes
+-- a file of more bytes than its limit
 abbrev pub too_long : FileRole → Status
-too_long role = OverLimit role 0 TheBytes limit
+too_long role = OverLimit role 0 TheBytes (limit_of role)
+
+-- ---- the plan
 
 -- a plan whose first wave over the limit of prefixes is this one
-abbrev pub by_limit : Plan → Option (ℕ × ℕ) → Step
-by_limit p None = Does (RunJob p)
-by_limit p (Some v) = Answers (OverLimit Samples 0 Prefixes 2048)
+abbrev pub by_limit : Plan → Option (ℕ × ℕ) → List ReadResult → AfterPlan → Step
+by_limit p None rest after = after p rest
+by_limit p (Some v) rest after = Answers (OverLimit Samples 0 Prefixes 2048)
 
--- a plan: it is run, where it is within the limit of prefixes
-abbrev pub plan_step : Plan → Step
-plan_step p = by_limit p (first_over p)
+-- a plan: the call goes on, where it is within the limit of prefixes
+abbrev pub with_plan : Plan → List ReadResult → AfterPlan → Step
+with_plan p rest after = by_limit p (first_over p) rest after
 
 -- by what the script was read as
-abbrev pub by_script : Nodes → Sampled → Result Scripted TextError → Step
-by_script t s (Err e) = Answers (refusal_of Script e)
-by_script t s (Ok c) = plan_step (plan_of t s c)
+abbrev pub by_script : Nodes → Sampled → Result Scripted TextError → List ReadResult → AfterPlan → Step
+by_script t s (Err e) rest after = Answers (refusal_of Script e)
+by_script t s (Ok c) rest after = with_plan (plan_of t s c) rest after
 
-abbrev pub at_script : Nodes → Sampled → List ReadResult → Step
-at_script t s [] = Wants Script
-at_script t s (TooLong ∷ rest) = Answers (too_long Script)
-at_script t s (Bytes script ∷ rest) = by_script t s (script_of t script)
+abbrev pub at_script : Nodes → Sampled → List ReadResult → AfterPlan → Step
+at_script t s [] after = Wants Script
+at_script t s (TooLong ∷ rest) after = Answers (too_long Script)
+at_script t s (Bytes script ∷ rest) after = by_script t s (script_of t script) rest after
 
 -- by what the samples were read as
-abbrev pub by_samples : Nodes → Result Sampled TextError → List ReadResult → Step
-by_samples t (Err e) rest = Answers (refusal_of Samples e)
-by_samples t (Ok s) rest = at_script t s rest
+abbrev pub by_samples : Nodes → Result Sampled TextError → List ReadResult → AfterPlan → Step
+by_samples t (Err e) rest after = Answers (refusal_of Samples e)
+by_samples t (Ok s) rest after = at_script t s rest after
 
-abbrev pub at_samples : Nodes → List ReadResult → Step
-at_samples t [] = Wants Samples
-at_samples t (TooLong ∷ rest) = Answers (too_long Samples)
-at_samples t (Bytes samples ∷ rest) = by_samples t (samples_of_text t samples) rest
+abbrev pub at_samples : Nodes → List ReadResult → AfterPlan → Step
+at_samples t [] after = Wants Samples
+at_samples t (TooLong ∷ rest) after = Answers (too_long Samples)
+at_samples t (Bytes samples ∷ rest) after = by_samples t (samples_of_text t samples) rest after
 
 -- by what the topology was read as
-abbrev pub by_topology : Result Nodes TextError → List ReadResult → Step
-by_topology (Err e) rest = Answers (refusal_of Topology e)
-by_topology (Ok t) rest = at_samples t rest
+abbrev pub by_topology : Result Nodes TextError → List ReadResult → AfterPlan → Step
+by_topology (Err e) rest after = Answers (refusal_of Topology e)
+by_topology (Ok t) rest after = at_samples t rest after
 
 -- the topology, the samples, the script: each file is tested before the next one is read
-abbrev pub next_step : List ReadResult → Step
-next_step [] = Wants Topology
-next_step (TooLong ∷ rest) = Answers (too_long Topology)
-next_step (Bytes topology ∷ rest) = by_topology (topology_of topology) rest
+abbrev pub plan_step : List ReadResult → AfterPlan → Step
+plan_step [] after = Wants Topology
+plan_step (TooLong ∷ rest) after = Answers (too_long Topology)
+plan_step (Bytes topology ∷ rest) after = by_topology (topology_of topology) rest after
+
+-- ---- the journal
+
+-- the number of the first of these events that is not enabled where it comes
+abbrev pub first_refused : Plan → State → List Event → Option ℕ
+first_refused p st [] = None
+first_refused p st (e ∷ es) = if is_enabled p st e then option_map suc (first_refused p (step p st e) es) else Some 0
+
+-- events that may all come: they are replayed, where no line was bad
+abbrev pub by_bad_line : Plan → ReportForm → List Event → Option ℕ → Step
+by_bad_line p form events None = Does (ReplayJob p events form)
+by_bad_line p form events (Some i) = Answers (BadJournal i)
+
+-- an event that may not come comes before the bad line
+abbrev pub by_refused : Plan → ReportForm → ReadJournal → Option ℕ → Step
+by_refused p form read None = by_bad_line p form read.events read.bad
+by_refused p form read (Some i) = Answers (BadJournal i)
+
+-- by what the journal was read as
+abbrev pub replay_step : Plan → ReportForm → ReadJournal → Step
+replay_step p form read = by_refused p form read (first_refused p (start p) read.events)
+
+abbrev pub at_journal : ReportForm → AfterPlan
+at_journal form p [] = Wants Journal
+at_journal form p (TooLong ∷ rest) = Answers (too_long Journal)
+at_journal form p (Bytes journal ∷ rest) = replay_step p form (journal_of p journal)
+
+-- ---- the modes
+
+-- what is asked for, by what the files gave
+abbrev pub next_step : Asked → List ReadResult → Step
+next_step (Run names workers form) results = plan_step results (λ p rest. Does (RunJob p form))
+next_step (Sim names seed form) results = plan_step results (λ p rest. Does (SimJob p seed form))
+next_step (Replay names journal form) results = plan_step results (at_journal form)
+next_step (Direct names form) results = plan_step results (λ p rest. Does (DirectJob p form))
+next_step (Gen size seed) results = Does (GenJob size seed)
+
+-- ---- what the files gave
 
 -- this is what a file with these contents gives, where the desk can tell them
-abbrev pub Agrees : Option (List ℕ) → ReadResult → Type 0
-Agrees contents (Bytes bytes) = IsWhole contents limit bytes
-Agrees contents TooLong = IsLonger contents limit
+abbrev pub Agrees : Option (List ℕ) → ℕ → ReadResult → Type 0
+Agrees contents limit (Bytes bytes) = IsWhole contents limit bytes
+Agrees contents limit TooLong = IsLonger contents limit
 
 -- these are what the first of these files gave
-abbrev pub AreReadResults : (List ℕ → Option (List ℕ)) → List (List ℕ) → List ReadResult → Type 0
-AreReadResults contents names [] = Unit {0}
+abbrev pub AreReadResults : (List ℕ → Option (List ℕ)) → List NamedFile → List ReadResult → Type 0
+AreReadResults contents files [] = Unit {0}
 AreReadResults contents [] (g ∷ gs) = ⊥
-AreReadResults contents (name ∷ names) (g ∷ gs) = Agrees (contents name) g × AreReadResults contents names gs
+AreReadResults contents (f ∷ files) (g ∷ gs) = Agrees (contents f.1) (limit_of f.0) g × AreReadResults contents files gs

@@ -4,7 +4,7 @@ use Rattle.text_lines.specs.declared.text_error.TextError.{TextError}
 use Rattle.text_lines.specs.declared.text_error.TextError.TheVariants.{Bad, Over, OutOfMemory as NoMemory}
 use Rattle.stat_tool.specs.declared.status.FileRole.{FileRole}
 use Rattle.stat_tool.specs.declared.status.Status.{Status}
-use Rattle.stat_tool.specs.declared.status.Status.TheVariants.{Done, BadWords, DeskFault, BadInput, OverLimit, SinkFault, OutOfMemory}
+use Rattle.stat_tool.specs.declared.status.Status.TheVariants.{Done, BadWords, DeskFault, BadInput, OverLimit, SinkFault, OutOfMemory, BadJournal, Unfinished}
 
 -- the number of a status; each kind has its own
 abbrev pub number_of : Status → ℕ
@@ -15,6 +15,8 @@ number_of (BadInput file line reason) = 4
 number_of (OverLimit file line what limit) = 5
 number_of (SinkFault target) = 6
 number_of OutOfMemory = 7
+number_of (BadJournal i) = 8
+number_of (Unfinished e) = 9
 
 -- the status of a text that was refused
 abbrev pub refusal_of : FileRole → TextError → Status
@@ -31,3 +33,5 @@ refusal_of_status (BadInput role line reason) = Some (BadInput role line reason)
 refusal_of_status (OverLimit role line what limit) = Some (OverLimit role line what limit)
 refusal_of_status (SinkFault target) = Some (SinkFault target)
 refusal_of_status OutOfMemory = Some OutOfMemory
+refusal_of_status (BadJournal i) = Some (BadJournal i)
+refusal_of_status (Unfinished e) = Some (Unfinished e)

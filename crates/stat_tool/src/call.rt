@@ -1,83 +1,81 @@
-//! From words and files to a report.
-ghost use Rattle.std.specs.Prelude.{◌≡◌, ◌≢◌, ◌↔◌, [], IfSome, IfErr, IfOk, map, string_bytes};
-ghost use Rattle.stat_tool.specs.Call.{Answered, AreReadInOrder, IsDetermined, Prepared, Prevented, Written, desk_change, sink_change};
-ghost use Rattle.stat_tool.specs.Words.{asked, in_order, names_of};
-ghost use Rattle.stat_tool.specs.RunOutput.{run_output};
+//! From words and files to a report and a journal.
+ghost use Rattle.std.specs.Prelude.{◌≡◌, ⊤, [], Ok, IfErr, IfOk, map, string_bytes};
+ghost use Rattle.stat_words.specs.Words.{IsInRanges, asked, asked_of};
+ghost use Rattle.stat_tool.specs.Call.{Answered, AreReadInOrder, HasWritten, IsDetermined, Prepared, Prevented, Written};
+ghost use Rattle.stat_tool.specs.Call.{desk_change, sink_change};
+ghost use Rattle.stat_tool.specs.Files.{files_of, names_in};
+ghost use Rattle.stat_tool.specs.Views.{output_view};
 
-use crate::read::read_plan;
-use crate::run::{Ran, run_plan};
-use crate::status::{Outcome, Status, Target, WordFault};
-use crate::words::{Files, read_words};
+use crate::modes::{prepare_direct, prepare_gen, prepare_replay, prepare_run, prepare_sim};
+use crate::output::Output;
+use crate::status::{Outcome, Status, Target};
 use prefix_tree::PrefixTree;
 use stat_desk::{Desk, Journal, Sink, write_all_to};
+use stat_words::{Command, WordsError, read_words};
 use std::alloc::Global;
 
-/// Reads the files that the words name, runs the overlay on their samples, and writes the report to the sink. `T` is
-/// how the overlay keeps its trees.
+/// Does what the words ask for: reads the files that they name, runs the overlay on their samples, and writes the report
+/// to `out` and the journal to `journal`. `T` is how the overlay keeps its trees.
 ///
-/// The words are `run --topology T --samples S --script C`. The files are read each once, in this order, and each is
-/// tested before the next is read. The report is built whole before its first byte is written.
+/// The files are read each once, in the order topology, samples, script, journal, and each is tested before the next is
+/// read. The report and the journal's text are built whole before their first byte is written.
 ///
-/// `answered` has the headline: where the status is Done, or the sink's fault, the files lead to a plan, and the
-/// journal and the report are a run of it, `HasRun`. Every other status has its cause there, too.
-pub fn stat<T: PrefixTree, D: Desk, O: Sink>(
+/// `answered` has the headline: where the status is Done, the files lead to a job, and the journal and the report are
+/// an output of it, `HasOutput`. Every other status has its cause there, too.
+pub fn stat<T: PrefixTree, D: Desk, O: Sink, J: Sink>(
     alloc: Global,
     words: &[String],
     desk: &mut D,
     out: &mut O,
+    journal: &mut J,
 ) -> Outcome
     ensures answered { Answered (asked (map string_bytes words.now))
         (desk_change D.faults D.last_fault D.contents desk.old desk.new)
-        (sink_change O.faults O.contents out.old out.new) result.journal result.status }
-    ensures determined { IfSome (asked (map string_bytes words.now)) (λ names. IsDetermined names
+        (sink_change O.faults O.contents out.old out.new) (sink_change J.faults J.contents journal.old journal.new)
+        result.journal result.status }
+    ensures determined { IfOk (asked (map string_bytes words.now)) (λ command. IsDetermined command
         (desk_change D.faults D.last_fault D.contents desk.old desk.new)
-        (sink_change O.faults O.contents out.old out.new) result.status) }
-    ensures bad_words { (result.status ≡ Status.BadWords WordFault.Options)
-        ↔ (asked (map string_bytes words.now) ≡ None) }
-    ensures unread { result.status ≡ Status.BadWords WordFault.Options → desk.new ≡ desk.old }
-    ensures reads { IfSome (asked (map string_bytes words.now)) (λ names.
-        AreReadInOrder (D.reads desk.old) (D.reads desk.new) (in_order names)) }
-    ensures untouched { result.status ≢ Status.Done → result.status ≢ Status.SinkFault Target.Report
-        → out.new ≡ out.old }
-    ensures journal { result.status ≢ Status.Done → result.status ≢ Status.SinkFault Target.Report
-        → result.journal ≡ [] }
+        (sink_change O.faults O.contents out.old out.new) (sink_change J.faults J.contents journal.old journal.new)
+        result.status) }
+    ensures reads { IfOk (asked (map string_bytes words.now)) (λ command.
+        AreReadInOrder (D.reads desk.old) (D.reads desk.new) (names_in (files_of command))) }
+    ensures unread { IfErr (asked (map string_bytes words.now)) (λ fault. desk.new ≡ desk.old) }
+    ensures untouched { ¬ HasWritten result.status → (out.new ≡ out.old) × (journal.new ≡ journal.old) }
+    ensures journal { ¬ HasWritten result.status → result.journal ≡ [] }
 {
-    run::<T, D, O>(alloc, words, desk, out)
+    run::<T, D, O, J>(alloc, words, desk, out, journal)
 }
 
 // The call; `stat` derives from its answer what the texts determine.
-fn run<T: PrefixTree, D: Desk, O: Sink>(
+fn run<T: PrefixTree, D: Desk, O: Sink, J: Sink>(
     alloc: Global,
     words: &[String],
     desk: &mut D,
     out: &mut O,
+    journal: &mut J,
 ) -> Outcome
     ensures answered { Answered (asked (map string_bytes words.now))
         (desk_change D.faults D.last_fault D.contents desk.old desk.new)
-        (sink_change O.faults O.contents out.old out.new) result.journal result.status }
-    ensures bad_words { (result.status ≡ Status.BadWords WordFault.Options)
-        ↔ (asked (map string_bytes words.now) ≡ None) }
-    ensures unread { result.status ≡ Status.BadWords WordFault.Options → desk.new ≡ desk.old }
-    ensures reads { IfSome (asked (map string_bytes words.now)) (λ names.
-        AreReadInOrder (D.reads desk.old) (D.reads desk.new) (in_order names)) }
-    ensures untouched { result.status ≢ Status.Done → result.status ≢ Status.SinkFault Target.Report
-        → out.new ≡ out.old }
-    ensures journal { result.status ≢ Status.Done → result.status ≢ Status.SinkFault Target.Report
-        → result.journal ≡ [] }
+        (sink_change O.faults O.contents out.old out.new) (sink_change J.faults J.contents journal.old journal.new)
+        result.journal result.status }
+    ensures reads { IfOk (asked (map string_bytes words.now)) (λ command.
+        AreReadInOrder (D.reads desk.old) (D.reads desk.new) (names_in (files_of command))) }
+    ensures unread { IfErr (asked (map string_bytes words.now)) (λ fault. desk.new ≡ desk.old) }
+    ensures untouched { ¬ HasWritten result.status → (out.new ≡ out.old) × (journal.new ≡ journal.old) }
+    ensures journal { ¬ HasWritten result.status → result.journal ≡ [] }
 {
-    let Some(files) = read_words(words) else {
-        return stopped(alloc, Status::BadWords(WordFault::Options));
+    let command = match read_words(alloc, words) {
+        Ok(command) => command,
+        Err(WordsError::Fault(fault)) => return stopped(alloc, Status::BadWords(fault)),
+        Err(WordsError::OutOfMemory) => return stopped(alloc, Status::OutOfMemory),
     };
-    match prepare::<T, D>(alloc, files, desk) {
-        Ok(ran) => Outcome {
-            status: deliver(ran.report.as_slice(), out),
-            journal: ran.journal,
-        },
+    match prepare::<T, D>(alloc, command, desk) {
+        Ok(output) => deliver(output, out, journal),
         Err(status) => stopped(alloc, status),
     }
 }
 
-// The outcome of a call that stops before anything is run.
+// The outcome of a call that stops before anything is written.
 fn stopped(alloc: Global, status: Status) -> Outcome
     ensures status { result.status ≡ status }
     ensures journal { result.journal ≡ [] }
@@ -88,33 +86,54 @@ fn stopped(alloc: Global, status: Status) -> Outcome
     }
 }
 
-// The run of what the files say, before anything is written.
+// The output of what the words ask for, before anything is written.
 fn prepare<T: PrefixTree, D: Desk>(
     alloc: Global,
-    files: Files<'_>,
+    command: Command<'_>,
     desk: &mut D,
-) -> Result<Ran, Status>
-    ensures ok { IfOk result (λ ran. Prepared (names_of files.entry) (D.contents desk.old) (run_output ran)) }
-    ensures err { IfErr result (Prevented (names_of files.entry)
+) -> Result<Output, Status>
+    requires ranges { IsInRanges command }
+    ensures ok { IfOk result (λ output. Prepared (asked_of command.entry) (D.contents desk.old) (output_view output)) }
+    ensures err { IfErr result (Prevented (asked_of command.entry)
         (desk_change D.faults D.last_fault D.contents desk.old desk.new)) }
-    ensures reads { AreReadInOrder (D.reads desk.old) (D.reads desk.new) (in_order (names_of files.entry)) }
+    ensures reads { AreReadInOrder (D.reads desk.old) (D.reads desk.new) (names_in (files_of (asked_of command.entry))) }
 {
-    let plan = match read_plan(alloc, files, desk) {
-        Ok(plan) => plan,
-        Err(status) => return Err(status),
-    };
-    match run_plan::<T>(alloc, &plan) {
-        Ok(ran) => Ok(ran),
-        Err(_) => Err(Status::OutOfMemory),
+    match command {
+        Command::Run {
+            files,
+            workers,
+            form,
+        } => prepare_run::<T, D>(alloc, files, workers, form, desk),
+        Command::Sim { files, seed, form } => prepare_sim::<T, D>(alloc, files, seed, form, desk),
+        Command::Replay {
+            files,
+            journal,
+            form,
+        } => prepare_replay::<T, D>(alloc, files, journal, form, desk),
+        Command::Direct { files, form } => prepare_direct::<T, D>(alloc, files, form, desk),
+        Command::Gen { size, seed } => prepare_gen::<T, D>(alloc, size, seed, desk),
     }
 }
 
-// Writes the report.
-fn deliver<O: Sink>(report: &[u8], out: &mut O) -> Status
-    ensures { Written report.now (sink_change O.faults O.contents out.old out.new) result }
+// Writes the report, and then the journal.
+fn deliver<O: Sink, J: Sink>(output: Output, out: &mut O, journal: &mut J) -> Outcome
+    ensures written { Written (output_view output) (sink_change O.faults O.contents out.old out.new)
+        (sink_change J.faults J.contents journal.old journal.new) result.status }
+    ensures events { result.journal ≡ output.journal }
+    ensures some { HasWritten result.status }
 {
-    match write_all_to(out, report) {
-        Ok(()) => Status::Done,
-        Err(_) => Status::SinkFault(Target::Report),
+    let status = if write_all_to(out, output.report.as_slice()).is_err() {
+        Status::SinkFault(Target::Report)
+    } else if write_all_to(journal, output.journal_text.as_slice()).is_err() {
+        Status::SinkFault(Target::Journal)
+    } else {
+        match output.unfinished {
+            None => Status::Done,
+            Some(event) => Status::Unfinished(event),
+        }
+    };
+    Outcome {
+        status,
+        journal: output.journal,
     }
 }

@@ -1,7 +1,7 @@
 //! Worked jobs: their files, as texts and in a desk, and the reports that their runs must write.
 use crate::{Status, stat};
 use prefix_tree::OwnedTree;
-use stat_desk::{Event, MemDesk, MemSink};
+use stat_desk::{Event, Journal, MemDesk, MemSink};
 use std::alloc::{AllocError, Global};
 
 pub const TWO_TOP: &str = "fe:0 => a:0 b:0 ;\n";
@@ -443,12 +443,51 @@ pub fn words_of(alloc: Global, texts: &[&str]) -> Result<Vec<String>, AllocError
     Ok(words)
 }
 
-// The status of a run on a desk, and what it writes, sixteen bytes at a time.
+// What a call leaves: its status and its events, and what it wrote to the sinks of the report and of the journal.
+#[derive(Drop)]
+pub struct Called {
+    pub status: Status,
+    pub events: Journal,
+    pub report: MemSink,
+    pub journal: MemSink,
+}
+
+// A call with these words, whose sinks take sixteen bytes at a time.
+pub fn call(alloc: Global, desk: &mut MemDesk, texts: &[&str]) -> Result<Called, AllocError> {
+    let report = MemSink::new(alloc, 16, 20_000)?;
+    let journal = MemSink::new(alloc, 16, 100_000)?;
+    call_into(alloc, desk, texts, report, journal)
+}
+
+// A call with these words and sinks.
+pub fn call_into(
+    alloc: Global,
+    desk: &mut MemDesk,
+    texts: &[&str],
+    report: MemSink,
+    journal: MemSink,
+) -> Result<Called, AllocError> {
+    let words = words_of(alloc, texts)?;
+    let (mut report, mut journal) = (report, journal);
+    let outcome = stat::<OwnedTree, _, _, _>(
+        alloc,
+        words.as_slice(),
+        desk,
+        &mut report,
+        &mut journal,
+    );
+    Ok(Called {
+        status: outcome.status,
+        events: outcome.journal,
+        report,
+        journal,
+    })
+}
+
+// The status of a run on a desk, and its report.
 pub fn run_on(alloc: Global, desk: &mut MemDesk) -> Result<(Status, MemSink), AllocError> {
-    let words = words_of(alloc, WORDS.as_slice())?;
-    let mut out = MemSink::new(alloc, 16, 20_000)?;
-    let outcome = stat::<OwnedTree, _, _>(alloc, words.as_slice(), desk, &mut out);
-    Ok((outcome.status, out))
+    let called = call(alloc, desk, WORDS.as_slice())?;
+    Ok((called.status, called.report))
 }
 
 pub fn sample(node: u32) -> Event {
@@ -461,8 +500,4 @@ pub fn sample(node: u32) -> Event {
 
 pub fn recv(node: u32, from: u32) -> Event {
     Event::Recv { node, from }
-}
-
-pub fn lose(node: u32) -> Event {
-    Event::Lose { node }
 }

@@ -2,20 +2,24 @@
 #![tactic(auto)]
 
 mod call;
+mod generated;
+mod modes;
+mod output;
 mod program;
 mod read;
-mod run;
 mod status;
-mod words;
 
 pub use call::stat;
 pub use program::{Ending, ending_of, run_program};
-pub use status::{FileRole, Outcome, Status, Target, WordFault};
+pub use stat_words::WordFault;
+pub use status::{FileRole, Outcome, Status, Target};
 
 #[cfg(test)]
 mod fixtures;
 #[cfg(test)]
 mod loss_tests;
+#[cfg(test)]
+mod mode_tests;
 #[cfg(test)]
 mod net_tests;
 #[cfg(test)]

@@ -4,11 +4,15 @@ ghost use Rattle.stat_tool.specs.Ending.{IsEnding};
 ghost use Rattle.stat_tool.specs.Status.{number_of, refusal_of_status};
 
 use crate::call::stat;
-use crate::status::{Status, WordFault};
+use crate::status::Status;
 use prefix_tree::PrefixTree;
-use stat_desk::{FileDesk, StdSink};
+use stat_desk::{FileDesk, FileSink, StdSink};
+use stat_words::WordFault;
 use std::env;
 use std::rt::{Env, Files};
+
+/// The file that a run writes its journal to.
+const JOURNAL_NAME: &str = "stat.journal";
 
 /// How the program ends.
 #[derive(Clone, Copy, Debug, PartialEq, Eq)]
@@ -34,8 +38,9 @@ pub fn ending_of(status: Status) -> Ending
     }
 }
 
-/// The call with the program's words, the real files and standard output. Words that can't be had are bad words. What
-/// the outside gives and takes no clause can say; that the number and the line are those of one status, it says.
+/// The call with the program's words, the real files, standard output, and a file `stat.journal` for the journal, which
+/// is made when it is first written to. Words that can't be had are bad words. What the outside gives and takes no
+/// clause can say; that the number and the line are those of one status, it says.
 pub fn run_program<T: PrefixTree, R: Env + Files + Print + AllocGlobal>(rt: &R) -> Ending
     ensures { IsEnding result }
 {
@@ -51,7 +56,11 @@ fn status_of_run<T: PrefixTree, R: Env + Files + Print + AllocGlobal>(rt: &R) ->
     let Ok(words) = args.skip(1).collect::<Vec<String>>(alloc) else {
         return Status::OutOfMemory;
     };
+    let Ok(name) = String::from_str(alloc, JOURNAL_NAME) else {
+        return Status::OutOfMemory;
+    };
     let mut desk = FileDesk::new(alloc, rt);
     let mut out = StdSink::new(rt);
-    stat::<T, _, _>(alloc, words.as_slice(), &mut desk, &mut out).status
+    let mut journal = FileSink::new(rt, name);
+    stat::<T, _, _, _>(alloc, words.as_slice(), &mut desk, &mut out, &mut journal).status
 }

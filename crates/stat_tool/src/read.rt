@@ -1,5 +1,5 @@
 //! Reads the files that the words name, each whole, and tests each before the next is read.
-ghost use Rattle.std.specs.Prelude.{◌≡◌, ◌≤◌, ◌++◌, ◌∷◌, [], IfErr, IfOk, OnOk};
+ghost use Rattle.std.specs.Prelude.{◌≡◌, ◌≤◌, ◌++◌, ◌∷◌, List, [], IfErr, IfOk, OnOk};
 ghost use Rattle.stat_desk.specs.Desk.{IsWhole};
 ghost use Rattle.stat_plan.specs.Invariants.{SamplesFit};
 ghost use Rattle.overlay_setup.specs.Scripts.{ScriptFits};
@@ -7,27 +7,35 @@ ghost use Rattle.stat_plan.specs.Plans.{plan_of};
 ghost use Rattle.topology_text.specs.Whole.{topology_of};
 ghost use Rattle.sample_text.specs.Whole.{samples_of_text};
 ghost use Rattle.script_text.specs.Whole.{script_of};
-ghost use Rattle.stat_tool.specs.Call.{AreReadInOrder, IsPlanRefusal, IsPlanned, Prevented, Refuses, StopsAt, Tells, desk_change};
-ghost use Rattle.stat_tool.specs.NextStep.{Does, plan_step, limit as limit_of};
+ghost use Rattle.stat_words.specs.Words.{names_of};
+ghost use Rattle.stat_tool.specs.Call.{AreReadInOrder, IsPlanned, IsPlanRefusal, IsStopped, Refuses, StopsAt, Tells};
+ghost use Rattle.stat_tool.specs.Call.{desk_change};
+ghost use Rattle.stat_tool.specs.Files.{limit_of, names_in, plan_files};
+ghost use Rattle.stat_tool.specs.NextStep.{AfterPlan, ReadResult, with_plan};
 ghost use Rattle.stat_tool.specs.Status.{refusal_of};
-ghost use Rattle.stat_tool.specs.Words.{in_order, names_of};
-ghost use Rattle.stat_tool.specs.RunOutput.{RunJob};
 
 use crate::status::{FileRole, Status};
-use crate::words::Files;
 use overlay_setup::{Script, Topology};
 use prefix_tree::PREFIX_LIMIT;
 use stat_desk::{Desk, DeskError};
 use stat_plan::{Plan, PlanError, Samples};
+use stat_words::Files;
 use std::alloc::Global;
 use text_lines::{Quantity, TextError};
 
 /// The most bytes of a file.
-const FILE_LIMIT: u64 = 33_554_432;
+fn limit_of(role: FileRole) -> u64
+    ensures { result ≡ limit_of role }
+{
+    match role {
+        FileRole::Topology | FileRole::Samples | FileRole::Script => 33_554_432,
+        FileRole::Journal => 1_073_741_824,
+    }
+}
 
 /// All bytes of one file.
-fn read_file<D: Desk>(desk: &mut D, name: &str, role: FileRole) -> Result<Vec<u8>, Status>
-    ensures ok { IfOk result (λ bytes. IsWhole (D.contents desk.old name.now) limit_of bytes.items) }
+pub fn read_file<D: Desk>(desk: &mut D, name: &str, role: FileRole) -> Result<Vec<u8>, Status>
+    ensures ok { IfOk result (λ bytes. IsWhole (D.contents desk.old name.now) (limit_of role) bytes.items) }
     ensures err { IfErr result
         (Refuses role name.now (desk_change D.faults D.last_fault D.contents desk.old desk.new)) }
     ensures read { OnOk result (D.reads desk.new ≡ D.reads desk.old ++ name.now ∷ []) }
@@ -35,14 +43,15 @@ fn read_file<D: Desk>(desk: &mut D, name: &str, role: FileRole) -> Result<Vec<u8
     ensures later { D.faults desk.old ≤ D.faults desk.new }
     ensures contents { D.contents desk.new ≡ D.contents desk.old }
 {
-    match desk.read(name, FILE_LIMIT) {
+    let limit = limit_of(role);
+    match desk.read(name, limit) {
         Ok(bytes) => Ok(bytes),
         Err(DeskError::Failed) => Err(Status::DeskFault(role)),
         Err(DeskError::TooLong) => Err(Status::OverLimit {
             file: role,
             line: 0,
             what: Quantity::Bytes,
-            limit: FILE_LIMIT,
+            limit,
         }),
         Err(DeskError::OutOfMemory) => Err(Status::OutOfMemory),
     }
@@ -70,7 +79,7 @@ fn refusal(role: FileRole, error: TextError) -> Status
 
 /// The nodes, from the topology's file.
 fn read_topology<D: Desk>(alloc: Global, desk: &mut D, name: &str) -> Result<Topology, Status>
-    ensures ok { IfOk result (λ t. Tells (D.contents desk.old name.now) topology_of t) }
+    ensures ok { IfOk result (λ t. Tells (D.contents desk.old name.now) (limit_of FileRole.Topology) topology_of t) }
     ensures err { IfErr result (StopsAt topology_of FileRole.Topology name.now
         (desk_change D.faults D.last_fault D.contents desk.old desk.new)) }
     ensures read { OnOk result (D.reads desk.new ≡ D.reads desk.old ++ name.now ∷ []) }
@@ -95,7 +104,8 @@ fn read_samples<D: Desk>(
     name: &str,
     topology: &Topology,
 ) -> Result<Samples, Status>
-    ensures ok { IfOk result (λ s. Tells (D.contents desk.old name.now) (samples_of_text topology.now) s) }
+    ensures ok { IfOk result
+        (λ s. Tells (D.contents desk.old name.now) (limit_of FileRole.Samples) (samples_of_text topology.now) s) }
     ensures fits { IfOk result (λ s. SamplesFit topology.now s) }
     ensures err { IfErr result (StopsAt (samples_of_text topology.now) FileRole.Samples name.now
         (desk_change D.faults D.last_fault D.contents desk.old desk.new)) }
@@ -121,7 +131,8 @@ fn read_script<D: Desk>(
     name: &str,
     topology: &Topology,
 ) -> Result<Script, Status>
-    ensures ok { IfOk result (λ c. Tells (D.contents desk.old name.now) (script_of topology.now) c) }
+    ensures ok { IfOk result
+        (λ c. Tells (D.contents desk.old name.now) (limit_of FileRole.Script) (script_of topology.now) c) }
     ensures fits { IfOk result (λ c. ScriptFits topology.now c) }
     ensures err { IfErr result (StopsAt (script_of topology.now) FileRole.Script name.now
         (desk_change D.faults D.last_fault D.contents desk.old desk.new)) }
@@ -149,8 +160,9 @@ fn plan_of_files(
 ) -> Result<Plan, Status>
     requires samples { SamplesFit topology samples }
     requires script { ScriptFits topology script }
-    ensures ok { IfOk result (λ plan. plan_step (plan_of topology samples script) ≡ Does (RunJob plan)) }
-    ensures err { IfErr result (IsPlanRefusal (plan_step (plan_of topology samples script))) }
+    ensures ok { IfOk result (λ plan. (rest : List ReadResult) (after : AfterPlan)
+        → with_plan (plan_of topology samples script) rest after ≡ after plan rest) }
+    ensures err { IfErr result (IsPlanRefusal (with_plan (plan_of topology samples script) [])) }
 {
     match Plan::build(alloc, topology, samples, script) {
         Ok(plan) => Ok(plan),
@@ -166,10 +178,13 @@ fn plan_of_files(
 
 /// The plan of the three files.
 pub fn read_plan<D: Desk>(alloc: Global, files: Files<'_>, desk: &mut D) -> Result<Plan, Status>
-    ensures ok { IfOk result (λ plan. IsPlanned (names_of files.entry) (D.contents desk.old) (RunJob plan)) }
-    ensures err { IfErr result (Prevented (names_of files.entry)
+    ensures ok { IfOk result (IsPlanned (plan_files (names_of files.entry)) (D.contents desk.old)) }
+    ensures err { IfErr result (IsStopped (plan_files (names_of files.entry))
         (desk_change D.faults D.last_fault D.contents desk.old desk.new)) }
-    ensures reads { AreReadInOrder (D.reads desk.old) (D.reads desk.new) (in_order (names_of files.entry)) }
+    ensures read { OnOk result (D.reads desk.new ≡ D.reads desk.old ++ names_in (plan_files (names_of files.entry))) }
+    ensures reads { AreReadInOrder (D.reads desk.old) (D.reads desk.new) (names_in (plan_files (names_of files.entry))) }
+    ensures later { D.faults desk.old ≤ D.faults desk.new }
+    ensures contents { D.contents desk.new ≡ D.contents desk.old }
 {
     let topology = match read_topology(alloc, desk, files.topology) {
         Ok(topology) => topology,

@@ -2,10 +2,10 @@
 ghost use Rattle.std.specs.Prelude.{◌≡◌};
 ghost use Rattle.stat_tool.specs.Status.{number_of};
 
-use stat_desk::Journal;
+use stat_desk::{Event, Journal};
+use stat_words::WordFault;
 use std::fmt;
 use text_lines::{Quantity, Reason};
-use thiserror::Error;
 
 /// A file that the words name.
 #[derive(Clone, Copy, Debug, PartialEq, Eq)]
@@ -16,6 +16,8 @@ pub enum FileRole {
     Samples,
     /// Which streams and waves there are.
     Script,
+    /// Which events happen, in order.
+    Journal,
 }
 
 /// What is written.
@@ -23,14 +25,8 @@ pub enum FileRole {
 pub enum Target {
     /// The report.
     Report,
-}
-
-/// What is wrong with the words.
-#[derive(Clone, Copy, Debug, PartialEq, Eq, Error)]
-pub enum WordFault {
-    /// They aren't of the form `run --topology T --samples S --script C`.
-    #[error("options")]
-    Options,
+    /// The journal.
+    Journal,
 }
 
 /// How a call ended.
@@ -38,7 +34,7 @@ pub enum WordFault {
 pub enum Status {
     /// All was read, done and written.
     Done,
-    /// The words aren't of the form.
+    /// The words aren't those of a mode.
     BadWords(WordFault),
     /// A file could not be read.
     DeskFault(FileRole),
@@ -55,10 +51,15 @@ pub enum Status {
         what: Quantity,
         limit: u64,
     },
-    /// The report could not be written whole.
+    /// The report or the journal could not be written whole.
     SinkFault(Target),
     /// Out of memory.
     OutOfMemory,
+    /// The line of this number, from 0, of the journal to be replayed is bad, or its event may not come after those of
+    /// the lines before. It is the first such line.
+    BadJournal(u64),
+    /// The journal to be replayed ends where this event, and perhaps others, may still come. The report was written.
+    Unfinished(Event),
 }
 
 impl Status {
@@ -74,6 +75,8 @@ impl Status {
             Status::OverLimit { .. } => 5,
             Status::SinkFault(_) => 6,
             Status::OutOfMemory => 7,
+            Status::BadJournal(_) => 8,
+            Status::Unfinished(_) => 9,
         }
     }
 }
@@ -84,6 +87,16 @@ impl fmt::Display for FileRole {
             FileRole::Topology => "topology",
             FileRole::Samples => "samples",
             FileRole::Script => "script",
+            FileRole::Journal => "journal",
+        })
+    }
+}
+
+impl fmt::Display for Target {
+    fn fmt<W: fmt::Write>(&self, f: &mut fmt::Formatter<W>) -> fmt::Result {
+        f.write_str(match self {
+            Target::Report => "report",
+            Target::Journal => "journal",
         })
     }
 }
@@ -101,9 +114,22 @@ impl fmt::Display for Status {
                 what,
                 limit,
             } => write!(f, "{file} line {line}: {what:?} over {limit}"),
-            Status::SinkFault(Target::Report) => write!(f, "cannot write report"),
+            Status::SinkFault(target) => write!(f, "cannot write {target}"),
             Status::OutOfMemory => write!(f, "out of memory"),
+            Status::BadJournal(number) => write!(f, "journal event {number} refused"),
+            Status::Unfinished(event) => write_unfinished(*event, f),
         }
+    }
+}
+
+// The text of a journal that ends before an event.
+fn write_unfinished<W: fmt::Write>(event: Event, f: &mut fmt::Formatter<W>) -> fmt::Result {
+    f.write_str("journal ends before ")?;
+    match event {
+        Event::Sample { node, stream, wave } => write!(f, "sample {node} {stream} {wave}"),
+        Event::Recv { node, from } => write!(f, "recv {node} {from}"),
+        Event::Tick { node } => write!(f, "tick {node}"),
+        Event::Lose { node } => write!(f, "lose {node}"),
     }
 }
 
@@ -112,6 +138,6 @@ impl fmt::Display for Status {
 pub struct Outcome {
     /// How the call ended.
     pub status: Status,
-    /// The events of the run; none where nothing was run.
+    /// The events of the run, or of the journal that was replayed; none where nothing was run.
     pub journal: Journal,
 }

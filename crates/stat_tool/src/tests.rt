@@ -1,12 +1,14 @@
 //! Whole calls over a desk and a sink in memory, with worked jobs, and one over the real files.
 use crate::fixtures::{
-    ALL_SCR, DONT_WAIT_SCR, FOUR_SMP, INNER_TOP, ONE_TOP, SOLVER_SMP, TWO_INNER_TOP, TWO_TOP,
-    WORDS, WORKED, desk_of, desk_of_bytes, put, recv, run_on, sample, words_of,
+    ALL_SCR, Called, DONT_WAIT_SCR, FOUR_SMP, INNER_TOP, ONE_TOP, SOLVER_SMP, TWO_INNER_TOP,
+    TWO_TOP, WORDS, WORKED, call, call_into, desk_of, desk_of_bytes, put, recv, run_on, sample,
+    words_of,
 };
 use crate::shy_tree::ShyTree;
 use crate::{FileRole, Status, Target, WordFault, stat};
 use prefix_tree::OwnedTree;
-use stat_desk::{Event, FileDesk, MemDesk, MemSink, StdSink};
+use stat_desk::{Event, FileDesk, FileSink, MemDesk, MemSink, StdSink};
+use stat_words::Opt;
 use std::alloc::{AllocError, Global};
 use std::fs;
 use text_lines::{Quantity, Reason};
@@ -124,9 +126,16 @@ fn merges_the_parts_of_inner_nodes(rt: HostRuntime) -> Result<(), AllocError> {
     let mut desk = desk_of(alloc, TWO_INNER_TOP, SOLVER_SMP, ALL_SCR)?;
     let words = words_of(alloc, WORDS.as_slice())?;
     let mut out = MemSink::new(alloc, 16, 20_000)?;
-    let outcome = stat::<ShyTree, _, _>(alloc, words.as_slice(), &mut desk, &mut out);
+    let mut journal = MemSink::new(alloc, 16, 20_000)?;
+    let outcome = stat::<ShyTree, _, _, _>(
+        alloc,
+        words.as_slice(),
+        &mut desk,
+        &mut out,
+        &mut journal,
+    );
     assert_eq!(rt; outcome.status, Status::OutOfMemory);
-    assert_eq!(rt; out.bytes(), b"".as_slice());
+    assert!(rt; out.bytes().is_empty() && journal.bytes().is_empty());
     Ok(())
 }
 
@@ -160,7 +169,7 @@ fn ends_with(alloc: Global, file: FileRole, text: &[u8]) -> Result<(Status, bool
     match file {
         FileRole::Topology => ends(alloc, text, samples, script),
         FileRole::Samples => ends(alloc, topology, text, script),
-        FileRole::Script => ends(alloc, topology, samples, text),
+        FileRole::Script | FileRole::Journal => ends(alloc, topology, samples, text),
     }
 }
 
@@ -268,12 +277,10 @@ fn reports_each_wave_of_each_stream(rt: HostRuntime) -> Result<(), AllocError> {
 // The events of a run of the small job by this topology and script.
 fn events_of(alloc: Global, topology: &str, script: &str) -> Result<Vec<Event>, AllocError> {
     let mut desk = desk_of(alloc, topology, FOUR_SMP, script)?;
-    let words = words_of(alloc, WORDS.as_slice())?;
-    let mut out = MemSink::new(alloc, 16, 10_000)?;
-    let outcome = stat::<OwnedTree, _, _>(alloc, words.as_slice(), &mut desk, &mut out);
+    let called = call(alloc, &mut desk, WORDS.as_slice())?;
     let mut events = Vec::new(alloc);
-    for i in 0..outcome.journal.len() {
-        events.push(outcome.journal.at(i))?;
+    for i in 0..called.events.len() {
+        events.push(called.events.at(i))?;
     }
     Ok(events)
 }
@@ -332,6 +339,13 @@ fn one_frame_paths(alloc: Global, times: u32, paths: u32) -> Result<String, Allo
     Ok(samples)
 }
 
+// A run on a desk, with room for a long report.
+fn call_with_room(alloc: Global, desk: &mut MemDesk) -> Result<Called, AllocError> {
+    let report = MemSink::new(alloc, 1_000, 1_000_000)?;
+    let journal = MemSink::new(alloc, 16, 1_000)?;
+    call_into(alloc, desk, WORDS.as_slice(), report, journal)
+}
+
 #[test]
 fn counts_the_prefixes_of_a_wave(rt: HostRuntime) -> Result<(), AllocError> {
     let alloc = rt.alloc();
@@ -348,11 +362,9 @@ fn counts_the_prefixes_of_a_wave(rt: HostRuntime) -> Result<(), AllocError> {
     ] {
         let samples = one_frame_paths(alloc, times, paths)?;
         let mut desk = desk_of(alloc, ONE_TOP, samples.as_str(), ALL_SCR)?;
-        let words = words_of(alloc, WORDS.as_slice())?;
-        let mut out = MemSink::new(alloc, 1_000, 1_000_000)?;
-        let outcome = stat::<OwnedTree, _, _>(alloc, words.as_slice(), &mut desk, &mut out);
-        assert_eq!(rt; outcome.status, status);
-        assert_eq!(rt; out.bytes().is_empty(), status != Status::Done);
+        let called = call_with_room(alloc, &mut desk)?;
+        assert_eq!(rt; called.status, status);
+        assert_eq!(rt; called.report.bytes().is_empty(), status != Status::Done);
     }
     Ok(())
 }
@@ -375,10 +387,8 @@ fn counts_the_prefixes_that_a_stream_sees(rt: HostRuntime) -> Result<(), AllocEr
     let samples = one_frame_paths(alloc, 3, 1_000)?;
     for (grain, script) in THREE_TIMES.as_slice() {
         let mut desk = desk_of(alloc, ONE_TOP, samples.as_str(), script)?;
-        let words = words_of(alloc, WORDS.as_slice())?;
-        let mut out = MemSink::new(alloc, 1_000, 1_000_000)?;
-        let outcome = stat::<OwnedTree, _, _>(alloc, words.as_slice(), &mut desk, &mut out);
-        assert_eq!(rt; outcome.status == Status::Done, *grain == "function");
+        let called = call_with_room(alloc, &mut desk)?;
+        assert_eq!(rt; called.status == Status::Done, *grain == "function");
     }
     Ok(())
 }
@@ -442,17 +452,32 @@ fn takes_files_of_33554432_bytes_and_no_longer_ones(rt: HostRuntime) -> Result<(
     Ok(())
 }
 
-#[test]
-fn tells_a_fault_of_the_sink(rt: HostRuntime) -> Result<(), AllocError> {
-    let alloc = rt.alloc();
-    let words = words_of(alloc, WORDS.as_slice())?;
+// A run of the small job whose sinks fail at these calls.
+fn run_with_faults(
+    alloc: Global,
+    report_call: u64,
+    journal_call: u64,
+) -> Result<Called, AllocError> {
     let mut desk = desk_of(alloc, TWO_TOP, FOUR_SMP, ALL_SCR)?;
-    let mut out = MemSink::new(alloc, 16, 10_000)?;
-    out.fail_at(2)?;
-    let outcome = stat::<OwnedTree, _, _>(alloc, words.as_slice(), &mut desk, &mut out);
-    assert_eq!(rt; outcome.status, Status::SinkFault(Target::Report));
-    assert_eq!(rt; out.bytes(), b"stream 0 wave 0 ".as_slice());
-    assert_eq!(rt; outcome.journal.len(), 6);
+    let mut report = MemSink::new(alloc, 16, 10_000)?;
+    let mut journal = MemSink::new(alloc, 16, 10_000)?;
+    report.fail_at(report_call)?;
+    journal.fail_at(journal_call)?;
+    call_into(alloc, &mut desk, WORDS.as_slice(), report, journal)
+}
+
+#[test]
+fn tells_faults_of_the_sinks(rt: HostRuntime) -> Result<(), AllocError> {
+    let first = run_with_faults(rt.alloc(), 2, 1)?;
+    assert_eq!(rt; first.status, Status::SinkFault(Target::Report));
+    assert_eq!(rt; first.report.bytes(), b"stream 0 wave 0 ".as_slice());
+    assert!(rt; first.journal.bytes().is_empty());
+    assert_eq!(rt; first.events.len(), 6);
+    let second = run_with_faults(rt.alloc(), 1_000, 2)?;
+    assert_eq!(rt; second.status, Status::SinkFault(Target::Journal));
+    assert!(rt; second.report.bytes().ends_with(b"\nend\n".as_slice()));
+    assert_eq!(rt; second.journal.bytes(), b"sample a:0 0 0\nr".as_slice());
+    assert_eq!(rt; second.events.len(), 6);
     Ok(())
 }
 
@@ -475,34 +500,42 @@ fn tells_faults_of_the_desk(rt: HostRuntime) -> Result<(), AllocError> {
     Ok(())
 }
 
-const OTHER_WORDS: [[&str; 7]; 3] = [
-    ["sim", "--topology", "t", "--samples", "s", "--script", "c"],
-    ["run", "--samples", "s", "--topology", "t", "--script", "c"],
-    ["run", "--topology", "-t", "--samples", "s", "--script", "c"],
+// Words with which nothing is read or written, and their faults.
+const OTHER_WORDS: [(&[&str], WordFault); 6] = [
+    (&[], WordFault::NoMode),
+    (&["trace"], WordFault::UnknownMode),
+    (&["run", "--topology", "t"], WordFault::Options),
+    (&["gen", "--size", "257"], WordFault::Value(Opt::Size)),
+    (
+        &[
+            "run",
+            "--topology=t",
+            "--samples=s",
+            "--script=c",
+            "--workers",
+            "0",
+        ],
+        WordFault::Value(Opt::Workers),
+    ),
+    (
+        &["direct", "--script=c", "--samples=s", "--topology=-t"],
+        WordFault::Value(Opt::Topology),
+    ),
 ];
-
-// The status of a call with these words, where all files are good, and whether nothing is written.
-fn status_of_words(alloc: Global, texts: &[&str]) -> Result<(Status, bool), AllocError> {
-    let words = words_of(alloc, texts)?;
-    let mut desk = desk_of(alloc, TWO_TOP, FOUR_SMP, ALL_SCR)?;
-    let mut out = MemSink::new(alloc, 16, 10_000)?;
-    let outcome = stat::<OwnedTree, _, _>(alloc, words.as_slice(), &mut desk, &mut out);
-    Ok((outcome.status, out.bytes().is_empty()))
-}
 
 #[test]
 fn refuses_other_words(rt: HostRuntime) -> Result<(), AllocError> {
     let alloc = rt.alloc();
-    let bad = (Status::BadWords(WordFault::Options), true);
-    for texts in OTHER_WORDS.as_slice() {
-        assert_eq!(rt; status_of_words(alloc, texts.as_slice())?, bad);
+    for (texts, fault) in OTHER_WORDS.as_slice() {
+        let mut desk = desk_of(alloc, TWO_TOP, FOUR_SMP, ALL_SCR)?;
+        let called = call(alloc, &mut desk, texts)?;
+        assert_eq!(rt; called.status, Status::BadWords(*fault));
+        assert!(rt; called.report.bytes().is_empty() && called.journal.bytes().is_empty());
     }
-    assert_eq!(rt; status_of_words(alloc, &WORDS[..5])?, bad);
-    assert_eq!(rt; status_of_words(alloc, &WORDS[..0])?, bad);
     Ok(())
 }
 
-const TEXTS: [(Status, &str, u8); 6] = [
+const TEXTS: [(Status, &str, u8); 10] = [
     (
         Status::BadWords(WordFault::Options),
         "bad words: options",
@@ -533,7 +566,27 @@ const TEXTS: [(Status, &str, u8); 6] = [
         5,
     ),
     (Status::SinkFault(Target::Report), "cannot write report", 6),
+    (
+        Status::SinkFault(Target::Journal),
+        "cannot write journal",
+        6,
+    ),
     (Status::OutOfMemory, "out of memory", 7),
+    (Status::BadJournal(12), "journal event 12 refused", 8),
+    (
+        Status::Unfinished(Event::Recv { node: 1, from: 0 }),
+        "journal ends before recv 1 0",
+        9,
+    ),
+    (
+        Status::Unfinished(Event::Sample {
+            node: 1,
+            stream: 0,
+            wave: 2,
+        }),
+        "journal ends before sample 1 0 2",
+        9,
+    ),
 ];
 
 #[test]
@@ -548,7 +601,7 @@ fn prints_the_texts_of_the_statuses(rt: HostRuntime) -> Result<(), AllocError> {
 }
 
 #[test]
-fn reads_real_files_and_writes_to_standard_output(rt: HostRuntime) -> anyhow::Result<()> {
+fn uses_real_files_and_standard_output(rt: HostRuntime) -> anyhow::Result<()> {
     let alloc = rt.alloc();
     fs::write(&rt, "t", TWO_TOP)?;
     fs::write(&rt, "s", FOUR_SMP)?;
@@ -556,7 +609,19 @@ fn reads_real_files_and_writes_to_standard_output(rt: HostRuntime) -> anyhow::Re
     let words = words_of(alloc, WORDS.as_slice())?;
     let mut desk = FileDesk::new(alloc, &rt);
     let mut out = StdSink::new(&rt);
-    let outcome = stat::<OwnedTree, _, _>(alloc, words.as_slice(), &mut desk, &mut out);
+    let mut journal = FileSink::new(&rt, String::from_str(alloc, "j")?);
+    let outcome = stat::<OwnedTree, _, _, _>(
+        alloc,
+        words.as_slice(),
+        &mut desk,
+        &mut out,
+        &mut journal,
+    );
     assert_eq!(rt; outcome.status, Status::Done);
+    let text = fs::read(&rt, "j")?;
+    assert!(rt;
+        text.as_slice()
+            .starts_with(b"sample a:0 0 0\nrecv fe:0 a:0\n".as_slice())
+    );
     Ok(())
 }

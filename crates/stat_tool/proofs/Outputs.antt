@@ -1,0 +1,178 @@
+-- From a net that a journal leads to, and its report, to the output of a job.
+use Rattle.std.proofs.Common.{◌≡◌, ℕ, false, List, [], ◌∷◌, Option, Some, None, take, refl, sym, ap, subst, ◌∙◌}
+use Rattle.std.specs.Prelude.{slice_get}
+use Rattle.std.specs.List.{AllByRecursion}
+use Rattle.stat_plan.specs.Invariants.{IsPlan}
+use Rattle.stat_plan.specs.Plans.{Plan}
+use Rattle.stat_desk.specs.declared.event.Event.{Event}
+use Rattle.overlay_core.specs.Machine.{State, start, is_enabled, enabled_events}
+use Rattle.overlay_core.specs.Runs.{after, IsLegal, IsQuiet, IsWhole}
+use Rattle.overlay_core.specs.TreeReleases.{TreeRelease, bare_releases}
+use Rattle.generated_job.specs.Job.{job_plan}
+use Rattle.generated_job.specs.Summary.{HasTreeOfSamples, summary_of, summary_text}
+use Rattle.generated_job.proofs.OfJournal.{is_of_journal}
+use Rattle.overlay_core.proofs.Journals.{quiet_where_empty}
+use Rattle.overlay_core.proofs.PlanFacts.{plan_facts}
+use Rattle.overlay_core.specs.Pick.{picked}
+use Rattle.overlay_core.proofs.Picks.{list_from_quiet, picked_is_whole}
+use Rattle.overlay_node.specs.Outputs.{ReleaseFits}
+use Rattle.overlay_net.specs.Nets.{NetView, IsReachedBy, state_of}
+use Rattle.journal_text.specs.Reading.{ReadJournal, journal_of}
+use Rattle.journal_text.specs.Text.{journal_text}
+use Rattle.journal_text.proofs.ReadBack.{read_back}
+use Rattle.stat_words.specs.declared.words.ReportForm.{ReportForm}
+use Rattle.stat_tool.specs.Jobs.{RunOutput, ReplayJob}
+use Rattle.stat_tool.specs.Call.{IsEventRefusal, IsJobRefusal}
+use Rattle.stat_tool.specs.NextStep.{Answers, Does, by_bad_line, by_refused, first_refused, replay_step}
+use Rattle.stat_tool.specs.Outputs.{HasRun, HasSummary, IsReplay, IsReplayed}
+use Rattle.stat_tool.specs.Reports.{EndsWaves, IsReportIn, IsReportOf, losses_of}
+use Rattle.stat_tool.proofs.Headline.{direct_where_waiting, ends_waves, is_report, one_report}
+use Rattle.stat_tool.proofs.JournalTexts.{accepted, legal_are_of, refused_at}
+use Rattle.stat_tool.proofs.Serial.{none_there}
+use Rattle.stat_tool.specs.declared.status.Status.{Status}
+use Rattle.stat_tool.specs.declared.status.Status.TheVariants.{Done, BadWords, DeskFault, BadInput, OverLimit, SinkFault, OutOfMemory, BadJournal, Unfinished}
+
+-- the report of what a net has released is that of the journal that leads to it
+pub report_of_net : (v : NetView) (p : Plan) (form : ReportForm) (journal : List Event) (text : List ℕ) → IsPlan p → v.plan ≡ p → IsReachedBy v journal
+    → IsReportIn form p p.faults v.releases (losses_of journal) text → IsReportOf p form journal text
+report_of_net v p form journal text plan same reached report =
+    is_report p form journal text (record {
+      plan = plan;
+      legal = subst (λ (p : Plan). IsLegal p journal) same reached.legal;
+      releases = v.releases;
+      reached = ap (λ (st : State). st.releases) reached.state ∙ ap (λ (p : Plan). (after p journal).releases) same;
+      numbered = reached.numbered;
+      trees = subst (λ (p : Plan). AllByRecursion (ReleaseFits p) v.releases) same reached.trees;
+      text = report;
+    })
+
+-- ---- replays
+
+-- what may come first, where a journal that is a whole one ends
+nothing_first : (p : Plan) (journal : List Event) → IsQuiet p (after p journal) → slice_get (enabled_events p (after p journal)) 0 ≡ None
+nothing_first p journal quiet = ap (λ (es : List Event). slice_get es 0) (list_from_quiet p (after p journal) quiet)
+
+-- a whole journal's text is replayed, and the same report comes of it
+pub is_replayed : (p : Plan) (form : ReportForm) (output : RunOutput) → IsPlan p → IsWhole p output.journal → output.journal_text ≡ journal_text p output.journal → IsReportOf p form output.journal output.report → IsReplayed p form output
+is_replayed p form output plan whole written report =
+    let back : journal_of p output.journal_text ≡ record { events = output.journal; bad = None }
+    = ap (journal_of p) written ∙ read_back p plan output.journal (legal_are_of p output.journal plan whole.0) in
+    record {
+      read_back = back;
+      accepted = ap (replay_step p form) back ∙ ap (by_refused p form (record { events = output.journal; bad = None })) (accepted p output.journal whole.0);
+      same = λ replay is. (
+        is.unfinished ∙ nothing_first p output.journal whole.1,
+        one_report p form output.journal replay.report output.report is.report report,
+      );
+    }
+
+-- the output of a replay that has come to the end of its journal
+pub has_replay : (v : NetView) (p : Plan) (form : ReportForm) (output : RunOutput) → IsPlan p → v.plan ≡ p → IsReachedBy v output.journal → output.unfinished ≡ slice_get (enabled_events v.plan (state_of v)) 0
+    → IsReportIn form p p.faults v.releases (losses_of output.journal) output.report → output.journal_text ≡ [] → IsReplay p output.journal form output
+has_replay v p form output plan same reached first report unwritten =
+    let legal : IsLegal p output.journal = subst (λ (p : Plan). IsLegal p output.journal) same reached.legal in
+    let next : output.unfinished ≡ slice_get (enabled_events p (after p output.journal)) 0
+    = first ∙ ap (λ (st : State). slice_get (enabled_events v.plan st) 0) reached.state ∙ ap (λ (p : Plan). slice_get (enabled_events p (after p output.journal)) 0) same in
+    record {
+      plan = plan;
+      journal = refl;
+      report = report_of_net v p form output.journal output.report plan same reached report;
+      unfinished = next;
+      ended = λ none. ends_waves p output.journal plan (legal, (quiet_where_empty p output.journal (plan_facts p plan) legal).1 (none_there (enabled_events p (after p output.journal)) (sym none ∙ next)));
+      unwritten = unwritten;
+    }
+
+-- ---- runs
+
+-- the output of a run that has ended
+pub has_run : (v : NetView) (p : Plan) (form : ReportForm) (output : RunOutput) → IsPlan p → v.plan ≡ p → IsReachedBy v output.journal → IsQuiet p (after p output.journal)
+    → IsReportIn form p p.faults v.releases (losses_of output.journal) output.report → output.journal_text ≡ journal_text p output.journal → output.unfinished ≡ None → HasRun p form output
+has_run v p form output plan same reached quiet report written finished =
+    let whole : IsWhole p output.journal = (subst (λ (p : Plan). IsLegal p output.journal) same reached.legal, quiet) in
+    let is = report_of_net v p form output.journal output.report plan same reached report in
+    record {
+      plan = plan;
+      report = is;
+      ended = ends_waves p output.journal plan whole;
+      finished = finished;
+      written = written;
+      replayed = is_replayed p form output plan whole written is;
+      all_wait = direct_where_waiting p form output.journal output.report plan whole is;
+    }
+
+-- ---- what the code's answers cite
+
+-- the first event of a replay that is refused
+pub event_refused : (v : NetView) (p : Plan) (journal : List Event) (n : ℕ) (e : Event) → v.plan ≡ p → IsReachedBy v (take n journal) → slice_get journal n ≡ Some e → is_enabled v.plan (state_of v) e ≡ false → first_refused p (start p) journal ≡ Some n
+event_refused v p journal n e same reached at not =
+    refused_at p journal n e (subst (λ (p : Plan). IsLegal p (take n journal)) same reached.legal) at
+    (subst (λ (p : Plan). is_enabled p (after p (take n journal)) e ≡ false) same (subst (λ (st : State). is_enabled v.plan st e ≡ false) reached.state not))
+
+-- the journal that a seed picks leaves nothing enabled
+pub picked_is_quiet : (q p : Plan) (seed : ℕ) (journal : List Event) → IsPlan p → q ≡ p → journal ≡ picked q seed → IsQuiet p (after p journal)
+picked_is_quiet q p seed journal plan same is = subst (λ (es : List Event). IsQuiet p (after p es)) (sym (is ∙ ap (λ (p : Plan). picked p seed) same)) (picked_is_whole p seed (plan_facts p plan)).1
+
+-- where a journal is read to its end and no event is refused, it is replayed
+pub replay_accepted : (p : Plan) (form : ReportForm) (read : ReadJournal) → first_refused p (start p) read.events ≡ None → read.bad ≡ None → replay_step p form read ≡ Does (ReplayJob p read.events form)
+replay_accepted p form read accepted whole = ap (by_refused p form read) accepted ∙ ap (by_bad_line p form read.events) whole
+
+-- at a bad line it isn't
+pub replay_bad : (p : Plan) (form : ReportForm) (read : ReadJournal) (i : ℕ) → first_refused p (start p) read.events ≡ None → read.bad ≡ Some i → replay_step p form read ≡ Answers (BadJournal i)
+replay_bad p form read i accepted bad = ap (by_refused p form read) accepted ∙ ap (by_bad_line p form read.events) bad
+
+-- the journal of a net is accepted
+pub net_accepted : (v : NetView) (p : Plan) (journal : List Event) → v.plan ≡ p → IsReachedBy v journal → first_refused p (start p) journal ≡ None
+net_accepted v p journal same reached = accepted p journal (subst (λ (p : Plan). IsLegal p journal) same reached.legal)
+
+-- an event that is refused comes before a bad line
+pub refusal_of_events : (p : Plan) (form : ReportForm) (read : ReadJournal) (status : Status) → IsEventRefusal (first_refused p (start p) read.events) status → IsJobRefusal (replay_step p form read) status
+refusal_of_events p form read OutOfMemory r = tt
+refusal_of_events p form read (BadJournal i) r = ap (by_refused p form read) r
+refusal_of_events p form read (OverLimit file line what most) r = absurd r
+refusal_of_events p form read (DeskFault role) r = absurd r
+refusal_of_events p form read (BadInput file line reason) r = absurd r
+refusal_of_events p form read Done r = absurd r
+refusal_of_events p form read (BadWords fault) r = absurd r
+refusal_of_events p form read (SinkFault target) r = absurd r
+refusal_of_events p form read (Unfinished e) r = absurd r
+
+-- where none is named there is none
+pub no_bad_line : (bad : Option ℕ) → ((i : ℕ) → bad ≡ Some i → ⊥) → bad ≡ None
+no_bad_line None other = refl
+no_bad_line (Some i) other = absurd (other i refl)
+
+-- a replay that has come to its end
+pub replay_made : (p : Plan) (form : ReportForm) (read : ReadJournal) (output : RunOutput) → first_refused p (start p) read.events ≡ None → read.bad ≡ None → output.journal ≡ read.events → IsReplay p read.events form output
+    → (replay_step p form read ≡ Does (ReplayJob p output.journal form)) × IsReplay p output.journal form output
+replay_made p form read output accepted whole same is = (
+  replay_accepted p form read accepted whole ∙ ap (λ (es : List Event). Does (ReplayJob p es form)) (sym same),
+  subst (λ (es : List Event). IsReplay p es form output) (sym same) is,
+)
+
+-- ---- generated jobs
+
+trees_of_samples : (p : Plan) (rs : List TreeRelease) → AllByRecursion (ReleaseFits p) rs → AllByRecursion (HasTreeOfSamples p) rs
+trees_of_samples p [] fit = tt
+trees_of_samples p (r ∷ rs) fit = (fit.0.tree, trees_of_samples p rs fit.1)
+
+-- the summary of a generated job whose events its seed has picked
+pub has_summary : (v : NetView) (q p : Plan) (size n seed : ℕ) (releases : List TreeRelease) (output : RunOutput) → n ≡ size → p ≡ job_plan seed n → IsPlan p → q ≡ p → v.plan ≡ q
+    → output.journal ≡ picked q seed → IsReachedBy v output.journal → releases ≡ v.releases → output.report ≡ summary_text seed n output.journal releases → output.unfinished ≡ None → output.journal_text ≡ []
+    → HasSummary size seed output
+has_summary v q p size n seed releases output same_size is plan of_plan of_net picks reached given text finished unwritten =
+    let job : Plan = job_plan seed n in
+    let all : v.plan ≡ job = of_net ∙ of_plan ∙ is in
+    let is_plan : IsPlan job = subst IsPlan is plan in
+    let picked_by : output.journal ≡ picked job seed = picks ∙ ap (λ (p : Plan). picked p seed) (of_plan ∙ is) in
+    let whole : IsWhole job output.journal = subst (λ (es : List Event). IsWhole job es) (sym picked_by) (picked_is_whole job seed (plan_facts job is_plan)) in
+    let bare : bare_releases releases ≡ (after job output.journal).releases
+    = ap bare_releases given ∙ ap (λ (st : State). st.releases) reached.state ∙ ap (λ (p : Plan). (after p output.journal).releases) all in
+    let trees : AllByRecursion (HasTreeOfSamples job) releases
+    = subst (λ (rs : List TreeRelease). AllByRecursion (HasTreeOfSamples job) rs) (sym given) (trees_of_samples job v.releases (subst (λ (p : Plan). AllByRecursion (ReleaseFits p) v.releases) all reached.trees)) in
+    record {
+      journal = picked_by ∙ ap (λ k. picked (job_plan seed k) seed) same_size;
+      ended = subst (λ k. EndsWaves (job_plan seed k) output.journal) same_size (ends_waves job output.journal is_plan whole);
+      report = text ∙ is_of_journal seed n output.journal releases bare trees ∙ ap (λ k. summary_of seed k output.journal) same_size;
+      finished = finished;
+      unwritten = unwritten;
+    }

@@ -1,0 +1,129 @@
+-- From a plan and the output of its job to what the files of a mode lead to.
+use Rattle.std.proofs.Common.{◌≡◌, inl, inr, ℕ, List, [], ◌∷◌, ◌++◌, Option, length, refl, sym, ap, subst, ◌∙◌, arith, append-nil}
+use Rattle.overlay_setup.specs.NodeSets.{In}
+use Rattle.stat_plan.specs.Plans.{Plan}
+use Rattle.stat_plan.proofs.InLists.{append_left}
+use Rattle.stat_desk.specs.declared.event.Event.{Event}
+use Rattle.journal_text.specs.Reading.{ReadJournal}
+use Rattle.stat_words.specs.Words.{Asked, Names}
+use Rattle.stat_words.specs.Words.{Run, Sim, Replay, Direct}
+use Rattle.stat_words.specs.declared.words.ReportForm.{ReportForm}
+use Rattle.stat_tool.specs.Call.{DeskChange, HasJournal, IsJobRefusal, IsPlanned, IsStopped, Prepared, Prevented, Prevents, Refuses}
+use Rattle.stat_tool.specs.Files.{NamedFile, files_of, limit_of, plan_files}
+use Rattle.stat_tool.specs.Jobs.{RunJob, SimJob, ReplayJob, DirectJob, RunOutput}
+use Rattle.stat_tool.specs.NextStep.{AfterPlan, Agrees, Answers, AreReadResults, Bytes, Does, ReadResult, Step, TooLong, Wants, at_journal, next_step, plan_step, replay_step}
+use Rattle.stat_tool.specs.Outputs.{HasOutput}
+use Rattle.stat_tool.specs.declared.status.FileRole.TheVariants.{Journal}
+use Rattle.stat_tool.specs.declared.status.Status.{Status}
+use Rattle.stat_tool.specs.declared.status.Status.TheVariants.{Done, BadWords, DeskFault, BadInput, OverLimit, SinkFault, OutOfMemory, BadJournal, Unfinished}
+
+-- what the files gave, of more files
+read_less : (contents : List ℕ → Option (List ℕ)) (files more : List NamedFile) (results : List ReadResult) → AreReadResults contents files results → AreReadResults contents (files ++ more) results
+read_less contents files more [] read = tt
+read_less contents [] more (g ∷ gs) read = absurd read
+read_less contents (f ∷ files) more (g ∷ gs) read = (read.0, read_less contents files more gs read.1)
+
+-- what one more file gave
+read_on : (contents : List ℕ → Option (List ℕ)) (files more : List NamedFile) (results rest : List ReadResult) → AreReadResults contents files results → length results ≡ length files
+    → AreReadResults contents more rest → AreReadResults contents (files ++ more) (results ++ rest)
+read_on contents [] more [] rest read same after = after
+read_on contents [] more (g ∷ gs) rest read same after = absurd read
+read_on contents (f ∷ files) more [] rest read same after = absurd (omega (arith, same))
+read_on contents (f ∷ files) more (g ∷ gs) rest read same after = (read.0, read_on contents files more gs rest read.1 (omega (arith, same)) after)
+
+-- a call that stops at one of the files stops where there are more
+prevents_less : (files more : List NamedFile) (desk : DeskChange) (next : Step) (status : Status) → Prevents files desk next status → Prevents (files ++ more) desk next status
+prevents_less files more desk next OutOfMemory r = tt
+prevents_less files more desk next (DeskFault role) r = (r.0, record { name = r.1.name; is_named = append_left (role, r.1.name) files more r.1.is_named; failed = r.1.failed })
+prevents_less files more desk next (BadInput file line reason) r = r
+prevents_less files more desk next (OverLimit file line what most) r = r
+prevents_less files more desk next (BadJournal i) r = r
+prevents_less files more desk next Done r = absurd r
+prevents_less files more desk next (BadWords fault) r = absurd r
+prevents_less files more desk next (SinkFault target) r = absurd r
+prevents_less files more desk next (Unfinished e) r = absurd r
+
+-- ---- where there is no plan, whatever the mode
+
+pub run_stops : (names : Names) (workers : ℕ) (form : ReportForm) (desk : DeskChange) (status : Status) → IsStopped (plan_files names) desk status → Prevented (Run names workers form) desk status
+run_stops names workers form desk status s = (s.0, (s.1.0, s.1.1 (λ p rest. Does (RunJob p form))))
+
+pub sim_stops : (names : Names) (seed : ℕ) (form : ReportForm) (desk : DeskChange) (status : Status) → IsStopped (plan_files names) desk status → Prevented (Sim names seed form) desk status
+sim_stops names seed form desk status s = (s.0, (s.1.0, s.1.1 (λ p rest. Does (SimJob p seed form))))
+
+pub direct_stops : (names : Names) (form : ReportForm) (desk : DeskChange) (status : Status) → IsStopped (plan_files names) desk status → Prevented (Direct names form) desk status
+direct_stops names form desk status s = (s.0, (s.1.0, s.1.1 (λ p rest. Does (DirectJob p form))))
+
+pub replay_stops : (names : Names) (journal : List ℕ) (form : ReportForm) (desk : DeskChange) (status : Status) → IsStopped (plan_files names) desk status → Prevented (Replay names journal form) desk status
+replay_stops names journal form desk status s = (
+  s.0,
+  (
+    read_less desk.contents (plan_files names) ((Journal, journal) ∷ []) s.0 s.1.0,
+    prevents_less (plan_files names) ((Journal, journal) ∷ []) desk (plan_step s.0 (at_journal form)) status (s.1.1 (at_journal form)),
+  ),
+)
+
+-- ---- where there is one
+
+step_at : (files : List NamedFile) (contents : List ℕ → Option (List ℕ)) (p : Plan) (planned : IsPlanned files contents p) (after : AfterPlan) → plan_step planned.results after ≡ after p []
+step_at files contents p planned after = ap (λ (rs : List ReadResult). plan_step rs after) (sym (append-nil planned.results)) ∙ planned.step [] after
+
+pub run_prepared : (names : Names) (workers : ℕ) (form : ReportForm) (contents : List ℕ → Option (List ℕ)) (p : Plan) (output : RunOutput) → IsPlanned (plan_files names) contents p → HasOutput (RunJob p form) output → Prepared (Run names workers form) contents output
+run_prepared names workers form contents p output planned has = (planned.results, (planned.read, (RunJob p form, (step_at (plan_files names) contents p planned (λ p rest. Does (RunJob p form)), has))))
+
+pub sim_prepared : (names : Names) (seed : ℕ) (form : ReportForm) (contents : List ℕ → Option (List ℕ)) (p : Plan) (output : RunOutput) → IsPlanned (plan_files names) contents p → HasOutput (SimJob p seed form) output → Prepared (Sim names seed form) contents output
+sim_prepared names seed form contents p output planned has = (planned.results, (planned.read, (SimJob p seed form, (step_at (plan_files names) contents p planned (λ p rest. Does (SimJob p seed form)), has))))
+
+pub direct_prepared : (names : Names) (form : ReportForm) (contents : List ℕ → Option (List ℕ)) (p : Plan) (output : RunOutput) → IsPlanned (plan_files names) contents p → HasOutput (DirectJob p form) output → Prepared (Direct names form) contents output
+direct_prepared names form contents p output planned has = (planned.results, (planned.read, (DirectJob p form, (step_at (plan_files names) contents p planned (λ p rest. Does (DirectJob p form)), has))))
+
+-- memory ran out, once there is a plan
+pub no_memory : (asked : Asked) (desk : DeskChange) (results : List ReadResult) → AreReadResults desk.contents (files_of asked) results → Prevented asked desk OutOfMemory
+no_memory asked desk results read = (results, (read, tt))
+
+-- ---- the journal
+
+module _ (names : Names) (journal : List ℕ) (form : ReportForm) (desk : DeskChange) (p : Plan) (planned : IsPlanned (plan_files names) desk.contents p) where
+  with_journal : (g : ReadResult) → Agrees (desk.contents journal) (limit_of Journal) g → AreReadResults desk.contents (plan_files names ++ (Journal, journal) ∷ []) (planned.results ++ g ∷ [])
+  with_journal g agrees = read_on desk.contents (plan_files names) ((Journal, journal) ∷ []) planned.results (g ∷ []) planned.read planned.all (agrees, tt)
+
+  -- where the journal was not read
+  pub journal_stops : (status : Status) → Refuses Journal journal desk status → Prevented (Replay names journal form) desk status
+  journal_stops OutOfMemory r = (planned.results, (read_less desk.contents (plan_files names) ((Journal, journal) ∷ []) planned.results planned.read, tt))
+  journal_stops (DeskFault role) r = (
+    planned.results,
+    (
+      read_less desk.contents (plan_files names) ((Journal, journal) ∷ []) planned.results planned.read,
+      (
+        step_at (plan_files names) desk.contents p planned (at_journal form) ∙ ap Wants (sym r.0),
+        record { name = journal; is_named = subst (λ role. In (role, journal) (plan_files names ++ (Journal, journal) ∷ [])) (sym r.0) (inr (inr (inr (inl refl)))); failed = r.1 },
+      ),
+    ),
+  )
+  journal_stops (OverLimit file line what most) r = (planned.results ++ TooLong ∷ [], (with_journal TooLong r.1, planned.step (TooLong ∷ []) (at_journal form) ∙ ap Answers (sym r.0)))
+  journal_stops Done r = absurd r
+  journal_stops (BadWords fault) r = absurd r
+  journal_stops (BadInput file line reason) r = absurd r
+  journal_stops (SinkFault target) r = absurd r
+  journal_stops (BadJournal i) r = absurd r
+  journal_stops (Unfinished e) r = absurd r
+
+  module _ (read : ReadJournal) (has : HasJournal (desk.contents journal) p read) where
+    -- where the journal leads
+    at_read : next_step (Replay names journal form) (planned.results ++ Bytes has.0 ∷ []) ≡ replay_step p form read
+    at_read = planned.step (Bytes has.0 ∷ []) (at_journal form) ∙ ap (replay_step p form) has.1.1
+
+    pub replay_prepared : (events : List Event) (output : RunOutput) → replay_step p form read ≡ Does (ReplayJob p events form) → HasOutput (ReplayJob p events form) output → Prepared (Replay names journal form) desk.contents output
+    replay_prepared events output leads is = (planned.results ++ Bytes has.0 ∷ [], (with_journal (Bytes has.0) has.1.0, (ReplayJob p events form, (at_read ∙ leads, is))))
+
+    -- why it is not replayed to its end
+    pub replay_refused : (status : Status) → IsJobRefusal (replay_step p form read) status → Prevented (Replay names journal form) desk status
+    replay_refused OutOfMemory r = (planned.results ++ Bytes has.0 ∷ [], (with_journal (Bytes has.0) has.1.0, tt))
+    replay_refused (BadJournal i) r = (planned.results ++ Bytes has.0 ∷ [], (with_journal (Bytes has.0) has.1.0, at_read ∙ r))
+    replay_refused (OverLimit file line what most) r = absurd r
+    replay_refused (DeskFault role) r = absurd r
+    replay_refused (BadInput file line reason) r = absurd r
+    replay_refused Done r = absurd r
+    replay_refused (BadWords fault) r = absurd r
+    replay_refused (SinkFault target) r = absurd r
+    replay_refused (Unfinished e) r = absurd r

@@ -1,0 +1,13 @@
+use Rattle.std.proofs.Common.{sym, subst}
+use Rattle.stat_words.specs.Words.{asked_of}
+use Rattle.stat_tool.specs.Call.{AreReadInOrder}
+use Rattle.stat_tool.specs.Files.{files_of, names_in}
+use Rattle.stat_tool.proofs.call.prepare.Goals as goal
+
+pub returns-in-Run-clause-reads : goal.returns-in-Run-clause-reads
+returns-in-Run-clause-reads g c =
+    subst (λ command. AreReadInOrder (g.D.Desk.reads c.args.desk.now) (g.D.Desk.reads c.prepare_run.new.desk) (names_in (files_of (asked_of command)))) (sym c.in-Run.is) c.prepare_run.ensures.reads
+
+pub returns-in-Sim-clause-reads : goal.returns-in-Sim-clause-reads
+returns-in-Sim-clause-reads g c =
+    subst (λ command. AreReadInOrder (g.D.Desk.reads c.args.desk.now) (g.D.Desk.reads c.prepare_sim.new.desk) (names_in (files_of (asked_of command)))) (sym c.in-Sim.is) c.prepare_sim.ensures.reads

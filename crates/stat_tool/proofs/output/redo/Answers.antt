@@ -1,0 +1,24 @@
+use Rattle.std.proofs.Common.{Err, [], ◌∷◌, ◌++◌, take, sym, ap, subst, ◌∙◌}
+use Rattle.std.proofs.lemmas.List.{take_more}
+use Rattle.std.proofs.lemmas.Option.{get_or_from_slice_get, slice_get_within}
+use Rattle.overlay_net.specs.Nets.{IsReachedBy}
+use Rattle.stat_tool.proofs.Outputs.{event_refused}
+use Rattle.stat_tool.proofs.output.redo.Goals as goal
+
+pub returns-in-Err-NotEnabled-clause-refused : goal.returns-in-Err-NotEnabled-clause-refused
+returns-in-Err-NotEnabled-clause-refused g c =
+    event_refused c.loop-number.net c.args.net.now.plan c.args.journal.now c.loop-number.number c.at.result c.loop-number.invariant.plan c.loop-number.invariant.reached c.at.ensures
+    ((c.apply.ensures.not_enabled c.loop-number.invariant.usable).0 (c.in-Err-NotEnabled.is ∙ ap Err c.in-Err-NotEnabled.field-0-is))
+
+pub loop-number-preserved : goal.loop-number-preserved
+loop-number-preserved g c =
+    let old = c.loop-number.invariant in
+    let journal = c.args.journal.now in
+    let n = c.loop-number.number in
+    record {
+      plan = c.apply.ensures.plan ∙ old.plan;
+      usable = c.in-Ok.ensures.usable;
+      reached = subst (IsReachedBy c.apply.new.self)
+          (sym (take_more journal n c.at.result (slice_get_within journal n c.at.result c.at.ensures) ∙ ap (λ e. take n journal ++ e ∷ []) (get_or_from_slice_get journal n c.at.result c.at.result c.at.ensures)))
+          (c.in-Ok.ensures.reached (take n journal) old.reached);
+    }

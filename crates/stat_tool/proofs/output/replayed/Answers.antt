@@ -1,0 +1,8 @@
+use Rattle.stat_tool.specs.Jobs.{RunOutput}
+use Rattle.stat_tool.proofs.Outputs.{has_replay}
+use Rattle.stat_tool.proofs.output.replayed.Goals as goal
+
+pub returns-clause-replay : goal.returns-clause-replay
+returns-clause-replay g c =
+    let output : RunOutput = record { unfinished = c.enabled-unfinished.result; journal = c.args.journal; report = c.in_ok-report.report.items; journal_text = c.new.result.items } in
+    has_replay c.args.net.now c.args.plan.now c.args.form output c.invariant.ensures c.requires.same c.requires.reached c.enabled-unfinished.ensures c.in_ok-report.ensures c.new.ensures.items

@@ -1,0 +1,22 @@
+-- What there is to do once the files are read, and what comes of it.
+use Rattle.std.specs.Prelude.{ℕ, List, Option}
+use Rattle.stat_plan.specs.Plans.{Plan}
+use Rattle.stat_desk.specs.declared.event.Event.{Event}
+use Rattle.stat_words.specs.declared.words.ReportForm.{ReportForm}
+
+-- A job, with all that its files and words say: a run of a plan, one whose events a seed picks, one by a given journal, the
+-- direct merge of each wave, and a generated job of a size and a seed.
+pub data Job : Type 0 where
+  RunJob : Plan → ReportForm → Job
+  SimJob : Plan → ℕ → ReportForm → Job
+  ReplayJob : Plan → List Event → ReportForm → Job
+  DirectJob : Plan → ReportForm → Job
+  GenJob : ℕ → ℕ → Job
+
+-- The output of a job: the event that may come next where its journal ends early, the events that happened, and what is
+-- written to the sink of the report and to that of the journal.
+pub record RunOutput : Type 0 where
+  pub unfinished : Option Event
+  pub journal : List Event
+  pub report : List ℕ
+  pub journal_text : List ℕ

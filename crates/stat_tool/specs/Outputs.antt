@@ -1,0 +1,74 @@
+-- What the output of a job may be.
+use Rattle.std.specs.Prelude.{◌≡◌, ℕ, List, [], slice_get, None}
+use Rattle.stat_plan.specs.Invariants.{IsPlan}
+use Rattle.stat_plan.specs.Plans.{Plan}
+use Rattle.stat_desk.specs.declared.event.Event.{Event}
+use Rattle.overlay_core.specs.Machine.{start, enabled_events}
+use Rattle.overlay_core.specs.Pick.{picked}
+use Rattle.overlay_core.specs.Runs.{after}
+use Rattle.overlay_core.specs.Whole.{LosesNoDaemon}
+use Rattle.front_end.specs.Report.{AllStreamsWait, direct_releases}
+use Rattle.journal_text.specs.Reading.{journal_of}
+use Rattle.journal_text.specs.Text.{journal_text}
+use Rattle.generated_job.specs.Job.{job_plan}
+use Rattle.generated_job.specs.Summary.{summary_of}
+use Rattle.stat_words.specs.declared.words.ReportForm.{ReportForm}
+use Rattle.stat_tool.specs.Jobs.{Job, RunJob, SimJob, ReplayJob, DirectJob, GenJob, RunOutput}
+use Rattle.stat_tool.specs.NextStep.{Does, replay_step}
+use Rattle.stat_tool.specs.Reports.{EndsWaves, IsReportIn, IsReportOf, TakesFirst, losses_of}
+
+-- A given journal, done event by event: the report of what it releases, and the first event that may still come. No journal
+-- is written. Where nothing may come, each wave has ended.
+pub record IsReplay (p : Plan) (events : List Event) (form : ReportForm) (output : RunOutput) : Type 0 where
+  pub plan : IsPlan p
+  pub journal : output.journal ≡ events
+  pub report : IsReportOf p form events output.report
+  pub unfinished : output.unfinished ≡ slice_get (enabled_events p (after p events)) 0
+  pub ended : output.unfinished ≡ None → EndsWaves p events
+  pub unwritten : output.journal_text ≡ []
+
+-- One thread that replays the text of a journal prints the same report: the text is read as that journal with no bad line,
+-- its events may come, and whatever the replay's output is, it is finished and its report is the same, byte for byte.
+pub record IsReplayed (p : Plan) (form : ReportForm) (output : RunOutput) : Type 0 where
+  pub read_back : journal_of p output.journal_text ≡ record { events = output.journal; bad = None }
+  pub accepted : replay_step p form (journal_of p output.journal_text) ≡ Does (ReplayJob p output.journal form)
+  pub same : (replay : RunOutput) → IsReplay p output.journal form replay → (replay.unfinished ≡ None) × (replay.report ≡ output.report)
+
+-- The headline: what a run of a plan returns.
+pub record HasRun (p : Plan) (form : ReportForm) (output : RunOutput) : Type 0 where
+  pub plan : IsPlan p
+  -- the report is that of the journal, each wave has ended, and no event may come
+  pub report : IsReportOf p form output.journal output.report
+  pub ended : EndsWaves p output.journal
+  pub finished : output.unfinished ≡ None
+  -- the journal is written, and one thread that replays it prints the same report
+  pub written : output.journal_text ≡ journal_text p output.journal
+  pub replayed : IsReplayed p form output
+  -- where every stream waits for all and no daemon is lost, the report is that of the direct merge of each wave, whatever
+  -- the journal is, with the journal's losses
+  pub all_wait : AllStreamsWait p → ((s : ℕ) → LosesNoDaemon p output.journal s)
+      → IsReportIn form p p.faults (direct_releases p) (losses_of output.journal) output.report
+
+-- The direct merge of each wave over all ranks of its stream: no event, and no line of a fault.
+pub record HasDirect (p : Plan) (form : ReportForm) (output : RunOutput) : Type 0 where
+  pub plan : IsPlan p
+  pub journal : output.journal ≡ []
+  pub report : IsReportIn form p [] (direct_releases p) [] output.report
+  pub finished : output.unfinished ≡ None
+  pub unwritten : output.journal_text ≡ []
+
+-- A generated job, run with events that its seed picks: the summary of this run.
+pub record HasSummary (size seed : ℕ) (output : RunOutput) : Type 0 where
+  pub journal : output.journal ≡ picked (job_plan seed size) seed
+  pub ended : EndsWaves (job_plan seed size) output.journal
+  pub report : output.report ≡ summary_of seed size output.journal
+  pub finished : output.unfinished ≡ None
+  pub unwritten : output.journal_text ≡ []
+
+-- The table of the modes. In a run each event is the first enabled one; in a simulation the seed picks the events.
+abbrev pub HasOutput : Job → RunOutput → Type 0
+HasOutput (RunJob p form) output = HasRun p form output × TakesFirst p (start p) output.journal
+HasOutput (SimJob p seed form) output = HasRun p form output × (output.journal ≡ picked p seed)
+HasOutput (ReplayJob p events form) output = IsReplay p events form output
+HasOutput (DirectJob p form) output = HasDirect p form output
+HasOutput (GenJob size seed) output = HasSummary size seed output

@@ -1,0 +1,85 @@
+-- What a report says: the releases of a journal, and how each wave ends.
+use Rattle.std.specs.Prelude.{◌≡◌, ◌≢◌, ⊤, ℕ, List, [], ◌∷◌, ◌++◌, slice_get, Some}
+use Rattle.std.specs.List.{AllByRecursion}
+use Rattle.rank_set.specs.Ranks.{Ranks, none, IsSubset}
+use Rattle.overlay_setup.specs.NodeSets.{In}
+use Rattle.overlay_setup.specs.declared.script.Fault.{Fault}
+use Rattle.overlay_setup.specs.declared.script.Mode.TheVariants.{WaitForAll}
+use Rattle.stat_plan.specs.Plans.{Plan, mode, waves_of}
+use Rattle.stat_desk.specs.declared.event.Event.{Event}
+use Rattle.stat_desk.specs.declared.event.Event.TheVariants.{Sample, Recv, Tick, Lose}
+use Rattle.overlay_core.specs.declared.release.Kind.TheVariants.{Partial, Final}
+use Rattle.overlay_core.specs.Nodes.{Release}
+use Rattle.overlay_core.specs.History.{of_wave}
+use Rattle.overlay_core.specs.Machine.{State, step, enabled_events}
+use Rattle.overlay_core.specs.Releases.{CoversAll, ReleaseIsSound}
+use Rattle.overlay_core.specs.Runs.{IsLegal, IsWhole, after}
+use Rattle.overlay_core.specs.TreeReleases.{AreNumberedInOrder, TreeRelease, bare_releases}
+use Rattle.overlay_core.specs.Whole.{EndsFinally, HasOneRelease, LosesNoDaemon}
+use Rattle.front_end.specs.JsonReport.{IsJsonReport}
+use Rattle.front_end.specs.Report.{IsDirect, IsReport}
+use Rattle.stat_words.specs.declared.words.ReportForm.{ReportForm}
+use Rattle.stat_words.specs.declared.words.ReportForm.TheVariants.{Text, Json}
+
+-- the nodes that the events lose, in order
+abbrev pub losses_of : List Event → List ℕ
+losses_of [] = []
+losses_of (Sample n s w ∷ es) = losses_of es
+losses_of (Recv n m ∷ es) = losses_of es
+losses_of (Tick n ∷ es) = losses_of es
+losses_of (Lose n ∷ es) = n ∷ losses_of es
+
+-- from a state on, each event is the first enabled one
+abbrev pub TakesFirst : Plan → State → List Event → Type 0
+TakesFirst p st [] = ⊤
+TakesFirst p st (e ∷ es) = (slice_get (enabled_events p st) 0 ≡ Some e) × TakesFirst p (step p st e) es
+
+-- of a wave's releases the last one is final and covers all ranks of the stream, and no other is final
+pub record EndsWithAll (p : Plan) (s : ℕ) (rs : List Release) : Type 0 where
+  pub before : List Release
+  pub last : Release
+  pub all : rs ≡ before ++ last ∷ []
+  pub partial : (r : Release) → In r before → r.kind ≡ Partial
+  pub final : last.kind ≡ Final
+  pub covers : CoversAll p s last.covered
+
+-- from a coverage on, each release of a wave covers what the one before covers, and a partial one more than that
+abbrev pub CoveragesGrow : Ranks → List Release → Type 0
+CoveragesGrow last [] = ⊤
+CoveragesGrow last (r ∷ rs) = IsSubset last r.covered × (r.kind ≡ Partial → last ≢ r.covered) × CoveragesGrow r.covered rs
+
+-- the text, in this form, is the report of these releases of a plan, and of what came of these faults
+abbrev pub IsReportIn : ReportForm → Plan → List Fault → List TreeRelease → List ℕ → List ℕ → Type 0
+IsReportIn Text = IsReport
+IsReportIn Json = IsJsonReport
+
+-- The text, in this form, is the report of a journal: of what the machine has released after it.
+pub record IsReportOf (p : Plan) (form : ReportForm) (journal : List Event) (report : List ℕ) : Type 0 where
+  pub legal : IsLegal p journal
+  -- the releases are those of the machine after this journal, with their numbers within their waves: 1, 2, 3 and so on
+  pub releases : List TreeRelease
+  pub reached : bare_releases releases ≡ (after p journal).releases
+  pub numbered : AreNumberedInOrder [] releases
+  -- the text is the report of exactly these releases, and of what came of each fault
+  pub text : IsReportIn form p p.faults releases (losses_of journal) report
+  -- each is of a wave of the plan, and covers all ranks of some daemons of its stream and no others
+  pub sound : (r : Release) → In r (bare_releases releases) → ReleaseIsSound p r
+  -- each tree and its classes are the direct merge of the wave's samples over exactly the ranks that it covers
+  pub direct : AllByRecursion (IsDirect p) releases
+  -- the coverages of a wave grow, and a partial release covers more than the one before, or something if it is the first
+  pub grow : (s w : ℕ) → CoveragesGrow none (of_wave s w (bare_releases releases))
+
+-- The journal is whole, and ends each wave.
+pub record EndsWaves (p : Plan) (journal : List Event) : Type 0 where
+  -- the journal is legal and leaves nothing enabled
+  pub whole : IsWhole p journal
+  -- each wave ends with one final release, its last. It covers all ranks of each daemon of its stream that the journal
+  -- doesn't lose; of each rank that it misses it names the daemon, which the journal loses; and it names no node that the
+  -- journal doesn't lose
+  pub waves : (s w : ℕ) → In (s, w) (waves_of p.streams) → EndsFinally p journal s (of_wave s w (after p journal).releases)
+  -- where none of its daemons is lost, that release covers all ranks of the stream
+  pub whole_waves : (s w : ℕ) → In (s, w) (waves_of p.streams) → LosesNoDaemon p journal s
+      → EndsWithAll p s (of_wave s w (after p journal).releases)
+  -- and it is the only one where the stream waits for all
+  pub once : (s w : ℕ) → In (s, w) (waves_of p.streams) → mode p s ≡ WaitForAll → LosesNoDaemon p journal s
+      → HasOneRelease p s (of_wave s w (after p journal).releases)

@@ -1,0 +1,160 @@
+//! The modes: from the files that the words name to an output.
+ghost use Rattle.std.specs.Prelude.{◌≡◌, ◌≤◌, ◌∷◌, [], IfErr, IfOk, OnOk};
+ghost use Rattle.journal_text.specs.Reading.{read_view};
+ghost use Rattle.stat_words.specs.Words.{names_of};
+ghost use Rattle.stat_words.specs.Words.{Direct, Gen, Replay, Run, Sim};
+ghost use Rattle.stat_tool.specs.Call.{AreReadInOrder, HasJournal, Prepared, Prevented, Refuses, desk_change};
+ghost use Rattle.stat_tool.specs.Files.{files_of, names_in};
+ghost use Rattle.stat_tool.specs.Views.{output_view};
+
+use crate::generated::gen_job;
+use crate::output::{Output, direct_plan, replay_plan, run_plan, sim_plan};
+use crate::read::{read_file, read_plan};
+use crate::status::{FileRole, Status};
+use journal_text::{JournalRead, read_journal};
+use prefix_tree::PrefixTree;
+use stat_desk::Desk;
+use stat_plan::Plan;
+use stat_words::{Files, ReportForm};
+use std::alloc::Global;
+
+/// The run of a plan.
+pub fn prepare_run<T: PrefixTree, D: Desk>(
+    alloc: Global,
+    files: Files<'_>,
+    workers: u8,
+    form: ReportForm,
+    desk: &mut D,
+) -> Result<Output, Status>
+    ensures ok { IfOk result
+        (λ output. Prepared (Run (names_of files.entry) workers form) (D.contents desk.old) (output_view output)) }
+    ensures err { IfErr result (Prevented (Run (names_of files.entry) workers form)
+        (desk_change D.faults D.last_fault D.contents desk.old desk.new)) }
+    ensures reads { AreReadInOrder (D.reads desk.old) (D.reads desk.new)
+        (names_in (files_of (Run (names_of files.entry) workers form))) }
+{
+    let plan = match read_plan(alloc, files, desk) {
+        Ok(plan) => plan,
+        Err(status) => return Err(status),
+    };
+    match run_plan::<T>(alloc, &plan, form) {
+        Ok(output) => Ok(output),
+        Err(_) => Err(Status::OutOfMemory),
+    }
+}
+
+/// The run of a plan with the events that a seed picks.
+pub fn prepare_sim<T: PrefixTree, D: Desk>(
+    alloc: Global,
+    files: Files<'_>,
+    seed: u64,
+    form: ReportForm,
+    desk: &mut D,
+) -> Result<Output, Status>
+    ensures ok { IfOk result
+        (λ output. Prepared (Sim (names_of files.entry) seed form) (D.contents desk.old) (output_view output)) }
+    ensures err { IfErr result (Prevented (Sim (names_of files.entry) seed form)
+        (desk_change D.faults D.last_fault D.contents desk.old desk.new)) }
+    ensures reads { AreReadInOrder (D.reads desk.old) (D.reads desk.new)
+        (names_in (files_of (Sim (names_of files.entry) seed form))) }
+{
+    let plan = match read_plan(alloc, files, desk) {
+        Ok(plan) => plan,
+        Err(status) => return Err(status),
+    };
+    match sim_plan::<T>(alloc, &plan, seed, form) {
+        Ok(output) => Ok(output),
+        Err(_) => Err(Status::OutOfMemory),
+    }
+}
+
+/// The run of a plan by a given journal.
+pub fn prepare_replay<T: PrefixTree, D: Desk>(
+    alloc: Global,
+    files: Files<'_>,
+    journal: &str,
+    form: ReportForm,
+    desk: &mut D,
+) -> Result<Output, Status>
+    ensures ok { IfOk result
+        (λ output. Prepared (Replay (names_of files.entry) journal.now form) (D.contents desk.old) (output_view output)) }
+    ensures err { IfErr result (Prevented (Replay (names_of files.entry) journal.now form)
+        (desk_change D.faults D.last_fault D.contents desk.old desk.new)) }
+    ensures reads { AreReadInOrder (D.reads desk.old) (D.reads desk.new)
+        (names_in (files_of (Replay (names_of files.entry) journal.now form))) }
+{
+    let plan = match read_plan(alloc, files, desk) {
+        Ok(plan) => plan,
+        Err(status) => return Err(status),
+    };
+    let read = match read_events(alloc, &plan, journal, desk) {
+        Ok(read) => read,
+        Err(status) => return Err(status),
+    };
+    replay_plan::<T>(alloc, &plan, read, form)
+}
+
+// The events of a journal's file.
+fn read_events<D: Desk>(
+    alloc: Global,
+    plan: &Plan,
+    name: &str,
+    desk: &mut D,
+) -> Result<JournalRead, Status>
+    ensures ok { IfOk result (λ read. HasJournal (D.contents desk.old name.now) plan.now (read_view read)) }
+    ensures err { IfErr result (Refuses FileRole.Journal name.now
+        (desk_change D.faults D.last_fault D.contents desk.old desk.new)) }
+    ensures reads { AreReadInOrder (D.reads desk.old) (D.reads desk.new) (name.now ∷ []) }
+{
+    let bytes = match read_file(desk, name, FileRole::Journal) {
+        Ok(bytes) => bytes,
+        Err(status) => return Err(status),
+    };
+    match read_journal(alloc, plan, bytes.as_slice()) {
+        Ok(read) => Ok(read),
+        Err(_) => Err(Status::OutOfMemory),
+    }
+}
+
+/// The direct merge of each wave of a plan.
+pub fn prepare_direct<T: PrefixTree, D: Desk>(
+    alloc: Global,
+    files: Files<'_>,
+    form: ReportForm,
+    desk: &mut D,
+) -> Result<Output, Status>
+    ensures ok { IfOk result
+        (λ output. Prepared (Direct (names_of files.entry) form) (D.contents desk.old) (output_view output)) }
+    ensures err { IfErr result (Prevented (Direct (names_of files.entry) form)
+        (desk_change D.faults D.last_fault D.contents desk.old desk.new)) }
+    ensures reads { AreReadInOrder (D.reads desk.old) (D.reads desk.new)
+        (names_in (files_of (Direct (names_of files.entry) form))) }
+{
+    let plan = match read_plan(alloc, files, desk) {
+        Ok(plan) => plan,
+        Err(status) => return Err(status),
+    };
+    match direct_plan::<T>(alloc, &plan, form) {
+        Ok(output) => Ok(output),
+        Err(_) => Err(Status::OutOfMemory),
+    }
+}
+
+/// The summary of a generated job.
+pub fn prepare_gen<T: PrefixTree, D: Desk>(
+    alloc: Global,
+    size: u16,
+    seed: u64,
+    desk: &mut D,
+) -> Result<Output, Status>
+    requires size { (1 ≤ size) × (size ≤ 256) }
+    ensures ok { IfOk result (λ output. Prepared (Gen size seed) (D.contents desk.old) (output_view output)) }
+    ensures err { IfErr result (Prevented (Gen size seed)
+        (desk_change D.faults D.last_fault D.contents desk.old desk.new)) }
+    ensures same { desk.new ≡ desk.old }
+{
+    match gen_job::<T>(alloc, size, seed) {
+        Ok(output) => Ok(output),
+        Err(_) => Err(Status::OutOfMemory),
+    }
+}

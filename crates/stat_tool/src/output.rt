@@ -1,0 +1,315 @@
+//! The outputs of the jobs: a journal, a report, and what is written of the journal.
+ghost use Rattle.std.specs.Prelude.{◌≡◌, ◌<◌, ◌++◌, ℕ, [], None, false, IfErr, IfOk, OnOk, map};
+ghost use Rattle.front_end.specs.Report.{AreDistinct, direct_release, direct_releases};
+ghost use Rattle.journal_text.specs.Reading.{read_view};
+ghost use Rattle.overlay_core.specs.Machine.{start};
+ghost use Rattle.overlay_core.specs.Runs.{IsQuiet, after};
+ghost use Rattle.overlay_core.specs.TreeReleases.{release_view, releases_view};
+ghost use Rattle.merge_filter.specs.Contributions.{HasWave};
+ghost use Rattle.overlay_net.specs.Nets.{IsReachedBy};
+ghost use Rattle.overlay_setup.specs.NodeSets.{up_to};
+ghost use Rattle.stat_plan.specs.Invariants.{IsPlan};
+ghost use Rattle.stat_tool.specs.Call.{IsEventRefusal, IsJobRefusal};
+ghost use Rattle.stat_tool.specs.Jobs.{DirectJob, ReplayJob, RunJob, SimJob};
+ghost use Rattle.stat_tool.specs.NextStep.{Does, first_refused, replay_step};
+ghost use Rattle.stat_tool.specs.Outputs.{HasOutput, HasRun};
+ghost use Rattle.stat_tool.specs.Reports.{IsReportIn, TakesFirst, losses_of};
+ghost use Rattle.stat_tool.specs.Views.{output_view};
+
+use crate::status::Status;
+use front_end::{
+    direct_json, direct_text, numbered_releases_are_distinct, report_json, report_text,
+};
+use journal_text::{JournalRead, write_journal};
+use merge_filter::{Contribution, direct};
+use overlay_core::{Kind, Release};
+use overlay_net::{Net, NetError};
+use overlay_setup::StreamDef;
+use prefix_tree::PrefixTree;
+use stat_desk::{Event, Journal};
+use stat_plan::Plan;
+use stat_words::ReportForm;
+use std::alloc::{AllocError, Global};
+
+/// What a job has made.
+#[derive(Drop)]
+pub struct Output {
+    /// The event that may come next, where a replayed journal ends early.
+    pub unfinished: Option<Event>,
+    /// The events, in the order in which they happened.
+    pub journal: Journal,
+    /// The text of the report.
+    pub report: Vec<u8>,
+    /// What is written to the sink of the journal: its text, or nothing.
+    pub journal_text: Vec<u8>,
+}
+
+/// Runs a plan: the first enabled event happens, again and again, until none is enabled.
+pub fn run_plan<T: PrefixTree>(
+    alloc: Global,
+    plan: &Plan,
+    form: ReportForm,
+) -> Result<Output, AllocError>
+    ensures { IfOk result (λ output. HasOutput (RunJob plan.now form) (output_view output)) }
+{
+    plan.invariant();
+    let mut net: Net<'_, T> = Net::new(alloc, plan)?;
+    let mut journal = Journal::new(alloc);
+    run_to_end(&mut net, &mut journal)?;
+    finished(alloc, plan, &net, journal, form)
+}
+
+/// Runs a plan with the events that a seed picks, until none is enabled.
+pub fn sim_plan<T: PrefixTree>(
+    alloc: Global,
+    plan: &Plan,
+    seed: u64,
+    form: ReportForm,
+) -> Result<Output, AllocError>
+    ensures { IfOk result (λ output. HasOutput (SimJob plan.now seed form) (output_view output)) }
+{
+    plan.invariant();
+    let mut net: Net<'_, T> = Net::new(alloc, plan)?;
+    let journal = net.run_picked(seed)?;
+    finished(alloc, plan, &net, journal, form)
+}
+
+// The output of a run that has ended.
+fn finished<T: PrefixTree>(
+    alloc: Global,
+    plan: &Plan,
+    net: &Net<'_, T>,
+    journal: Journal,
+    form: ReportForm,
+) -> Result<Output, AllocError>
+    requires plan { IsPlan plan.now }
+    requires same { net.now.plan ≡ plan.now }
+    requires usable { net.now.failed ≡ false }
+    requires reached { IsReachedBy net.now journal }
+    requires quiet { IsQuiet plan.now (after plan.now journal) }
+    ensures run { IfOk result (λ output. HasRun plan.now form (output_view output)) }
+    ensures journal { IfOk result (λ output. output.journal ≡ journal) }
+{
+    let report = report_of(alloc, plan, net, &journal, form)?;
+    let journal_text = write_journal(alloc, plan, &journal)?;
+    Ok(Output {
+        unfinished: None,
+        journal,
+        report,
+        journal_text,
+    })
+}
+
+/// Does the events of a journal that was read, one after another. Refused with `BadJournal` at the first event that may
+/// not come, or else at the bad line.
+pub fn replay_plan<T: PrefixTree>(
+    alloc: Global,
+    plan: &Plan,
+    read: JournalRead,
+    form: ReportForm,
+) -> Result<Output, Status>
+    ensures ok { IfOk result (λ output. (replay_step plan.now form (read_view read)
+        ≡ Does (ReplayJob plan.now output.journal form))
+        × HasOutput (ReplayJob plan.now output.journal form) (output_view output)) }
+    ensures err { IfErr result (IsJobRefusal (replay_step plan.now form (read_view read))) }
+{
+    let Ok(mut net) = Net::<T>::new(alloc, plan) else {
+        return Err(Status::OutOfMemory);
+    };
+    match redo(&mut net, &read.events) {
+        Ok(()) => {}
+        Err(status) => return Err(status),
+    }
+    if let Some(number) = read.bad {
+        return Err(Status::BadJournal(number));
+    }
+    match replayed(alloc, plan, &net, read.events, form) {
+        Ok(output) => Ok(output),
+        Err(_) => Err(Status::OutOfMemory),
+    }
+}
+
+// The output of a replay that has come to the end of its journal.
+fn replayed<T: PrefixTree>(
+    alloc: Global,
+    plan: &Plan,
+    net: &Net<'_, T>,
+    journal: Journal,
+    form: ReportForm,
+) -> Result<Output, AllocError>
+    requires same { net.now.plan ≡ plan.now }
+    requires usable { net.now.failed ≡ false }
+    requires reached { IsReachedBy net.now journal }
+    ensures replay { IfOk result (λ output. HasOutput (ReplayJob plan.now journal form) (output_view output)) }
+    ensures journal { IfOk result (λ output. output.journal ≡ journal) }
+{
+    plan.invariant();
+    let unfinished = net.enabled(0);
+    let report = report_of(alloc, plan, net, &journal, form)?;
+    Ok(Output {
+        unfinished,
+        journal,
+        report,
+        journal_text: Vec::new(alloc),
+    })
+}
+
+/// The direct merge of each wave: no event, and no line of a fault.
+pub fn direct_plan<T: PrefixTree>(
+    alloc: Global,
+    plan: &Plan,
+    form: ReportForm,
+) -> Result<Output, AllocError>
+    ensures { IfOk result (λ output. HasOutput (DirectJob plan.now form) (output_view output)) }
+{
+    plan.invariant();
+    let releases = direct_releases::<T>(alloc, plan)?;
+    let report = direct_report(alloc, plan, &releases, form)?;
+    Ok(Output {
+        unfinished: None,
+        journal: Journal::new(alloc),
+        report,
+        journal_text: Vec::new(alloc),
+    })
+}
+
+// The report of these releases, without a line of a fault.
+fn direct_report<T: PrefixTree>(
+    alloc: Global,
+    plan: &Plan,
+    releases: &[Release<T>],
+    form: ReportForm,
+) -> Result<Vec<u8>, AllocError>
+    requires distinct { AreDistinct (releases_view T.tree releases.now) }
+    ensures { IfOk result
+        (λ report. IsReportIn form plan.now [] (releases_view T.tree releases.now) [] report.items) }
+{
+    match form {
+        ReportForm::Text => direct_text(alloc, plan, releases),
+        ReportForm::Json => direct_json(alloc, plan, releases),
+    }
+}
+
+// One final release for each wave, with all ranks of its stream.
+fn direct_releases<T: PrefixTree>(alloc: Global, plan: &Plan) -> Result<Vec<Release<T>>, AllocError>
+    ensures { IfOk result (λ releases. releases_view T.tree releases.items ≡ direct_releases plan.now) }
+{
+    let mut releases = Vec::new(alloc);
+    for stream in plan.streams() {
+        push_waves(alloc, plan, stream, &mut releases)?;
+    }
+    Ok(releases)
+}
+
+// Adds the direct release of each wave of a stream.
+fn push_waves<T: PrefixTree>(
+    alloc: Global,
+    plan: &Plan,
+    stream: &StreamDef,
+    releases: &mut Vec<Release<T>>,
+) -> Result<(), AllocError>
+    requires { (w : ℕ) → w < stream.now.waves → HasWave plan.now stream.now.number w }
+    ensures { OnOk result (releases_view T.tree releases.new.items ≡ releases_view T.tree releases.old.items
+        ++ map (direct_release plan.now) (map (λ w. (stream.now.number, w)) (up_to stream.now.waves))) }
+{
+    for wave in 0..stream.waves() {
+        releases.push(direct_release(alloc, plan, stream.number(), wave)?)?;
+    }
+    Ok(())
+}
+
+// The direct release of a wave.
+fn direct_release<T: PrefixTree>(
+    alloc: Global,
+    plan: &Plan,
+    stream: u8,
+    wave: u8,
+) -> Result<Release<T>, AllocError>
+    requires { HasWave plan.now stream wave }
+    ensures { IfOk result (λ release. release_view T.tree release ≡ direct_release plan.now (stream, wave)) }
+{
+    let merged: Contribution<T> = direct(alloc, plan, stream, wave)?;
+    Ok(Release {
+        stream,
+        wave,
+        number: 1,
+        kind: Kind::Final,
+        tree: merged.into_tree(),
+        lost: Vec::new(alloc),
+    })
+}
+
+// The nodes that the events of a journal lose, in order.
+fn losses_of(alloc: Global, journal: &Journal) -> Result<Vec<u32>, AllocError>
+    ensures { IfOk result (λ lost. lost.items ≡ losses_of journal.now) }
+{
+    let mut lost = Vec::new(alloc);
+    for number in 0..journal.len() {
+        if let Event::Lose { node } = journal.at(number) {
+            lost.push(node)?;
+        }
+    }
+    Ok(lost)
+}
+
+// The report of what a net has released, and of what came of the plan's faults in this journal.
+fn report_of<T: PrefixTree>(
+    alloc: Global,
+    plan: &Plan,
+    net: &Net<'_, T>,
+    journal: &Journal,
+    form: ReportForm,
+) -> Result<Vec<u8>, AllocError>
+    requires { net.now.failed ≡ false }
+    ensures { IfOk result (λ report. IsReportIn form plan.now plan.now.faults net.now.releases (losses_of journal.now)
+        report.items) }
+{
+    net.invariant();
+    numbered_releases_are_distinct();
+    let lost = losses_of(alloc, journal)?;
+    match form {
+        ReportForm::Text => report_text(alloc, plan, net.releases(), &lost),
+        ReportForm::Json => report_json(alloc, plan, net.releases(), &lost),
+    }
+}
+
+// Does the first enabled event, again and again, until none is enabled.
+fn run_to_end<T: PrefixTree>(net: &mut Net<'_, T>, journal: &mut Journal) -> Result<(), AllocError>
+    requires plan { IsPlan net.old.plan }
+    requires usable { net.old.failed ≡ false }
+    requires reached { IsReachedBy net.old journal.old }
+    requires serial { TakesFirst net.old.plan (start net.old.plan) journal.old }
+    ensures plan { net.new.plan ≡ net.old.plan }
+    ensures usable { OnOk result (net.new.failed ≡ false) }
+    ensures reached { OnOk result (IsReachedBy net.new journal.new) }
+    ensures serial { OnOk result (TakesFirst net.old.plan (start net.old.plan) journal.new) }
+    ensures quiet { OnOk result (IsQuiet net.old.plan (after net.old.plan journal.new)) }
+{
+    while let Some(event) = net.enabled(0) {
+        match net.apply(event) {
+            Ok(()) => journal.push(event)?,
+            Err(NetError::OutOfMemory) => return Err(AllocError),
+            Err(NetError::NotEnabled) => unreachable!(),
+        }
+    }
+    Ok(())
+}
+
+// Does the events of a journal, as far as they may come.
+fn redo<T: PrefixTree>(net: &mut Net<'_, T>, journal: &Journal) -> Result<(), Status>
+    requires usable { net.old.failed ≡ false }
+    requires start { IsReachedBy net.old [] }
+    ensures plan { net.new.plan ≡ net.old.plan }
+    ensures usable { OnOk result (net.new.failed ≡ false) }
+    ensures reached { OnOk result (IsReachedBy net.new journal.now) }
+    ensures refused { IfErr result (IsEventRefusal (first_refused net.old.plan (start net.old.plan) journal.now)) }
+{
+    for number in 0..journal.len() {
+        match net.apply(journal.at(number)) {
+            Ok(()) => {}
+            Err(NetError::NotEnabled) => return Err(Status::BadJournal(number)),
+            Err(NetError::OutOfMemory) => return Err(Status::OutOfMemory),
+        }
+    }
+    Ok(())
+}
