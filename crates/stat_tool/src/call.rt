@@ -14,8 +14,8 @@ use stat_desk::{Desk, Journal, Sink, write_all_to};
 use stat_words::{Command, WordsError, read_words};
 use std::alloc::Global;
 
-/// Does what the words ask for: reads the files that they name, runs the overlay on their samples, and writes the report
-/// to `out` and the journal to `journal`. `T` is how the overlay keeps its trees.
+/// Does what the words ask for: reads the files that they name, runs the overlay on their samples, and writes the
+/// report to `out` and the journal to `journal`. `T` is how the overlay keeps its trees.
 ///
 /// The files are read each once, in the order topology, samples, script, journal, and each is tested before the next is
 /// read. The report and the journal's text are built whole before their first byte is written.
@@ -96,7 +96,8 @@ fn prepare<T: PrefixTree, D: Desk>(
     ensures ok { IfOk result (λ output. Prepared (asked_of command.entry) (D.contents desk.old) (output_view output)) }
     ensures err { IfErr result (Prevented (asked_of command.entry)
         (desk_change D.faults D.last_fault D.contents desk.old desk.new)) }
-    ensures reads { AreReadInOrder (D.reads desk.old) (D.reads desk.new) (names_in (files_of (asked_of command.entry))) }
+    ensures reads { AreReadInOrder (D.reads desk.old) (D.reads desk.new)
+        (names_in (files_of (asked_of command.entry))) }
 {
     match command {
         Command::Run {

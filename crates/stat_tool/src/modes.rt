@@ -76,8 +76,8 @@ pub fn prepare_replay<T: PrefixTree, D: Desk>(
     form: ReportForm,
     desk: &mut D,
 ) -> Result<Output, Status>
-    ensures ok { IfOk result
-        (λ output. Prepared (Replay (names_of files.entry) journal.now form) (D.contents desk.old) (output_view output)) }
+    ensures ok { IfOk result (λ output.
+        Prepared (Replay (names_of files.entry) journal.now form) (D.contents desk.old) (output_view output)) }
     ensures err { IfErr result (Prevented (Replay (names_of files.entry) journal.now form)
         (desk_change D.faults D.last_fault D.contents desk.old desk.new)) }
     ensures reads { AreReadInOrder (D.reads desk.old) (D.reads desk.new)

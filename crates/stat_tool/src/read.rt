@@ -182,7 +182,8 @@ pub fn read_plan<D: Desk>(alloc: Global, files: Files<'_>, desk: &mut D) -> Resu
     ensures err { IfErr result (IsStopped (plan_files (names_of files.entry))
         (desk_change D.faults D.last_fault D.contents desk.old desk.new)) }
     ensures read { OnOk result (D.reads desk.new ≡ D.reads desk.old ++ names_in (plan_files (names_of files.entry))) }
-    ensures reads { AreReadInOrder (D.reads desk.old) (D.reads desk.new) (names_in (plan_files (names_of files.entry))) }
+    ensures reads { AreReadInOrder (D.reads desk.old) (D.reads desk.new)
+        (names_in (plan_files (names_of files.entry))) }
     ensures later { D.faults desk.old ≤ D.faults desk.new }
     ensures contents { D.contents desk.new ≡ D.contents desk.old }
 {
