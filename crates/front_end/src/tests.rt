@@ -4,13 +4,10 @@ ghost use Rattle.call_path.specs.Good.{is_good_frame};
 
 use crate::class_text::write_classes;
 use crate::json_text::JsonText;
+use crate::json_tree;
 use crate::release_text::write_heading;
 use crate::report::in_order;
 use crate::tree_text::write_tree;
-use crate::{
-    classes_of_a_tree, json_reports_are_one, json_tree, numbered_releases_are_distinct,
-    ordered_releases_are_in_order, reports_are_one,
-};
 use call_path::PathBuilder;
 use equiv_class::classes;
 use overlay_core::{Kind, Release};
@@ -133,13 +130,4 @@ fn writes_classes_as_json(rt: HostRuntime) -> Result<(), AllocError> {
         b"[{\"paths\":[\"main;a\\\"b\"],\"ranks\":\"1:[0]\"}]\n".as_slice()
     );
     Ok(())
-}
-
-#[test]
-fn laws(_rt: HostRuntime) {
-    reports_are_one();
-    json_reports_are_one();
-    numbered_releases_are_distinct();
-    ordered_releases_are_in_order();
-    classes_of_a_tree();
 }

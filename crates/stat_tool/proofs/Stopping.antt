@@ -216,7 +216,7 @@ refuses_earlier role name old mid (SinkFault target) le now last contents r = ab
 refuses_earlier role name old mid (BadJournal i) le now last contents r = absurd r
 refuses_earlier role name old mid (Unfinished e) le now last contents r = absurd r
 
--- where the words could not be read for want of memory
+-- where memory ran out before the words were read
 pub words_need_memory : (asked : Result Asked WordFault) (desk : DeskChange) (out journal : SinkChange) (events : List Event) (status : Status)
     → status ≡ OutOfMemory → HasSameContents out → HasSameContents journal → events ≡ [] → Answered asked desk out journal events status
 words_need_memory (Err fault) desk out journal events status is same_out same_journal none = (inr is, record { same_report = same_out; same_journal = same_journal; no_events = none })

@@ -23,7 +23,7 @@ pub record Names : Type 0 where
   pub script : List ℕ
 
 -- What the words ask for: a mode, and the values of its options. A run has a number of workers, a simulation a seed, a
--- replay the name of a journal, and a generated input its size and a seed.
+-- replay the name of a journal, and a generated job its size and a seed.
 pub data Asked : Type 0 where
   Run : Names → ℕ → ReportForm → Asked
   Sim : Names → ℕ → ReportForm → Asked

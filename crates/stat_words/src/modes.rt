@@ -12,7 +12,7 @@ use std::alloc::{AllocError, Global};
 /// A mode of the command line.
 #[derive(Clone, Copy, Debug, PartialEq, Eq)]
 pub(crate) enum Mode {
-    /// A run on threads.
+    /// A run.
     Run,
     /// A run in an order that is drawn from a seed.
     Sim,
@@ -20,7 +20,7 @@ pub(crate) enum Mode {
     Replay,
     /// The report computed from the samples at once.
     Direct,
-    /// A generated input.
+    /// A generated job.
     Gen,
 }
 

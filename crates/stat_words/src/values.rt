@@ -123,7 +123,7 @@ pub(crate) fn seed<'a>(matches: &ArgMatches<'a>) -> Result<u64, WordFault>
     }
 }
 
-/// The size of a generated input, 1 to 256.
+/// The size of a generated job, 1 to 256.
 pub(crate) fn size<'a>(matches: &ArgMatches<'a>) -> Result<u16, WordFault>
     ensures value { result ≡ size_in (rows_in matches.now) }
     ensures range { IfOk result (λ n. (1 ≤ n) × (n ≤ 256)) }

@@ -16,13 +16,13 @@ pub enum Opt {
     Script,
     /// `--journal-in`, the file of the journal that is replayed.
     JournalIn,
-    /// `--capture`, a file of captured stacks.
+    /// `--capture`, a file of frames. No mode has it yet.
     Capture,
     /// `--workers`, the number of threads, 1 to 32.
     Workers,
     /// `--seed`, the number from which chance is drawn, 0 to 18446744073709551615.
     Seed,
-    /// `--size`, the size of a generated input, 1 to 256.
+    /// `--size`, the size of a generated job, 1 to 256.
     Size,
     /// `--report`, the form of the report: `text` or `json`.
     Report,
@@ -93,7 +93,7 @@ pub struct Files<'a> {
 /// What the words ask for.
 #[derive(Clone, Copy, Debug, PartialEq, Eq)]
 pub enum Command<'a> {
-    /// A run on threads; `workers` is 1 to 32.
+    /// A run; `workers` is 1 to 32.
     Run {
         files: Files<'a>,
         workers: u8,
@@ -116,7 +116,7 @@ pub enum Command<'a> {
         files: Files<'a>,
         form: ReportForm,
     },
-    /// A generated input; `size` is 1 to 256.
+    /// A generated job; `size` is 1 to 256.
     Gen {
         size: u16,
         seed: u64,
