@@ -11,9 +11,10 @@ use Rattle.std.proofs.lemmas.List.Folds.{flat_map-map}
 use Rattle.std.proofs.lemmas.List.Elements.{All-cons, All-nil}
 use Rattle.rank_set.specs.declared.TheConstants.{RANK_LIMIT}
 use Rattle.rank_set.specs.declared.Run.{Run}
-use Rattle.rank_set.specs.Ranks.{Ranks, Has, has, in_order, is_subset, subset_from}
+use Rattle.rank_set.specs.Ranks.{Ranks, none, Has, has, in_order, size, is_subset, subset_from, none_from_size}
 use Rattle.rank_set.specs.Runs.{runs_of}
 use Rattle.rank_set.specs.Words.{offset_of, ranks_in, AreWords}
+use Rattle.rank_set.specs.WordLists.{words_of}
 use Rattle.rank_set.proofs.WordLists.{ranks_small}
 use Rattle.rank_set.proofs.RunLists.{runs_of_count}
 use Rattle.rank_places.specs.Places.{to_places}
@@ -143,3 +144,11 @@ read_back p frame more may is =
 -- the ranks of words within the limit are below the limit of ranks
 pub small_ranks : (set : Ranks) (ws : List ℕ) → AreWords (offset_of set) ws → ranks_in (offset_of set) ws ≡ set → (r : ℕ) → Has r set → r < RANK_LIMIT
 small_ranks set ws trimmed is r one = ranks_small (offset_of set) ws trimmed r (subst (λ s. has s r ≡ true) (sym is) one)
+
+no_numbers : (cover : Ranks) → set_bytes (to_places cover none) ≡ 0 ∷ 0 ∷ 0 ∷ 0 ∷ []
+unfolding to_places words_of
+no_numbers cover = refl
+
+-- the ends of a row that has none
+pub no_ends_bytes : (cover ends : Ranks) → size ends ≡ 0 → set_bytes (to_places cover ends) ≡ 0 ∷ 0 ∷ 0 ∷ 0 ∷ []
+no_ends_bytes cover ends e = ap (λ s. set_bytes (to_places cover s)) (none_from_size ends e) ∙ no_numbers cover

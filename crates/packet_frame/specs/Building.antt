@@ -1,11 +1,16 @@
 -- A tree that is built of the rows of a frame, one after another.
-use Rattle.std.specs.Prelude.{◌≤◌, ◌<◌, cond, take, List, [], ◌∷◌, length, IsTrue}
+use Rattle.std.specs.Prelude.{◌≤◌, ◌<◌, cond, take, List, [], ◌∷◌, length, IsTrue, Option, None, Some}
 use Rattle.rank_set.specs.Ranks.{Ranks, is_subset, is_empty}
 use Rattle.call_path.specs.Path.{Path}
 use Rattle.call_path.specs.Good.{is_good_frame}
 use Rattle.prefix_tree.specs.Tree.{Tree, added}
 use Rattle.packet_frame.specs.FrameRows.{NamedRow}
 use Rattle.packet_frame.specs.Scanning.{path_behind}
+
+-- the frames of a path, if there is one
+abbrev pub frames_of : Option Path → Path
+frames_of None = []
+frames_of (Some p) = p
 
 -- a tree with the ends of one more row
 abbrev pub grown : Tree → Ranks → Path → Tree

@@ -26,6 +26,6 @@ pub fn decode<T: PrefixTree>(alloc: Global, bytes: &[u8]) -> Result<(Packet<T>, 
             reason: FrameReason::Short,
         });
     }
-    let packet = packet_of(alloc, &mut reader.scan)?;
+    let packet = packet_of(alloc, &reader.scan)?;
     Ok((packet, reader.at))
 }

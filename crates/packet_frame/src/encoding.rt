@@ -5,6 +5,7 @@ ghost use Rattle.std.specs.List.{flat_map};
 ghost use Rattle.std.specs.Int.{w16, w64, to_be_bytes};
 ghost use Rattle.std.specs.Str.{IsUtf8};
 ghost use Rattle.rank_set.specs.Ranks.{none, Has, is_subset};
+ghost use Rattle.rank_places.specs.Places.{to_places};
 ghost use Rattle.prefix_tree.specs.Shown.{IsGoodRow};
 ghost use Rattle.packet_frame.specs.Fields.{read};
 ghost use Rattle.packet_frame.specs.Frame.{frame_form};
@@ -132,7 +133,18 @@ fn put_row(row: &Row<'_>, places: &CoverPlaces, out: &mut Vec<u8>) -> Result<(),
 {
     out.push(row.depth as u8)?;
     put_name(row.frame, out)?;
-    put_set(&places.to_places(row.ends)?, out)
+    put_ends(row.ends, places, out)
+}
+
+// Appends the places of a row's ends in the coverage. In a deep tree most rows have none, and take no more than this.
+fn put_ends(ends: &RankSet, places: &CoverPlaces, out: &mut Vec<u8>) -> Result<(), AllocError>
+    requires { is_subset ends.now places.now ≡ true }
+    ensures { OnOk result (out.new.items ≡ out.old.items ++ set_bytes (to_places places.now ends.now)) }
+{
+    if ends.count() == 0 {
+        return out.extend_from_slice(&[0; 4]);
+    }
+    put_set(&places.to_places(ends)?, out)
 }
 
 // Appends a frame of a path: its length, and its bytes.

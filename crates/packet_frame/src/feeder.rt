@@ -75,7 +75,7 @@ fn packets_at<T: PrefixTree>(
             }
             Err(FrameError::OutOfMemory) => return Err(FrameError::OutOfMemory),
         }
-        let packet = packet_of(alloc, &mut reader.scan)?;
+        let packet = packet_of(alloc, &reader.scan)?;
         packets.push((packet, reader.at))?;
         taken += reader.at;
         reader.restart();
