@@ -1,0 +1,5 @@
+pub mod Packets
+pub mod Independent
+pub mod Releases
+pub mod Claims
+pub mod Claimable
