@@ -12,16 +12,14 @@ use Rattle.overlay_core.specs.TreeReleases.{TreeRelease, AreNumberedInOrder, bar
 use Rattle.overlay_node.specs.Frames.{IsFrame}
 use Rattle.overlay_node.specs.Outputs.{ReleaseFits}
 use Rattle.overlay_node.specs.NodeViews.{NodeView, Counts, IsNodeOf}
-use Rattle.overlay_net.specs.Inboxes.{FrameInbox, WaitingFrames}
+use Rattle.overlay_net.specs.Inboxes.{FrameInbox}
 use Rattle.node_inbox.specs.Inboxes.{IsInbox, is_waiting, queue_of}
-use Rattle.overlay_net.specs.Nets.{node_events}
 use Rattle.node_inbox.specs.Sends.{inbox_at, is_alive, AreSent, GoBelow, packets_to}
-use Rattle.overlay_net.specs.Events.{AreCounted, AreCountedBut, AreParts, FrontCounts}
-use Rattle.overlay_net.specs.Sends.{IsTaken, touched}
-use Rattle.overlay_setup.specs.NodeSets.{member}
+use Rattle.overlay_net.specs.Events.{AreParts, FrontCounts}
+use Rattle.overlay_net.specs.Sends.{IsTaken}
 use Rattle.overlay_net.specs.Handled.{HasHandled}
 use Rattle.overlay_net.proofs.States.{set_else, set_here}
-use Rattle.overlay_net.proofs.PartsInvariant.{all_append, none_where_quiet, numbers_of_both, or_both_false, receiver_is_member, sent_fit, some_where_waiting, taken_all, taken_kept, taken_left, taken_none, taken_others}
+use Rattle.overlay_net.proofs.PartsInvariant.{all_append, none_where_quiet, numbers_of_both, sent_fit, some_where_waiting, taken_all, taken_kept, taken_left, taken_none}
 
 -- what is found twice is the same
 found_once : {X : Type 0} (o : Option X) (x y : X) → o ≡ Some x → o ≡ Some y → x ≡ y
@@ -98,16 +96,6 @@ module _ (p : Plan) (al : List Bool) (e : Event) (x y : NodeView) (packet : Opti
     senders = senders_kept ia ib ic parts taken sent;
     sent = λ n. (inboxes_kept ia ib ic parts taken sent n).sent;
     increasing = λ n. (inboxes_kept ia ib ic parts taken sent n).increasing;
-  }
-
-  -- what the event did not touch has as many events as before
-  pub counts_left : (ia ib ic : List FrameInbox) (counts : List ℕ) → IsTaken ia e packet ib → AreSent al (event_node e) sends ib ic → AreCounted p al xs ia counts → AreCountedBut (touched (event_node e) sends) p al (slice_set xs (event_node e) y) ic counts
-  counts_left ia ib ic counts taken sent counted = record {
-    node_count = counted.node_count;
-    events = λ b other z h.
-        let apart = or_both_false (b == event_node e) (member b (map (λ v. v.0) sends)) other in
-        let still : inbox_at ic b ≡ inbox_at ia b = sent.others b (ap (λ t. t && is_alive al b) (sym (receiver_is_member b sends) ∙ apart.1)) ∙ taken_others ia ib e packet taken b apart.0 in
-        counted.events b refl z (else_is b z apart.0 h) ∙ ap (λ (w : WaitingFrames). Some (length (node_events p (is_alive al b) z w))) (sym still);
   }
 
   -- the front end has counted its releases

@@ -1,5 +1,5 @@
 -- The start of a net, node by node.
-use Rattle.std.proofs.Common.{◌≡◌, ◌⊎◌, ◌≢◌, ◌∙◌, ◌<◌, ◌≤◌, ◌+◌, ℕ, zero, suc, Bool, true, false, ◌==◌, nat_lt, List, [], ◌∷◌, ◌++◌, map, length, slice_get, Option, Some, None, refl, sym, ap, subst, inl, inr, eqb-true, arith}
+use Rattle.std.proofs.Common.{replicate, cond, ◌≡◌, ◌⊎◌, ◌≢◌, ◌∙◌, ◌<◌, ◌≤◌, ◌+◌, ℕ, zero, suc, Bool, true, false, ◌==◌, nat_lt, List, [], ◌∷◌, ◌++◌, map, length, slice_get, Option, Some, None, refl, sym, ap, subst, inl, inr, eqb-true, arith}
 use Rattle.std.proofs.lemmas.Bool.{cases_Bool, true≢false, eqb-false, ltb-true, ltb-false}
 use Rattle.std.specs.List.{AllByRecursion}
 use Rattle.std.specs.List.Sorted.{IsStrictlySortedBy}
@@ -8,16 +8,26 @@ use Rattle.overlay_node.specs.Frames.{IsFrame, packet_of}
 use Rattle.stat_plan.specs.Plans.{Plan, nodes, front}
 use Rattle.overlay_core.specs.Nodes.{Node}
 use Rattle.overlay_core.specs.Machine.{State, start, start_node}
-use Rattle.overlay_core.specs.TreeReleases.{TreeRelease, bare_releases}
+use Rattle.overlay_core.specs.TreeReleases.{AreNumberedInOrder, TreeRelease, bare_releases, releases_view}
 use Rattle.overlay_node.specs.NodeViews.{Counts, IsNodeOf, NodeView, node_of}
-use Rattle.node_inbox.specs.Inboxes.{HaveSent, is_waiting, queue_of, senders_of}
+use Rattle.node_inbox.specs.Inboxes.{HaveSent, IsInbox, is_waiting, queue_of, senders_of}
 use Rattle.overlay_net.specs.Inboxes.{FrameInbox}
-use Rattle.overlay_net.specs.Nets.{IsReachedBy, net_view_of, state_with}
+use Rattle.overlay_net.specs.Nets.{AllHome, IsReachedBy, state_of, state_with}
 use Rattle.node_inbox.specs.Sends.{inbox_at, is_alive}
-use Rattle.overlay_net.specs.Events.{AreCounted, AreParts, IsNet}
-use Rattle.overlay_net.specs.States.{AreInitial}
-use Rattle.overlay_net.proofs.Offers.{alive_past}
-use Rattle.overlay_net.proofs.PartsInvariant.{all_append}
+use Rattle.overlay_net.specs.Events.{AreParts, IsNet, NoneIsLosing}
+use Rattle.overlay_net.specs.States.{AreClaimsCounted, AreInitial, ArePartsOf, IsNetState, net_view}
+use Rattle.overlay_node.proofs.Frames.{all_append}
+use Rattle.overlay_net.specs.Places.{HasFrame, HaveFrames, PlaceView, at_home, events_out, nodes_in, out_at, outs_in, place_view, places_view, whole_inbox, whole_inboxes}
+use Rattle.overlay_net.specs.declared.place.Place.{Place}
+use Rattle.overlay_net.specs.declared.place.Place.TheVariants.{Home}
+use Rattle.overlay_net.specs.declared.state.NetState.{NetState}
+use Rattle.std.proofs.lemmas.List.{length-replicate, map-append}
+use Rattle.std.proofs.lemmas.Option.{none-some}
+use Rattle.prefix_tree.specs.Tree.{Tree}
+use Rattle.stat_desk.specs.declared.event.Event.{Event}
+use Rattle.event_claims.specs.Claims.{MayBeOut, Outs, all_home, is_loss_of}
+use Rattle.event_claims.proofs.Claims.{nothing_out}
+use Rattle.overlay_node.specs.Outputs.{ReleaseFits}
 
 -- the elements behind other ones
 last_here : {X : Type 0} (xs : List X) (y : X) → slice_get (xs ++ y ∷ []) (length xs) ≡ Some y
@@ -56,6 +66,13 @@ alive_within (b ∷ al) (suc n) all lt = alive_within al n all.1 (omega arith)
 -- a loop that has come to its end
 pub at_end : (n e k : ℕ) → e ≤ n → n ≤ e → e ≡ k → n ≡ k
 at_end n e k from to is = omega arith
+
+-- past the nodes none lives
+alive_past : (al : List Bool) (n : ℕ) → length al ≤ n → is_alive al n ≡ false
+alive_past [] zero past = refl
+alive_past [] (suc n) past = refl
+alive_past (b ∷ al) zero past = absurd (omega (arith, past))
+alive_past (b ∷ al) (suc n) past = alive_past al n (omega (arith, past))
 
 module _ (p : Plan) where
   -- a node that has done nothing yet, behind others
@@ -139,15 +156,94 @@ module _ (p : Plan) where
         link_starts m n = ap (λ w. map packet_of (queue_of w m)) (h.empty n)
 
     -- the empty journal leads to it
-    pub initial_reached : IsReachedBy (net_view_of p al xs ib rs false) []
-    initial_reached = subst (λ l. IsReachedBy (net_view_of p al xs ib l false) []) (sym none) (record { legal = tt; state = state_starts; numbered = refl; trees = tt })
+    pub initial_reached : (outs : List (Option Event)) (room : ℕ) → IsReachedBy (record { plan = p; alive = al; nodes = xs; inboxes = ib; releases = rs; failed = false; outs = outs; room = room }) []
+    initial_reached outs room = record {
+      legal = tt;
+      state = (λ i. state_with p al xs ib (none i)) ∙ state_starts;
+      numbered = subst (AreNumberedInOrder []) (sym none) refl;
+      trees = subst (AllByRecursion (ReleaseFits p)) (sym none) tt;
+    }
 
     -- all nodes that have done nothing yet are a net
-    pub initial_net : (counts : List ℕ) → AreCounted p al xs ib counts → IsNet (net_view_of p al xs ib rs false) counts
-    initial_net counts counted = record {
+    pub initial_net : (outs : List (Option Event)) (room : ℕ) → IsNet (record { plan = p; alive = al; nodes = xs; inboxes = ib; releases = rs; failed = false; outs = outs; room = room })
+    initial_net outs room = record {
       journal = [];
-      reached = initial_reached;
+      reached = initial_reached outs room;
       parts = initial_parts al xs ib h;
       front = λ x at. subst (λ l. Counts x.held (bare_releases l)) (sym none) (h.counts (front p) x at);
-      counted = counted;
     }
+
+-- ---- all nodes are at home
+
+abbrev pub AreHome : List PlaceView → Type 0
+AreHome ps = AllByRecursion (λ (x : PlaceView). x ≡ at_home x.node) ps
+
+-- one node more
+pub nodes_more : {X : Type 0} (xs ys : List (Place X)) (x : NodeView) → ys ≡ xs ++ Home x ∷ [] → nodes_in (places_view ys) ≡ nodes_in (places_view xs) ++ x ∷ []
+nodes_more {X} xs ys x is =
+    ap (λ (l : List (Place X)). nodes_in (places_view l)) is
+    ∙ ap nodes_in (map-append place_view xs (Home x ∷ []))
+    ∙ map-append (λ (v : PlaceView). v.node) (places_view xs) (at_home x ∷ [])
+
+pub home_more : {X : Type 0} (xs ys : List (Place X)) (x : NodeView) → ys ≡ xs ++ Home x ∷ [] → AreHome (places_view xs) → AreHome (places_view ys)
+home_more {X} xs ys x is h =
+    subst AreHome (sym (ap (λ (l : List (Place X)). places_view l) is ∙ map-append place_view xs (Home x ∷ [])))
+    (all_append (λ (y : PlaceView). y ≡ at_home y.node) (places_view xs) (at_home x ∷ []) h (refl, tt))
+
+-- none is out
+pub none_out : (ps : List PlaceView) (n : ℕ) → AreHome ps → out_at (outs_in ps) n ≡ None
+none_out [] zero h = refl
+none_out [] (suc n) h = refl
+none_out (x ∷ xs) zero h = ap (λ (y : PlaceView). y.out) h.0
+none_out (x ∷ xs) (suc n) h = none_out xs n h.1
+
+pub none_losing : (ps : List PlaceView) → AreHome ps → NoneIsLosing (out_at (outs_in ps))
+none_losing ps h n = ap (λ (o : Option Event). is_loss_of o n) (none_out ps n h)
+
+home_frames : (ps : List PlaceView) → AreHome ps → HaveFrames ps
+home_frames [] h n x at = absurd (none-some x at)
+home_frames (y ∷ ys) h zero x at = let e : Some y ≡ Some x = at in subst (λ (z : PlaceView). HasFrame z.out z.frame) (sym h.0 ∙ some_same y x e) refl
+home_frames (y ∷ ys) h (suc n) x at = home_frames ys h.1 n x at
+
+-- all inboxes are whole
+whole_home : (ps : List PlaceView) (boxes : List FrameInbox) → AreHome ps → whole_inboxes ps boxes ≡ boxes
+whole_home [] boxes h = refl
+whole_home (x ∷ xs) [] h = refl
+whole_home (x ∷ xs) (box ∷ boxes) h = λ i. whole_inbox (h.0 i) box ∷ whole_home xs boxes h.1 i
+
+no_loss : (k n : ℕ) → n < k → slice_get {X = ℕ} (replicate k 0) n ≡ Some 0
+no_loss zero n lt = absurd (omega (arith, lt))
+no_loss (suc k) zero lt = refl
+no_loss (suc k) (suc n) lt = no_loss k n (omega (arith, lt))
+
+-- ---- the state of a net that begins
+
+pub start_parts : {X : Type 0} (p : Plan) (al : List Bool) (places : List (Place X)) (ib : List FrameInbox) → AreInitial p (nodes p) al (nodes_in (places_view places)) ib → AreHome (places_view places) → ArePartsOf p al places ib
+start_parts p al places ib h home = subst (AreParts p al (nodes_in (places_view places))) (sym (whole_home (places_view places) ib home)) (initial_parts p al (nodes_in (places_view places)) ib h)
+
+module _ {X : Type 0} (tree : X → Tree) (p : Plan) (st : NetState X) (h : AreInitial p (nodes p) st.alive.items (nodes_in (places_view st.places.items)) st.inboxes.items) (home : AreHome (places_view st.places.items)) (none : st.releases.items ≡ []) where
+  whole : AreInitial p (nodes p) st.alive.items (nodes_in (places_view st.places.items)) (whole_inboxes (places_view st.places.items) st.inboxes.items)
+  whole = subst (AreInitial p (nodes p) st.alive.items (nodes_in (places_view st.places.items))) (sym (whole_home (places_view st.places.items) st.inboxes.items home)) h
+
+  pub start_reached : IsReachedBy (net_view tree p st false) []
+  start_reached = initial_reached p st.alive.items (nodes_in (places_view st.places.items)) (whole_inboxes (places_view st.places.items) st.inboxes.items) (releases_view tree st.releases.items) whole (ap (releases_view tree) none) (outs_in (places_view st.places.items)) (net_view tree p st false).room
+
+  pub start_home : AllHome (net_view tree p st false)
+  start_home n = none_out (places_view st.places.items) n home
+
+  pub start_net : (k : ℕ) → k ≡ nodes p → st.losing ≡ replicate k 0 → AreClaimsCounted p st.alive.items st.places.items st.inboxes.items st.counts → IsNetState tree p st
+  start_net k is losing counted = record {
+    net = initial_net p st.alive.items (nodes_in (places_view st.places.items)) (whole_inboxes (places_view st.places.items) st.inboxes.items) (releases_view tree st.releases.items) whole (ap (releases_view tree) none) [] 0;
+    out = subst (MayBeOut p (state_of (net_view tree p st false))) none_is (nothing_out p (state_of (net_view tree p st false)));
+    frames = home_frames (places_view st.places.items) home;
+    inbox_count = h.inbox_count;
+    inboxes = λ n. subst IsInbox (sym (h.empty n)) (record { sent = tt; increasing = no_sender });
+    losing = record {
+      node_count = ap length losing ∙ length-replicate k 0 ∙ is;
+      each = λ n lt. ap (λ (l : List ℕ). slice_get l n) losing ∙ no_loss k n (subst (λ m. n < m) (sym is) lt) ∙ ap (λ b. Some (cond {A = ℕ} b 1 0)) (sym (none_losing (places_view st.places.items) home n));
+    };
+    counted = counted;
+  }
+    where
+      none_is : ◌≡◌ {A = Outs} all_home (events_out st.places.items)
+      none_is = λ i. λ n. sym (none_out (places_view st.places.items) n home) i

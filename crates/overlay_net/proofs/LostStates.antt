@@ -17,13 +17,11 @@ use Rattle.node_inbox.specs.Inboxes.{IsInbox, is_waiting, queue_of}
 use Rattle.overlay_net.specs.Inboxes.{FrameInbox, WaitingFrames}
 use Rattle.node_inbox.specs.Sends.{inbox_at, is_alive}
 use Rattle.overlay_net.specs.Nets.{net_view_of, node_at, state_with}
-use Rattle.overlay_net.specs.Events.{AreCounted, AreCountedBut, AreParts, IsNet}
+use Rattle.overlay_net.specs.Events.{AreParts, IsNet}
 use Rattle.overlay_net.specs.Handled.{ExtendsBy}
-use Rattle.overlay_net.specs.Losses.{AreLost, IsCut, IsLost}
+use Rattle.overlay_net.specs.Losses.{AreLost, IsCutAndTold, IsLost}
 use Rattle.overlay_net.proofs.Offers.{alive_past, living_below}
 use Rattle.overlay_net.proofs.PartsInvariant.{none_where_quiet, some_where_waiting}
-use Rattle.overlay_net.proofs.EventCounts.{nothing_counted}
-use Rattle.overlay_setup.specs.NodeSets.{up_to}
 
 -- of nothing, nothing is kept
 take_none : {X : Type 0} (k : ℕ) → take {A = X} k [] ≡ []
@@ -39,7 +37,7 @@ inbox_past (w ∷ ib) (suc n) past = inbox_past ib n (omega arith)
 
 module _ (p : Plan) (al : List Bool) (xs : List NodeView) (ib ic : List FrameInbox) (n : ℕ) (parts : AreParts p al xs ib) (lt : n < nodes p) (lost : AreLost p al n (nodes p) ib ic) where
   -- what holds of each inbox afterwards
-  each : (P : WaitingFrames → Type 0) (b : ℕ) → P [] → ((b == n) ≡ false → IsCut p al n b (inbox_at ib b) (inbox_at ic b) → P (inbox_at ic b)) → P (inbox_at ic b)
+  each : (P : WaitingFrames → Type 0) (b : ℕ) → P [] → ((b == n) ≡ false → IsCutAndTold p al n b (inbox_at ib b) (inbox_at ic b) → P (inbox_at ic b)) → P (inbox_at ic b)
   each P b none cut = elim (cases_Bool (nat_lt b (nodes p))) [
     | (inl t) ↦ let one = lost.done b (ltb-true b (nodes p) t) in elim (cases_Bool (b == n)) [
       | (inl s) ↦ subst P (sym (one.own s)) none
@@ -71,11 +69,11 @@ module _ (p : Plan) (al : List Bool) (xs : List NodeView) (ib ic : List FrameInb
     increasing = λ b. (inboxes_after b).increasing;
   }
     where
-      packets : (m b : ℕ) → IsCut p al n b (inbox_at ib b) (inbox_at ic b) → (t : Bool) → (m == n) ≡ t → AllByRecursion (IsFrame p) (queue_of (inbox_at ic b) m)
+      packets : (m b : ℕ) → IsCutAndTold p al n b (inbox_at ib b) (inbox_at ic b) → (t : Bool) → (m == n) ≡ t → AllByRecursion (IsFrame p) (queue_of (inbox_at ic b) m)
       packets m b cut true e = subst (λ k. AllByRecursion (IsFrame p) (queue_of (inbox_at ic b) k)) (sym (eqb-true m n e)) (cut.frames (parts.packets n b))
       packets m b cut false e = subst (AllByRecursion (IsFrame p)) (sym (cut.others m e)) (parts.packets m b)
 
-      senders : (m b : ℕ) → IsCut p al n b (inbox_at ib b) (inbox_at ic b) → queue_of (inbox_at ic b) m ≢ [] → (t : Bool) → (m == n) ≡ t → m < nodes p
+      senders : (m b : ℕ) → IsCutAndTold p al n b (inbox_at ib b) (inbox_at ic b) → queue_of (inbox_at ic b) m ≢ [] → (t : Bool) → (m == n) ≡ t → m < nodes p
       senders m b cut some true e = subst (λ k. k < nodes p) (sym (eqb-true m n e)) lt
       senders m b cut some false e = elim (cases_Bool (is_waiting (inbox_at ib b) m)) [
         | inl w ↦ parts.senders m b w
@@ -128,7 +126,7 @@ module _ (p : Plan) (al : List Bool) (xs : List NodeView) (ib ic : List FrameInb
     releases = bare_releases rs;
   }
 
-module _ (p : Plan) (al : List Bool) (xs : List NodeView) (ib ic : List FrameInbox) (n : ℕ) (rs : List TreeRelease) (counts : List ℕ) (net : IsNet (net_view_of p al xs ib rs false) counts) (en : is_enabled p (state_with p al xs ib rs) (Lose n) ≡ true) where
+module _ (p : Plan) (al : List Bool) (xs : List NodeView) (ib ic : List FrameInbox) (n : ℕ) (rs : List TreeRelease) (net : IsNet (net_view_of p al xs ib rs false)) (en : is_enabled p (state_with p al xs ib rs) (Lose n) ≡ true) where
   -- it is a node of the plan
   lost_below : n < nodes p
   lost_below = living_below p al xs ib n net.parts (and_parts _ _ en).0
@@ -146,16 +144,11 @@ module _ (p : Plan) (al : List Bool) (xs : List NodeView) (ib ic : List FrameInb
       trees = h.trees;
     }
 
-    -- the events of all nodes are to be counted anew
-    pub all_to_count : AreCountedBut (up_to (nodes p)) p (slice_set al n false) xs ic counts
-    all_to_count = nothing_counted p (slice_set al n false) xs ic counts net.parts.node_count net.counted.node_count
-
     -- then it is a net again
-    pub net_lost : (now : List ℕ) → AreCounted p (slice_set al n false) xs ic now → IsNet (net_view_of p (slice_set al n false) xs ic rs false) now
-    net_lost now counted = record {
+    pub net_lost : IsNet (net_view_of p (slice_set al n false) xs ic rs false)
+    net_lost = record {
       journal = net.journal ++ Lose n ∷ [];
       reached = loss_extends net.journal net.reached;
       parts = parts_lost;
       front = net.front;
-      counted = counted;
     }

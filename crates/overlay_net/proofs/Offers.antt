@@ -23,13 +23,14 @@ use Rattle.overlay_core.proofs.Lists.{in_member, in_from_member, up_to_below, eq
 use Rattle.overlay_core.proofs.Outcomes.{next_is_named, find_passes}
 use Rattle.overlay_core.proofs.ParentLinks.{within_from_test, test_from_within}
 use Rattle.overlay_node.specs.Frames.{packet_of}
-use Rattle.overlay_node.specs.NodeViews.{NodeView, node_of}
+use Rattle.overlay_node.specs.NodeViews.{NodeView, has_running, node_of}
 use Rattle.stat_desk.specs.declared.event.Event.{Event}
 use Rattle.stat_desk.specs.declared.event.Event.TheVariants.{Sample, Recv, Tick, Lose}
 use Rattle.stat_desk.specs.Events.{event_node}
 use Rattle.overlay_net.specs.Inboxes.{FrameInbox, WaitingFrames}
 use Rattle.node_inbox.specs.Inboxes.{HaveSent, is_waiting, queue_of, senders_of}
-use Rattle.overlay_net.specs.Nets.{active_events, is_doomed_node, node_at, node_events, sample_of, state_with, tick_of}
+use Rattle.event_claims.specs.Claims.{Outs, claimable_events, is_claimable, is_free, is_home}
+use Rattle.overlay_net.specs.Nets.{active_events, claims_at, events_at, is_doomed_node, node_at, node_events, sample_of, state_with, tick_of}
 use Rattle.node_inbox.specs.Sends.{inbox_at, is_alive}
 use Rattle.overlay_net.specs.Events.{AreCounted, AreParts, IsNth, may_come, sample_at}
 use Rattle.overlay_net.specs.declared.events.Nth.{Nth}
@@ -293,10 +294,6 @@ in_read xs k x lt is = subst (λ y. In y xs) (sym is) (in_at xs k x lt)
 
 -- ---- the events of all nodes
 
--- the events of the node of this number that may come next, if there is one
-abbrev pub events_at : Plan → List Bool → List NodeView → List FrameInbox → ℕ → List Event
-events_at p al xs inboxes n = elim (slice_get xs n) [ None ↦ [] | Some x ↦ node_events p (is_alive al n) x (inbox_at inboxes n) ]
-
 -- who lives is one of the nodes
 pub alive_below : (al : List Bool) (n : ℕ) → is_alive al n ≡ true → n < length al
 alive_below [] zero up = absurd (true≢false (sym up))
@@ -471,11 +468,86 @@ pub all_offers : (p : Plan) (al : List Bool) (xs : List NodeView) (inboxes : Lis
 unfolding enabled_events
 all_offers p al xs inboxes releases plan parts = offers_below p al xs inboxes releases (nodes p) plan parts (omega arith)
 
--- as many events of the node of a number may come next as are counted
-count_at : (p : Plan) (al : List Bool) (xs : List NodeView) (inboxes : List FrameInbox) (counts : List ℕ) (n : ℕ) → AreParts p al xs inboxes → AreCounted p al xs inboxes counts → n < nodes p → slice_get counts n ≡ Some (length (events_at p al xs inboxes n))
-count_at p al xs inboxes counts n parts counted lt =
-    let s = part_at p al xs inboxes n parts lt in
-    counted.events n refl s.0 s.1 ∙ ap (λ (o : Option NodeView). Some (length (elim o as (λ _. List Event) [ None ↦ [] | (Some x) ↦ node_events p (is_alive al n) x (inbox_at inboxes n) ]))) (sym s.1)
+-- ---- the events that may be claimed
+
+-- a sample of a node is an event of it
+sample_own : (p : Plan) (x : NodeView) (s : Stream) (e : Event) → In e (sample_of p x s) → event_node e ≡ x.number
+sample_own p x s e i = go (member x.number s.daemons) (next_sample p (node_of x) s.number) i
+  where
+    go : (b : Bool) (q : Option (ℕ × ℕ)) → In e (cond b (elim q as (λ _. List Event) [ None ↦ [] | (Some v) ↦ Sample x.number s.number v.1 ∷ [] ]) []) → event_node e ≡ x.number
+    go true (Some v) (inl k) = ap event_node k
+    go true (Some v) (inr j) = absurd j
+    go true None j = absurd j
+    go false q j = absurd j
+
+samples_own : (p : Plan) (x : NodeView) (ss : List Stream) (e : Event) → In e (flat_map (sample_of p x) ss) → event_node e ≡ x.number
+samples_own p x [] e i = absurd i
+samples_own p x (s ∷ ss) e i = elim (in_append e (sample_of p x s) (flat_map (sample_of p x) ss) i) [
+  | inl a ↦ sample_own p x s e a
+  | inr b ↦ samples_own p x ss e b
+]
+
+receipts_own : (n : ℕ) (ms : List ℕ) (e : Event) → In e (map (λ m. Recv n m) ms) → event_node e ≡ n
+receipts_own n [] e i = absurd i
+receipts_own n (m ∷ ms) e (inl k) = ap event_node k
+receipts_own n (m ∷ ms) e (inr i) = receipts_own n ms e i
+
+tick_own : (p : Plan) (x : NodeView) (e : Event) → In e (tick_of p x) → event_node e ≡ x.number
+tick_own p x e i = go (has_running p x) i
+  where
+    go : (b : Bool) → In e (cond b (Tick x.number ∷ []) []) → event_node e ≡ x.number
+    go true (inl k) = ap event_node k
+    go true (inr j) = absurd j
+    go false j = absurd j
+
+-- an event that a node may do is its own
+active_own : (p : Plan) (x : NodeView) (box : WaitingFrames) (e : Event) → In e (active_events p x box) → event_node e ≡ x.number
+active_own p x box e i = elim (in_append e (flat_map (sample_of p x) p.streams ++ map (λ m. Recv x.number m) (senders_of box)) (tick_of p x) i) [
+  | inl a ↦ elim (in_append e (flat_map (sample_of p x) p.streams) (map (λ m. Recv x.number m) (senders_of box)) a) [
+    | inl b ↦ samples_own p x p.streams e b
+    | inr c ↦ receipts_own x.number (senders_of box) e c
+  ]
+  | inr d ↦ tick_own p x e d
+]
+
+node_own : (p : Plan) (up : Bool) (x : NodeView) (box : WaitingFrames) (e : Event) → In e (node_events p up x box) → event_node e ≡ x.number
+node_own p up x box e i = go up (is_doomed_node p x) i
+  where
+    go : (u d : Bool) → In e (cond u (cond d (Lose x.number ∷ []) (active_events p x box)) []) → event_node e ≡ x.number
+    go true true (inl k) = ap event_node k
+    go true true (inr j) = absurd j
+    go true false j = active_own p x box e j
+    go false d j = absurd j
+
+-- an event of the node of a number is an event of this node
+pub own_event : (p : Plan) (al : List Bool) (xs : List NodeView) (inboxes : List FrameInbox) (n : ℕ) (e : Event) → AreParts p al xs inboxes → In e (events_at p al xs inboxes n) → event_node e ≡ n
+own_event p al xs inboxes n e parts i = go (slice_get xs n) refl i
+  where
+    go : (o : Option NodeView) → slice_get xs n ≡ o → In e (elim o as (λ _. List Event) [ None ↦ [] | (Some x) ↦ node_events p (is_alive al n) x (inbox_at inboxes n) ]) → event_node e ≡ n
+    go None at j = absurd j
+    go (Some x) at j = node_own p (is_alive al n) x (inbox_at inboxes n) e j ∙ (parts.node n x at).0
+
+-- the events of the node of a number that may be claimed
+node_claims : (p : Plan) (al : List Bool) (xs : List NodeView) (inboxes : List FrameInbox) (out : Outs) (n : ℕ) → AreParts p al xs inboxes → filter (is_claimable p out) (events_at p al xs inboxes n) ≡ claims_at p al xs inboxes out n
+node_claims p al xs inboxes out n parts =
+    filter_same (is_claimable p out) (λ e. is_home (out n) && is_free p out e) (events_at p al xs inboxes n) (λ e i. ap (λ k. is_home (out k) && is_free p out e) (own_event p al xs inboxes n e parts i))
+    ∙ go (is_home (out n))
+  where
+    go : (b : Bool) → filter (λ e. b && is_free p out e) (events_at p al xs inboxes n) ≡ cond b (filter (is_free p out) (events_at p al xs inboxes n)) []
+    go true = refl
+    go false = filter_none (λ e. false) (events_at p al xs inboxes n) (λ e i. refl)
+
+-- what passes a test of what a list puts together
+filter_flat : (test : Event → Bool) (f g : ℕ → List Event) (ns : List ℕ) → ((n : ℕ) → filter test (f n) ≡ g n) → filter test (flat_map f ns) ≡ flat_map g ns
+filter_flat test f g [] h = refl
+filter_flat test f g (n ∷ ns) h = filter-append test (f n) (flat_map f ns) ∙ (λ i. h n i ++ filter_flat test f g ns h i)
+
+-- the events that may be claimed are those of the nodes, node by node
+pub all_claims : (p : Plan) (al : List Bool) (xs : List NodeView) (inboxes : List FrameInbox) (releases : List TreeRelease) (out : Outs) → IsPlan p → AreParts p al xs inboxes → claimable_events p (state_with p al xs inboxes releases) out ≡ flat_map (claims_at p al xs inboxes out) (up_to (nodes p))
+unfolding claimable_events
+all_claims p al xs inboxes releases out plan parts =
+    ap (filter (is_claimable p out)) (all_offers p al xs inboxes releases plan parts)
+    ∙ filter_flat (is_claimable p out) (events_at p al xs inboxes) (claims_at p al xs inboxes out) (up_to (nodes p)) (λ n. node_claims p al xs inboxes out n parts)
 
 -- lists of one length with the same items are the same
 same_items : (xs ys : List ℕ) → length xs ≡ length ys → ((n : ℕ) → n < length ys → slice_get xs n ≡ slice_get ys n) → xs ≡ ys
@@ -489,21 +561,21 @@ same_items (x ∷ xs) (y ∷ ys) len h =
     some_same : (x y : ℕ) → Some x ≡ Some y → x ≡ y
     some_same x y e = cc
 
--- the counts are the lengths of the nodes' events
-pub counts_are : (p : Plan) (al : List Bool) (xs : List NodeView) (inboxes : List FrameInbox) (counts : List ℕ) → AreParts p al xs inboxes → AreCounted p al xs inboxes counts → counts ≡ map (λ n. length (events_at p al xs inboxes n)) (up_to (nodes p))
-counts_are p al xs inboxes counts parts counted =
-    let len : length (map (λ n. length (events_at p al xs inboxes n)) (up_to (nodes p))) ≡ nodes p = length-map (up_to (nodes p)) (λ n. length (events_at p al xs inboxes n)) ∙ length-up_to (nodes p) in
-    same_items counts (map (λ n. length (events_at p al xs inboxes n)) (up_to (nodes p))) (counted.node_count ∙ sym len)
+-- the counts are the lengths of the nodes' events that may be claimed
+pub counts_are : (p : Plan) (al : List Bool) (xs : List NodeView) (inboxes : List FrameInbox) (out : Outs) (counts : List ℕ) → AreCounted p al xs inboxes out counts → counts ≡ map (λ n. length (claims_at p al xs inboxes out n)) (up_to (nodes p))
+counts_are p al xs inboxes out counts counted =
+    let len : length (map (λ n. length (claims_at p al xs inboxes out n)) (up_to (nodes p))) ≡ nodes p = length-map (up_to (nodes p)) (λ n. length (claims_at p al xs inboxes out n)) ∙ length-up_to (nodes p) in
+    same_items counts (map (λ n. length (claims_at p al xs inboxes out n)) (up_to (nodes p))) (counted.node_count ∙ sym len)
     (λ n lt. let below : n < nodes p = omega (arith, lt, len) in
-    count_at p al xs inboxes counts n parts counted below
-    ∙ sym (slice_get-get_or (map (λ k. length (events_at p al xs inboxes k)) (up_to (nodes p))) n 0 lt ∙ ap Some (at_table (λ k. length (events_at p al xs inboxes k)) (nodes p) n 0 below)))
+    counted.events n below refl
+    ∙ sym (slice_get-get_or (map (λ k. length (claims_at p al xs inboxes out k)) (up_to (nodes p))) n 0 lt ∙ ap Some (at_table (λ k. length (claims_at p al xs inboxes out k)) (nodes p) n 0 below)))
 
--- as many events may come next as are counted
-pub all_counted : (p : Plan) (al : List Bool) (xs : List NodeView) (inboxes : List FrameInbox) (releases : List TreeRelease) (counts : List ℕ) → IsPlan p → AreParts p al xs inboxes → AreCounted p al xs inboxes counts → sum counts ≡ length (enabled_events p (state_with p al xs inboxes releases))
-all_counted p al xs inboxes releases counts plan parts counted =
-    ap sum (counts_are p al xs inboxes counts parts counted)
-    ∙ sum_of_lengths (events_at p al xs inboxes) (up_to (nodes p))
-    ∙ ap (λ (es : List Event). length es) (sym (all_offers p al xs inboxes releases plan parts))
+-- as many events may be claimed as are counted
+pub all_counted : (p : Plan) (al : List Bool) (xs : List NodeView) (inboxes : List FrameInbox) (releases : List TreeRelease) (out : Outs) (counts : List ℕ) → IsPlan p → AreParts p al xs inboxes → AreCounted p al xs inboxes out counts → sum counts ≡ length (claimable_events p (state_with p al xs inboxes releases) out)
+all_counted p al xs inboxes releases out counts plan parts counted =
+    ap sum (counts_are p al xs inboxes out counts counted)
+    ∙ sum_of_lengths (claims_at p al xs inboxes out) (up_to (nodes p))
+    ∙ ap (λ (es : List Event). length es) (sym (all_claims p al xs inboxes releases out plan parts))
 
 -- each number below n is at its own index of those below n
 up_to_at : (n k : ℕ) → k < n → slice_get (up_to n) k ≡ Some k
@@ -521,26 +593,26 @@ pub events_read : (p : Plan) (al : List Bool) (xs : List NodeView) (inboxes : Li
 events_read p al xs inboxes n u x box up at is =
     ap (λ (o : Option NodeView). elim o [ None ↦ [] | Some x ↦ node_events p (is_alive al n) x (inbox_at inboxes n) ]) at ∙ (λ i. node_events p (sym up i) x (sym is i))
 
-module _ (p : Plan) (al : List Bool) (xs : List NodeView) (inboxes : List FrameInbox) (counts : List ℕ) (parts : AreParts p al xs inboxes) (counted : AreCounted p al xs inboxes counts) (i : ℕ) where
-  found_item : (o : Option (ℕ × ℕ)) → place_of counts i ≡ o → IsItem (events_at p al xs inboxes) (up_to (nodes p)) i o
-  found_item o e = subst (IsItem (events_at p al xs inboxes) (up_to (nodes p)) i) (sym (ap (λ (cs : List ℕ). place_of cs i) (counts_are p al xs inboxes counts parts counted)) ∙ e) (finds_item (events_at p al xs inboxes) (up_to (nodes p)) i)
+module _ (p : Plan) (al : List Bool) (xs : List NodeView) (inboxes : List FrameInbox) (out : Outs) (counts : List ℕ) (counted : AreCounted p al xs inboxes out counts) (i : ℕ) where
+  found_item : (o : Option (ℕ × ℕ)) → place_of counts i ≡ o → IsItem (claims_at p al xs inboxes out) (up_to (nodes p)) i o
+  found_item o e = subst (IsItem (claims_at p al xs inboxes out) (up_to (nodes p)) i) (sym (ap (λ (cs : List ℕ). place_of cs i) (counts_are p al xs inboxes out counts counted)) ∙ e) (finds_item (claims_at p al xs inboxes out) (up_to (nodes p)) i)
 
   -- what the counts find is a node of the plan
   pub found_below : (n j : ℕ) → place_of counts i ≡ Some (n, j) → n < nodes p
   found_below n j e = subst (λ k. n < k) (length-up_to (nodes p)) (found_item (Some (n, j)) e).0
 
   -- it is one of that node's events
-  pub found_within : (n j : ℕ) → place_of counts i ≡ Some (n, j) → j < length (events_at p al xs inboxes n)
+  pub found_within : (n j : ℕ) → place_of counts i ≡ Some (n, j) → j < length (claims_at p al xs inboxes out n)
   found_within n j e = ((found_item (Some (n, j)) e).1 n (up_to_at (nodes p) n (found_below n j e))).1
 
-  module _ (releases : List TreeRelease) (plan : IsPlan p) where
+  module _ (releases : List TreeRelease) (plan : IsPlan p) (parts : AreParts p al xs inboxes) where
     -- and that event of the node is the i-th of all
-    pub found_event : (n j : ℕ) → place_of counts i ≡ Some (n, j) → slice_get (enabled_events p (state_with p al xs inboxes releases)) i ≡ slice_get (events_at p al xs inboxes n) j
-    found_event n j e = ap (λ (es : List Event). slice_get es i) (all_offers p al xs inboxes releases plan parts) ∙ ((found_item (Some (n, j)) e).1 n (up_to_at (nodes p) n (found_below n j e))).0
+    pub found_event : (n j : ℕ) → place_of counts i ≡ Some (n, j) → slice_get (claimable_events p (state_with p al xs inboxes releases) out) i ≡ slice_get (claims_at p al xs inboxes out n) j
+    found_event n j e = ap (λ (es : List Event). slice_get es i) (all_claims p al xs inboxes releases out plan parts) ∙ ((found_item (Some (n, j)) e).1 n (up_to_at (nodes p) n (found_below n j e))).0
 
     -- where the counts find nothing, there is no i-th event
-    pub found_none : place_of counts i ≡ None → slice_get (enabled_events p (state_with p al xs inboxes releases)) i ≡ None
-    found_none e = ap (λ (es : List Event). slice_get es i) (all_offers p al xs inboxes releases plan parts) ∙ found_item None e
+    pub found_none : place_of counts i ≡ None → slice_get (claimable_events p (state_with p al xs inboxes releases) out) i ≡ None
+    found_none e = ap (λ (es : List Event). slice_get es i) (all_claims p al xs inboxes releases out plan parts) ∙ found_item None e
 
 -- where a list begins with one event, a number of 1 or more finds in it what one less finds in the rest
 pub one_past : (e : Event) (es rest : List Event) (left : ℕ) (r : Nth) → es ≡ e ∷ rest → 0 < left → IsNth rest (left - 1) r → IsNth es left r

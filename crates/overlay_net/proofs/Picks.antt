@@ -1,11 +1,13 @@
 -- A net that does picked events, one after another.
-use Rattle.std.proofs.Common.{◌≡◌, ◌∙◌, ◌+◌, ◌/◌, ◌%◌, ◌^◌, ◌<◌, ◌≤◌, ℕ, true, List, [], ◌∷◌, ◌++◌, length, slice_get, Some, None, refl, sym, ap, subst, arith, append-nil, append_assoc}
+use Rattle.std.proofs.Common.{◌≡◌, ◌∙◌, ◌+◌, ◌/◌, ◌%◌, ◌^◌, ◌<◌, ◌≤◌, ℕ, Bool, true, ◌==◌, List, [], ◌∷◌, ◌++◌, length, slice_get, Some, None, refl, sym, ap, subst, arith, append-nil, append_assoc, eqb-true, eq-eqb}
+use Rattle.std.specs.Prelude.{◌↔◌}
 use Rattle.stat_plan.specs.Invariants.{IsPlan}
 use Rattle.stat_plan.specs.Plans.{Plan}
 use Rattle.stat_desk.specs.declared.event.Event.{Event}
 use Rattle.overlay_core.specs.Machine.{State, enabled_events, is_enabled, start, step}
 use Rattle.overlay_core.specs.Pick.{PicksFrom, next_number, picked, picked_event}
-use Rattle.overlay_core.specs.Runs.{after, run}
+use Rattle.overlay_core.specs.Runs.{IsQuiet, after, run}
+use Rattle.overlay_core.proofs.Journals.{quiet_where_empty}
 use Rattle.overlay_core.specs.Whole.{IsSound}
 use Rattle.overlay_core.proofs.PlanFacts.{plan_facts}
 use Rattle.overlay_core.proofs.Picks.{none_listed, picked_enabled, picked_is_one, picks_more}
@@ -51,28 +53,28 @@ pub may_be_picked : (v : NetView) (number : ℕ) (e : Event) → Some e ≡ pick
 may_be_picked v number e is = picked_enabled v.plan (state_of v) number e (sym is)
 
 -- an event that extends a net's journals does the machine's step
-stepped_by : (old new : NetView) (counts : List ℕ) (e : Event) → new.plan ≡ old.plan → IsNet old counts → ExtendsBy e old new → ◌≡◌ {A = State} (state_of new) (step old.plan (state_of old) e)
-stepped_by old new counts e same net extends =
+stepped_by : (old new : NetView) (e : Event) → new.plan ≡ old.plan → IsNet old → ExtendsBy e old new → ◌≡◌ {A = State} (state_of new) (step old.plan (state_of old) e)
+stepped_by old new e same net extends =
     let more = extends net.journal net.reached in
     more.state ∙ ap (λ p. after p (net.journal ++ e ∷ [])) same ∙ run_more old.plan (start old.plan) net.journal e ∙ ap (λ st. step old.plan st e) (sym net.reached.state)
 
 -- one event more
-pub one_more : (old mid new : NetView) (counts : List ℕ) (seed number : ℕ) (journal : List Event) (e : Event) → IsNet mid counts → HasCome old seed journal number mid → Some e ≡ picked_event mid.plan (state_of mid) (next_number number) → new.plan ≡ mid.plan → ExtendsBy e mid new → HasCome old seed (journal ++ e ∷ []) (next_number number) new
-one_more old mid new counts seed number journal e net come pick same extends =
+pub one_more : (old mid new : NetView) (seed number : ℕ) (journal : List Event) (e : Event) → IsNet mid → HasCome old seed journal number mid → Some e ≡ picked_event mid.plan (state_of mid) (next_number number) → new.plan ≡ mid.plan → ExtendsBy e mid new → HasCome old seed (journal ++ e ∷ []) (next_number number) new
+one_more old mid new seed number journal e net come pick same extends =
     let found : picked_event old.plan (run old.plan (state_of old) journal) (next_number number) ≡ Some e = (λ i. picked_event (sym come.plan i) (sym come.state i) (next_number number)) ∙ sym pick in
     record {
       plan = same ∙ come.plan;
       picks = picks_more old.plan seed (state_of old) journal number e come.picks found;
-      state = stepped_by mid new counts e same net extends ∙ (λ i. step (come.plan i) (come.state i) e) ∙ sym (run_more old.plan (state_of old) journal e);
+      state = stepped_by mid new e same net extends ∙ (λ i. step (come.plan i) (come.state i) e) ∙ sym (run_more old.plan (state_of old) journal e);
       reached = λ earlier h. subst (IsReachedBy new) (append_assoc earlier journal (e ∷ [])) (extends (earlier ++ journal) (come.reached earlier h));
     }
 
 -- an event makes the state's weight smaller
-pub weighs_less : (v new : NetView) (counts : List ℕ) (e : Event) → IsPlan v.plan → IsNet v counts → new.plan ≡ v.plan → is_enabled v.plan (state_of v) e ≡ true → ExtendsBy e v new → weight v.plan (state_of new) < weight v.plan (state_of v)
-weighs_less v new counts e plan net same en extends =
+pub weighs_less : (v new : NetView) (e : Event) → IsPlan v.plan → IsNet v → new.plan ≡ v.plan → is_enabled v.plan (state_of v) e ≡ true → ExtendsBy e v new → weight v.plan (state_of new) < weight v.plan (state_of v)
+weighs_less v new e plan net same en extends =
     let sound = subst (IsSound v.plan) (sym net.reached.state) (legal_is_sound v.plan net.journal (plan_facts v.plan plan) net.reached.legal) in
     let less : weight v.plan (step v.plan (state_of v) e) + 1 ≤ weight v.plan (state_of v) = step_decreases v.plan (state_of v) e (plan_facts v.plan plan) sound (λ n up. living_below v.plan v.alive v.nodes v.inboxes n net.parts up) en in
-    let is : weight v.plan (state_of new) ≡ weight v.plan (step v.plan (state_of v) e) = ap (weight v.plan) (stepped_by v new counts e same net extends) in
+    let is : weight v.plan (state_of new) ≡ weight v.plan (step v.plan (state_of v) e) = ap (weight v.plan) (stepped_by v new e same net extends) in
     omega (arith, less, is)
 
 -- where nothing is picked, nothing may come next
@@ -100,4 +102,17 @@ picked_at_start old new seed journal plan done start =
         ends = ap (enabled_events old.plan) (sym (reached.state ∙ ap (λ p. after p journal) done.plan)) ∙ done.ends;
       }),
       reached,
+    )
+
+-- no event may come next exactly if none is counted
+pub none_where_zero : (es : List Event) (count : ℕ) (b : Bool) → b ≡ (count == 0) → count ≡ length es → (b ≡ true) ↔ (es ≡ [])
+none_where_zero [] count b is len = ((λ t. refl), (λ e. is ∙ eq-eqb count 0 len))
+none_where_zero (e ∷ es) count b is len = ((λ t. absurd (let z : count ≡ 0 = eqb-true count 0 (sym is ∙ t) in omega (arith, z, len))), (λ none. absurd (cc)))
+
+-- no event may come next exactly if the state is quiet
+pub quiet_where_none : (v : NetView) (b : Bool) → IsPlan v.plan → IsNet v → (b ≡ true) ↔ (enabled_events v.plan (state_of v) ≡ []) → (b ≡ true) ↔ IsQuiet v.plan (state_of v)
+quiet_where_none v b plan net none =
+    let same = quiet_where_empty v.plan net.journal (plan_facts v.plan plan) net.reached.legal in (
+      (λ t. subst (IsQuiet v.plan) (sym net.reached.state) (same.1 (subst (λ (s : State). enabled_events v.plan s ≡ []) net.reached.state (none.0 t)))),
+      (λ q. none.1 (subst (λ (s : State). enabled_events v.plan s ≡ []) (sym net.reached.state) (same.0 (subst (IsQuiet v.plan) net.reached.state q)))),
     )

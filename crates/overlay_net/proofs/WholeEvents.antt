@@ -1,6 +1,5 @@
 -- An event of a net, as a whole.
-use Rattle.std.specs.Prelude.{◌↔◌}
-use Rattle.std.proofs.Common.{◌≡◌, ◌≢◌, ◌∙◌, ◌<◌, ◌^◌, ℕ, Bool, true, false, ◌==◌, List, [], ◌∷◌, ◌++◌, length, slice_get, Some, refl, sym, ap, subst, eqb-true, eq-eqb, arith}
+use Rattle.std.proofs.Common.{◌≡◌, ◌≢◌, ◌∙◌, ◌<◌, ◌^◌, ℕ, Bool, true, false, List, [], ◌∷◌, ◌++◌, map, length, slice_get, Some, sym, ap, subst}
 use Rattle.std.specs.Prelude.{Result, Ok, Err, OnOk}
 use Rattle.std.proofs.lemmas.List.{length-set, map-append}
 use Rattle.prefix_tree.specs.Tree.{Tree}
@@ -10,28 +9,27 @@ use Rattle.stat_desk.specs.declared.event.Event.{Event}
 use Rattle.stat_desk.specs.Events.{event_node}
 use Rattle.overlay_core.specs.declared.release.Release.{Release as Held}
 use Rattle.overlay_core.specs.Nodes.{Node}
-use Rattle.overlay_core.specs.Machine.{State, enabled_events, is_enabled, step}
-use Rattle.overlay_core.specs.Runs.{IsQuiet, after}
+use Rattle.overlay_core.specs.Machine.{State, is_enabled, step}
+use Rattle.overlay_core.specs.Runs.{after}
 use Rattle.overlay_core.specs.LinkInvariant.{LinkInvariant}
 use Rattle.overlay_core.specs.TreeReleases.{TreeRelease, release_view, releases_view}
 use Rattle.overlay_core.proofs.PlanFacts.{plan_facts}
-use Rattle.overlay_core.proofs.Journals.{after_more, legal_more, quiet_where_empty}
+use Rattle.overlay_core.proofs.Journals.{after_more, legal_more}
 use Rattle.overlay_core.proofs.Steps.{legal_sound}
 use Rattle.overlay_node.specs.NodeViews.{NodeView, node_of}
 use Rattle.overlay_net.specs.Inboxes.{FrameInbox}
-use Rattle.overlay_net.specs.Nets.{NetView, state_of, net_view_of, state_with}
+use Rattle.overlay_net.specs.Nets.{net_view_of, state_with}
 use Rattle.node_inbox.specs.Sends.{AreSent, GoBelow}
-use Rattle.overlay_net.specs.Events.{AreCounted, AreCountedBut, AreNodes, AreParts, FrontCounts, IsNet, IsOrdinary}
+use Rattle.overlay_net.specs.Events.{AreNodes, AreParts, FrontCounts, IsNet, IsOrdinary}
 use Rattle.overlay_net.specs.Handled.{ExtendsBy}
-use Rattle.overlay_net.specs.Sends.{touched}
-use Rattle.overlay_net.specs.States.{IsHandedOver, MayHandOver}
+use Rattle.overlay_net.proofs.Handed.{IsHandedOver, MayHandOver}
 use Rattle.overlay_net.proofs.NextEvents.{can_take, event_below, go_below, may_handle, only_front, stepped}
-use Rattle.overlay_net.proofs.EventInvariant.{counts_kept, counts_left, numbers_kept, parts_kept, trees_kept}
+use Rattle.overlay_net.proofs.EventInvariant.{counts_kept, numbers_kept, parts_kept, trees_kept}
 use Rattle.overlay_net.proofs.PartsInvariant.{receivers_below, taken_all}
 use Rattle.overlay_net.proofs.Offers.{node_there}
 use Rattle.overlay_net.proofs.SmallCounts.{small_count}
 
-module _ (p : Plan) (plan : IsPlan p) (al : List Bool) (xs : List NodeView) (ib : List FrameInbox) (rs : List TreeRelease) (counts : List ℕ) (net : IsNet (net_view_of p al xs ib rs false) counts) (e : Event) (en : is_enabled p (state_with p al xs ib rs) e ≡ true) (ord : IsOrdinary e) where
+module _ (p : Plan) (plan : IsPlan p) (al : List Bool) (xs : List NodeView) (ib : List FrameInbox) (rs : List TreeRelease) (net : IsNet (net_view_of p al xs ib rs false)) (e : Event) (en : is_enabled p (state_with p al xs ib rs) e ≡ true) (ord : IsOrdinary e) where
   abbrev st : State
   st = state_with p al xs ib rs
 
@@ -54,7 +52,7 @@ module _ (p : Plan) (plan : IsPlan p) (al : List Bool) (xs : List NodeView) (ib 
   }
 
   module _ (ys : List NodeView) (ic : List FrameInbox) (sends : List (ℕ × (List ℕ))) (more : List TreeRelease) (over : IsHandedOver p e xs ys ib ic sends more) where
-    all_go_below : GoBelow (nodes p) sends
+    pub all_go_below : GoBelow (nodes p) sends
     all_go_below = go_below p plan al xs ib rs net.parts sound ic e over.before over.after over.packet sends more en ord over.taken over.node_before over.handled
 
     -- what was sent can be put where it goes, also where room was made
@@ -67,6 +65,10 @@ module _ (p : Plan) (plan : IsPlan p) (al : List Bool) (xs : List NodeView) (ib 
 
     front_alone : event_node e ≢ front p → more ≡ []
     front_alone = only_front p plan al xs ib rs net.parts sound e over.before over.after over.packet sends more en ord over.node_before over.handled
+
+    -- who is counted anew are nodes
+    pub receivers_are_nodes : AreNodes p (map (λ v. v.0) sends)
+    receivers_are_nodes = receivers_below (nodes p) sends all_go_below
 
     module _ (id : List FrameInbox) (sent : AreSent al (event_node e) sends ic id) where
       -- if a journal led to the net, that journal with the event appended leads to it now
@@ -84,21 +86,13 @@ module _ (p : Plan) (plan : IsPlan p) (al : List Bool) (xs : List NodeView) (ib 
       pub parts_then : AreParts p al ys id
       parts_then = subst (λ zs. AreParts p al zs id) (sym over.nodes_after) (parts_kept p al e over.before over.after over.packet sends more over.handled xs over.node_before ib ic id net.parts over.taken sent all_go_below)
 
-      -- the events of the nodes that it touched are to be counted anew
-      pub counted_but : AreCountedBut (touched (event_node e) sends) p al ys id counts
-      counted_but = subst (λ zs. AreCountedBut (touched (event_node e) sends) p al zs id counts) (sym over.nodes_after) (counts_left p al e over.before over.after over.packet sends more over.handled xs over.node_before ib ic id counts over.taken sent net.counted)
-
-      pub touched_below : AreNodes p (touched (event_node e) sends)
-      touched_below = (event_below p plan al xs ib rs net.parts sound e en, receivers_below (nodes p) sends all_go_below)
-
       -- then it is a net again
-      pub is_net : (now : List ℕ) → AreCounted p al ys id now → IsNet (net_view_of p al ys id (rs ++ more) false) now
-      is_net now counted = record {
+      pub is_net : IsNet (net_view_of p al ys id (rs ++ more) false)
+      is_net = record {
         journal = net.journal ++ e ∷ [];
         reached = extends_by net.journal net.reached;
         parts = parts_then;
         front = subst (λ zs. FrontCounts p zs (rs ++ more)) (sym over.nodes_after) (counts_kept p al e over.before over.after over.packet sends more over.handled xs over.node_before rs front_alone net.front);
-        counted = counted;
       }
 
       -- there are as many inboxes
@@ -113,16 +107,3 @@ ok_then (Err e) a f = tt
 -- releases behind others
 pub releases_more : {X : Type 0} (tree : X → Tree) (xs ys zs : List (Held X)) → zs ≡ xs ++ ys → releases_view tree zs ≡ releases_view tree xs ++ releases_view tree ys
 releases_more tree xs ys zs is = ap (releases_view tree) is ∙ map-append (release_view tree) xs ys
-
--- no event may come next exactly if none is counted
-pub none_where_zero : (es : List Event) (count : ℕ) (b : Bool) → b ≡ (count == 0) → count ≡ length es → (b ≡ true) ↔ (es ≡ [])
-none_where_zero [] count b is len = ((λ t. refl), (λ e. is ∙ eq-eqb count 0 len))
-none_where_zero (e ∷ es) count b is len = ((λ t. absurd (let z : count ≡ 0 = eqb-true count 0 (sym is ∙ t) in omega (arith, z, len))), (λ none. absurd (cc)))
-
--- no event may come next exactly if the state is quiet
-pub quiet_where_none : (v : NetView) (counts : List ℕ) (b : Bool) → IsPlan v.plan → IsNet v counts → (b ≡ true) ↔ (enabled_events v.plan (state_of v) ≡ []) → (b ≡ true) ↔ IsQuiet v.plan (state_of v)
-quiet_where_none v counts b plan net none =
-    let same = quiet_where_empty v.plan net.journal (plan_facts v.plan plan) net.reached.legal in (
-      (λ t. subst (IsQuiet v.plan) (sym net.reached.state) (same.1 (subst (λ (s : State). enabled_events v.plan s ≡ []) net.reached.state (none.0 t)))),
-      (λ q. none.1 (subst (λ (s : State). enabled_events v.plan s ≡ []) (sym net.reached.state) (same.0 (subst (IsQuiet v.plan) net.reached.state q)))),
-    )

@@ -1,5 +1,5 @@
 -- The events of the nodes, found by number, and the invariants of a net.
-use Rattle.std.specs.Prelude.{◌≡◌, ⊤, ℕ, ◌+◌, ◌<◌, Bool, true, false, ◌&&◌, not, List, [], ◌∷◌, length, slice_get, Option, Some, None}
+use Rattle.std.specs.Prelude.{◌≡◌, ⊤, ℕ, ◌+◌, ◌<◌, Bool, true, false, ◌&&◌, not, cond, filter, List, [], ◌∷◌, length, slice_get, slice_set, Option, Some, None}
 use Rattle.std.specs.List.{AllByRecursion}
 use Rattle.std.specs.List.Sorted.{IsStrictlySortedBy}
 use Rattle.std.specs.Ordering.{nat_cmp}
@@ -13,8 +13,9 @@ use Rattle.overlay_node.specs.Frames.{IsFrame}
 use Rattle.overlay_node.specs.NodeViews.{NodeView, Counts, IsNodeOf, has_running, node_of}
 use Rattle.node_inbox.specs.Inboxes.{HaveSent, is_waiting, queue_of, senders_of}
 use Rattle.overlay_net.specs.Inboxes.{FrameInbox, WaitingFrames}
-use Rattle.overlay_net.specs.Nets.{NetView, IsReachedBy, is_doomed_node, net_view_of, node_events, state_with}
-use Rattle.node_inbox.specs.Sends.{inbox_at, is_alive}
+use Rattle.event_claims.specs.Claims.{Outs, is_loss_of}
+use Rattle.overlay_net.specs.Nets.{NetView, IsReachedBy, claims_at, is_doomed_node, state_with}
+use Rattle.node_inbox.specs.Sends.{inbox_at}
 use Rattle.overlay_net.specs.declared.events.Nth.{Nth}
 use Rattle.overlay_net.specs.declared.events.Nth.TheVariants.{Found, Beyond}
 
@@ -58,35 +59,52 @@ pub record AreParts (p : Plan) (alive : List Bool) (xs : List NodeView) (inboxes
 abbrev pub AreNodes : Plan → List ℕ → Type 0
 AreNodes p numbers = AllByRecursion (λ n. n < nodes p) numbers
 
--- this many events of the node b may come next
-abbrev pub CountsEvents : Plan → List Bool → List NodeView → List FrameInbox → List ℕ → ℕ → Type 0
-CountsEvents p alive xs inboxes counts b = (x : NodeView) → slice_get xs b ≡ Some x
-    → slice_get counts b ≡ Some (length (node_events p (is_alive alive b) x (inbox_at inboxes b)))
+-- the senders that are not being lost
+abbrev pub free_senders : Outs → List ℕ → List ℕ
+free_senders out senders = filter (λ m. not (is_loss_of (out m) m)) senders
 
--- the counts are those of the events of each node that may come next, but for these nodes
-pub record AreCountedBut (rest : List ℕ) (p : Plan) (alive : List Bool) (xs : List NodeView) (inboxes : List FrameInbox) (counts : List ℕ) : Type 0 where
+-- the counts are those of the events of each node that may be claimed, but for these nodes
+pub record AreCountedBut (rest : List ℕ) (p : Plan) (alive : List Bool) (xs : List NodeView) (inboxes : List FrameInbox) (out : Outs) (counts : List ℕ) : Type 0 where
   pub node_count : length counts ≡ nodes p
-  pub events : (b : ℕ) → member b rest ≡ false → CountsEvents p alive xs inboxes counts b
+  pub events : (b : ℕ) → b < nodes p → member b rest ≡ false → slice_get counts b ≡ Some (length (claims_at p alive xs inboxes out b))
 
--- the counts are those of the events of each node that may come next
-abbrev pub AreCounted : Plan → List Bool → List NodeView → List FrameInbox → List ℕ → Type 0
+-- the counts are those of the events of each node that may be claimed
+abbrev pub AreCounted : Plan → List Bool → List NodeView → List FrameInbox → Outs → List ℕ → Type 0
 AreCounted = AreCountedBut []
+
+-- each node that is out with its loss is counted
+pub record AreLosing (p : Plan) (out : Outs) (losing : List ℕ) : Type 0 where
+  pub node_count : length losing ≡ nodes p
+  pub each : (n : ℕ) → n < nodes p → slice_get losing n ≡ Some (cond (is_loss_of (out n) n) 1 0)
+
+-- an event that is a loss sets the count of its node
+abbrev pub with_loss : Event → ℕ → List ℕ → List ℕ
+with_loss (Sample n s w) count losing = losing
+with_loss (Recv n m) count losing = losing
+with_loss (Tick n) count losing = losing
+with_loss (Lose n) count losing = slice_set losing n count
+
+-- after an event that is a loss its node doesn't live
+abbrev pub without_lost : Event → List Bool → List Bool
+without_lost (Sample n s w) alive = alive
+without_lost (Recv n m) alive = alive
+without_lost (Tick n) alive = alive
+without_lost (Lose n) alive = slice_set alive n false
+
+-- no node is out with its loss
+abbrev pub NoneIsLosing : Outs → Type 0
+NoneIsLosing out = (n : ℕ) → is_loss_of (out n) n ≡ false
 
 -- the front end has counted the releases
 abbrev pub FrontCounts : Plan → List NodeView → List TreeRelease → Type 0
 FrontCounts p xs releases = (x : NodeView) → slice_get xs (front p) ≡ Some x → Counts x.held (bare_releases releases)
 
--- the invariant of a net that has not run out of memory: it is reached by a journal
-pub record IsNet (v : NetView) (counts : List ℕ) : Type 0 where
+-- a net that is reached by a journal
+pub record IsNet (v : NetView) : Type 0 where
   pub journal : List Event
   pub reached : IsReachedBy v journal
   pub parts : AreParts v.plan v.alive v.nodes v.inboxes
   pub front : FrontCounts v.plan v.nodes v.releases
-  pub counted : AreCounted v.plan v.alive v.nodes v.inboxes counts
-
--- the invariant of a net of these parts that has not run out of memory
-abbrev pub IsNetOf : Plan → List Bool → List NodeView → List FrameInbox → List TreeRelease → List ℕ → Type 0
-IsNetOf p alive xs inboxes releases counts = IsNet (net_view_of p alive xs inboxes releases false) counts
 
 -- the event may come next in a net of these parts
 abbrev pub IsEnabledIn : Plan → List Bool → List NodeView → List FrameInbox → List TreeRelease → Event → Type 0

@@ -1,8 +1,12 @@
 pub mod Inboxes
+pub mod Places
 pub mod Nets
 pub mod Events
 pub mod Sends
 pub mod Handled
+pub mod Claims
+pub mod Views
+pub mod Codes
 pub mod Losses
 pub mod States
 pub mod Picks

@@ -1,11 +1,9 @@
 -- A net as a value, and the journals that lead to it.
-use Rattle.std.specs.Prelude.{◌≡◌, refl, ℕ, Bool, cond, List, [], ◌∷◌, ◌++◌, map, slice_get, Some, None}
+use Rattle.std.specs.Prelude.{◌≡◌, ℕ, Bool, cond, List, [], ◌∷◌, ◌++◌, map, filter, slice_get, Option, Some, None}
 use Rattle.std.specs.List.{AllByRecursion, flat_map}
-use Rattle.std.specs.Coded.{Coded, code_by, coded×, coded_bool, coded_list, coded_ℕ}
 use Rattle.overlay_setup.specs.NodeSets.{member}
 use Rattle.stat_plan.specs.Plans.{Plan, fault}
 use Rattle.overlay_setup.specs.Scripts.{Stream}
-use Rattle.stat_plan.specs.Codes.{coded_plan}
 use Rattle.stat_desk.specs.declared.event.Event.{Event}
 use Rattle.stat_desk.specs.declared.event.Event.TheVariants.{Sample, Recv, Tick, Lose}
 use Rattle.overlay_core.specs.Nodes.{Node}
@@ -13,13 +11,17 @@ use Rattle.overlay_core.specs.Machine.{State, is_spent, start_node, next_sample}
 use Rattle.overlay_core.specs.Runs.{IsLegal, after}
 use Rattle.overlay_core.specs.TreeReleases.{TreeRelease, AreNumberedInOrder, bare_releases}
 use Rattle.overlay_node.specs.Frames.{packet_of}
-use Rattle.overlay_node.specs.Outputs.{ReleaseFits, coded_release}
-use Rattle.overlay_node.specs.NodeViews.{NodeView, coded_node, has_running, node_of}
+use Rattle.overlay_node.specs.Outputs.{ReleaseFits}
+use Rattle.overlay_node.specs.NodeViews.{NodeView, has_running, node_of}
+use Rattle.event_claims.specs.Claims.{Outs, is_free, is_home}
 use Rattle.overlay_net.specs.Inboxes.{FrameInbox, WaitingFrames}
-use Rattle.node_inbox.specs.Inboxes.{inbox_code, queue_of, senders_of}
+use Rattle.overlay_net.specs.Places.{out_at}
+use Rattle.node_inbox.specs.Inboxes.{queue_of, senders_of}
 use Rattle.node_inbox.specs.Sends.{inbox_at, is_alive}
 
--- a plan, whether each node lives, its nodes by number, the inbox of each, what was released so far, and whether an event ran out of memory
+-- A plan, whether each node lives, its nodes by number, the inbox of each, what was released so far, and whether an event ran out
+-- of memory; the event with which each node is out, if it is out; and for how many more releases there is room. A node that is out,
+-- and the frame that it took along, are as they were when it went out, until its event is done.
 pub record NetView : Type 0 where
   pub plan : Plan
   pub alive : List Bool
@@ -27,10 +29,20 @@ pub record NetView : Type 0 where
   pub inboxes : List FrameInbox
   pub releases : List TreeRelease
   pub failed : Bool
+  pub outs : List (Option Event)
+  pub room : ℕ
 
--- the net of these parts
+-- the net of these parts, with no word of who is out
 abbrev pub net_view_of : Plan → List Bool → List NodeView → List FrameInbox → List TreeRelease → Bool → NetView
-net_view_of p alive xs inboxes releases failed = record { plan = p; alive = alive; nodes = xs; inboxes = inboxes; releases = releases; failed = failed }
+net_view_of p alive xs inboxes releases failed = record { plan = p; alive = alive; nodes = xs; inboxes = inboxes; releases = releases; failed = failed; outs = []; room = 0 }
+
+-- the event with which each node is out
+abbrev pub outs_of : NetView → Outs
+outs_of v = out_at v.outs
+
+-- no node is out
+abbrev pub AllHome : NetView → Type 0
+AllHome v = (n : ℕ) → outs_of v n ≡ None
 
 -- ---- as the machine's state
 
@@ -83,10 +95,10 @@ is_doomed_node p x = is_spent (fault p x.number) x.count
 abbrev pub node_events : Plan → Bool → NodeView → WaitingFrames → List Event
 node_events p up x box = cond up (cond (is_doomed_node p x) (Lose x.number ∷ []) (active_events p x box)) []
 
--- ---- codes, by which a value is stored
+-- the events of the node of this number that may come next
+abbrev pub events_at : Plan → List Bool → List NodeView → List FrameInbox → ℕ → List Event
+events_at p al xs inboxes n = elim (slice_get xs n) [ None ↦ [] | Some x ↦ node_events p (is_alive al n) x (inbox_at inboxes n) ]
 
-abbrev pub coded_net : Coded NetView
-coded_net = code_by (Plan × (List Bool × (List NodeView × (List FrameInbox × (List TreeRelease × Bool))))) (coded× coded_plan (coded× (coded_list coded_bool) (coded× (coded_list coded_node) (coded× (coded_list (inbox_code (coded_list coded_ℕ))) (coded× (coded_list coded_release) coded_bool)))))
-    (λ v. (v.plan, (v.alive, (v.nodes, (v.inboxes, (v.releases, v.failed))))))
-    (λ c. record { plan = c.0; alive = c.1.0; nodes = c.1.1.0; inboxes = c.1.1.1.0; releases = c.1.1.1.1.0; failed = c.1.1.1.1.1 })
-    (λ _. refl)
+-- those that may be claimed while these events are out
+abbrev pub claims_at : Plan → List Bool → List NodeView → List FrameInbox → Outs → ℕ → List Event
+claims_at p al xs inboxes out n = cond (is_home (out n)) (filter (is_free p out) (events_at p al xs inboxes n)) []

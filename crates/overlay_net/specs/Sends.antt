@@ -1,14 +1,20 @@
 -- The packets that a node sends, and the inboxes that they go to.
-use Rattle.std.specs.Prelude.{◌≡◌, ◌≢◌, ⊤, ℕ, ◌<◌, false, ◌==◌, List, [], ◌∷◌, length, map, Option, Some, None}
+use Rattle.std.specs.Prelude.{◌≡◌, ◌≢◌, ⊤, ℕ, ◌<◌, false, ◌==◌, List, [], ◌∷◌, length, Option, Some, None}
+use Rattle.overlay_setup.specs.NodeSets.{up_to}
+use Rattle.stat_plan.specs.Plans.{Plan, nodes}
 use Rattle.stat_desk.specs.declared.event.Event.{Event}
 use Rattle.stat_desk.specs.declared.event.Event.TheVariants.{Sample, Recv, Tick, Lose}
 use Rattle.node_inbox.specs.Inboxes.{IsInbox, queue_of}
 use Rattle.overlay_net.specs.Inboxes.{FrameInbox}
 use Rattle.node_inbox.specs.Sends.{inbox_at}
 
--- the nodes of whom an event may have changed which of their events may come next: its own, and the receivers
-abbrev pub touched : ℕ → List (ℕ × (List ℕ)) → List ℕ
-touched n sends = n ∷ map (λ v. v.0) sends
+-- the nodes of whom an event may change which of their events may be claimed: its own, the sender of what it receives, and the
+-- receivers of what it sends; all nodes, if it is a loss
+abbrev pub changed : Plan → Event → List ℕ → List ℕ
+changed p (Sample n s w) receivers = n ∷ n ∷ receivers
+changed p (Recv n m) receivers = n ∷ m ∷ receivers
+changed p (Tick n) receivers = n ∷ n ∷ receivers
+changed p (Lose n) receivers = up_to (nodes p)
 
 -- if the event receives a packet, a packet waits
 abbrev pub CanTake : List FrameInbox → Event → Type 0

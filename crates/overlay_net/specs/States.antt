@@ -1,46 +1,49 @@
 -- The mutable state of a net, as a value.
-use Rattle.std.specs.Prelude.{◌≡◌, ◌<◌, ◌^◌, ℕ, Bool, true, false, List, [], length, slice_get, slice_set, Option, Some}
+use Rattle.std.specs.Prelude.{◌≡◌, ◌-◌, ℕ, Bool, true, false, List, [], length, slice_get, Some, None}
 use Rattle.std.specs.List.{AllByRecursion}
+use Rattle.std.specs.Vec.{vec_len, vec_capacity}
 use Rattle.prefix_tree.specs.Tree.{Tree}
-use Rattle.stat_plan.specs.Plans.{Plan}
+use Rattle.stat_plan.specs.Plans.{Plan, nodes}
 use Rattle.stat_desk.specs.declared.event.Event.{Event}
-use Rattle.stat_desk.specs.Events.{event_node}
 use Rattle.overlay_core.specs.TreeReleases.{TreeRelease, releases_view}
 use Rattle.overlay_core.specs.Nodes.{Node}
 use Rattle.overlay_core.specs.Machine.{State, start_node}
-use Rattle.overlay_node.specs.NodeViews.{Counts, IsNodeOf, MayHandle, NodeView, node_of}
-use Rattle.overlay_net.specs.Inboxes.{FrameInbox}
-use Rattle.overlay_net.specs.Nets.{NetView, net_view_of, state_of}
+use Rattle.overlay_node.specs.NodeViews.{Counts, IsNodeOf, NodeView, node_of}
+use Rattle.event_claims.specs.Claims.{MayBeOut, Outs, claimed, come_home}
+use Rattle.node_inbox.specs.Inboxes.{IsInbox}
 use Rattle.node_inbox.specs.Sends.{inbox_at}
-use Rattle.overlay_net.specs.Events.{IsNet}
-use Rattle.overlay_net.specs.Sends.{CanTake, IsTaken}
-use Rattle.overlay_net.specs.Handled.{ExtendsBy, HasHandled}
+use Rattle.overlay_net.specs.Inboxes.{FrameInbox}
+use Rattle.overlay_net.specs.Places.{HaveFrames, PlaceView, events_out, nodes_in, out_at, outs_in, places_view, whole_inboxes}
+use Rattle.overlay_net.specs.Nets.{NetView, claims_at, net_view_of, outs_of, state_of, state_with}
+use Rattle.overlay_net.specs.Events.{AreCountedBut, AreLosing, AreParts, IsNet}
+use Rattle.overlay_net.specs.Claims.{ClaimView, FitsNet}
+use Rattle.overlay_net.specs.Handled.{ExtendsBy}
+use Rattle.overlay_net.specs.declared.place.Place.{Place}
 use Rattle.overlay_net.specs.declared.state.NetState.{NetState}
 
--- the net of a plan and this state, where `tree` says what a release's tree is
-abbrev pub net_view : {X : Type 0} → (X → Tree) → Plan → NetState X → Bool → NetView
-net_view tree p st failed = net_view_of p st.alive.items st.nodes.items st.inboxes.items (releases_view tree st.releases.items) failed
+-- ---- the parts of a net, where some nodes are out
 
--- An event's packet was taken from the inboxes, and its node has handled the event.
-pub record IsHandedOver (p : Plan) (e : Event) (xs ys : List NodeView) (old new : List FrameInbox) (sends : List (ℕ × (List ℕ))) (more : List TreeRelease) : Type 0 where
-  pub packet : Option (List ℕ)
-  pub before : NodeView
-  pub after : NodeView
-  pub taken : IsTaken old e packet new
-  pub node_before : slice_get xs (event_node e) ≡ Some before
-  pub handled : HasHandled p before after e packet sends more
-  pub nodes_after : ys ≡ slice_set xs (event_node e) after
+module _ {X : Type 0} (p : Plan) (alive : List Bool) (places : List (Place X)) (inboxes : List FrameInbox) where
+  -- they are those of the plan
+  abbrev pub ArePartsOf : Type 0
+  ArePartsOf = AreParts p alive (nodes_in (places_view places)) (whole_inboxes (places_view places) inboxes)
 
--- The event's packet may be taken, and its node may handle the event with any packet that is taken. The node has done fewer
--- than 2^62 events.
-pub record MayHandOver (p : Plan) (xs : List NodeView) (old : List FrameInbox) (e : Event) : Type 0 where
-  pub below : event_node e < length xs
-  pub take : CanTake old e
-  pub fits : (x : NodeView) → slice_get xs (event_node e) ≡ Some x → IsNodeOf p x
-  pub handle : (new : List FrameInbox) (packet : Option (List ℕ)) (x : NodeView) → IsTaken old e packet new → slice_get xs (event_node e) ≡ Some x → MayHandle p x e packet
-  pub within_limit : (x : NodeView) → slice_get xs (event_node e) ≡ Some x → x.count < 2 ^ 62
+  -- the machine's state of them, with these releases
+  abbrev pub state_in : List TreeRelease → State
+  state_in releases = state_with p alive (nodes_in (places_view places)) (whole_inboxes (places_view places) inboxes) releases
 
--- The first `count` nodes live, have done no event yet, and no packet waits for them.
+  -- the events of the node of this number that may be claimed
+  abbrev pub claims_of : ℕ → List Event
+  claims_of n = claims_at p alive (nodes_in (places_view places)) (whole_inboxes (places_view places) inboxes) (events_out places) n
+
+  -- the counts are those of the events that may be claimed, but for these nodes
+  abbrev pub AreClaimsCountedBut : List ℕ → List ℕ → Type 0
+  AreClaimsCountedBut rest counts = AreCountedBut rest p alive (nodes_in (places_view places)) (whole_inboxes (places_view places) inboxes) (events_out places) counts
+
+  abbrev pub AreClaimsCounted : List ℕ → Type 0
+  AreClaimsCounted counts = AreClaimsCountedBut [] counts
+
+-- The first `count` nodes live, are at home, have done no event yet, and no packet waits for them.
 pub record AreInitial (p : Plan) (count : ℕ) (alive : List Bool) (xs : List NodeView) (inboxes : List FrameInbox) : Type 0 where
   pub node_count : length xs ≡ count
   pub inbox_count : length inboxes ≡ count
@@ -51,9 +54,38 @@ pub record AreInitial (p : Plan) (count : ℕ) (alive : List Bool) (xs : List No
   pub counts : (n : ℕ) (x : NodeView) → slice_get xs n ≡ Some x → Counts x.held []
   pub empty : (n : ℕ) → inbox_at inboxes n ≡ []
 
--- the invariant of a net of this plan and state that has not run out of memory
+-- ---- the net
+
+-- the net of a plan and this state, where `tree` says what a release's tree is
+abbrev pub net_view : {X : Type 0} → (X → Tree) → Plan → NetState X → Bool → NetView
+net_view tree p st failed = record {
+  plan = p;
+  alive = st.alive.items;
+  nodes = nodes_in (places_view st.places.items);
+  inboxes = whole_inboxes (places_view st.places.items) st.inboxes.items;
+  releases = releases_view tree st.releases.items;
+  failed = failed;
+  outs = outs_in (places_view st.places.items);
+  room = vec_capacity st.releases - vec_len st.releases;
+}
+
+-- The invariant of a net of these parts that has not run out of memory, but that the events of these nodes are still to be counted:
+-- it is reached by a journal, and the events that are out may be out together. A node that is out has its frame.
+pub record IsNetOf (rest : List ℕ) (p : Plan) (alive : List Bool) (ps : List PlaceView) (boxes : List FrameInbox) (releases : List TreeRelease) (lost counts : List ℕ) : Type 0 where
+  pub net : IsNet (net_view_of p alive (nodes_in ps) (whole_inboxes ps boxes) releases false)
+  pub out : MayBeOut p (state_with p alive (nodes_in ps) (whole_inboxes ps boxes) releases) (out_at (outs_in ps))
+  pub frames : HaveFrames ps
+  pub inbox_count : length boxes ≡ nodes p
+  pub inboxes : (n : ℕ) → IsInbox (inbox_at boxes n)
+  pub losing : AreLosing p (out_at (outs_in ps)) lost
+  pub counted : AreCountedBut rest p alive (nodes_in ps) (whole_inboxes ps boxes) (out_at (outs_in ps)) counts
+
+-- the same of a plan and a state
+abbrev pub IsNetStateBut : {X : Type 0} → List ℕ → (X → Tree) → Plan → NetState X → Type 0
+IsNetStateBut rest tree p st = IsNetOf rest p st.alive.items (places_view st.places.items) st.inboxes.items (releases_view tree st.releases.items) st.losing st.counts
+
 abbrev pub IsNetState : {X : Type 0} → (X → Tree) → Plan → NetState X → Type 0
-IsNetState tree p st = IsNet (net_view tree p st false) st.counts
+IsNetState = IsNetStateBut []
 
 -- the machine's state of this plan and state
 abbrev pub state_at : {X : Type 0} → (X → Tree) → Plan → NetState X → State
@@ -62,3 +94,28 @@ state_at tree p st = state_of (net_view tree p st false)
 -- if a journal leads to the old state, that journal with the event appended leads to the new one
 abbrev pub ExtendsState : {X : Type 0} → (X → Tree) → Plan → Event → NetState X → NetState X → Type 0
 ExtendsState tree p e old new = ExtendsBy e (net_view tree p old false) (net_view tree p new false)
+
+-- ---- what the steps of an event do to a net
+
+-- the new net has the state, the releases and the nodes out of the old one
+pub record IsSameNet (old new : NetView) : Type 0 where
+  pub plan : new.plan ≡ old.plan
+  pub state : ◌≡◌ {A = State} (state_of new) (state_of old)
+  pub releases : new.releases ≡ old.releases
+  pub outs : new.outs ≡ old.outs
+
+-- the event's node is out with it, and the claim fits; nothing else has changed
+pub record IsClaimed (e : Event) (c : ClaimView) (old new : NetView) : Type 0 where
+  pub event : c.event ≡ e
+  pub fresh : c.left ≡ None
+  pub fits : FitsNet new c
+  pub plan : new.plan ≡ old.plan
+  pub state : ◌≡◌ {A = State} (state_of new) (state_of old)
+  pub releases : new.releases ≡ old.releases
+  pub outs : ◌≡◌ {A = Outs} (outs_of new) (claimed (outs_of old) e)
+
+-- the event was done, and its node is home
+pub record IsCommitted (e : Event) (old new : NetView) : Type 0 where
+  pub plan : new.plan ≡ old.plan
+  pub reached : ExtendsBy e old new
+  pub outs : ◌≡◌ {A = Outs} (outs_of new) (come_home (outs_of old) e)

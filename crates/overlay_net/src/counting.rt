@@ -1,22 +1,26 @@
 //! How many events of each node may come next.
 
-ghost use Rattle.std.specs.Prelude.{◌≡◌, ◌≤◌, length, IfOk};
+ghost use Rattle.std.specs.Prelude.{◌≡◌, ◌≤◌, ◌<◌, false, length};
 ghost use Rattle.std.specs.List.{flat_map};
 ghost use Rattle.overlay_setup.specs.NodeSets.{up_to};
 ghost use Rattle.stat_plan.specs.Plans.{nodes};
 ghost use Rattle.overlay_node.specs.NodeViews.{IsNodeOf};
-ghost use Rattle.overlay_net.specs.Nets.{node_events, sample_of};
-ghost use Rattle.overlay_net.specs.Events.{AreCounted, AreCountedBut, AreNodes, AreParts};
-ghost use Rattle.overlay_net.specs.Sends.{touched};
+ghost use Rattle.node_inbox.specs.Inboxes.{senders_of};
+ghost use Rattle.overlay_net.specs.Nets.{sample_of};
+ghost use Rattle.overlay_net.specs.Places.{events_out, places_view};
+ghost use Rattle.overlay_net.specs.Events.{AreNodes, NoneIsLosing, free_senders};
+ghost use Rattle.overlay_net.specs.States.{AreClaimsCounted, AreClaimsCountedBut, ArePartsOf, claims_of};
+ghost use Rattle.overlay_net.specs.Sends.{changed};
 
-use crate::events::{is_doomed, is_up, next_wave};
+use crate::events::{is_doomed, is_losing, is_received_from, is_up, next_wave};
+use crate::place::Place;
 use count_tree::CountTree;
 use node_inbox::Inbox;
 use overlay_node::Node;
 use packet_frame::Frame;
 use prefix_tree::PrefixTree;
+use stat_desk::Event;
 use stat_plan::Plan;
-use std::alloc::{AllocError, Global};
 
 /// How many samples of a node may come next.
 fn sample_count<T: PrefixTree>(plan: &Plan, node: &Node<T>) -> u32
@@ -34,65 +38,127 @@ fn sample_count<T: PrefixTree>(plan: &Plan, node: &Node<T>) -> u32
     count
 }
 
-/// How many events of a node may come next.
-fn event_count<T: PrefixTree>(plan: &Plan, up: bool, node: &Node<T>, inbox: &Inbox<Frame>) -> u32
-    requires node { IsNodeOf plan.now node.now }
+/// How many of the senders with frames waiting are not being lost. `losing` may be false only if no node is out with
+/// its loss.
+fn free_sender_count<T: PrefixTree>(places: &[Place<T>], inbox: &Inbox<Frame>, losing: bool) -> u32
+    requires losing { losing ≡ false → NoneIsLosing (events_out places.now) }
     requires senders { length inbox.now.waiting ≤ 512 }
-    ensures { result ≡ length (node_events plan.now up node.now inbox.now.waiting) }
+    ensures counted { result ≡ length (free_senders (events_out places.now) (senders_of inbox.now.waiting)) }
+    ensures few { result ≤ 512 }
 {
-    if !up {
+    if !losing {
+        return inbox.sender_count() as u32;
+    }
+    let mut count = 0;
+    for i in 0..inbox.sender_count() {
+        let Some(sender) = inbox.sender(i) else {
+            unreachable!()
+        };
+        if !is_losing(places, sender) {
+            count += 1;
+        }
+    }
+    count
+}
+
+/// How many events of a node may be claimed.
+fn event_count<T: PrefixTree>(
+    plan: &Plan,
+    alive: &[bool],
+    places: &[Place<T>],
+    inboxes: &[Inbox<Frame>],
+    losing: bool,
+    n: u32,
+) -> u32
+    requires parts { ArePartsOf plan.now alive.now places.now inboxes.now }
+    requires losing { losing ≡ false → NoneIsLosing (events_out places.now) }
+    requires below { n < nodes plan.now }
+    ensures { result ≡ length (claims_of plan.now alive.now places.now inboxes.now n) }
+{
+    plan.invariant();
+    if !is_up(alive, n) {
         return 0;
     }
+    let Place::Home(node) = &places[n as usize] else {
+        return 0;
+    };
     if is_doomed(plan, node) {
-        return 1;
+        return u32::from(!is_received_from(places, n));
     }
-    let ticks = u32::from(node.has_running());
-    sample_count(plan, node) + inbox.sender_count() as u32 + ticks
+    let senders = free_sender_count(places, &inboxes[n as usize], losing);
+    sample_count(plan, node) + senders + u32::from(node.has_running())
 }
 
 /// Counts the events of these nodes anew.
-pub fn count_nodes<T: PrefixTree>(
+fn count_nodes<T: PrefixTree>(
     plan: &Plan,
     alive: &[bool],
-    nodes: &[Node<T>],
+    places: &[Place<T>],
     inboxes: &[Inbox<Frame>],
+    losing: bool,
     numbers: &[u32],
     counts: &mut CountTree,
 )
-    requires parts { AreParts plan.now alive.now nodes.now inboxes.now }
+    requires parts { ArePartsOf plan.now alive.now places.now inboxes.now }
+    requires losing { losing ≡ false → NoneIsLosing (events_out places.now) }
     requires below { AreNodes plan.now numbers.now }
-    requires counted { AreCountedBut numbers.now plan.now alive.now nodes.now inboxes.now counts.old }
-    ensures { AreCounted plan.now alive.now nodes.now inboxes.now counts.new }
+    requires counted { AreClaimsCountedBut plan.now alive.now places.now inboxes.now numbers.now counts.old }
+    ensures { AreClaimsCounted plan.now alive.now places.now inboxes.now counts.new }
 {
-    plan.invariant();
     for number in numbers {
         let n = *number;
-        let up = is_up(alive, n);
-        let count = event_count(plan, up, &nodes[n as usize], &inboxes[n as usize]);
-        counts.set(n, count);
+        counts.set(n, event_count(plan, alive, places, inboxes, losing, n));
     }
 }
 
-/// The numbers of all nodes.
-pub fn all_nodes(alloc: Global, plan: &Plan) -> Result<Vec<u32>, AllocError>
-    ensures { IfOk result (λ all. all.items ≡ up_to (nodes plan.now)) }
+/// Counts the events of all nodes anew.
+pub fn count_all<T: PrefixTree>(
+    plan: &Plan,
+    alive: &[bool],
+    places: &[Place<T>],
+    inboxes: &[Inbox<Frame>],
+    losing: bool,
+    counts: &mut CountTree,
+)
+    requires parts { ArePartsOf plan.now alive.now places.now inboxes.now }
+    requires losing { losing ≡ false → NoneIsLosing (events_out places.now) }
+    requires count { length counts.old ≡ nodes plan.now }
+    ensures { AreClaimsCounted plan.now alive.now places.now inboxes.now counts.new }
 {
-    let mut all = Vec::with_capacity(alloc, plan.nodes() as usize)?;
     for n in 0..plan.nodes() {
-        all.push(n)?;
+        counts.set(n, event_count(plan, alive, places, inboxes, losing, n));
     }
-    Ok(all)
 }
 
-/// The nodes of whom an event of `n` may have changed which of their events may come next: its own, and those to whom
-/// it sends.
-pub fn touched_by(alloc: Global, n: u32, sends: &[(u32, Frame)]) -> Result<Vec<u32>, AllocError>
-    ensures { IfOk result (λ numbers. numbers.items ≡ touched n sends.now) }
+/// Counts anew the events of all nodes of whom an event may have changed which may be claimed: its own node, the sender
+/// of what it receives, and these receivers; all nodes, if it is a loss.
+pub fn recount<T: PrefixTree>(
+    plan: &Plan,
+    alive: &[bool],
+    places: &[Place<T>],
+    inboxes: &[Inbox<Frame>],
+    losing: bool,
+    event: Event,
+    receivers: &[u32],
+    counts: &mut CountTree,
+)
+    requires parts { ArePartsOf plan.now alive.now places.now inboxes.now }
+    requires losing { losing ≡ false → NoneIsLosing (events_out places.now) }
+    requires below { AreNodes plan.now (changed plan.now event receivers.now) }
+    requires counted { AreClaimsCountedBut plan.now alive.now places.now inboxes.now
+        (changed plan.now event receivers.now) counts.old }
+    ensures { AreClaimsCounted plan.now alive.now places.now inboxes.now counts.new }
 {
-    let mut numbers = Vec::with_capacity(alloc, sends.len() + 1)?;
-    numbers.push(n)?;
-    for (to, _) in sends {
-        numbers.push(*to)?;
-    }
-    Ok(numbers)
+    let own = event.node();
+    let other = match event {
+        Event::Lose { .. } => return count_all(plan, alive, places, inboxes, losing, counts),
+        Event::Recv { from, .. } => from,
+        Event::Sample { .. } | Event::Tick { .. } => own,
+    };
+    counts.set(own, event_count(plan, alive, places, inboxes, losing, own));
+    counts.set(
+        other,
+        event_count(plan, alive, places, inboxes, losing, other),
+    );
+    count_nodes(plan, alive, places, inboxes, losing, receivers, counts);
 }

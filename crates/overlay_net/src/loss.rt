@@ -1,26 +1,14 @@
-//! The loss of a node.
+//! What the loss of a node does to the links.
 
-ghost use Rattle.std.specs.Prelude.{◌≡◌, ◌<◌, false, length, slice_set, IfOk, OnOk};
-ghost use Rattle.stat_plan.specs.Plans.{fault, is_related, nodes};
+ghost use Rattle.std.specs.Prelude.{◌≡◌, ◌<◌, length};
+ghost use Rattle.stat_plan.specs.Plans.{fault, nodes};
 ghost use Rattle.overlay_core.specs.Machine.{keep_of};
-ghost use Rattle.overlay_core.specs.Nodes.{Down};
-ghost use Rattle.overlay_node.specs.Frames.{IsFrameOf};
-ghost use Rattle.node_inbox.specs.Sends.{is_alive};
-ghost use Rattle.overlay_net.specs.Losses.{AreLost, IsCut, IsLost};
+ghost use Rattle.overlay_net.specs.Losses.{AreCut, AreCutBy, IsCut};
 
-use crate::events::is_up;
 use node_inbox::Inbox;
-use packet_frame::{Frame, Packet, encode};
-use prefix_tree::PrefixTree;
+use packet_frame::Frame;
+use stat_desk::Event;
 use stat_plan::Plan;
-use std::alloc::{AllocError, Global};
-
-// The frame that says that its sender is lost.
-fn down_frame<T: PrefixTree>(alloc: Global, plan: &Plan) -> Result<Frame, AllocError>
-    ensures { IfOk result (IsFrameOf plan.now Down) }
-{
-    encode::<T>(alloc, &Packet::Down)
-}
 
 // How many of the first packets on each link out of a node stay when it is lost.
 fn kept(plan: &Plan, n: u32) -> u32
@@ -32,72 +20,36 @@ fn kept(plan: &Plan, n: u32) -> u32
     }
 }
 
-// Whether one of the nodes is an original ancestor of the other.
-fn is_kin(plan: &Plan, n: u32, b: u32) -> bool
-    requires n { n < nodes plan.now }
-    requires b { b < nodes plan.now }
-    ensures { result ≡ is_related plan.now n b }
-{
-    plan.is_under(n, b) || plan.is_under(b, n)
-}
-
-// What the loss of the node `n` does to the packets that wait from it for the node `b`: the first of them stay, and `b`
-// is notified if it lives and is an ancestor or descendant.
-fn cut_link<T: PrefixTree>(
-    alloc: Global,
-    plan: &Plan,
-    alive: &[bool],
-    n: u32,
-    b: u32,
-    inbox: &mut Inbox<Frame>,
-) -> Result<(), AllocError>
-    requires n { n < nodes plan.now }
-    requires b { b < nodes plan.now }
-    ensures { OnOk result (IsCut plan.now alive.now n b inbox.old.waiting inbox.new.waiting) }
-{
-    inbox.cut(n, kept(plan, n) as usize);
-    if is_up(alive, b) && is_kin(plan, n, b) {
-        let frame = down_frame::<T>(alloc, plan)?;
-        inbox.make_room(alloc, n, 1)?;
-        inbox.put(n, frame);
-    }
-    Ok(())
-}
-
-// What the loss of the node `n` does to the inbox of a node. Nothing is left of its own.
-fn lose_at<T: PrefixTree>(
-    alloc: Global,
-    plan: &Plan,
-    alive: &[bool],
-    n: u32,
-    b: u32,
-    inbox: &mut Inbox<Frame>,
-) -> Result<(), AllocError>
-    requires n { n < nodes plan.now }
-    requires b { b < nodes plan.now }
-    ensures { OnOk result (IsLost plan.now alive.now n b inbox.old.waiting inbox.new.waiting) }
+// What the loss of the node `n` does to the inbox of the node `b`: of what waits from the lost node the first packets
+// stay, and of its own inbox nothing.
+fn cut_link(plan: &Plan, n: u32, b: u32, inbox: &mut Inbox<Frame>)
+    ensures { IsCut plan.now n b inbox.old inbox.new }
 {
     if b == n {
         inbox.clear();
-        return Ok(());
+    } else {
+        inbox.cut(n, kept(plan, n) as usize);
     }
-    cut_link::<T>(alloc, plan, alive, n, b, inbox)
 }
 
-/// What the loss of a node does to all inboxes.
-pub fn lose_links<T: PrefixTree>(
-    alloc: Global,
-    plan: &Plan,
-    alive: &[bool],
-    n: u32,
-    inboxes: &mut [Inbox<Frame>],
-) -> Result<(), AllocError>
-    requires n { n < nodes plan.now }
-    requires count { length inboxes.old ≡ nodes plan.now }
-    ensures { OnOk result (AreLost plan.now alive.now n (nodes plan.now) inboxes.old inboxes.new) }
+// What the loss of a node does to all inboxes.
+fn cut_all(plan: &Plan, n: u32, inboxes: &mut [Inbox<Frame>])
+    requires { length inboxes.old ≡ nodes plan.now }
+    ensures { AreCut plan.now n (nodes plan.now) inboxes.old inboxes.new }
 {
     for b in 0..plan.nodes() {
-        lose_at::<T>(alloc, plan, alive, n, b, &mut inboxes[b as usize])?;
+        cut_link(plan, n, b, &mut inboxes[b as usize]);
     }
-    Ok(())
+}
+
+/// What an event does to all inboxes if it is a loss: of what waits from the lost node the first packets stay, and for
+/// it nothing waits.
+pub fn cut_links(plan: &Plan, event: Event, inboxes: &mut [Inbox<Frame>])
+    requires { length inboxes.old ≡ nodes plan.now }
+    ensures cut { AreCutBy plan.now event inboxes.old inboxes.new }
+    ensures count { length inboxes.new ≡ length inboxes.old }
+{
+    if let Event::Lose { node } = event {
+        cut_all(plan, node, inboxes);
+    }
 }

@@ -1,19 +1,25 @@
 //! The overlay: its nodes, the packets between them, and what was released.
 
-ghost use Rattle.std.specs.Prelude.{◌≡◌, ◌↔◌, [], true, false, Err, IfOk, IsErr, OnErr, OnOk, List, slice_get};
+ghost use Rattle.std.specs.Prelude.{◌≡◌, ◌<◌, ◌↔◌, [], true, false, Err, IfOk, IsErr, OnErr, OnOk, List, slice_get};
 ghost use Rattle.stat_desk.specs.declared.event.Event.{Event};
 ghost use Rattle.overlay_core.specs.Bound.{bound};
 ghost use Rattle.overlay_core.specs.Machine.{enabled_events, is_enabled};
 ghost use Rattle.overlay_core.specs.Pick.{picked};
 ghost use Rattle.overlay_core.specs.Runs.{IsQuiet};
+ghost use Rattle.stat_plan.specs.Plans.{nodes};
+ghost use Rattle.event_claims.specs.Claims.{MayBeClaimed, claimable_events};
 ghost use Rattle.overlay_core.specs.TreeReleases.{releases_view};
 ghost use Rattle.overlay_net.specs.Handled.{ExtendsBy};
-ghost use Rattle.overlay_net.specs.Nets.{IsReachedBy, state_of};
+ghost use Rattle.overlay_net.specs.Claims.{FitsNet, IsPrepared, WasWorked};
+ghost use Rattle.overlay_net.specs.Nets.{AllHome, IsReachedBy, outs_of, state_of};
 ghost use Rattle.overlay_net.specs.Picks.{HasPicked};
+ghost use Rattle.overlay_net.specs.States.{IsClaimed, IsCommitted, IsSameNet};
 
-use crate::events::{all_events_are_counted, is_enabled, nth_enabled};
+use crate::claimed::Claimed;
+use crate::claims::{apply, claim, commit, prepare};
+use crate::events::{all_claims_are_counted, is_enabled, nth_claimable};
 use crate::pick::{length_bound, run_picked};
-use crate::state::{NetState, apply, start};
+use crate::state::{NetState, start};
 use overlay_core::Release;
 use prefix_tree::PrefixTree;
 use stat_desk::{Event, Journal};
@@ -41,7 +47,8 @@ pub struct Net<'p, T: PrefixTree> {
 
 impl<'p, T: PrefixTree> Model for Net<'p, T> {
     ghost use Rattle.std.specs.Prelude.{◌≡◌, false};
-    ghost use Rattle.overlay_net.specs.Nets.{NetView, coded_net};
+    ghost use Rattle.overlay_net.specs.Codes.{coded_net};
+    ghost use Rattle.overlay_net.specs.Nets.{NetView};
     ghost use Rattle.overlay_net.specs.States.{IsNetState, net_view};
 
     ghost Value = { NetView };
@@ -58,6 +65,7 @@ impl<'p, T: PrefixTree> Net<'p, T> {
     pub fn new(alloc: Global, plan: &'p Plan) -> Result<Net<'p, T>, AllocError>
         ensures plan { IfOk result (λ net. net.plan ≡ plan.now) }
         ensures start { IfOk result (λ net. IsReachedBy net []) }
+        ensures home { IfOk result (λ net. AllHome net) }
         ensures usable { IfOk result (λ net. net.failed ≡ false) }
     {
         let state = start(alloc, plan)?;
@@ -68,10 +76,12 @@ impl<'p, T: PrefixTree> Net<'p, T> {
         })
     }
 
-    /// Does an event. It may be any event, even one of nodes, streams or waves that the plan doesn't have; one that
+    /// Does an event, where no node is out. It may be any event, even one of nodes, streams or waves that the plan doesn't have; one that
     /// may not come next changes nothing. After running out of memory, each later call returns that error, and the net
     /// must not be read any more.
     pub fn apply(&mut self, event: Event) -> Result<(), NetError>
+        requires { self.old.failed ≡ false → AllHome self.old }
+        ensures home { self.new.failed ≡ false → AllHome self.new }
         ensures plan { self.new.plan ≡ self.old.plan }
         ensures reached { OnOk result (ExtendsBy event self.old self.new) }
         ensures enabled { OnOk result (is_enabled self.old.plan (state_of self.old) event ≡ true) }
@@ -86,9 +96,9 @@ impl<'p, T: PrefixTree> Net<'p, T> {
             return Err(NetError::OutOfMemory);
         }
         let alive = self.state.alive.as_slice();
-        let nodes = self.state.nodes.as_slice();
+        let places = self.state.places.as_slice();
         let inboxes = self.state.inboxes.as_slice();
-        if !is_enabled(self.plan, alive, nodes, inboxes, event) {
+        if !is_enabled(self.plan, alive, places, inboxes, event) {
             return Err(NetError::NotEnabled);
         }
         match apply(self.plan, &mut self.state, event) {
@@ -100,40 +110,102 @@ impl<'p, T: PrefixTree> Net<'p, T> {
         }
     }
 
-    /// The `i`-th of the events that may come next, from 0; none past the last. They are ordered by node, and those of
-    /// a node as its loss, its samples by stream, what it may receive by sender, and its tick.
+    /// The `i`-th of the events that may come next, from 0, where no node is out; none past the last. They are ordered
+    /// by node, and those of a node as its loss, its samples by stream, what it may receive by sender, and its tick.
     pub fn enabled(&self, i: u64) -> Option<Event>
-        requires { self.now.failed ≡ false }
+        requires usable { self.now.failed ≡ false }
+        requires home { AllHome self.now }
         ensures { result ≡ slice_get (enabled_events self.now.plan (state_of self.now)) i }
     {
-        nth_enabled(
+        self.claimable(i)
+    }
+
+    /// The `i`-th of the events that may be claimed, from 0; none past the last. Their order is that of
+    /// [`enabled`](Net::enabled). It takes no memory.
+    pub fn claimable(&self, i: u64) -> Option<Event>
+        requires { self.now.failed ≡ false }
+        ensures { result ≡ slice_get (claimable_events self.now.plan (state_of self.now) (outs_of self.now)) i }
+    {
+        self.plan.invariant();
+        nth_claimable(
             self.plan,
             self.state.alive.as_slice(),
-            self.state.nodes.as_slice(),
+            self.state.places.as_slice(),
             self.state.inboxes.as_slice(),
+            self.state.losing.total() > 0,
             &self.state.counts,
             i,
         )
     }
 
-    /// Whether no event may come next.
+    /// The event with which a node is out, if it is out.
+    pub fn out(&self, n: u32) -> Option<Event>
+        requires usable { self.now.failed ≡ false }
+        requires below { n < nodes self.now.plan }
+        ensures { result ≡ outs_of self.now n }
+    {
+        self.state.places[n as usize].event()
+    }
+
+    /// Claims an event: its node goes out, with the frame that the event receives. The net's state stays: until the
+    /// claim is committed, contracts see the node and the frame as they went out. It takes no memory.
+    pub fn claim(&mut self, event: Event) -> Claimed<T>
+        requires usable { self.old.failed ≡ false }
+        requires may { MayBeClaimed self.old.plan (state_of self.old) (outs_of self.old) event }
+        ensures claimed { IsClaimed event result self.old self.new }
+        ensures usable { self.new.failed ≡ false }
+    {
+        claim(self.plan, &mut self.state, event)
+    }
+
+    /// Makes room for all that a claim, which was worked on, sends and releases.
+    ///
+    /// Fails only if memory runs out. The net is then as it was.
+    pub fn prepare(&mut self, alloc: Global, claim: &Claimed<T>) -> Result<(), AllocError>
+        requires usable { self.old.failed ≡ false }
+        requires fits { FitsNet self.old claim.now }
+        requires worked { WasWorked self.old.plan claim.now }
+        ensures same { IsSameNet self.old self.new }
+        ensures usable { self.new.failed ≡ false }
+        ensures prepared { OnOk result (IsPrepared self.new claim.now) }
+    {
+        prepare(alloc, self.plan, &mut self.state, claim)
+    }
+
+    /// Commits a claim for which there is room: its node comes home, what it sends is delivered, and what it releases
+    /// is added to the releases. It takes no memory.
+    pub fn commit(&mut self, claim: Claimed<T>)
+        requires usable { self.old.failed ≡ false }
+        requires fits { FitsNet self.old claim }
+        requires worked { WasWorked self.old.plan claim }
+        requires prepared { IsPrepared self.old claim }
+        ensures committed { IsCommitted claim.event self.old self.new }
+        ensures usable { self.new.failed ≡ false }
+    {
+        commit(self.plan, &mut self.state, claim);
+    }
+
+    /// Whether no event may come next, where no node is out.
     pub fn is_quiet(&self) -> bool
-        requires { self.now.failed ≡ false }
+        requires usable { self.now.failed ≡ false }
+        requires home { AllHome self.now }
         ensures no_events { (result ≡ true) ↔ (enabled_events self.now.plan (state_of self.now) ≡ []) }
         ensures quiet { (result ≡ true) ↔ IsQuiet self.now.plan (state_of self.now) }
     {
         self.plan.invariant();
-        all_events_are_counted();
+        all_claims_are_counted();
         self.state.counts.total() == 0
     }
 
-    /// Does the events that the numbers after the seed pick, one after another, until none may come next. They are the
-    /// journal. The number after `x` is `x * 6364136223846793005 + 1442695040888963407` modulo 2^64; with `n` events
-    /// that may come next, it picks the one of number `x / 2^33` modulo `n`, in the order of
+    /// Does the events that the numbers after the seed pick, one after another, until none may come next, where no node
+    /// is out. They are the journal. The number after `x` is `x * 6364136223846793005 + 1442695040888963407` modulo
+    /// 2^64; with `n` events that may come next, it picks the one of number `x / 2^33` modulo `n`, in the order of
     /// [`enabled`](Net::enabled).
     ///
     /// A net that has run out of memory once, here too, returns that error ever after, and must not be read any more.
     pub fn run_picked(&mut self, seed: u64) -> Result<Journal, AllocError>
+        requires { self.old.failed ≡ false → AllHome self.old }
+        ensures home { self.new.failed ≡ false → AllHome self.new }
         ensures plan { self.new.plan ≡ self.old.plan }
         ensures picked { IfOk result (λ journal. HasPicked self.old seed journal self.new) }
         ensures start { IsReachedBy self.old []
@@ -178,5 +250,12 @@ impl<'p, T: PrefixTree> Net<'p, T> {
         ensures { releases_view T.tree result.now ≡ self.now.releases }
     {
         self.state.releases.as_slice()
+    }
+
+    /// What was released, in order.
+    pub fn into_releases(self) -> Vec<Release<T>>
+        ensures { releases_view T.tree result.items ≡ self.entry.releases }
+    {
+        self.state.releases
     }
 }

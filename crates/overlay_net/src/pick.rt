@@ -5,11 +5,13 @@ ghost use Rattle.stat_plan.specs.Machine.Waves.{ticks};
 ghost use Rattle.stat_plan.specs.Plans.{waves_of};
 ghost use Rattle.overlay_core.specs.Bound.{bound, bound_of, longest};
 ghost use Rattle.overlay_core.specs.Pick.{next_number, picked_event};
+ghost use Rattle.overlay_net.specs.Nets.{AllHome};
 ghost use Rattle.overlay_net.specs.Picks.{HasPicked};
 ghost use Rattle.overlay_net.specs.States.{IsNetState, net_view, state_at};
 
-use crate::events::nth_enabled;
-use crate::state::{NetState, apply};
+use crate::claims::apply;
+use crate::events::nth_claimable;
+use crate::state::NetState;
 use overlay_setup::{Mode, StreamDef};
 use prefix_tree::PrefixTree;
 use stat_desk::{Event, Journal};
@@ -26,7 +28,8 @@ fn next_number(x: u64) -> u64
 
 /// The event that a number picks of those that may come next, if there is one.
 fn picked_event<T: PrefixTree>(plan: &Plan, state: &NetState<T>, number: u64) -> Option<Event>
-    requires { IsNetState T.tree plan.now state.now }
+    requires net { IsNetState T.tree plan.now state.now }
+    requires home { AllHome (net_view T.tree plan.now state.now false) }
     ensures { result ≡ picked_event plan.now (state_at T.tree plan.now state.now) number }
 {
     plan.invariant();
@@ -34,11 +37,12 @@ fn picked_event<T: PrefixTree>(plan: &Plan, state: &NetState<T>, number: u64) ->
     if count == 0 {
         return None;
     }
-    nth_enabled(
+    nth_claimable(
         plan,
         state.alive.as_slice(),
-        state.nodes.as_slice(),
+        state.places.as_slice(),
         state.inboxes.as_slice(),
+        false,
         &state.counts,
         (number >> 33) % count,
     )
@@ -51,8 +55,10 @@ pub fn run_picked<T: PrefixTree>(
     state: &mut NetState<T>,
     seed: u64,
 ) -> Result<Journal, AllocError>
-    requires { IsNetState T.tree plan.now state.old }
+    requires net { IsNetState T.tree plan.now state.old }
+    requires home { AllHome (net_view T.tree plan.now state.old false) }
     ensures net { OnOk result (IsNetState T.tree plan.now state.new) }
+    ensures home { OnOk result (AllHome (net_view T.tree plan.now state.new false)) }
     ensures picked { IfOk result (λ journal. HasPicked (net_view T.tree plan.now state.old false) seed journal
         (net_view T.tree plan.now state.new false)) }
 {

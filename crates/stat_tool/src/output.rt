@@ -6,7 +6,7 @@ ghost use Rattle.overlay_core.specs.Machine.{start};
 ghost use Rattle.overlay_core.specs.Runs.{IsQuiet, after};
 ghost use Rattle.overlay_core.specs.TreeReleases.{release_view, releases_view};
 ghost use Rattle.merge_filter.specs.Contributions.{HasWave};
-ghost use Rattle.overlay_net.specs.Nets.{IsReachedBy};
+ghost use Rattle.overlay_net.specs.Nets.{AllHome, IsReachedBy};
 ghost use Rattle.overlay_setup.specs.NodeSets.{up_to};
 ghost use Rattle.stat_plan.specs.Invariants.{IsPlan};
 ghost use Rattle.stat_tool.specs.Call.{IsEventRefusal, IsJobRefusal};
@@ -140,6 +140,7 @@ fn replayed<T: PrefixTree>(
     requires same { net.now.plan ≡ plan.now }
     requires usable { net.now.failed ≡ false }
     requires reached { IsReachedBy net.now journal }
+    requires home { AllHome net.now }
     ensures replay { IfOk result (λ output. HasOutput (ReplayJob plan.now journal form) (output_view output)) }
     ensures journal { IfOk result (λ output. output.journal ≡ journal) }
 {
@@ -277,6 +278,7 @@ fn report_of<T: PrefixTree>(
 fn run_to_end<T: PrefixTree>(net: &mut Net<'_, T>, journal: &mut Journal) -> Result<(), AllocError>
     requires plan { IsPlan net.old.plan }
     requires usable { net.old.failed ≡ false }
+    requires home { AllHome net.old }
     requires reached { IsReachedBy net.old journal.old }
     requires serial { TakesFirst net.old.plan (start net.old.plan) journal.old }
     ensures plan { net.new.plan ≡ net.old.plan }
@@ -298,9 +300,11 @@ fn run_to_end<T: PrefixTree>(net: &mut Net<'_, T>, journal: &mut Journal) -> Res
 // Does the events of a journal, as far as they may come.
 fn redo<T: PrefixTree>(net: &mut Net<'_, T>, journal: &Journal) -> Result<(), Status>
     requires usable { net.old.failed ≡ false }
+    requires home { AllHome net.old }
     requires start { IsReachedBy net.old [] }
     ensures plan { net.new.plan ≡ net.old.plan }
     ensures usable { OnOk result (net.new.failed ≡ false) }
+    ensures home { OnOk result (AllHome net.new) }
     ensures reached { OnOk result (IsReachedBy net.new journal.now) }
     ensures refused { IfErr result (IsEventRefusal (first_refused net.old.plan (start net.old.plan) journal.now)) }
 {

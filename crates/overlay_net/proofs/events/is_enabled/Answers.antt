@@ -1,32 +1,60 @@
 use Rattle.std.proofs.Common.{◌≡◌, ◌∙◌, ◌<◌, true, Some, slice_get, sym, ap, subst}
+use Rattle.std.proofs.lemmas.Option.{none-some}
 use Rattle.stat_plan.specs.Plans.{nodes}
 use Rattle.node_inbox.specs.Sends.{inbox_at, is_alive}
 use Rattle.overlay_net.specs.Events.{may_come}
-use Rattle.overlay_net.proofs.Offers.{enabled_is, inbox_read, living_below, node_read, none_of_dead}
+use Rattle.overlay_net.specs.Places.{nodes_in, place_view, places_view, whole_inboxes}
+use Rattle.overlay_net.proofs.Offers.{enabled_is, living_below, none_of_dead}
+use Rattle.overlay_net.proofs.ReadPlaces.{box_below, box_read, home_box, home_fits, home_node, out_read, place_below, read_home}
 use Rattle.overlay_net.proofs.events.is_enabled.Goals as goal
 
 pub returns-then-not-is_up : goal.returns-then-not-is_up
 returns-then-not-is_up g c releases =
-    sym (none_of_dead c.args.plan.now c.args.alive.now c.args.nodes.now c.args.inboxes.now releases c.args.event
+    sym (none_of_dead c.args.plan.now c.args.alive.now (nodes_in (places_view c.args.places.now)) (whole_inboxes (places_view c.args.places.now) c.args.inboxes.now) releases c.args.event
     (ap (is_alive c.args.alive.now) (sym c.node-n.ensures) ∙ sym c.is_up.ensures ∙ c.if-not-is_up.true))
+
+pub unreachable-requires : goal.unreachable-requires
+unreachable-requires g c =
+    let xs = nodes_in (places_view c.args.places.now) in
+    let ib = whole_inboxes (places_view c.args.places.now) c.args.inboxes.now in
+    let n = c.node-n.result in
+    let lt : n < nodes c.args.plan.now = living_below c.args.plan.now c.args.alive.now xs ib n c.requires.parts (sym c.is_up.ensures ∙ c.if-not-is_up.false) in
+    let below = place_below c.args.plan.now c.args.alive.now c.args.places.now c.args.inboxes.now c.requires.parts n lt in
+    none-some c.in_default.field-0 (sym (c.requires.home n) ∙ out_read c.args.places.now n c.index-places-n.result below c.index-places-n.is ∙ ap (λ z. (place_view z).out) c.in_default.is)
+
+pub bounds-inboxes-n : goal.bounds-inboxes-n
+bounds-inboxes-n g c =
+    let xs = nodes_in (places_view c.args.places.now) in
+    let ib = whole_inboxes (places_view c.args.places.now) c.args.inboxes.now in
+    let n = c.node-n.result in
+    let lt : n < nodes c.args.plan.now = living_below c.args.plan.now c.args.alive.now xs ib n c.requires.parts (sym c.is_up.ensures ∙ c.if-not-is_up.false) in
+    box_below c.args.plan.now c.args.alive.now c.args.places.now c.args.inboxes.now c.requires.parts n lt
 
 pub may_be_next-requires-after_bounds : goal.may_be_next-requires-after_bounds
 may_be_next-requires-after_bounds g c κs within =
-    let p = c.args.plan.now in
-    let lt : c.node-n.result < nodes p = living_below p c.args.alive.now c.args.nodes.now c.args.inboxes.now c.node-n.result c.requires (sym c.is_up.ensures ∙ c.if-not-is_up.false) in
-    (c.requires.node c.node-n.result c.index-nodes-n.result (node_read p c.args.alive.now c.args.nodes.now c.args.inboxes.now c.node-n.result c.index-nodes-n.result c.requires lt c.index-nodes-n.is)).1
+    let xs = nodes_in (places_view c.args.places.now) in
+    let ib = whole_inboxes (places_view c.args.places.now) c.args.inboxes.now in
+    let n = c.node-n.result in
+    let lt : n < nodes c.args.plan.now = living_below c.args.plan.now c.args.alive.now xs ib n c.requires.parts (sym c.is_up.ensures ∙ c.if-not-is_up.false) in
+    let at = read_home c.args.plan.now c.args.alive.now c.args.places.now c.args.inboxes.now c.requires.parts n lt c.index-places-n.result c.index-places-n.is c.in-Home.node c.in-Home.is in
+    (home_fits c.args.plan.now c.args.alive.now c.args.places.now c.args.inboxes.now c.requires.parts n c.in-Home.node at lt).1
 
 pub returns : goal.returns
 returns g c releases =
     let p = c.args.plan.now in
+    let al = c.args.alive.now in
+    let xs = nodes_in (places_view c.args.places.now) in
+    let ib = whole_inboxes (places_view c.args.places.now) c.args.inboxes.now in
     let n = c.node-n.result in
-    let up : is_alive c.args.alive.now n ≡ true = sym c.is_up.ensures ∙ c.if-not-is_up.false in
-    let lt : n < nodes p = living_below p c.args.alive.now c.args.nodes.now c.args.inboxes.now n c.requires up in
-    let at : slice_get c.args.nodes.now n ≡ Some c.index-nodes-n.result = node_read p c.args.alive.now c.args.nodes.now c.args.inboxes.now n c.index-nodes-n.result c.requires lt c.index-nodes-n.is in
-    let box = inbox_read p c.args.alive.now c.args.nodes.now c.args.inboxes.now n c.index-inboxes-n.result c.requires lt c.index-inboxes-n.is in
+    let x = c.in-Home.node in
+    let up : is_alive al n ≡ true = sym c.is_up.ensures ∙ c.if-not-is_up.false in
+    let lt : n < nodes p = living_below p al xs ib n c.requires.parts up in
+    let place = read_home p al c.args.places.now c.args.inboxes.now c.requires.parts n lt c.index-places-n.result c.index-places-n.is x c.in-Home.is in
+    let at : slice_get xs n ≡ Some x = home_node p al c.args.places.now c.args.inboxes.now c.requires.parts n x place lt in
+    let box = box_read p al c.args.places.now c.args.inboxes.now c.requires.parts n lt c.index-inboxes-n.result c.index-inboxes-n.is ∙ sym (home_box p al c.args.places.now c.args.inboxes.now c.requires.parts n x place lt) in
     c.may_be_next.ensures
-    ∙ (λ i. may_come p c.index-nodes-n.result (box i) c.args.event)
-    ∙ ap (λ k. may_come p c.index-nodes-n.result (inbox_at c.args.inboxes.now k) c.args.event) c.node-n.ensures
-    ∙ sym (enabled_is p c.args.alive.now c.args.nodes.now c.args.inboxes.now releases c.args.event c.index-nodes-n.result c.requires
-    (subst (λ k. is_alive c.args.alive.now k ≡ true) c.node-n.ensures up)
-    (subst (λ k. slice_get c.args.nodes.now k ≡ Some c.index-nodes-n.result) c.node-n.ensures at))
+    ∙ (λ i. may_come p x (box i) c.args.event)
+    ∙ ap (λ k. may_come p x (inbox_at ib k) c.args.event) c.node-n.ensures
+    ∙ sym (enabled_is p al xs ib releases c.args.event x c.requires.parts
+    (subst (λ k. is_alive al k ≡ true) c.node-n.ensures up)
+    (subst (λ k. slice_get xs k ≡ Some x) c.node-n.ensures at))

@@ -1,6 +1,7 @@
 use Rattle.std.proofs.Common.{◌∙◌, false, refl, sym, ap, subst}
 use Rattle.overlay_core.specs.Pick.{next_number, picked_event}
 use Rattle.overlay_net.specs.States.{net_view, state_at}
+use Rattle.overlay_net.proofs.Seen.{seen_net}
 use Rattle.overlay_net.proofs.Picks.{HasCome, all_picked, may_be_picked, one_more, weighs_less}
 use Rattle.overlay_net.proofs.pick.run_picked.Goals as goal
 
@@ -11,7 +12,7 @@ pub loop-event-smaller : goal.loop-event-smaller
 loop-event-smaller g c =
     let old = net_view g.T.PrefixTree.tree c.args.plan.now c.loop-event.state false in
     let new = net_view g.T.PrefixTree.tree c.args.plan.now c.apply.new.state false in
-    weighs_less old new c.loop-event.state.counts c.in-Some.event c.invariant.ensures c.loop-event.invariant.net refl
+    weighs_less old new c.in-Some.event c.invariant.ensures (seen_net g.T.PrefixTree.tree c.args.plan.now c.loop-event.state c.loop-event.invariant.net) refl
     (may_be_picked old c.next_number.result c.in-Some.event c.in-Some.ensures) c.in_ok-apply.ensures.reached
 
 pub loop-event-preserved : goal.loop-event-preserved
@@ -21,9 +22,10 @@ loop-event-preserved g c =
     let new = net_view g.T.PrefixTree.tree c.args.plan.now c.apply.new.state false in
     record {
       net = c.in_ok-apply.ensures.net;
+      home = c.in_ok-apply.ensures.home;
       come = subst (λ n. HasCome start c.args.seed c.push.new.self n new) (sym c.next_number-number.ensures)
           (subst (λ es. HasCome start c.args.seed es (next_number c.loop-event.number) new) (sym c.in_ok-push.ensures.ok)
-          (one_more start old new c.loop-event.state.counts c.args.seed c.loop-event.number c.loop-event.journal c.in-Some.event c.loop-event.invariant.net c.loop-event.invariant.come
+          (one_more start old new c.args.seed c.loop-event.number c.loop-event.journal c.in-Some.event (seen_net g.T.PrefixTree.tree c.args.plan.now c.loop-event.state c.loop-event.invariant.net) c.loop-event.invariant.come
           (c.in-Some.ensures ∙ ap (picked_event c.args.plan.now (state_at g.T.PrefixTree.tree c.args.plan.now c.loop-event.state)) c.next_number.ensures) refl c.in_ok-apply.ensures.reached));
     }
 

@@ -1,5 +1,6 @@
 use Rattle.std.proofs.Common.{false}
 use Rattle.overlay_core.proofs.Potential.{weight}
+use Rattle.overlay_net.specs.Nets.{AllHome}
 use Rattle.overlay_net.specs.States.{IsNetState, net_view, state_at}
 use Rattle.overlay_net.proofs.Picks.{HasCome}
 use Rattle.overlay_net.proofs.pick.run_picked.Given as goal
@@ -7,6 +8,7 @@ use Rattle.overlay_net.proofs.pick.run_picked.Given as goal
 abbrev pub invariant-loop-event : goal.invariant-loop-event
 invariant-loop-event g l = record {
   net : IsNetState g.T.PrefixTree.tree l.plan l.state;
+  home : AllHome (net_view g.T.PrefixTree.tree l.plan l.state false);
   come : HasCome (net_view g.T.PrefixTree.tree l.plan l.fn.state false) l.seed l.journal l.number (net_view g.T.PrefixTree.tree l.plan l.state false);
 }
 

@@ -18,6 +18,7 @@ loop-number-preserved g c =
     record {
       plan = c.apply.ensures.plan ∙ old.plan;
       usable = c.in-Ok.ensures.usable;
+      home = c.apply.ensures.home c.in-Ok.ensures.usable;
       reached = subst (IsReachedBy c.apply.new.self)
           (sym (take_more journal n c.at.result (slice_get_within journal n c.at.result c.at.ensures) ∙ ap (λ e. take n journal ++ e ∷ []) (get_or_from_slice_get journal n c.at.result c.at.result c.at.ensures)))
           (c.in-Ok.ensures.reached (take n journal) old.reached);

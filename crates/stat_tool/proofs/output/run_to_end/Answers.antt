@@ -22,6 +22,7 @@ loop-event-preserved g c =
     record {
       plan = c.apply.ensures.plan ∙ old.plan;
       usable = c.in-Ok.ensures.usable;
+      home = c.apply.ensures.home c.in-Ok.ensures.usable;
       reached = subst (IsReachedBy c.apply.new.self) (sym c.in_ok-push-in-Ok.ensures.ok) (c.in-Ok.ensures.reached c.loop-event.journal old.reached);
       serial = subst (TakesFirst p (start p)) (sym c.in_ok-push-in-Ok.ensures.ok) (extends c.loop-event.net p c.loop-event.journal c.in-Some.event old.plan old.reached c.in-Some.ensures old.serial);
     }

@@ -1,7 +1,7 @@
 use Rattle.std.proofs.Common.{◌≡◌, ◌-◌, false, length}
 use Rattle.overlay_core.specs.Bound.{bound}
 use Rattle.overlay_core.specs.Machine.{start}
-use Rattle.overlay_net.specs.Nets.{IsReachedBy}
+use Rattle.overlay_net.specs.Nets.{AllHome, IsReachedBy}
 use Rattle.stat_tool.specs.Reports.{TakesFirst}
 use Rattle.stat_tool.proofs.output.run_to_end.Given as goal
 
@@ -9,6 +9,7 @@ abbrev pub invariant-loop-event : goal.invariant-loop-event
 invariant-loop-event g l = record {
   plan : l.net.plan ≡ l.fn.net.plan;
   usable : l.net.failed ≡ false;
+  home : AllHome l.net;
   reached : IsReachedBy l.net l.journal;
   serial : TakesFirst l.fn.net.plan (start l.fn.net.plan) l.journal;
 }

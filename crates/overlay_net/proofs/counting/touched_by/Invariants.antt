@@ -1,7 +1,0 @@
-use Rattle.std.proofs.Common.{◌≡◌, ◌∷◌, map, take}
-use Rattle.overlay_net.proofs.counting.touched_by.Given as goal
-
-abbrev pub invariant-loop-to : goal.invariant-loop-to
-invariant-loop-to l = record {
-  numbers : l.numbers.items ≡ l.n ∷ map (λ v. v.0) (take l.to-index l.sends);
-}

@@ -1,0 +1,233 @@
+//! An event that was claimed, with what was moved out of the net for it.
+
+ghost use Rattle.std.specs.Prelude.{◌≡◌, ◌<◌, [], OnOk, IfOk, None, Some, map};
+ghost use Rattle.stat_plan.specs.Plans.{nodes};
+ghost use Rattle.overlay_node.specs.Outputs.{AreFrames, packets_of};
+ghost use Rattle.overlay_node.specs.Frames.{IsFrameOf};
+ghost use Rattle.overlay_core.specs.Nodes.{Down};
+ghost use Rattle.overlay_core.specs.TreeReleases.{releases_view};
+ghost use Rattle.stat_plan.specs.Plans.{is_related};
+ghost use Rattle.overlay_net.specs.Claims.{IsSameClaim, Leaves, Left, MayBeWorked, WasWorked, notices};
+ghost use Rattle.overlay_net.specs.Views.{claim_of, left_of};
+
+use overlay_node::{Node, Outgoing};
+use packet_frame::{Frame, Packet, encode};
+use prefix_tree::PrefixTree;
+use stat_desk::Event;
+use stat_plan::Plan;
+use std::alloc::{AllocError, Global};
+use std::marker::Model;
+use std::snapshot::Snapshot;
+
+/// What an event left besides its node.
+#[derive(Drop)]
+pub struct Work<T: PrefixTree> {
+    /// What the node sends and releases.
+    pub out: Outgoing<T>,
+    /// The receivers of what it sends, in order.
+    pub receivers: Vec<u32>,
+}
+
+/// An event that was claimed, with its node and the frame that it receives, which were moved out of the net. After
+/// [`work`](Claimed::work) it has what the event left of them.
+#[derive(Drop)]
+pub struct Claimed<T: PrefixTree> {
+    event: Event,
+    node: Node<T>,
+    frame: Option<Frame>,
+    // After a failure of `work` it is there, too, and says nothing.
+    work: Option<Work<T>>,
+    // The node and the frame as they were moved out, for contracts alone.
+    before: Snapshot<Node<T>>,
+    taken: Snapshot<Option<Frame>>,
+}
+
+impl<T: PrefixTree> Model for Claimed<T> {
+    ghost use Rattle.overlay_net.specs.Claims.{ClaimView};
+    ghost use Rattle.overlay_net.specs.Codes.{coded_claim};
+    ghost use Rattle.overlay_net.specs.Views.{IsClaimOf, claim_of};
+
+    ghost Value = { ClaimView };
+
+    ghost coded = { coded_claim };
+
+    ghost view = { λ c. claim_of T.tree c.event c.before.value c.taken.value c.node c.work };
+
+    ghost invariant = { λ c. IsClaimOf c.before.value c.taken.value c.node c.frame c.work };
+}
+
+impl<T: PrefixTree> Claimed<T> {
+    /// A claim that was not worked on yet.
+    pub(crate) fn new(event: Event, node: Node<T>, frame: Option<Frame>) -> Claimed<T>
+        ensures { result ≡ record { event = event; node = node; frame = frame; left = None } }
+    {
+        let before = Snapshot::of(&node);
+        let taken = Snapshot::of(&frame);
+        Claimed {
+            event,
+            node,
+            frame,
+            work: None,
+            before,
+            taken,
+        }
+    }
+
+    /// The event.
+    pub fn event(&self) -> Event
+        ensures { result ≡ self.now.event }
+    {
+        self.event
+    }
+
+    /// What the event left besides the node.
+    pub(crate) fn out(&self) -> &Outgoing<T>
+        requires { (left : Left) × (self.now.left ≡ Some left) }
+        ensures { (left : Left) → self.now.left ≡ Some left
+            → (result.now.sends ≡ left.sends) × (result.now.releases ≡ left.releases) }
+    {
+        let Some(work) = &self.work else {
+            unreachable!()
+        };
+        &work.out
+    }
+
+    /// The event, the node, what they left besides, and the receivers of what is sent.
+    pub(crate) fn into_parts(self) -> (Event, Node<T>, Outgoing<T>, Vec<u32>)
+        requires { (left : Left) × (self.left ≡ Some left) }
+        ensures event { result.0 ≡ self.event }
+        ensures left { self.left
+            ≡ Some (record { node = result.1; sends = result.2.sends; releases = result.2.releases }) }
+        ensures receivers { result.3.items ≡ map (λ v. v.0) result.2.sends }
+    {
+        let Claimed {
+            event,
+            node,
+            frame,
+            work,
+            before,
+            taken,
+        } = self;
+        drop(frame);
+        drop(before);
+        drop(taken);
+        let Some(Work { out, receivers }) = work else {
+            unreachable!()
+        };
+        (event, node, out, receivers)
+    }
+
+    /// Does the event at its node: the node takes its samples, handles the frame, or lets its timers go on. A loss
+    /// leaves the node as it is; its notices are made. The plan must be the net's.
+    ///
+    /// Fails only if memory runs out. The claim must not be used any more then.
+    pub fn work(&mut self, alloc: Global, plan: &Plan) -> Result<(), AllocError>
+        requires fresh { self.old.left ≡ None }
+        requires may { MayBeWorked plan.now self.old }
+        ensures worked { OnOk result (WasWorked plan.now self.new) }
+        ensures same { IsSameClaim self.old self.new }
+    {
+        let frame = self.frame.take();
+        match do_event(alloc, plan, &mut self.node, self.event, frame) {
+            Ok(work) => {
+                self.work = Some(work);
+                Ok(())
+            }
+            Err(error) => {
+                self.work = Some(no_work(alloc));
+                Err(error)
+            }
+        }
+    }
+}
+
+// No work: nothing is sent or released.
+fn no_work<T: PrefixTree>(alloc: Global) -> Work<T>
+    ensures { result.receivers.items ≡ map (λ v. v.0) result.out.sends }
+{
+    Work {
+        out: no_output(alloc),
+        receivers: Vec::new(alloc),
+    }
+}
+
+fn no_output<T: PrefixTree>(alloc: Global) -> Outgoing<T>
+    ensures { (result.sends ≡ []) × (result.releases ≡ []) }
+{
+    Outgoing {
+        sends: Vec::new(alloc),
+        releases: Vec::new(alloc),
+    }
+}
+
+// Does an event at its node.
+fn do_event<T: PrefixTree>(
+    alloc: Global,
+    plan: &Plan,
+    node: &mut Node<T>,
+    event: Event,
+    frame: Option<Frame>,
+) -> Result<Work<T>, AllocError>
+    requires { MayBeWorked plan.now (record { event = event; node = node.old; frame = frame; left = None }) }
+    ensures leaves { IfOk result (λ work. Leaves plan.now node.old event frame
+        (record { node = node.new; sends = work.out.sends; releases = work.out.releases })) }
+    ensures receivers { IfOk result (λ work. work.receivers.items ≡ map (λ v. v.0) work.out.sends) }
+{
+    let out = match event {
+        Event::Lose { node: n } => make_notices(alloc, plan, n)?,
+        _ => node.handle(alloc, plan, event, frame)?,
+    };
+    let receivers = receivers_of(alloc, out.sends.as_slice())?;
+    Ok(Work { out, receivers })
+}
+
+// The receivers of what is sent.
+fn receivers_of(alloc: Global, sends: &[(u32, Frame)]) -> Result<Vec<u32>, AllocError>
+    ensures { IfOk result (λ receivers. receivers.items ≡ map (λ v. v.0) sends.now) }
+{
+    let mut receivers = Vec::with_capacity(alloc, sends.len())?;
+    for (to, _) in sends {
+        receivers.push(*to)?;
+    }
+    Ok(receivers)
+}
+
+// The frame that says that its sender is lost.
+fn down_frame<T: PrefixTree>(alloc: Global, plan: &Plan) -> Result<Frame, AllocError>
+    ensures { IfOk result (IsFrameOf plan.now Down) }
+{
+    encode::<T>(alloc, &Packet::Down)
+}
+
+// Whether one of the nodes is an original ancestor of the other.
+fn is_kin(plan: &Plan, n: u32, b: u32) -> bool
+    requires n { n < nodes plan.now }
+    requires b { b < nodes plan.now }
+    ensures { result ≡ is_related plan.now n b }
+{
+    plan.is_under(n, b) || plan.is_under(b, n)
+}
+
+// The notices of the loss of a node: a frame for each of its ancestors and descendants.
+fn make_notices<T: PrefixTree>(
+    alloc: Global,
+    plan: &Plan,
+    n: u32,
+) -> Result<Outgoing<T>, AllocError>
+    requires { n < nodes plan.now }
+    ensures sent { IfOk result (λ out. packets_of out.sends ≡ notices plan.now n) }
+    ensures frames { IfOk result (λ out. AreFrames plan.now out.sends) }
+    ensures silent { IfOk result (λ out. out.releases ≡ []) }
+{
+    let mut sends = Vec::new(alloc);
+    for b in 0..plan.nodes() {
+        if b != n && is_kin(plan, n, b) {
+            let frame = down_frame::<T>(alloc, plan)?;
+            sends.push((b, frame))?;
+        }
+    }
+    Ok(Outgoing {
+        sends,
+        releases: Vec::new(alloc),
+    })
+}
