@@ -5,6 +5,7 @@
 
 mod desk;
 mod event;
+mod gate;
 mod journal;
 mod mem_desk;
 mod mem_sink;
@@ -13,6 +14,7 @@ mod system;
 
 pub use desk::{Desk, DeskError};
 pub use event::Event;
+pub use gate::{Gate, OpenGate};
 pub use journal::Journal;
 pub use mem_desk::MemDesk;
 pub use mem_sink::MemSink;
