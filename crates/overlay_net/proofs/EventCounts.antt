@@ -19,7 +19,7 @@ use Rattle.node_inbox.specs.Inboxes.{senders_of}
 use Rattle.node_inbox.specs.Sends.{inbox_at}
 use Rattle.overlay_net.specs.Inboxes.{FrameInbox}
 use Rattle.overlay_net.specs.Nets.{claims_at}
-use Rattle.overlay_net.specs.Events.{AreCounted, AreCountedBut, AreNodes, AreParts}
+use Rattle.overlay_net.specs.Events.{AreCountedBut, AreNodes, AreParts}
 use Rattle.overlay_net.proofs.Listed.{increasing_from_sorted, listed_waits}
 use Rattle.overlay_net.proofs.SmallCounts.{ascending_within_limit}
 
@@ -127,9 +127,3 @@ module _ (p : Plan) (al : List Bool) (xs : List NodeView) (ib : List FrameInbox)
           let other : b ≢ n = eqb-false b n t in
           let less : b < n = grind (arith, nat_tests) in
           set_else counts n b count other ∙ h.events b less
-
-  pub below_all : (counts : List ℕ) (k : ℕ) → nodes p ≤ k → AreCountedBelow counts k → AreCounted p al xs ib out counts
-  below_all counts k past h = record {
-    node_count = h.node_count;
-    events = λ b low other. h.events b (omega (arith, low, past));
-  }

@@ -12,7 +12,7 @@ use Rattle.overlay_net.specs.Nets.{NetView, state_of}
 use Rattle.overlay_net.specs.Places.{out_at}
 use Rattle.overlay_net.specs.States.{IsSameNet}
 
-moved_same : (p : Plan) (st : State) (c d : ClaimView) → IsSameClaim c d → IsMovedOut p st c → IsMovedOut p st d
+pub moved_same : (p : Plan) (st : State) (c d : ClaimView) → IsSameClaim c d → IsMovedOut p st c → IsMovedOut p st d
 moved_same p st c d same h = record {
   enabled = ap (is_enabled p st) same.event ∙ h.enabled;
   node = (λ i. node_of (same.node i)) ∙ h.node ∙ ap (λ e. st.node (event_node e)) (sym same.event);
@@ -20,7 +20,7 @@ moved_same p st c d same h = record {
   counts = λ top. subst (λ x. Counts x.held st.releases) (sym same.node) (h.counts (ap event_node (sym same.event) ∙ top));
 }
 
-worked_same : (p : Plan) (c d : ClaimView) → IsSameClaim c d → MayBeWorked p c → MayBeWorked p d
+pub worked_same : (p : Plan) (c d : ClaimView) → IsSameClaim c d → MayBeWorked p c → MayBeWorked p d
 worked_same p c d same h = record {
   number = ap (λ x. x.number) same.node ∙ h.number ∙ ap event_node (sym same.event);
   fits = subst (IsNodeOf p) (sym same.node) h.fits;

@@ -100,22 +100,6 @@ module _ (p : Plan) where
         | (inr f) ↦ old y (sym (last_else xs x n (λ e. eqb-false n k f (e ∙ h.node_count))) ∙ at)
       ]
 
-  -- nothing is there yet
-  pub none_initial : AreInitial p 0 [] [] []
-  none_initial = record {
-    node_count = refl;
-    inbox_count = refl;
-    alive_count = refl;
-    all_alive = tt;
-    numbers = λ n x at. absurd (no_node n x at);
-    start = λ n x at. absurd (no_node n x at);
-    counts = λ n x at. absurd (no_node n x at);
-    empty = λ n. nothing n;
-  }
-    where
-      no_node : (n : ℕ) (x : NodeView) → slice_get {X = NodeView} [] n ≡ Some x → ⊥
-      no_node n x at = cc
-
       nothing : (n : ℕ) → inbox_at {X = List ℕ} [] n ≡ []
       nothing zero = refl
       nothing (suc n) = refl

@@ -24,6 +24,7 @@ pub mod ReadPlaces
 pub mod Refits
 pub mod Refitted
 pub mod Seen
+pub mod Sending
 pub mod SmallCounts
 pub mod States
 pub mod Whole

@@ -1,13 +1,13 @@
 -- The events that may come next, by node.
-use Rattle.std.proofs.Common.{◌≡◌, ◌⊎◌, inl, inr, ◌∙◌, ℕ, suc, zero, ◌+◌, ◌-◌, ◌<◌, ◌≤◌, Bool, true, false, ◌&&◌, not, nat_eq, nat_lt, ◌==◌, ◌||◌, cond, List, [], ◌∷◌, ◌++◌, map, filter, find, length, get_or, drop, Option, Some, None, option_map, refl, sym, ap, subst, arith, eqb-true, eq-eqb}
+use Rattle.std.proofs.Common.{◌≡◌, ◌⊎◌, inl, inr, ◌∙◌, ℕ, suc, zero, ◌+◌, ◌-◌, ◌<◌, ◌≤◌, Bool, true, false, ◌&&◌, not, nat_eq, ◌==◌, ◌||◌, cond, List, [], ◌∷◌, ◌++◌, map, filter, find, length, get_or, drop, Option, Some, None, option_map, refl, sym, ap, subst, arith, eqb-true, eq-eqb}
 use Rattle.std.specs.Prelude.{slice_get}
 use Rattle.std.specs.List.{AllByRecursion, flat_map, list_any, sum}
-use Rattle.std.proofs.lemmas.Bool.{cases_Bool, cases_lt, true≢false, ltb-true, ltb-false}
+use Rattle.std.proofs.lemmas.Bool.{cases_Bool, cases_lt, true≢false}
 use Rattle.std.specs.Option.{option_eq}
-use Rattle.std.proofs.lemmas.List.{append-nil, drop_more, get_or_read, length-map}
+use Rattle.std.proofs.lemmas.List.{append-nil, drop_more, length-map}
 use Rattle.std.proofs.lemmas.List.Elements.{filter-append}
 use Rattle.std.proofs.lemmas.Grind.{flat_map-append}
-use Rattle.std.proofs.lemmas.Option.{slice_get_read, slice_get-get_or}
+use Rattle.std.proofs.lemmas.Option.{slice_get-get_or}
 use Rattle.overlay_setup.specs.NodeSets.{In, IsStrictlyIncreasing, member, up_to}
 use Rattle.stat_plan.specs.Plans.{Plan, nodes, nodes_of, ancestors, is_within, daemons, stream_of, serves, waves_of, waves_at, fault}
 use Rattle.overlay_setup.specs.Scripts.{Stream, IsDaemon}
@@ -37,7 +37,6 @@ use Rattle.overlay_net.specs.declared.events.Nth.{Nth}
 use Rattle.count_tree.specs.Places.{place_of}
 use Rattle.count_tree.proofs.Lists.{IsItem, finds_item, sum_of_lengths}
 use Rattle.stat_plan.proofs.TableLemmas.{at_table, length-up_to}
-use Rattle.node_inbox.specs.Sends.{no_inbox}
 use Rattle.overlay_net.proofs.Listed.{get_before, get_past, nth_past, filter_mapped, filter_none, filter_same, filter_up_to, listed_waits, increasing_from_sorted, sender_listed}
 
 -- ---- the daemons of a stream of the plan
@@ -318,25 +317,9 @@ pending_is (e ∷ es) m h = go (pending_is es m h.1) (e.0 == m)
     go rest true = some e.1 h.0
     go rest false = rest
 
--- a lesser number passes the test
-less_test : (m n : ℕ) → m < n → nat_lt m n ≡ true
-less_test m n lt = elim (cases_Bool (nat_lt m n)) [ inl t ↦ t | inr f ↦ absurd (let le : n ≤ m = ltb-false m n f in omega arith) ]
-
 -- the state's node is the node of the list
 pub node_there : (p : Plan) (xs : List NodeView) (n : ℕ) (x : NodeView) → slice_get xs n ≡ Some x → node_at p xs n ≡ node_of x
 node_there p xs n x at = ap (λ (o : Option NodeView). elim o [ None ↦ start_node p n | Some x ↦ node_of x ]) at
-
--- a number that is not less fails the test
-pub not_less : (m n : ℕ) → n ≤ m → nat_lt m n ≡ false
-not_less m n le = elim (cases_Bool (nat_lt m n)) [ inl t ↦ absurd (let lt : m < n = ltb-true m n t in omega arith) | inr f ↦ f ]
-
--- what is read at an index of the list of nodes is a node
-pub node_read : (p : Plan) (al : List Bool) (xs : List NodeView) (inboxes : List FrameInbox) (n : ℕ) (x : NodeView) → AreParts p al xs inboxes → n < nodes p → x ≡ get_or xs n x → slice_get xs n ≡ Some x
-node_read p al xs inboxes n x parts lt is = slice_get_read xs (nodes p) n x (sym parts.node_count) lt is
-
--- what is read at an index of the list of inboxes is the inbox of the node
-pub inbox_read : (p : Plan) (al : List Bool) (xs : List NodeView) (inboxes : List FrameInbox) (n : ℕ) (box : FrameInbox) → AreParts p al xs inboxes → n < nodes p → box ≡ get_or inboxes n box → box.waiting ≡ inbox_at inboxes n
-inbox_read p al xs inboxes n box parts lt is = ap (λ (b : FrameInbox). b.waiting) (get_or_read inboxes n box (subst (λ k. n < k) (sym parts.inbox_count) lt) is no_inbox)
 
 -- ---- a node of the parts in their state
 

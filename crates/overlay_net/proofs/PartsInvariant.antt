@@ -1,18 +1,17 @@
 -- What a net's parts have to know of what was taken and sent.
-use Rattle.std.proofs.Common.{◌≡◌, ◌≢◌, ◌∙◌, ◌<◌, ℕ, Bool, true, false, ◌==◌, ◌&&◌, ◌||◌, cond, List, [], ◌∷◌, ◌++◌, map, length, Option, Some, None, refl, sym, ap, subst, inl, inr, eqb-true, append-nil, append_assoc, arith}
+use Rattle.std.proofs.Common.{◌≡◌, ◌≢◌, ◌∙◌, ◌<◌, ℕ, Bool, true, false, ◌==◌, ◌||◌, cond, List, [], ◌∷◌, ◌++◌, map, length, Option, Some, None, refl, sym, ap, subst, inl, inr, eqb-true, append-nil, append_assoc, arith}
 use Rattle.std.proofs.lemmas.Bool.{cases_Bool, true≢false}
 use Rattle.std.proofs.lemmas.Bool.Decides.{nat_tests}
 use Rattle.overlay_setup.specs.NodeSets.{member}
 use Rattle.std.specs.List.{AllByRecursion}
 use Rattle.stat_desk.specs.declared.event.Event.{Event}
 use Rattle.stat_desk.specs.declared.event.Event.TheVariants.{Sample, Recv, Tick, Lose}
-use Rattle.stat_desk.specs.Events.{event_node}
 use Rattle.overlay_core.specs.Nodes.{Release}
 use Rattle.overlay_core.specs.Releases.{next_release}
 use Rattle.overlay_core.specs.TreeReleases.{numbers_after}
 use Rattle.overlay_net.specs.Inboxes.{FrameInbox, WaitingFrames}
 use Rattle.node_inbox.specs.Inboxes.{HaveSent, IsInbox, is_waiting, queue_of}
-use Rattle.node_inbox.specs.Sends.{AreSent, GoBelow, inbox_at, is_alive, is_receiver, packets_to}
+use Rattle.node_inbox.specs.Sends.{GoBelow, inbox_at, is_receiver, packets_to}
 use Rattle.overlay_net.specs.Sends.{IsFirst, IsTaken}
 
 -- a list with a first element isn't empty
@@ -44,14 +43,6 @@ pub waits_where_some : (es : WaitingFrames) (m : ℕ) → queue_of es m ≢ [] �
 waits_where_some es m some = elim (cases_Bool (is_waiting es m)) [ inl t ↦ t | inr f ↦ absurd (some (none_where_quiet es m f)) ]
 
 -- ---- what was taken
-
--- each other inbox is unchanged
-pub taken_others : (ia ib : List FrameInbox) (e : Event) (packet : Option (List ℕ)) → IsTaken ia e packet ib → (b : ℕ) → (b == event_node e) ≡ false → inbox_at ib b ≡ inbox_at ia b
-taken_others ia ib (Sample n s w) packet h b f = ap (λ (l : List FrameInbox). inbox_at l b) h.1
-taken_others ia ib (Recv n m) None h b f = absurd h
-taken_others ia ib (Recv n m) (Some q) h b f = h.others b f
-taken_others ia ib (Tick n) packet h b f = ap (λ (l : List FrameInbox). inbox_at l b) h.1
-taken_others ia ib (Lose n) packet h b f = ap (λ (l : List FrameInbox). inbox_at l b) h.1
 
 -- there are as many inboxes as there were
 pub taken_all : (ia ib : List FrameInbox) (e : Event) (packet : Option (List ℕ)) → IsTaken ia e packet ib → length ib ≡ length ia
@@ -129,15 +120,6 @@ receiver_is_member b (v ∷ vs) = (λ i. same_test b v.0 i || receiver_is_member
 pub or_both_false : (s t : Bool) → (s || t) ≡ false → (s ≡ false) × (t ≡ false)
 or_both_false true t e = absurd (true≢false e)
 or_both_false false t e = (refl, e)
-
--- what is sent to inboxes in which the same waits
-pub sent_from_same : (al : List Bool) (from : ℕ) (sends : List (ℕ × (List ℕ))) (ia ib ic : List FrameInbox) → ((b : ℕ) → inbox_at ib b ≡ inbox_at ia b) → length ib ≡ length ia → AreSent al from sends ib ic → AreSent al from sends ia ic
-sent_from_same al from sends ia ib ic same len h = record {
-  queues = λ a b. h.queues a b ∙ (λ i. cond ((a == from) && is_alive al b) (queue_of (same b i) a ++ packets_to b sends) (queue_of (same b i) a));
-  others = λ b e. h.others b e ∙ same b;
-  inbox_count = h.inbox_count ∙ len;
-  inboxes = λ is. h.inboxes (λ b. subst IsInbox (sym (same b)) (is b));
-}
 
 -- what is true of each element of two lists is true of both together
 pub all_append : {X : Type 0} (R : X → Type 0) (xs ys : List X) → AllByRecursion R xs → AllByRecursion R ys → AllByRecursion R (xs ++ ys)

@@ -1,5 +1,5 @@
 -- A net that does picked events, one after another.
-use Rattle.std.proofs.Common.{◌≡◌, ◌∙◌, ◌+◌, ◌/◌, ◌%◌, ◌^◌, ◌<◌, ◌≤◌, ℕ, Bool, true, ◌==◌, List, [], ◌∷◌, ◌++◌, length, slice_get, Some, None, refl, sym, ap, subst, arith, append-nil, append_assoc, eqb-true, eq-eqb}
+use Rattle.std.proofs.Common.{◌≡◌, ◌∙◌, ◌+◌, ◌/◌, ◌%◌, ◌^◌, ◌<◌, ◌≤◌, ℕ, Bool, true, ◌==◌, List, [], ◌∷◌, ◌++◌, length, slice_get, Some, None, refl, sym, ap, subst, arith, append_assoc, eqb-true, eq-eqb}
 use Rattle.std.specs.Prelude.{◌↔◌}
 use Rattle.stat_plan.specs.Invariants.{IsPlan}
 use Rattle.stat_plan.specs.Plans.{Plan}
@@ -25,10 +25,6 @@ pub record HasCome (old : NetView) (seed : ℕ) (journal : List Event) (number :
   pub picks : PicksFrom old.plan seed (state_of old) journal number
   pub state : ◌≡◌ {A = State} (state_of new) (run old.plan (state_of old) journal)
   pub reached : (earlier : List Event) → IsReachedBy old earlier → IsReachedBy new (earlier ++ journal)
-
--- nothing was done yet
-pub none_picked : (v : NetView) (seed : ℕ) → HasCome v seed [] seed v
-none_picked v seed = record { plan = refl; picks = refl; state = refl; reached = λ earlier h. subst (IsReachedBy v) (sym (append-nil earlier)) h }
 
 run_more : (p : Plan) (st : State) (es : List Event) (e : Event) → run p st (es ++ e ∷ []) ≡ step p (run p st es) e
 run_more p st [] e = refl

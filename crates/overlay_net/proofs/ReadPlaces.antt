@@ -172,21 +172,6 @@ inbox_count [] boxes len = len
 inbox_count (x ∷ xs) [] len = len
 inbox_count (x ∷ xs) (box ∷ boxes) len = ap suc (inbox_count xs boxes (omega (arith, len)))
 
--- a lost node has no events
-pub claims_dead : (p : Plan) (al : List Bool) (xs : List NodeView) (ib : List FrameInbox) (out : Outs) (n : ℕ) → is_alive al n ≡ false → claims_at p al xs ib out n ≡ []
-claims_dead p al xs ib out n dead = (λ i. cond (is_home (out n)) (filter (is_free p out) (none i)) []) ∙ both (is_home (out n))
-  where
-    none : events_at p al xs ib n ≡ []
-    none = go (slice_get xs n)
-      where
-        go : (o : Option NodeView) → (elim o as (λ _. List Event) [ None ↦ [] | (Some x) ↦ node_events p (is_alive al n) x (inbox_at ib n) ]) ≡ []
-        go None = refl
-        go (Some x) = ap (λ u. node_events p u x (inbox_at ib n)) dead
-
-    both : (b : Bool) → cond {A = List Event} b [] [] ≡ []
-    both true = refl
-    both false = refl
-
 -- a node that is out has none
 pub claims_away : (p : Plan) (al : List Bool) (xs : List NodeView) (ib : List FrameInbox) (out : Outs) (n : ℕ) (e : Event) → out n ≡ Some e → claims_at p al xs ib out n ≡ []
 claims_away p al xs ib out n e away = λ i. cond (is_home (away i)) (filter (is_free p out) (events_at p al xs ib n)) []

@@ -14,7 +14,7 @@ use Rattle.overlay_node.specs.Outputs.{packets_of}
 use Rattle.overlay_node.specs.NodeViews.{NodeView, node_of}
 use Rattle.overlay_net.specs.Inboxes.{FrameInbox}
 use Rattle.node_inbox.specs.Inboxes.{queue_of}
-use Rattle.node_inbox.specs.Sends.{inbox_at, is_alive, no_inbox, packets_to}
+use Rattle.node_inbox.specs.Sends.{inbox_at, is_alive, packets_to}
 use Rattle.overlay_net.specs.Nets.{node_at, state_with}
 
 -- bare, what goes to b
@@ -54,13 +54,6 @@ node_set p xs n y v below is b = go (b == n) refl
     go true t = let e : b ≡ n = eqb-true b n t in
         ap (λ a. node_at p (slice_set xs n y) a) e ∙ ap (shown n) (set_here xs n y below) ∙ is
     go false t = ap (shown b) (set_else xs n b y (eqb-false b n t))
-
--- an inbox that replaces another one
-pub inbox_here : (ib : List FrameInbox) (n : ℕ) (w : FrameInbox) → n < length ib → inbox_at (slice_set ib n w) n ≡ w.waiting
-inbox_here ib n w below = ap (λ (b : FrameInbox). b.waiting) (get_or-set_same ib n w no_inbox below)
-
-pub inbox_else : (ib : List FrameInbox) (n b : ℕ) (w : FrameInbox) → b ≢ n → inbox_at (slice_set ib n w) b ≡ inbox_at ib b
-inbox_else ib n b w other = ap (λ (b : FrameInbox). b.waiting) (get_or-set_other ib n b w no_inbox other)
 
 pub and_false : (u : Bool) → (u && false) ≡ false
 and_false true = refl

@@ -2,7 +2,6 @@
 use Rattle.std.proofs.Common.{◌≡◌, ◌≢◌, ◌∙◌, ◌<◌, ◌≤◌, ℕ, zero, suc, List, [], ◌∷◌, map, length, slice_get, slice_set, Option, Some, None, refl, sym, ap, arith}
 use Rattle.std.specs.Prelude.{slice_index_or}
 use Rattle.std.proofs.lemmas.Option.{none-some}
-use Rattle.overlay_node.specs.NodeViews.{NodeView}
 use Rattle.node_inbox.specs.Sends.{inbox_at, no_inbox}
 use Rattle.overlay_net.specs.Inboxes.{FrameInbox}
 use Rattle.overlay_net.specs.Places.{PlaceView, nodes_in, out_at, outs_in, whole_inbox, whole_inboxes, with_frame}
@@ -14,12 +13,6 @@ pub node_at_place : (ps : List PlaceView) (n : ℕ) (x : PlaceView) → slice_ge
 node_at_place [] n x at = absurd (none-some x at)
 node_at_place (y ∷ ys) zero x at = ap (λ (o : Option PlaceView). elim o [ None ↦ None | Some z ↦ Some z.node ]) at
 node_at_place (y ∷ ys) (suc n) x at = node_at_place ys n x at
-
--- the place of a node
-pub place_of_node : (ps : List PlaceView) (n : ℕ) (v : NodeView) → slice_get (nodes_in ps) n ≡ Some v → (x : PlaceView) × (slice_get ps n ≡ Some x) × (x.node ≡ v)
-place_of_node [] n v at = absurd (none-some v at)
-place_of_node (y ∷ ys) zero v at = (y, refl, let e : Some y.node ≡ Some v = at in cc)
-place_of_node (y ∷ ys) (suc n) v at = place_of_node ys n v at
 
 -- the event at a place
 pub out_at_place : (ps : List PlaceView) (n : ℕ) (x : PlaceView) → slice_get ps n ≡ Some x → out_at (outs_in ps) n ≡ x.out
@@ -63,11 +56,6 @@ home_inbox ps boxes n x at home lt = whole_at ps boxes n x at lt ∙ ap (λ o. w
 -- the frame that a node took along
 abbrev pub frame_at : List PlaceView → ℕ → Option (List ℕ)
 frame_at ps n = slice_index_or (map (λ x. x.frame) ps) n None
-
-pub frame_at_place : (ps : List PlaceView) (n : ℕ) (x : PlaceView) → slice_get ps n ≡ Some x → frame_at ps n ≡ x.frame
-frame_at_place [] n x at = absurd (none-some x at)
-frame_at_place (y ∷ ys) zero x at = ap (λ (o : Option PlaceView). elim o [ None ↦ None | Some z ↦ z.frame ]) at
-frame_at_place (y ∷ ys) (suc n) x at = frame_at_place ys n x at
 
 pub whole_view : (ps : List PlaceView) (boxes : List FrameInbox) (b : ℕ) → length ps ≡ length boxes → inbox_at (whole_inboxes ps boxes) b ≡ with_frame (out_at (outs_in ps) b) (frame_at ps b) (inbox_at boxes b)
 whole_view [] boxes zero len = refl

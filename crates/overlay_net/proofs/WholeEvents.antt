@@ -1,18 +1,16 @@
 -- An event of a net, as a whole.
 use Rattle.std.proofs.Common.{◌≡◌, ◌≢◌, ◌∙◌, ◌<◌, ◌^◌, ℕ, Bool, true, false, List, [], ◌∷◌, ◌++◌, map, length, slice_get, Some, sym, ap, subst}
 use Rattle.std.specs.Prelude.{Result, Ok, Err, OnOk}
-use Rattle.std.proofs.lemmas.List.{length-set, map-append}
-use Rattle.prefix_tree.specs.Tree.{Tree}
+use Rattle.std.proofs.lemmas.List.{length-set}
 use Rattle.stat_plan.specs.Invariants.{IsPlan}
 use Rattle.stat_plan.specs.Plans.{Plan, nodes, front}
 use Rattle.stat_desk.specs.declared.event.Event.{Event}
 use Rattle.stat_desk.specs.Events.{event_node}
-use Rattle.overlay_core.specs.declared.release.Release.{Release as Held}
 use Rattle.overlay_core.specs.Nodes.{Node}
 use Rattle.overlay_core.specs.Machine.{State, is_enabled, step}
 use Rattle.overlay_core.specs.Runs.{after}
 use Rattle.overlay_core.specs.LinkInvariant.{LinkInvariant}
-use Rattle.overlay_core.specs.TreeReleases.{TreeRelease, release_view, releases_view}
+use Rattle.overlay_core.specs.TreeReleases.{TreeRelease}
 use Rattle.overlay_core.proofs.PlanFacts.{plan_facts}
 use Rattle.overlay_core.proofs.Journals.{after_more, legal_more}
 use Rattle.overlay_core.proofs.Steps.{legal_sound}
@@ -22,8 +20,8 @@ use Rattle.overlay_net.specs.Nets.{net_view_of, state_with}
 use Rattle.node_inbox.specs.Sends.{AreSent, GoBelow}
 use Rattle.overlay_net.specs.Events.{AreNodes, AreParts, FrontCounts, IsNet, IsOrdinary}
 use Rattle.overlay_net.specs.Handled.{ExtendsBy}
-use Rattle.overlay_net.proofs.Handed.{IsHandedOver, MayHandOver}
-use Rattle.overlay_net.proofs.NextEvents.{can_take, event_below, go_below, may_handle, only_front, stepped}
+use Rattle.overlay_net.proofs.Handed.{IsHandedOver}
+use Rattle.overlay_net.proofs.NextEvents.{go_below, only_front, stepped}
 use Rattle.overlay_net.proofs.EventInvariant.{counts_kept, numbers_kept, parts_kept, trees_kept}
 use Rattle.overlay_net.proofs.PartsInvariant.{receivers_below, taken_all}
 use Rattle.overlay_net.proofs.Offers.{node_there}
@@ -40,16 +38,6 @@ module _ (p : Plan) (plan : IsPlan p) (al : List Bool) (xs : List NodeView) (ib 
   few x at =
       let same : (after p net.journal).node (event_node e) ≡ node_of x = ap (λ (s : State). s.node (event_node e)) (sym net.reached.state) ∙ node_there p xs (event_node e) x at in
       subst (λ (y : Node). y.count < 2 ^ 62) same (small_count p net.journal e (event_node e) plan net.reached.legal (subst (λ (s : State). is_enabled p s e ≡ true) net.reached.state en))
-
-  -- it may be handed over to its node
-  pub may_hand_over : MayHandOver p xs ib e
-  may_hand_over = record {
-    below = subst (λ k. event_node e < k) (sym net.parts.node_count) (event_below p plan al xs ib rs net.parts sound e en);
-    take = can_take p plan al xs ib rs net.parts sound e en;
-    fits = λ x at. (net.parts.node (event_node e) x at).1;
-    handle = λ ic packet x taken at. may_handle p plan al xs ib rs net.parts sound ic e x packet en ord taken at;
-    within_limit = few;
-  }
 
   module _ (ys : List NodeView) (ic : List FrameInbox) (sends : List (ℕ × (List ℕ))) (more : List TreeRelease) (over : IsHandedOver p e xs ys ib ic sends more) where
     pub all_go_below : GoBelow (nodes p) sends
@@ -103,7 +91,3 @@ module _ (p : Plan) (plan : IsPlan p) (al : List Bool) (xs : List NodeView) (ib 
 pub ok_then : {T E A B : Type 0} (r : Result T E) → OnOk r A → (A → B) → OnOk r B
 ok_then (Ok x) a f = f a
 ok_then (Err e) a f = tt
-
--- releases behind others
-pub releases_more : {X : Type 0} (tree : X → Tree) (xs ys zs : List (Held X)) → zs ≡ xs ++ ys → releases_view tree zs ≡ releases_view tree xs ++ releases_view tree ys
-releases_more tree xs ys zs is = ap (releases_view tree) is ∙ map-append (release_view tree) xs ys

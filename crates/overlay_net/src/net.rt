@@ -76,9 +76,9 @@ impl<'p, T: PrefixTree> Net<'p, T> {
         })
     }
 
-    /// Does an event, where no node is out. It may be any event, even one of nodes, streams or waves that the plan doesn't have; one that
-    /// may not come next changes nothing. After running out of memory, each later call returns that error, and the net
-    /// must not be read any more.
+    /// Does an event, where no node is out. It may be any event, even one of nodes, streams or waves that the plan doesn't
+    /// have; one that may not come next changes nothing. After running out of memory, each later call returns that error,
+    /// and the net must not be read any more.
     pub fn apply(&mut self, event: Event) -> Result<(), NetError>
         requires { self.old.failed ≡ false → AllHome self.old }
         ensures home { self.new.failed ≡ false → AllHome self.new }
