@@ -1,0 +1,9 @@
+//! A whole run on several workers: threads that share one board by a turn, and work on different nodes at the same time.
+#![tactic(auto)]
+
+mod board;
+mod run;
+mod worker;
+
+pub use board::{NetBoard, Ran};
+pub use run::run_workers;
