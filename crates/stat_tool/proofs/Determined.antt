@@ -129,7 +129,7 @@ step_stays (Gen size seed) results all front settled = refl
 
 -- a job ends as its output says
 end_of_job : (job : Job) (output : RunOutput) → HasOutput job output → end_of output.unfinished ≡ answer_of_job job
-end_of_job (RunJob p form) output has = ap end_of has.0.finished
+end_of_job (RunJob p form) output has = ap end_of has.finished
 end_of_job (SimJob p seed form) output has = ap end_of has.0.finished
 end_of_job (ReplayJob p events form) output has = ap end_of has.unfinished
 end_of_job (DirectJob p form) output has = ap end_of has.finished

@@ -6,5 +6,4 @@ pub mod JournalTexts
 pub mod Losses
 pub mod Outputs
 pub mod Prepared
-pub mod Serial
 pub mod Stopping

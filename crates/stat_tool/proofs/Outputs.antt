@@ -7,7 +7,7 @@ use Rattle.stat_plan.specs.Plans.{Plan}
 use Rattle.stat_desk.specs.declared.event.Event.{Event}
 use Rattle.overlay_core.specs.Machine.{State, start, is_enabled, enabled_events}
 use Rattle.overlay_core.specs.Runs.{after, IsLegal, IsQuiet, IsWhole}
-use Rattle.overlay_core.specs.TreeReleases.{TreeRelease, bare_releases}
+use Rattle.overlay_core.specs.TreeReleases.{AreNumberedInOrder, TreeRelease, bare_releases}
 use Rattle.generated_job.specs.Job.{job_plan}
 use Rattle.generated_job.specs.Summary.{HasTreeOfSamples, summary_of, summary_text}
 use Rattle.generated_job.proofs.OfJournal.{is_of_journal}
@@ -17,6 +17,7 @@ use Rattle.overlay_core.specs.Pick.{picked}
 use Rattle.overlay_core.proofs.Picks.{list_from_quiet, picked_is_whole}
 use Rattle.overlay_node.specs.Outputs.{ReleaseFits}
 use Rattle.overlay_net.specs.Nets.{NetView, IsReachedBy, state_of}
+use Rattle.overlay_run.specs.Boards.{IsWholeRun}
 use Rattle.journal_text.specs.Reading.{ReadJournal, journal_of}
 use Rattle.journal_text.specs.Text.{journal_text}
 use Rattle.journal_text.proofs.ReadBack.{read_back}
@@ -28,14 +29,13 @@ use Rattle.stat_tool.specs.Outputs.{HasRun, HasSummary, IsReplay, IsReplayed}
 use Rattle.stat_tool.specs.Reports.{EndsWaves, IsReportIn, IsReportOf, losses_of}
 use Rattle.stat_tool.proofs.Headline.{direct_where_waiting, ends_waves, is_report, one_report}
 use Rattle.stat_tool.proofs.JournalTexts.{accepted, legal_are_of, refused_at}
-use Rattle.stat_tool.proofs.Serial.{none_there}
 use Rattle.stat_tool.specs.declared.status.Status.{Status}
 use Rattle.stat_tool.specs.declared.status.Status.TheVariants.{Done, BadWords, DeskFault, BadInput, OverLimit, SinkFault, OutOfMemory, BadJournal, Unfinished}
 
 -- the report of what a net has released is that of the journal that leads to it
-pub report_of_net : (v : NetView) (p : Plan) (form : ReportForm) (journal : List Event) (text : List ℕ) → IsPlan p → v.plan ≡ p → IsReachedBy v journal
-    → IsReportIn form p p.faults v.releases (losses_of journal) text → IsReportOf p form journal text
-report_of_net v p form journal text plan same reached report =
+report_of_net : (v : NetView) (p : Plan) (form : ReportForm) (journal : List Event) (releases : List TreeRelease) (text : List ℕ) → IsPlan p → v.plan ≡ p → IsReachedBy v journal → releases ≡ v.releases
+    → IsReportIn form p p.faults releases (losses_of journal) text → IsReportOf p form journal text
+report_of_net v p form journal releases text plan same reached are report =
     is_report p form journal text (record {
       plan = plan;
       legal = subst (λ (p : Plan). IsLegal p journal) same reached.legal;
@@ -43,8 +43,13 @@ report_of_net v p form journal text plan same reached report =
       reached = ap (λ (st : State). st.releases) reached.state ∙ ap (λ (p : Plan). (after p journal).releases) same;
       numbered = reached.numbered;
       trees = subst (λ (p : Plan). AllByRecursion (ReleaseFits p) v.releases) same reached.trees;
-      text = report;
+      text = subst (λ (rs : List TreeRelease). IsReportIn form p p.faults rs (losses_of journal) text) are report;
     })
+
+-- where nothing is found first there is nothing
+none_there : (es : List Event) → None ≡ slice_get es 0 → es ≡ []
+none_there [] is = refl
+none_there (f ∷ es) is = absurd (cc)
 
 -- ---- replays
 
@@ -67,16 +72,16 @@ is_replayed p form output plan whole written report =
     }
 
 -- the output of a replay that has come to the end of its journal
-pub has_replay : (v : NetView) (p : Plan) (form : ReportForm) (output : RunOutput) → IsPlan p → v.plan ≡ p → IsReachedBy v output.journal → output.unfinished ≡ slice_get (enabled_events v.plan (state_of v)) 0
-    → IsReportIn form p p.faults v.releases (losses_of output.journal) output.report → output.journal_text ≡ [] → IsReplay p output.journal form output
-has_replay v p form output plan same reached first report unwritten =
+pub has_replay : (v : NetView) (p : Plan) (form : ReportForm) (releases : List TreeRelease) (output : RunOutput) → IsPlan p → v.plan ≡ p → IsReachedBy v output.journal → output.unfinished ≡ slice_get (enabled_events v.plan (state_of v)) 0
+    → releases ≡ v.releases → IsReportIn form p p.faults releases (losses_of output.journal) output.report → output.journal_text ≡ [] → IsReplay p output.journal form output
+has_replay v p form releases output plan same reached first are report unwritten =
     let legal : IsLegal p output.journal = subst (λ (p : Plan). IsLegal p output.journal) same reached.legal in
     let next : output.unfinished ≡ slice_get (enabled_events p (after p output.journal)) 0
     = first ∙ ap (λ (st : State). slice_get (enabled_events v.plan st) 0) reached.state ∙ ap (λ (p : Plan). slice_get (enabled_events p (after p output.journal)) 0) same in
     record {
       plan = plan;
       journal = refl;
-      report = report_of_net v p form output.journal output.report plan same reached report;
+      report = report_of_net v p form output.journal releases output.report plan same reached are report;
       unfinished = next;
       ended = λ none. ends_waves p output.journal plan (legal, (quiet_where_empty p output.journal (plan_facts p plan) legal).1 (none_there (enabled_events p (after p output.journal)) (sym none ∙ next)));
       unwritten = unwritten;
@@ -84,20 +89,29 @@ has_replay v p form output plan same reached first report unwritten =
 
 -- ---- runs
 
--- the output of a run that has ended
-pub has_run : (v : NetView) (p : Plan) (form : ReportForm) (output : RunOutput) → IsPlan p → v.plan ≡ p → IsReachedBy v output.journal → IsQuiet p (after p output.journal)
-    → IsReportIn form p p.faults v.releases (losses_of output.journal) output.report → output.journal_text ≡ journal_text p output.journal → output.unfinished ≡ None → HasRun p form output
-has_run v p form output plan same reached quiet report written finished =
-    let whole : IsWhole p output.journal = (subst (λ (p : Plan). IsLegal p output.journal) same reached.legal, quiet) in
-    let is = report_of_net v p form output.journal output.report plan same reached report in
+-- a net after which nothing is enabled has the releases of a whole run
+pub net_has_run : (v : NetView) (p : Plan) (journal : List Event) (releases : List TreeRelease) → v.plan ≡ p → IsReachedBy v journal → IsQuiet p (after p journal) → releases ≡ v.releases → IsWholeRun p journal releases
+net_has_run v p journal releases same reached quiet are = record {
+  whole = (subst (λ (p : Plan). IsLegal p journal) same reached.legal, quiet);
+  released = ap bare_releases are ∙ ap (λ (st : State). st.releases) reached.state ∙ ap (λ (p : Plan). (after p journal).releases) same;
+  numbered = subst (λ (rs : List TreeRelease). AreNumberedInOrder [] rs) (sym are) reached.numbered;
+  trees = subst (λ (rs : List TreeRelease). AllByRecursion (ReleaseFits p) rs) (sym are) (subst (λ (p : Plan). AllByRecursion (ReleaseFits p) v.releases) same reached.trees);
+}
+
+-- the output of a whole run
+pub has_run : (p : Plan) (form : ReportForm) (releases : List TreeRelease) (output : RunOutput) → IsPlan p → IsWholeRun p output.journal releases
+    → IsReportIn form p p.faults releases (losses_of output.journal) output.report → output.journal_text ≡ journal_text p output.journal → output.unfinished ≡ None → HasRun p form output
+has_run p form releases output plan run report written finished =
+    let is : IsReportOf p form output.journal output.report
+    = is_report p form output.journal output.report (record { plan = plan; legal = run.whole.0; releases = releases; reached = run.released; numbered = run.numbered; trees = run.trees; text = report }) in
     record {
       plan = plan;
       report = is;
-      ended = ends_waves p output.journal plan whole;
+      ended = ends_waves p output.journal plan run.whole;
       finished = finished;
       written = written;
-      replayed = is_replayed p form output plan whole written is;
-      all_wait = direct_where_waiting p form output.journal output.report plan whole is;
+      replayed = is_replayed p form output plan run.whole written is;
+      all_wait = direct_where_waiting p form output.journal output.report plan run.whole is;
     }
 
 -- ---- what the code's answers cite

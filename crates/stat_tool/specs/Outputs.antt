@@ -3,7 +3,7 @@ use Rattle.std.specs.Prelude.{◌≡◌, ℕ, List, [], slice_get, None}
 use Rattle.stat_plan.specs.Invariants.{IsPlan}
 use Rattle.stat_plan.specs.Plans.{Plan}
 use Rattle.stat_desk.specs.declared.event.Event.{Event}
-use Rattle.overlay_core.specs.Machine.{start, enabled_events}
+use Rattle.overlay_core.specs.Machine.{enabled_events}
 use Rattle.overlay_core.specs.Pick.{picked}
 use Rattle.overlay_core.specs.Runs.{after}
 use Rattle.overlay_core.specs.Whole.{LosesNoDaemon}
@@ -15,7 +15,7 @@ use Rattle.generated_job.specs.Summary.{summary_of}
 use Rattle.stat_words.specs.declared.words.ReportForm.{ReportForm}
 use Rattle.stat_tool.specs.Jobs.{Job, RunJob, SimJob, ReplayJob, DirectJob, GenJob, RunOutput}
 use Rattle.stat_tool.specs.NextStep.{Does, replay_step}
-use Rattle.stat_tool.specs.Reports.{EndsWaves, IsReportIn, IsReportOf, TakesFirst, losses_of}
+use Rattle.stat_tool.specs.Reports.{EndsWaves, IsReportIn, IsReportOf, losses_of}
 
 -- A given journal, done event by event: the report of what it releases, and the first event that may still come. No journal
 -- is written. Where nothing may come, each wave has ended.
@@ -34,7 +34,7 @@ pub record IsReplayed (p : Plan) (form : ReportForm) (output : RunOutput) : Type
   pub accepted : replay_step p form (journal_of p output.journal_text) ≡ Does (ReplayJob p output.journal form)
   pub same : (replay : RunOutput) → IsReplay p output.journal form replay → (replay.unfinished ≡ None) × (replay.report ≡ output.report)
 
--- The headline: what a run of a plan returns.
+-- The headline: what a run of a plan returns, on however many workers, and in whatever order they have done its events.
 pub record HasRun (p : Plan) (form : ReportForm) (output : RunOutput) : Type 0 where
   pub plan : IsPlan p
   -- the report is that of the journal, each wave has ended, and no event may come
@@ -65,9 +65,9 @@ pub record HasSummary (size seed : ℕ) (output : RunOutput) : Type 0 where
   pub finished : output.unfinished ≡ None
   pub unwritten : output.journal_text ≡ []
 
--- The table of the modes. In a run each event is the first enabled one; in a simulation the seed picks the events.
+-- The table of the modes. In a simulation the seed picks the events.
 abbrev pub HasOutput : Job → RunOutput → Type 0
-HasOutput (RunJob p form) output = HasRun p form output × TakesFirst p (start p) output.journal
+HasOutput (RunJob p form) output = HasRun p form output
 HasOutput (SimJob p seed form) output = HasRun p form output × (output.journal ≡ picked p seed)
 HasOutput (ReplayJob p events form) output = IsReplay p events form output
 HasOutput (DirectJob p form) output = HasDirect p form output

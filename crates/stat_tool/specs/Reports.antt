@@ -1,5 +1,5 @@
 -- What a report says: the releases of a journal, and how each wave ends.
-use Rattle.std.specs.Prelude.{◌≡◌, ◌≢◌, ⊤, ℕ, List, [], ◌∷◌, ◌++◌, slice_get, Some}
+use Rattle.std.specs.Prelude.{◌≡◌, ◌≢◌, ⊤, ℕ, List, [], ◌∷◌, ◌++◌}
 use Rattle.std.specs.List.{AllByRecursion}
 use Rattle.rank_set.specs.Ranks.{Ranks, none, IsSubset}
 use Rattle.overlay_setup.specs.NodeSets.{In}
@@ -11,7 +11,6 @@ use Rattle.stat_desk.specs.declared.event.Event.TheVariants.{Sample, Recv, Tick,
 use Rattle.overlay_core.specs.declared.release.Kind.TheVariants.{Partial, Final}
 use Rattle.overlay_core.specs.Nodes.{Release}
 use Rattle.overlay_core.specs.History.{of_wave}
-use Rattle.overlay_core.specs.Machine.{State, step, enabled_events}
 use Rattle.overlay_core.specs.Releases.{CoversAll, ReleaseIsSound}
 use Rattle.overlay_core.specs.Runs.{IsLegal, IsWhole, after}
 use Rattle.overlay_core.specs.TreeReleases.{AreNumberedInOrder, TreeRelease, bare_releases}
@@ -28,11 +27,6 @@ losses_of (Sample n s w ∷ es) = losses_of es
 losses_of (Recv n m ∷ es) = losses_of es
 losses_of (Tick n ∷ es) = losses_of es
 losses_of (Lose n ∷ es) = n ∷ losses_of es
-
--- from a state on, each event is the first enabled one
-abbrev pub TakesFirst : Plan → State → List Event → Type 0
-TakesFirst p st [] = ⊤
-TakesFirst p st (e ∷ es) = (slice_get (enabled_events p st) 0 ≡ Some e) × TakesFirst p (step p st e) es
 
 -- of a wave's releases the last one is final and covers all ranks of the stream, and no other is final
 pub record EndsWithAll (p : Plan) (s : ℕ) (rs : List Release) : Type 0 where

@@ -10,24 +10,29 @@ use crate::modes::{prepare_direct, prepare_gen, prepare_replay, prepare_run, pre
 use crate::output::Output;
 use crate::status::{Outcome, Status, Target};
 use prefix_tree::PrefixTree;
-use stat_desk::{Desk, Journal, Sink, write_all_to};
+use stat_desk::{Desk, Gate, Journal, Sink, write_all_to};
 use stat_words::{Command, WordsError, read_words};
 use std::alloc::Global;
+use std::sync::Wait;
+use std::thread::Threads;
 
 /// Does what the words ask for: reads the files that they name, runs the overlay on their samples, and writes the
-/// report to `out` and the journal to `journal`. `T` is how the overlay keeps its trees.
+/// report to `out` and the journal to `journal`. `T` is how the overlay keeps its trees. A run's events are done by as
+/// many threads of `rt` as its words say, and each passes the gate; no other mode makes a thread or passes the gate.
 ///
 /// The files are read each once, in the order topology, samples, script, journal, and each is tested before the next is
 /// read. The report and the journal's text are built whole before their first byte is written.
 ///
 /// `answered` has the headline: where the status is Done, the files lead to a job, and the journal and the report are
 /// an output of it, `HasOutput`. Every other status has its cause there, too.
-pub fn stat<T: PrefixTree, D: Desk, O: Sink, J: Sink>(
+pub fn stat<R: Threads + Wait + Sync, T: PrefixTree, D: Desk, O: Sink, J: Sink, G: Gate>(
+    rt: &R,
     alloc: Global,
     words: &[String],
     desk: &mut D,
     out: &mut O,
     journal: &mut J,
+    gate: &G,
 ) -> Outcome
     ensures answered { Answered (asked (map string_bytes words.now))
         (desk_change D.faults D.last_fault D.contents desk.old desk.new)
@@ -43,16 +48,18 @@ pub fn stat<T: PrefixTree, D: Desk, O: Sink, J: Sink>(
     ensures untouched { ¬ HasWritten result.status → (out.new ≡ out.old) × (journal.new ≡ journal.old) }
     ensures journal { ¬ HasWritten result.status → result.journal ≡ [] }
 {
-    run::<T, D, O, J>(alloc, words, desk, out, journal)
+    run::<R, T, D, O, J, G>(rt, alloc, words, desk, out, journal, gate)
 }
 
 // The call; `stat` derives from its answer what the texts determine.
-fn run<T: PrefixTree, D: Desk, O: Sink, J: Sink>(
+fn run<R: Threads + Wait + Sync, T: PrefixTree, D: Desk, O: Sink, J: Sink, G: Gate>(
+    rt: &R,
     alloc: Global,
     words: &[String],
     desk: &mut D,
     out: &mut O,
     journal: &mut J,
+    gate: &G,
 ) -> Outcome
     ensures answered { Answered (asked (map string_bytes words.now))
         (desk_change D.faults D.last_fault D.contents desk.old desk.new)
@@ -69,7 +76,7 @@ fn run<T: PrefixTree, D: Desk, O: Sink, J: Sink>(
         Err(WordsError::Fault(fault)) => return stopped(alloc, Status::BadWords(fault)),
         Err(WordsError::OutOfMemory) => return stopped(alloc, Status::OutOfMemory),
     };
-    match prepare::<T, D>(alloc, command, desk) {
+    match prepare::<R, T, D, G>(rt, alloc, command, desk, gate) {
         Ok(output) => deliver(output, out, journal),
         Err(status) => stopped(alloc, status),
     }
@@ -87,10 +94,12 @@ fn stopped(alloc: Global, status: Status) -> Outcome
 }
 
 // The output of what the words ask for, before anything is written.
-fn prepare<T: PrefixTree, D: Desk>(
+fn prepare<R: Threads + Wait + Sync, T: PrefixTree, D: Desk, G: Gate>(
+    rt: &R,
     alloc: Global,
     command: Command<'_>,
     desk: &mut D,
+    gate: &G,
 ) -> Result<Output, Status>
     requires ranges { IsInRanges command }
     ensures ok { IfOk result (λ output. Prepared (asked_of command.entry) (D.contents desk.old) (output_view output)) }
@@ -104,7 +113,7 @@ fn prepare<T: PrefixTree, D: Desk>(
             files,
             workers,
             form,
-        } => prepare_run::<T, D>(alloc, files, workers, form, desk),
+        } => prepare_run::<R, T, D, G>(rt, alloc, files, workers, form, desk, gate),
         Command::Sim { files, seed, form } => prepare_sim::<T, D>(alloc, files, seed, form, desk),
         Command::Replay {
             files,

@@ -1,8 +1,10 @@
 //! Worked jobs: their files, as texts and in a desk, and the reports that their runs must write.
 use crate::{Status, stat};
 use prefix_tree::OwnedTree;
-use stat_desk::{Event, Journal, MemDesk, MemSink};
+use stat_desk::{Event, Journal, MemDesk, MemSink, OpenGate};
 use std::alloc::{AllocError, Global};
+use std::sync::Wait;
+use std::thread::Threads;
 
 pub const TWO_TOP: &str = "fe:0 => a:0 b:0 ;\n";
 
@@ -35,7 +37,7 @@ class 1:[1] paths 1
 ";
 
 // The report of the four ranks, whatever stands between the front end and their daemons.
-const FOUR_REPORT: &str = "stream 0 wave 0 release 1 final
+pub const FOUR_REPORT: &str = "stream 0 wave 0 release 1 final
 covered 4:[0-3]
 tree
 4:[0-3] - /
@@ -59,7 +61,7 @@ stack 0 0-16,18-63 main;solver::step(Grid&);MPI_Barrier;PMPI_Barrier;poll
 stack 0 17 main;solver::step(Grid&);solver::exchange<double, 3>(Grid const&, int);MPI_Recv
 ";
 
-const SOLVER_REPORT: &str = "stream 0 wave 0 release 1 final
+pub const SOLVER_REPORT: &str = "stream 0 wave 0 release 1 final
 covered 64:[0-63]
 tree
 64:[0-63] - /
@@ -112,6 +114,24 @@ class 14:[0-2,4-8,10-15] paths 1
 class 2:[3,9] paths 2
   main
   main;recv
+";
+
+// The report of the four ranks, where the daemon b is lost at the start.
+pub const NO_B: &str = "stream 0 wave 0 release 1 final
+covered 2:[0-1]
+lost b:0 2:[2-3]
+tree
+2:[0-1] - /
+  2:[0-1] - main
+    1:[0] 1:[0] MPI_Barrier
+    1:[1] 1:[1] compute
+classes
+class 1:[0] paths 1
+  main;MPI_Barrier
+class 1:[1] paths 1
+  main;compute
+fault b:0 lost after 0
+end
 ";
 
 // A job's three files, and the report that the run of it must write.
@@ -433,7 +453,25 @@ pub fn desk_of(
     )
 }
 
-pub const WORDS: [&str; 7] = ["run", "--topology", "t", "--samples", "s", "--script", "c"];
+pub const WORDS: [&str; 5] = [
+    "run",
+    "--topology=t",
+    "--samples=s",
+    "--script=c",
+    "--workers=1",
+];
+
+pub const REPLAY_WORDS: [&str; 9] = [
+    "replay",
+    "--topology",
+    "t",
+    "--samples",
+    "s",
+    "--script",
+    "c",
+    "--journal-in",
+    "j",
+];
 
 pub fn words_of(alloc: Global, texts: &[&str]) -> Result<Vec<String>, AllocError> {
     let mut words = Vec::new(alloc);
@@ -453,14 +491,20 @@ pub struct Called {
 }
 
 // A call with these words, whose sinks take sixteen bytes at a time.
-pub fn call(alloc: Global, desk: &mut MemDesk, texts: &[&str]) -> Result<Called, AllocError> {
+pub fn call<R: Threads + Wait + Sync>(
+    rt: &R,
+    alloc: Global,
+    desk: &mut MemDesk,
+    texts: &[&str],
+) -> Result<Called, AllocError> {
     let report = MemSink::new(alloc, 16, 20_000)?;
     let journal = MemSink::new(alloc, 16, 100_000)?;
-    call_into(alloc, desk, texts, report, journal)
+    call_into(rt, alloc, desk, texts, report, journal)
 }
 
 // A call with these words and sinks.
-pub fn call_into(
+pub fn call_into<R: Threads + Wait + Sync>(
+    rt: &R,
     alloc: Global,
     desk: &mut MemDesk,
     texts: &[&str],
@@ -469,12 +513,14 @@ pub fn call_into(
 ) -> Result<Called, AllocError> {
     let words = words_of(alloc, texts)?;
     let (mut report, mut journal) = (report, journal);
-    let outcome = stat::<OwnedTree, _, _, _>(
+    let outcome = stat::<R, OwnedTree, _, _, _, _>(
+        rt,
         alloc,
         words.as_slice(),
         desk,
         &mut report,
         &mut journal,
+        &OpenGate,
     );
     Ok(Called {
         status: outcome.status,
@@ -484,9 +530,25 @@ pub fn call_into(
     })
 }
 
+// The lines that lose the inner nodes of a set, each after as many events, with as many of its messages kept.
+pub fn lines_of(alloc: Global, set: u32, after: u32, keep: u32) -> Result<String, AllocError> {
+    let mut lines = String::new(alloc);
+    for number in 0u32..6 {
+        if (set >> number) & 1 == 1 {
+            let line = format!(in alloc; "lose c{number}:0 after {after} keep {keep}\n")?;
+            lines.push_str(line.as_str())?;
+        }
+    }
+    Ok(lines)
+}
+
 // The status of a run on a desk, and its report.
-pub fn run_on(alloc: Global, desk: &mut MemDesk) -> Result<(Status, MemSink), AllocError> {
-    let called = call(alloc, desk, WORDS.as_slice())?;
+pub fn run_on<R: Threads + Wait + Sync>(
+    rt: &R,
+    alloc: Global,
+    desk: &mut MemDesk,
+) -> Result<(Status, MemSink), AllocError> {
+    let called = call(rt, alloc, desk, WORDS.as_slice())?;
     Ok((called.status, called.report))
 }
 

@@ -26,3 +26,5 @@ mod net_tests;
 mod shy_tree;
 #[cfg(test)]
 mod tests;
+#[cfg(test)]
+mod worker_tests;

@@ -1,7 +1,7 @@
 //! Simulations, replays, direct merges and generated jobs: worked rows through whole calls.
 use crate::fixtures::{
-    ALL_SCR, DONT_WAIT_SCR, FOUR_RELEASE, FOUR_SMP, INNER_TOP, ONE_TOP, TWO_TOP, WORDS, WORKED,
-    call, desk_of, put,
+    ALL_SCR, DONT_WAIT_SCR, FOUR_RELEASE, FOUR_SMP, INNER_TOP, ONE_TOP, REPLAY_WORDS, TWO_TOP,
+    WORDS, WORKED, call, desk_of, put,
 };
 use crate::status::Status;
 use stat_desk::{Event, MemDesk};
@@ -229,18 +229,6 @@ recv b:0 fe:0
     },
 ];
 
-const REPLAY_WORDS: [&str; 9] = [
-    "replay",
-    "--topology",
-    "t",
-    "--samples",
-    "s",
-    "--script",
-    "c",
-    "--journal-in",
-    "j",
-];
-
 // The report of a replay that ends in this way: none where the journal is refused.
 fn report_of(alloc: Global, job: &Replayed) -> Result<String, AllocError> {
     let (releases, faults) = (job.releases, job.faults);
@@ -261,7 +249,7 @@ fn replays_journals(rt: HostRuntime) -> Result<(), AllocError> {
     let alloc = rt.alloc();
     for job in REPLAYED.as_slice() {
         let mut desk = desk_with_journal(alloc, job)?;
-        let called = call(alloc, &mut desk, REPLAY_WORDS.as_slice())?;
+        let called = call(&rt, alloc, &mut desk, REPLAY_WORDS.as_slice())?;
         let report = report_of(alloc, job)?;
         assert_eq!(rt; called.status, job.status);
         assert_eq!(rt; called.report.bytes(), report.as_bytes());
@@ -377,7 +365,7 @@ fn simulates_by_a_seed(rt: HostRuntime) -> Result<(), AllocError> {
             first,
             second,
         ];
-        let called = call(alloc, &mut desk, words.as_slice())?;
+        let called = call(&rt, alloc, &mut desk, words.as_slice())?;
         assert_eq!(rt; called.status, Status::Done);
         assert_eq!(rt; called.report.bytes(), job.report.as_bytes());
         assert_eq!(rt; called.journal.bytes(), job.journal.as_bytes());
@@ -391,9 +379,9 @@ fn replays_what_was_run(rt: HostRuntime) -> Result<(), AllocError> {
     let alloc = rt.alloc();
     for job in WORKED.as_slice() {
         let mut desk = desk_of(alloc, job.topology, job.samples, job.script)?;
-        let run = call(alloc, &mut desk, WORDS.as_slice())?;
+        let run = call(&rt, alloc, &mut desk, WORDS.as_slice())?;
         put(alloc, &mut desk, "j", run.journal.bytes())?;
-        let replay = call(alloc, &mut desk, REPLAY_WORDS.as_slice())?;
+        let replay = call(&rt, alloc, &mut desk, REPLAY_WORDS.as_slice())?;
         assert_eq!(rt; replay.status, Status::Done);
         assert_eq!(rt; replay.report.bytes(), job.report.as_bytes());
     }
@@ -418,7 +406,7 @@ fn merges_directly(rt: HostRuntime) -> Result<(), AllocError> {
     let alloc = rt.alloc();
     for job in WORKED.as_slice() {
         let mut desk = desk_of(alloc, job.topology, job.samples, job.script)?;
-        let called = call(alloc, &mut desk, DIRECT_WORDS.as_slice())?;
+        let called = call(&rt, alloc, &mut desk, DIRECT_WORDS.as_slice())?;
         assert_eq!(rt; called.status, Status::Done);
         assert!(rt; called.events.is_empty() && called.journal.bytes().is_empty());
         if job.script != DONT_WAIT_SCR {
@@ -434,7 +422,7 @@ fn merges_lost_daemons_directly(rt: HostRuntime) -> Result<(), AllocError> {
     let alloc = rt.alloc();
     let script = "stream 0 wait-for-all waves 1 samples 1 on all\nlose b:0 after 0 keep 0\n";
     let mut desk = desk_of(alloc, TWO_TOP, FOUR_SMP, script)?;
-    let called = call(alloc, &mut desk, DIRECT_WORDS.as_slice())?;
+    let called = call(&rt, alloc, &mut desk, DIRECT_WORDS.as_slice())?;
     let report = format!(in alloc; "{FOUR_RELEASE}end\n")?;
     assert_eq!(rt; called.status, Status::Done);
     assert_eq!(rt; called.report.bytes(), report.as_bytes());
@@ -472,7 +460,7 @@ fn sums_generated_jobs_up(rt: HostRuntime) -> Result<(), AllocError> {
     let alloc = rt.alloc();
     let mut desk = MemDesk::new(alloc);
     for (words, summary) in GENERATED.as_slice() {
-        let called = call(alloc, &mut desk, words.as_slice())?;
+        let called = call(&rt, alloc, &mut desk, words.as_slice())?;
         assert_eq!(rt; called.status, Status::Done);
         assert_eq!(rt; called.report.bytes(), summary.as_bytes());
         assert!(rt; called.journal.bytes().is_empty());

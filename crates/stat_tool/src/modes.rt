@@ -13,19 +13,24 @@ use crate::read::{read_file, read_plan};
 use crate::status::{FileRole, Status};
 use journal_text::{JournalRead, read_journal};
 use prefix_tree::PrefixTree;
-use stat_desk::Desk;
+use stat_desk::{Desk, Gate};
 use stat_plan::Plan;
 use stat_words::{Files, ReportForm};
 use std::alloc::Global;
+use std::sync::Wait;
+use std::thread::Threads;
 
-/// The run of a plan.
-pub fn prepare_run<T: PrefixTree, D: Desk>(
+/// The run of a plan on workers, whose events pass the gate.
+pub fn prepare_run<R: Threads + Wait + Sync, T: PrefixTree, D: Desk, G: Gate>(
+    rt: &R,
     alloc: Global,
     files: Files<'_>,
     workers: u8,
     form: ReportForm,
     desk: &mut D,
+    gate: &G,
 ) -> Result<Output, Status>
+    requires workers { (1 ≤ workers) × (workers ≤ 32) }
     ensures ok { IfOk result
         (λ output. Prepared (Run (names_of files.entry) workers form) (D.contents desk.old) (output_view output)) }
     ensures err { IfErr result (Prevented (Run (names_of files.entry) workers form)
@@ -37,7 +42,7 @@ pub fn prepare_run<T: PrefixTree, D: Desk>(
         Ok(plan) => plan,
         Err(status) => return Err(status),
     };
-    match run_plan::<T>(alloc, &plan, form) {
+    match run_plan::<R, T, G>(rt, alloc, &plan, workers, gate, form) {
         Ok(output) => Ok(output),
         Err(_) => Err(Status::OutOfMemory),
     }

@@ -1,19 +1,19 @@
 //! The outputs of the jobs: a journal, a report, and what is written of the journal.
-ghost use Rattle.std.specs.Prelude.{◌≡◌, ◌<◌, ◌++◌, ℕ, [], None, false, IfErr, IfOk, OnOk, map};
+ghost use Rattle.std.specs.Prelude.{◌≡◌, ◌<◌, ◌≤◌, ◌++◌, ℕ, [], None, false, IfErr, IfOk, OnOk, map};
 ghost use Rattle.front_end.specs.Report.{AreDistinct, direct_release, direct_releases};
 ghost use Rattle.journal_text.specs.Reading.{read_view};
 ghost use Rattle.overlay_core.specs.Machine.{start};
-ghost use Rattle.overlay_core.specs.Runs.{IsQuiet, after};
-ghost use Rattle.overlay_core.specs.TreeReleases.{release_view, releases_view};
+ghost use Rattle.overlay_core.specs.TreeReleases.{AreNumberedInOrder, release_view, releases_view};
 ghost use Rattle.merge_filter.specs.Contributions.{HasWave};
 ghost use Rattle.overlay_net.specs.Nets.{AllHome, IsReachedBy};
+ghost use Rattle.overlay_run.specs.Boards.{IsWholeRun};
 ghost use Rattle.overlay_setup.specs.NodeSets.{up_to};
 ghost use Rattle.stat_plan.specs.Invariants.{IsPlan};
 ghost use Rattle.stat_tool.specs.Call.{IsEventRefusal, IsJobRefusal};
 ghost use Rattle.stat_tool.specs.Jobs.{DirectJob, ReplayJob, RunJob, SimJob};
 ghost use Rattle.stat_tool.specs.NextStep.{Does, first_refused, replay_step};
 ghost use Rattle.stat_tool.specs.Outputs.{HasOutput, HasRun};
-ghost use Rattle.stat_tool.specs.Reports.{IsReportIn, TakesFirst, losses_of};
+ghost use Rattle.stat_tool.specs.Reports.{IsReportIn, losses_of};
 ghost use Rattle.stat_tool.specs.Views.{output_view};
 
 use crate::status::Status;
@@ -24,12 +24,15 @@ use journal_text::{JournalRead, write_journal};
 use merge_filter::{Contribution, direct};
 use overlay_core::{Kind, Release};
 use overlay_net::{Net, NetError};
+use overlay_run::{Ran, run_workers};
 use overlay_setup::StreamDef;
 use prefix_tree::PrefixTree;
-use stat_desk::{Event, Journal};
+use stat_desk::{Event, Gate, Journal};
 use stat_plan::Plan;
 use stat_words::ReportForm;
 use std::alloc::{AllocError, Global};
+use std::sync::Wait;
+use std::thread::Threads;
 
 /// What a job has made.
 #[derive(Drop)]
@@ -44,19 +47,26 @@ pub struct Output {
     pub journal_text: Vec<u8>,
 }
 
-/// Runs a plan: the first enabled event happens, again and again, until none is enabled.
-pub fn run_plan<T: PrefixTree>(
+/// Runs a plan on so many workers. Each event passes the gate, while its worker does not have the turn.
+pub fn run_plan<R: Threads + Wait + Sync, T: PrefixTree, G: Gate>(
+    rt: &R,
     alloc: Global,
     plan: &Plan,
+    workers: u8,
+    gate: &G,
     form: ReportForm,
 ) -> Result<Output, AllocError>
+    requires workers { (1 ≤ workers) × (workers ≤ 32) }
     ensures { IfOk result (λ output. HasOutput (RunJob plan.now form) (output_view output)) }
 {
-    plan.invariant();
-    let mut net: Net<'_, T> = Net::new(alloc, plan)?;
-    let mut journal = Journal::new(alloc);
-    run_to_end(&mut net, &mut journal)?;
-    finished(alloc, plan, &net, journal, form)
+    let Ran { journal, releases } = run_workers::<R, T, G>(
+        rt,
+        alloc,
+        plan,
+        u32::from(workers),
+        gate,
+    )?;
+    finished(alloc, plan, &releases, journal, form)
 }
 
 /// Runs a plan with the events that a seed picks, until none is enabled.
@@ -71,26 +81,23 @@ pub fn sim_plan<T: PrefixTree>(
     plan.invariant();
     let mut net: Net<'_, T> = Net::new(alloc, plan)?;
     let journal = net.run_picked(seed)?;
-    finished(alloc, plan, &net, journal, form)
+    finished(alloc, plan, net.releases(), journal, form)
 }
 
-// The output of a run that has ended.
+// The output of a whole run, of which this is the journal and these are the releases.
 fn finished<T: PrefixTree>(
     alloc: Global,
     plan: &Plan,
-    net: &Net<'_, T>,
+    releases: &[Release<T>],
     journal: Journal,
     form: ReportForm,
 ) -> Result<Output, AllocError>
-    requires plan { IsPlan plan.now }
-    requires same { net.now.plan ≡ plan.now }
-    requires usable { net.now.failed ≡ false }
-    requires reached { IsReachedBy net.now journal }
-    requires quiet { IsQuiet plan.now (after plan.now journal) }
+    requires whole { IsWholeRun plan.now journal (releases_view T.tree releases.now) }
     ensures run { IfOk result (λ output. HasRun plan.now form (output_view output)) }
     ensures journal { IfOk result (λ output. output.journal ≡ journal) }
 {
-    let report = report_of(alloc, plan, net, &journal, form)?;
+    plan.invariant();
+    let report = report_of(alloc, plan, releases, &journal, form)?;
     let journal_text = write_journal(alloc, plan, &journal)?;
     Ok(Output {
         unfinished: None,
@@ -146,7 +153,7 @@ fn replayed<T: PrefixTree>(
 {
     plan.invariant();
     let unfinished = net.enabled(0);
-    let report = report_of(alloc, plan, net, &journal, form)?;
+    let report = report_of(alloc, plan, net.releases(), &journal, form)?;
     Ok(Output {
         unfinished,
         journal,
@@ -253,48 +260,24 @@ fn losses_of(alloc: Global, journal: &Journal) -> Result<Vec<u32>, AllocError>
     Ok(lost)
 }
 
-// The report of what a net has released, and of what came of the plan's faults in this journal.
+// The report of what was released, and of what came of the plan's faults in this journal.
 fn report_of<T: PrefixTree>(
     alloc: Global,
     plan: &Plan,
-    net: &Net<'_, T>,
+    releases: &[Release<T>],
     journal: &Journal,
     form: ReportForm,
 ) -> Result<Vec<u8>, AllocError>
-    requires { net.now.failed ≡ false }
-    ensures { IfOk result (λ report. IsReportIn form plan.now plan.now.faults net.now.releases (losses_of journal.now)
-        report.items) }
+    requires numbered { AreNumberedInOrder [] (releases_view T.tree releases.now) }
+    ensures { IfOk result (λ report. IsReportIn form plan.now plan.now.faults (releases_view T.tree releases.now)
+        (losses_of journal.now) report.items) }
 {
-    net.invariant();
     numbered_releases_are_distinct();
     let lost = losses_of(alloc, journal)?;
     match form {
-        ReportForm::Text => report_text(alloc, plan, net.releases(), &lost),
-        ReportForm::Json => report_json(alloc, plan, net.releases(), &lost),
+        ReportForm::Text => report_text(alloc, plan, releases, &lost),
+        ReportForm::Json => report_json(alloc, plan, releases, &lost),
     }
-}
-
-// Does the first enabled event, again and again, until none is enabled.
-fn run_to_end<T: PrefixTree>(net: &mut Net<'_, T>, journal: &mut Journal) -> Result<(), AllocError>
-    requires plan { IsPlan net.old.plan }
-    requires usable { net.old.failed ≡ false }
-    requires home { AllHome net.old }
-    requires reached { IsReachedBy net.old journal.old }
-    requires serial { TakesFirst net.old.plan (start net.old.plan) journal.old }
-    ensures plan { net.new.plan ≡ net.old.plan }
-    ensures usable { OnOk result (net.new.failed ≡ false) }
-    ensures reached { OnOk result (IsReachedBy net.new journal.new) }
-    ensures serial { OnOk result (TakesFirst net.old.plan (start net.old.plan) journal.new) }
-    ensures quiet { OnOk result (IsQuiet net.old.plan (after net.old.plan journal.new)) }
-{
-    while let Some(event) = net.enabled(0) {
-        match net.apply(event) {
-            Ok(()) => journal.push(event)?,
-            Err(NetError::OutOfMemory) => return Err(AllocError),
-            Err(NetError::NotEnabled) => unreachable!(),
-        }
-    }
-    Ok(())
 }
 
 // Does the events of a journal, as far as they may come.

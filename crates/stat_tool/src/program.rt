@@ -6,10 +6,12 @@ ghost use Rattle.stat_tool.specs.Status.{number_of, refusal_of_status};
 use crate::call::stat;
 use crate::status::Status;
 use prefix_tree::PrefixTree;
-use stat_desk::{FileDesk, FileSink, StdSink};
+use stat_desk::{FileDesk, FileSink, OpenGate, StdSink};
 use stat_words::WordFault;
 use std::env;
 use std::rt::{Env, Files};
+use std::sync::Wait;
+use std::thread::Threads;
 
 /// The file that a run writes its journal to.
 const JOURNAL_NAME: &str = "stat.journal";
@@ -39,16 +41,20 @@ pub fn ending_of(status: Status) -> Ending
 }
 
 /// The call with the program's words, the real files, standard output, and a file `stat.journal` for the journal, which
-/// is made when it is first written to. Words that can't be had are bad words. What the outside gives and takes no
-/// clause can say; that the number and the line are those of one status, it says.
-pub fn run_program<T: PrefixTree, R: Env + Files + Print + AllocGlobal>(rt: &R) -> Ending
+/// is made when it is first written to. No event waits at the gate. Words that can't be had are bad words. What the
+/// outside gives and takes no clause can say; that the number and the line are those of one status, it says.
+pub fn run_program<T: PrefixTree, R: Env + Files + Print + AllocGlobal + Threads + Wait + Sync>(
+    rt: &R,
+) -> Ending
     ensures { IsEnding result }
 {
     ending_of(status_of_run::<T, R>(rt))
 }
 
 // The status of that call.
-fn status_of_run<T: PrefixTree, R: Env + Files + Print + AllocGlobal>(rt: &R) -> Status {
+fn status_of_run<T: PrefixTree, R: Env + Files + Print + AllocGlobal + Threads + Wait + Sync>(
+    rt: &R,
+) -> Status {
     let alloc = rt.alloc();
     let Ok(args) = env::args(rt) else {
         return Status::BadWords(WordFault::Options);
@@ -62,5 +68,14 @@ fn status_of_run<T: PrefixTree, R: Env + Files + Print + AllocGlobal>(rt: &R) ->
     let mut desk = FileDesk::new(alloc, rt);
     let mut out = StdSink::new(rt);
     let mut journal = FileSink::new(rt, name);
-    stat::<T, _, _, _>(alloc, words.as_slice(), &mut desk, &mut out, &mut journal).status
+    stat::<R, T, _, _, _, _>(
+        rt,
+        alloc,
+        words.as_slice(),
+        &mut desk,
+        &mut out,
+        &mut journal,
+        &OpenGate,
+    )
+    .status
 }

@@ -7,10 +7,12 @@ use crate::fixtures::{
 use crate::shy_tree::ShyTree;
 use crate::{FileRole, Status, Target, WordFault, stat};
 use prefix_tree::OwnedTree;
-use stat_desk::{Event, FileDesk, FileSink, MemDesk, MemSink, StdSink};
+use stat_desk::{Event, FileDesk, FileSink, MemDesk, MemSink, OpenGate, StdSink};
 use stat_words::Opt;
 use std::alloc::{AllocError, Global};
 use std::fs;
+use std::sync::Wait;
+use std::thread::Threads;
 use text_lines::{Quantity, Reason};
 
 // A text of each file, and its first fault: its line and its reason. The other files are good.
@@ -127,12 +129,14 @@ fn merges_the_parts_of_inner_nodes(rt: HostRuntime) -> Result<(), AllocError> {
     let words = words_of(alloc, WORDS.as_slice())?;
     let mut out = MemSink::new(alloc, 16, 20_000)?;
     let mut journal = MemSink::new(alloc, 16, 20_000)?;
-    let outcome = stat::<ShyTree, _, _, _>(
+    let outcome = stat::<_, ShyTree, _, _, _, _>(
+        &rt,
         alloc,
         words.as_slice(),
         &mut desk,
         &mut out,
         &mut journal,
+        &OpenGate,
     );
     assert_eq!(rt; outcome.status, Status::OutOfMemory);
     assert!(rt; out.bytes().is_empty() && journal.bytes().is_empty());
@@ -144,7 +148,7 @@ fn writes_the_reports_of_worked_jobs(rt: HostRuntime) -> Result<(), AllocError> 
     let alloc = rt.alloc();
     for job in WORKED.as_slice() {
         let mut desk = desk_of(alloc, job.topology, job.samples, job.script)?;
-        let (status, out) = run_on(alloc, &mut desk)?;
+        let (status, out) = run_on(&rt, alloc, &mut desk)?;
         assert_eq!(rt; status, Status::Done);
         assert_eq!(rt; out.bytes(), job.report.as_bytes());
     }
@@ -152,24 +156,30 @@ fn writes_the_reports_of_worked_jobs(rt: HostRuntime) -> Result<(), AllocError> 
 }
 
 // The status of a run of these files, and whether nothing is written.
-fn ends(
+fn ends<R: Threads + Wait + Sync>(
+    rt: &R,
     alloc: Global,
     topology: &[u8],
     samples: &[u8],
     script: &[u8],
 ) -> Result<(Status, bool), AllocError> {
     let mut desk = desk_of_bytes(alloc, topology, samples, script)?;
-    let (status, out) = run_on(alloc, &mut desk)?;
+    let (status, out) = run_on(rt, alloc, &mut desk)?;
     Ok((status, out.bytes().is_empty()))
 }
 
 // The status of a run of the small job with another text of one of its files, and whether nothing is written.
-fn ends_with(alloc: Global, file: FileRole, text: &[u8]) -> Result<(Status, bool), AllocError> {
+fn ends_with<R: Threads + Wait + Sync>(
+    rt: &R,
+    alloc: Global,
+    file: FileRole,
+    text: &[u8],
+) -> Result<(Status, bool), AllocError> {
     let (topology, samples, script) = (TWO_TOP.as_bytes(), FOUR_SMP.as_bytes(), ALL_SCR.as_bytes());
     match file {
-        FileRole::Topology => ends(alloc, text, samples, script),
-        FileRole::Samples => ends(alloc, topology, text, script),
-        FileRole::Script | FileRole::Journal => ends(alloc, topology, samples, text),
+        FileRole::Topology => ends(rt, alloc, text, samples, script),
+        FileRole::Samples => ends(rt, alloc, topology, text, script),
+        FileRole::Script | FileRole::Journal => ends(rt, alloc, topology, samples, text),
     }
 }
 
@@ -186,7 +196,7 @@ fn names_the_first_fault_of_each_file(rt: HostRuntime) -> Result<(), AllocError>
                 line: *line,
                 reason: *reason,
             };
-            let end = ends_with(rt.alloc(), file, text)?;
+            let end = ends_with(&rt, rt.alloc(), file, text)?;
             assert_eq!(rt; end, (status, true));
         }
     }
@@ -206,7 +216,7 @@ fn names_the_first_limit_that_is_passed(rt: HostRuntime) -> Result<(), AllocErro
                 what: *what,
                 limit: *limit,
             };
-            let end = ends_with(rt.alloc(), file, text)?;
+            let end = ends_with(&rt, rt.alloc(), file, text)?;
             assert_eq!(rt; end, (status, true));
         }
     }
@@ -217,9 +227,9 @@ fn names_the_first_limit_that_is_passed(rt: HostRuntime) -> Result<(), AllocErro
 fn reads_the_files_in_order(rt: HostRuntime) -> Result<(), AllocError> {
     let alloc = rt.alloc();
     let good = TWO_TOP.as_bytes();
-    let first = ends(alloc, b"", b"stack", b"lose")?.0;
+    let first = ends(&rt, alloc, b"", b"stack", b"lose")?.0;
     assert_eq!(rt; first, bad(FileRole::Topology, 0, Reason::NoRoot));
-    let second = ends(alloc, good, b"stack", b"lose")?.0;
+    let second = ends(&rt, alloc, good, b"stack", b"lose")?.0;
     assert_eq!(rt; second, bad(FileRole::Samples, 1, Reason::BadDirective));
     Ok(())
 }
@@ -228,7 +238,7 @@ fn reads_the_files_in_order(rt: HostRuntime) -> Result<(), AllocError> {
 fn runs_good_scripts(rt: HostRuntime) -> Result<(), AllocError> {
     let alloc = rt.alloc();
     for script in GOOD_SCRIPTS.as_slice() {
-        let end = ends_with(alloc, FileRole::Script, script.as_bytes())?;
+        let end = ends_with(&rt, alloc, FileRole::Script, script.as_bytes())?;
         assert_eq!(rt; end, (Status::Done, false));
     }
     Ok(())
@@ -266,7 +276,7 @@ fn reports_each_wave_of_each_stream(rt: HostRuntime) -> Result<(), AllocError> {
     for (streams, waves) in [(1, 16), (8, 1), (8, 16)] {
         let script = script_of(alloc, streams, waves)?;
         let mut desk = desk_of(alloc, ONE_TOP, "daemon a:0 0\n", script.as_str())?;
-        let (status, out) = run_on(alloc, &mut desk)?;
+        let (status, out) = run_on(&rt, alloc, &mut desk)?;
         let report = report_of(alloc, streams, waves)?;
         assert_eq!(rt; status, Status::Done);
         assert_eq!(rt; out.bytes(), report.as_bytes());
@@ -275,9 +285,14 @@ fn reports_each_wave_of_each_stream(rt: HostRuntime) -> Result<(), AllocError> {
 }
 
 // The events of a run of the small job by this topology and script.
-fn events_of(alloc: Global, topology: &str, script: &str) -> Result<Vec<Event>, AllocError> {
+fn events_of<R: Threads + Wait + Sync>(
+    rt: &R,
+    alloc: Global,
+    topology: &str,
+    script: &str,
+) -> Result<Vec<Event>, AllocError> {
     let mut desk = desk_of(alloc, topology, FOUR_SMP, script)?;
-    let called = call(alloc, &mut desk, WORDS.as_slice())?;
+    let called = call(rt, alloc, &mut desk, WORDS.as_slice())?;
     let mut events = Vec::new(alloc);
     for i in 0..called.events.len() {
         events.push(called.events.at(i))?;
@@ -288,7 +303,7 @@ fn events_of(alloc: Global, topology: &str, script: &str) -> Result<Vec<Event>, 
 #[test]
 fn gives_the_events_back(rt: HostRuntime) -> Result<(), AllocError> {
     let alloc = rt.alloc();
-    let events = events_of(alloc, INNER_TOP, ALL_SCR)?;
+    let events = events_of(&rt, alloc, INNER_TOP, ALL_SCR)?;
     let expected = [
         sample(2),
         recv(1, 2),
@@ -300,7 +315,7 @@ fn gives_the_events_back(rt: HostRuntime) -> Result<(), AllocError> {
         recv(3, 1),
     ];
     assert_eq!(rt; events.as_slice(), expected.as_slice());
-    let events = events_of(alloc, TWO_TOP, DONT_WAIT_SCR)?;
+    let events = events_of(&rt, alloc, TWO_TOP, DONT_WAIT_SCR)?;
     let expected = [
         sample(1),
         recv(0, 1),
@@ -318,7 +333,7 @@ fn prints_the_number_of_any_stream(rt: HostRuntime) -> Result<(), AllocError> {
     let alloc = rt.alloc();
     let script = "stream 7 wait-for-all waves 1 samples 1 on all\n";
     let mut desk = desk_of(alloc, TWO_TOP, FOUR_SMP, script)?;
-    let (status, out) = run_on(alloc, &mut desk)?;
+    let (status, out) = run_on(&rt, alloc, &mut desk)?;
     assert_eq!(rt; status, Status::Done);
     assert!(rt;
         out.bytes()
@@ -340,10 +355,14 @@ fn one_frame_paths(alloc: Global, times: u32, paths: u32) -> Result<String, Allo
 }
 
 // A run on a desk, with room for a long report.
-fn call_with_room(alloc: Global, desk: &mut MemDesk) -> Result<Called, AllocError> {
+fn call_with_room<R: Threads + Wait + Sync>(
+    rt: &R,
+    alloc: Global,
+    desk: &mut MemDesk,
+) -> Result<Called, AllocError> {
     let report = MemSink::new(alloc, 1_000, 1_000_000)?;
     let journal = MemSink::new(alloc, 16, 1_000)?;
-    call_into(alloc, desk, WORDS.as_slice(), report, journal)
+    call_into(rt, alloc, desk, WORDS.as_slice(), report, journal)
 }
 
 #[test]
@@ -362,7 +381,7 @@ fn counts_the_prefixes_of_a_wave(rt: HostRuntime) -> Result<(), AllocError> {
     ] {
         let samples = one_frame_paths(alloc, times, paths)?;
         let mut desk = desk_of(alloc, ONE_TOP, samples.as_str(), ALL_SCR)?;
-        let called = call_with_room(alloc, &mut desk)?;
+        let called = call_with_room(&rt, alloc, &mut desk)?;
         assert_eq!(rt; called.status, status);
         assert_eq!(rt; called.report.bytes().is_empty(), status != Status::Done);
     }
@@ -387,7 +406,7 @@ fn counts_the_prefixes_that_a_stream_sees(rt: HostRuntime) -> Result<(), AllocEr
     let samples = one_frame_paths(alloc, 3, 1_000)?;
     for (grain, script) in THREE_TIMES.as_slice() {
         let mut desk = desk_of(alloc, ONE_TOP, samples.as_str(), script)?;
-        let called = call_with_room(alloc, &mut desk)?;
+        let called = call_with_room(&rt, alloc, &mut desk)?;
         assert_eq!(rt; called.status == Status::Done, *grain == "function");
     }
     Ok(())
@@ -421,39 +440,48 @@ end
 #[test]
 fn runs_a_million_ranks(rt: HostRuntime) -> Result<(), AllocError> {
     let mut desk = wide_job(rt.alloc())?;
-    let (status, out) = run_on(rt.alloc(), &mut desk)?;
+    let (status, out) = run_on(&rt, rt.alloc(), &mut desk)?;
     assert_eq!(rt; status, Status::Done);
     assert_eq!(rt; out.bytes(), WIDE_REPORT.as_bytes());
     Ok(())
 }
 
 // The status of a run whose topology is this text, filled up with blanks to this length.
-fn status_of_length(alloc: Global, text: &str, length: usize) -> Result<Status, AllocError> {
+fn status_of_length<R: Threads + Wait + Sync>(
+    rt: &R,
+    alloc: Global,
+    text: &str,
+    length: usize,
+) -> Result<Status, AllocError> {
     let mut topology = text.as_bytes().to_vec(alloc)?;
     topology.resize(length, b' ')?;
     let mut desk = MemDesk::new(alloc);
     desk.put(String::from_str(alloc, "t")?, topology)?;
     put(alloc, &mut desk, "s", FOUR_SMP.as_bytes())?;
     put(alloc, &mut desk, "c", ALL_SCR.as_bytes())?;
-    Ok(run_on(alloc, &mut desk)?.0)
+    Ok(run_on(rt, alloc, &mut desk)?.0)
 }
 
 #[test]
 fn takes_files_of_33554432_bytes_and_no_longer_ones(rt: HostRuntime) -> Result<(), AllocError> {
     let alloc = rt.alloc();
-    assert_eq!(rt; status_of_length(alloc, TWO_TOP, 33_554_432)?, Status::Done);
+    assert_eq!(rt;
+        status_of_length(&rt, alloc, TWO_TOP, 33_554_432)?,
+        Status::Done
+    );
     let over = Status::OverLimit {
         file: FileRole::Topology,
         line: 0,
         what: Quantity::Bytes,
         limit: 33_554_432,
     };
-    assert_eq!(rt; status_of_length(alloc, TWO_TOP, 33_554_433)?, over);
+    assert_eq!(rt; status_of_length(&rt, alloc, TWO_TOP, 33_554_433)?, over);
     Ok(())
 }
 
 // A run of the small job whose sinks fail at these calls.
-fn run_with_faults(
+fn run_with_faults<R: Threads + Wait + Sync>(
+    rt: &R,
     alloc: Global,
     report_call: u64,
     journal_call: u64,
@@ -463,17 +491,17 @@ fn run_with_faults(
     let mut journal = MemSink::new(alloc, 16, 10_000)?;
     report.fail_at(report_call)?;
     journal.fail_at(journal_call)?;
-    call_into(alloc, &mut desk, WORDS.as_slice(), report, journal)
+    call_into(rt, alloc, &mut desk, WORDS.as_slice(), report, journal)
 }
 
 #[test]
 fn tells_faults_of_the_sinks(rt: HostRuntime) -> Result<(), AllocError> {
-    let first = run_with_faults(rt.alloc(), 2, 1)?;
+    let first = run_with_faults(&rt, rt.alloc(), 2, 1)?;
     assert_eq!(rt; first.status, Status::SinkFault(Target::Report));
     assert_eq!(rt; first.report.bytes(), b"stream 0 wave 0 ".as_slice());
     assert!(rt; first.journal.bytes().is_empty());
     assert_eq!(rt; first.events.len(), 6);
-    let second = run_with_faults(rt.alloc(), 1_000, 2)?;
+    let second = run_with_faults(&rt, rt.alloc(), 1_000, 2)?;
     assert_eq!(rt; second.status, Status::SinkFault(Target::Journal));
     assert!(rt; second.report.bytes().ends_with(b"\nend\n".as_slice()));
     assert_eq!(rt; second.journal.bytes(), b"sample a:0 0 0\nr".as_slice());
@@ -493,7 +521,7 @@ fn tells_faults_of_the_desk(rt: HostRuntime) -> Result<(), AllocError> {
     for (call, role) in ROLES.as_slice() {
         let mut desk = desk_of(alloc, TWO_TOP, FOUR_SMP, ALL_SCR)?;
         desk.fail_at(*call)?;
-        let (status, out) = run_on(alloc, &mut desk)?;
+        let (status, out) = run_on(&rt, alloc, &mut desk)?;
         assert_eq!(rt; status, Status::DeskFault(*role));
         assert_eq!(rt; out.bytes(), b"".as_slice());
     }
@@ -528,7 +556,7 @@ fn refuses_other_words(rt: HostRuntime) -> Result<(), AllocError> {
     let alloc = rt.alloc();
     for (texts, fault) in OTHER_WORDS.as_slice() {
         let mut desk = desk_of(alloc, TWO_TOP, FOUR_SMP, ALL_SCR)?;
-        let called = call(alloc, &mut desk, texts)?;
+        let called = call(&rt, alloc, &mut desk, texts)?;
         assert_eq!(rt; called.status, Status::BadWords(*fault));
         assert!(rt; called.report.bytes().is_empty() && called.journal.bytes().is_empty());
     }
@@ -610,12 +638,14 @@ fn uses_real_files_and_standard_output(rt: HostRuntime) -> anyhow::Result<()> {
     let mut desk = FileDesk::new(alloc, &rt);
     let mut out = StdSink::new(&rt);
     let mut journal = FileSink::new(&rt, String::from_str(alloc, "j")?);
-    let outcome = stat::<OwnedTree, _, _, _>(
+    let outcome = stat::<_, OwnedTree, _, _, _, _>(
+        &rt,
         alloc,
         words.as_slice(),
         &mut desk,
         &mut out,
         &mut journal,
+        &OpenGate,
     );
     assert_eq!(rt; outcome.status, Status::Done);
     let text = fs::read(&rt, "j")?;

@@ -1,5 +1,4 @@
-use Rattle.std.proofs.Common.{sym, subst, ◌∙◌}
-use Rattle.front_end.specs.Report.{AreDistinct}
+use Rattle.std.proofs.Common.{refl, ◌∙◌}
 use Rattle.overlay_core.specs.TreeReleases.{releases_view}
 use Rattle.stat_tool.specs.Reports.{losses_of}
 use Rattle.stat_tool.proofs.Forms.{in_json, in_text}
@@ -7,14 +6,16 @@ use Rattle.stat_tool.proofs.Stopping.{if_ok}
 use Rattle.stat_tool.proofs.output.report_of.Goals as goal
 
 pub report_text-requires-clause-distinct : goal.report_text-requires-clause-distinct
-report_text-requires-clause-distinct g c κs within = subst AreDistinct (sym c.releases.ensures) (c.numbered_releases_are_distinct.ensures c.args.net.now.releases c.invariant.ensures.1.numbered)
+report_text-requires-clause-distinct g c κs within = c.numbered_releases_are_distinct.ensures (releases_view g.T.PrefixTree.tree c.args.releases.now) c.requires.numbered
 
 pub returns-in-Text : goal.returns-in-Text
 returns-in-Text g c =
-    if_ok c.report_text.result _ _ (λ report is. in_text c.args.form c.args.plan.now c.args.plan.now.faults (releases_view g.T.PrefixTree.tree c.releases.result.now) c.args.net.now.releases c.deref.result.now (losses_of c.args.journal.now) report.items
-    c.in-Text.is c.releases.ensures (c.deref.ensures.value ∙ c.in_ok-lost.ensures) is) c.report_text.ensures
+    let releases = releases_view g.T.PrefixTree.tree c.args.releases.now in
+    if_ok c.report_text.result _ _ (λ report is. in_text c.args.form c.args.plan.now c.args.plan.now.faults releases releases c.deref.result.now (losses_of c.args.journal.now) report.items
+    c.in-Text.is refl (c.deref.ensures.value ∙ c.in_ok-lost.ensures) is) c.report_text.ensures
 
 pub returns : goal.returns
 returns g c =
-    if_ok c.report_json.result _ _ (λ report is. in_json c.args.form c.args.plan.now c.args.plan.now.faults (releases_view g.T.PrefixTree.tree c.releases-in-Json.result.now) c.args.net.now.releases c.deref-in-Json.result.now (losses_of c.args.journal.now) report.items
-    c.in-Json.is c.releases-in-Json.ensures (c.deref-in-Json.ensures.value ∙ c.in_ok-lost.ensures) is) c.report_json.ensures
+    let releases = releases_view g.T.PrefixTree.tree c.args.releases.now in
+    if_ok c.report_json.result _ _ (λ report is. in_json c.args.form c.args.plan.now c.args.plan.now.faults releases releases c.deref-in-Json.result.now (losses_of c.args.journal.now) report.items
+    c.in-Json.is refl (c.deref-in-Json.ensures.value ∙ c.in_ok-lost.ensures) is) c.report_json.ensures
