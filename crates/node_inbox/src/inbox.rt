@@ -1,6 +1,6 @@
 //! The items that wait for a node.
 
-ghost use Rattle.std.specs.Prelude.{◌≡◌, ◌≢◌, ◌≤◌, ◌+◌, ◌-◌, ◌==◌, ◌∷◌, ℕ, [], OnOk, cond, length, slice_get, take};
+ghost use Rattle.std.specs.Prelude.{◌≡◌, ◌≢◌, ◌≤◌, ◌+◌, ◌-◌, ◌==◌, ◌∷◌, ℕ, [], OnOk, cond, length, option_copied, slice_get, take};
 ghost use Rattle.std.specs.Vec.{vec_capacity};
 ghost use Rattle.node_inbox.specs.Inboxes.{Dequeues, Enqueues, IsInbox, KeepsOthers, is_waiting, queue_of, room_for, senders_of};
 ghost use Rattle.node_inbox.specs.Queues.{AreEmptied};
@@ -55,6 +55,16 @@ impl<T> Inbox<T> {
         ensures { result ≡ is_waiting self.now.waiting sender }
     {
         self.senders.as_slice().binary_search(&sender).is_ok()
+    }
+
+    /// The first of the items that wait from a sender, if any wait.
+    pub fn first(&self, sender: u32) -> Option<&T>
+        ensures { option_copied result ≡ slice_get (queue_of self.now.waiting sender) 0 }
+    {
+        match self.queues.get(&sender) {
+            Some(queue) => queue.front(),
+            None => None,
+        }
     }
 
     /// The number of senders with items waiting.
