@@ -6,6 +6,7 @@ pub mod Committed
 pub mod Cuts
 pub mod EventCounts
 pub mod EventInvariant
+pub mod FirstFrames
 pub mod Fitting
 pub mod Fronts
 pub mod Handed

@@ -1,4 +1,5 @@
 pub mod Inboxes
+pub mod Frames
 pub mod Places
 pub mod Nets
 pub mod Events

@@ -1,6 +1,6 @@
 //! The overlay: its nodes, the packets between them, and what was released.
 
-ghost use Rattle.std.specs.Prelude.{◌≡◌, ◌<◌, ◌↔◌, [], true, false, Err, IfOk, IsErr, OnErr, OnOk, List, slice_get};
+ghost use Rattle.std.specs.Prelude.{◌≡◌, ◌<◌, ◌↔◌, [], true, false, Err, IfOk, IsErr, OnErr, OnOk, List, option_copied, option_map, slice_get};
 ghost use Rattle.stat_desk.specs.declared.event.Event.{Event};
 ghost use Rattle.overlay_core.specs.Bound.{bound};
 ghost use Rattle.overlay_core.specs.Machine.{enabled_events, is_enabled};
@@ -10,6 +10,7 @@ ghost use Rattle.stat_plan.specs.Plans.{nodes};
 ghost use Rattle.event_claims.specs.Claims.{MayBeClaimed, claimable_events};
 ghost use Rattle.overlay_core.specs.TreeReleases.{releases_view};
 ghost use Rattle.overlay_net.specs.Handled.{ExtendsBy};
+ghost use Rattle.overlay_net.specs.Frames.{frame_bytes};
 ghost use Rattle.overlay_net.specs.Claims.{FitsNet, IsPrepared, WasWorked};
 ghost use Rattle.overlay_net.specs.Nets.{AllHome, IsReachedBy, outs_of, state_of};
 ghost use Rattle.overlay_net.specs.Picks.{HasPicked};
@@ -21,6 +22,7 @@ use crate::events::{all_claims_are_counted, is_enabled, nth_claimable};
 use crate::pick::{length_bound, run_picked};
 use crate::state::{NetState, start};
 use overlay_core::Release;
+use packet_frame::Frame;
 use prefix_tree::PrefixTree;
 use stat_desk::{Event, Journal};
 use stat_plan::Plan;
@@ -145,6 +147,20 @@ impl<'p, T: PrefixTree> Net<'p, T> {
         ensures { result ≡ outs_of self.now n }
     {
         self.state.places[n as usize].event()
+    }
+
+    /// The first frame on the link from `m` to `n`, where no node is out; none if the link is empty. A number that is no
+    /// node's has no links. It takes no memory.
+    pub fn front(&self, n: u32, m: u32) -> Option<&Frame>
+        requires usable { self.now.failed ≡ false }
+        requires home { AllHome self.now }
+        ensures { option_copied result
+            ≡ option_map (frame_bytes self.now.plan) (slice_get ((state_of self.now).link m n) 0) }
+    {
+        match self.state.inboxes.get(n as usize) {
+            Some(inbox) => inbox.first(m),
+            None => None,
+        }
     }
 
     /// Claims an event: its node goes out, with the frame that the event receives. The net's state stays: until the
