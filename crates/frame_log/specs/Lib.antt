@@ -1,0 +1,2 @@
+pub mod FrameLog
+pub mod Rows
