@@ -1,7 +1,7 @@
 //! The sink in memory.
 ghost use Rattle.std.specs.Prelude.{◌≡◌, ◌≤◌, ◌<◌, ◌^◌, ◌∷◌, ◌++◌, [], Some, OnOk, OnErr, IfOk};
 ghost use Rattle.stat_desk.specs.Faults.{next_count};
-ghost use Rattle.stat_desk.specs.MemSink.{after_write, write_answer};
+ghost use Rattle.stat_desk.specs.MemSink.{after_write, new_sink, write_answer};
 ghost use Rattle.stat_desk.specs.Sink.{HasCause, TakesFirst};
 
 use crate::{Sink, SinkError};
@@ -16,6 +16,7 @@ pub struct MemSink {
     at_once: usize,
     room: usize,
     failing: Vec<u64>,
+    stalling: Vec<u64>,
     calls: u64,
     faults: u64,
 }
@@ -31,6 +32,7 @@ impl Model for MemSink {
       at_once = s.at_once;
       room = s.room;
       failing = s.failing.items;
+      stalling = s.stalling.items;
       calls = s.calls;
       faults = s.faults;
     } };
@@ -43,14 +45,14 @@ impl MemSink {
     /// them, so that a write takes none.
     pub fn new(alloc: Global, at_once: usize, room: usize) -> Result<MemSink, AllocError>
         requires { 1 ≤ at_once }
-        ensures { IfOk result
-            (λ s. s ≡ record { bytes = []; at_once = at_once; room = room; failing = []; calls = 0; faults = 0 }) }
+        ensures { IfOk result (λ s. s ≡ new_sink at_once room) }
     {
         Ok(MemSink {
             bytes: Vec::with_capacity(alloc, room)?,
             at_once,
             room,
             failing: Vec::new(alloc),
+            stalling: Vec::new(alloc),
             calls: 0,
             faults: 0,
         })
@@ -62,6 +64,16 @@ impl MemSink {
         ensures err { OnErr result (self.new ≡ self.old) }
     {
         self.failing.push(call)?;
+        Ok(())
+    }
+
+    /// Makes the write of this number find that nothing of its piece is taken: it fails, unless the piece is empty.
+    /// Writes are numbered from 1.
+    pub fn stall_at(&mut self, call: u64) -> Result<(), AllocError>
+        ensures ok { OnOk result (self.new ≡ record self.old { stalling = self.old.stalling ++ call ∷ [] }) }
+        ensures err { OnErr result (self.new ≡ self.old) }
+    {
+        self.stalling.push(call)?;
         Ok(())
     }
 
@@ -95,7 +107,11 @@ impl Sink for MemSink {
         ensures exactly { result ≡ write_answer self.old piece.now }
     {
         self.calls = self.calls.saturating_add(1);
-        let left = self.room - self.bytes.len();
+        let left = if self.stalling.contains(&self.calls) {
+            0
+        } else {
+            self.room - self.bytes.len()
+        };
         let count = piece.len().min(self.at_once).min(left);
         if self.failing.contains(&self.calls) || (count == 0 && !piece.is_empty()) {
             self.refuse();

@@ -81,6 +81,21 @@ fn memory_sink_takes_and_fails(rt: HostRuntime) -> Result<(), AllocError> {
 }
 
 #[test]
+fn memory_sink_stalls(rt: HostRuntime) -> Result<(), AllocError> {
+    let alloc = rt.alloc();
+    let mut sink = MemSink::new(alloc, 16, 40)?;
+    sink.stall_at(1)?;
+    sink.stall_at(3)?;
+    sink.fail_at(3)?;
+    assert_eq!(rt; sink.write(b""), Ok(0));
+    assert_eq!(rt; sink.write(b"some bytes"), Ok(10));
+    assert_eq!(rt; sink.write(b"x"), Err(SinkError::Failed));
+    assert_eq!(rt; sink.write(b"more"), Ok(4));
+    assert_eq!(rt; sink.bytes(), b"some bytesmore".as_slice());
+    Ok(())
+}
+
+#[test]
 fn file_desk_reads_real_files(rt: HostRuntime) -> Result<(), AllocError> {
     let alloc = rt.alloc();
     let mut long = Vec::new(alloc);
