@@ -2,7 +2,7 @@
 //! them. So the text of the last label is kept, and written again where it is the text of the next ranks.
 ghost use Rattle.std.specs.Prelude.{◌≡◌, ◌++◌, OnOk};
 ghost use Rattle.rank_set.specs.Text.{text_of};
-ghost use Rattle.front_end.specs.TreeText.{ends_text, indent, line_of, tree_text as text_of_tree};
+ghost use Rattle.front_end.specs.TreeText.{ends_text, indent, line_of, rows_text, tree_text as text_of_tree};
 
 use prefix_tree::{PrefixTree, Row};
 use rank_set::RankSet;
@@ -13,10 +13,19 @@ pub fn write_tree<T: PrefixTree>(tree: &T, out: &mut Vec<u8>) -> Result<(), Allo
     ensures { OnOk result (out.new.items ≡ out.old.items ++ text_of_tree (T.tree tree.now)) }
 {
     let root = tree.row(0);
-    let mut label = root.label;
+    let mut label_text = Vec::new(*out.allocator());
+    root.label.write_text(&mut label_text)?;
+    write_row(&root, &label_text, out)?;
+    write_rows(tree, out)
+}
+
+/// Appends a line for each row of the tree besides the root, in order.
+pub fn write_rows<T: PrefixTree>(tree: &T, out: &mut Vec<u8>) -> Result<(), AllocError>
+    ensures { OnOk result (out.new.items ≡ out.old.items ++ rows_text (T.tree tree.now)) }
+{
+    let mut label = tree.row(0).label;
     let mut label_text = Vec::new(*out.allocator());
     label.write_text(&mut label_text)?;
-    write_row(&root, &label_text, out)?;
     let mut at = tree.cursor(*out.allocator())?;
     while let Some(row) = tree.next_row(&mut at) {
         if !row.label.equals(label) {

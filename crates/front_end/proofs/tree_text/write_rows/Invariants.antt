@@ -2,14 +2,14 @@ use Rattle.std.proofs.Common.{◌≡◌, ◌-◌, ◌++◌, drop, length}
 use Rattle.std.specs.List.{flat_map}
 use Rattle.rank_set.specs.Text.{text_of}
 use Rattle.prefix_tree.specs.Tree.{rows_of}
-use Rattle.front_end.specs.TreeText.{row_text, tree_text}
-use Rattle.front_end.proofs.tree_text.write_tree.Given as goal
+use Rattle.front_end.specs.TreeText.{row_text, rows_text}
+use Rattle.front_end.proofs.tree_text.write_rows.Given as goal
 
 abbrev pub invariant-loop-row : goal.invariant-loop-row
 invariant-loop-row g l = record {
   cursor : g.T.PrefixTree.is_cursor l.tree l.at;
   label : l.label_text.items ≡ text_of l.label;
-  lines : l.out.items ++ flat_map row_text (drop l.at.row (rows_of (g.T.PrefixTree.tree l.tree))) ≡ l.fn.out.items ++ tree_text (g.T.PrefixTree.tree l.tree);
+  lines : l.out.items ++ flat_map row_text (drop l.at.row (rows_of (g.T.PrefixTree.tree l.tree))) ≡ l.fn.out.items ++ rows_text (g.T.PrefixTree.tree l.tree);
 }
 
 abbrev pub decreases-loop-row : goal.decreases-loop-row

@@ -5,8 +5,8 @@ use Rattle.rank_set.specs.Text.{text_of}
 use Rattle.prefix_tree.specs.Tree.{rows_of}
 use Rattle.front_end.specs.TreeText.{line_of, row_text}
 use Rattle.front_end.proofs.Lines.{lines_from, lines_end}
-use Rattle.front_end.proofs.tree_text.write_tree.Goals.{then-not-equals+in_ok-write_text-2, else-not-equals}
-use Rattle.front_end.proofs.tree_text.write_tree.Goals as goal
+use Rattle.front_end.proofs.tree_text.write_rows.Goals.{then-not-equals+in_ok-write_text-2, else-not-equals}
+use Rattle.front_end.proofs.tree_text.write_rows.Goals as goal
 
 pub loop-row-preserved : goal.loop-row-preserved
 loop-row-preserved g c =
@@ -21,7 +21,7 @@ loop-row-preserved g c =
         | else-not-equals w ↦ ap (λ v. v.items) w.label_text-is ∙ h.label ∙ sym (ap (λ l. text_of l.now) w.label-is)
       ];
       lines =
-          ap (λ ys. ys ++ flat_map row_text (drop c.next_row.new.at.row rows)) c.in_ok-write_row-2.ensures
+          ap (λ ys. ys ++ flat_map row_text (drop c.next_row.new.at.row rows)) c.in_ok-write_row.ensures
           ∙ append_assoc c.loop-row.out.items _ _
           ∙ ap (λ n. c.loop-row.out.items ++ (line_of row.depth row.label.now row.ends.now row.frame.now ++ flat_map row_text (drop n rows))) c.in-Some.ensures.next
           ∙ ap (λ ys. c.loop-row.out.items ++ ys) (lines_from row rows c.loop-row.at.row c.in-Some.ensures.within c.in-Some.ensures.shows)

@@ -1,0 +1,3 @@
+pub mod CaptureLaws
+pub mod Pieces
+pub mod Written
