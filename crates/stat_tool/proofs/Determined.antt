@@ -9,20 +9,21 @@ use Rattle.stat_plan.specs.Limits.{first_over}
 use Rattle.text_lines.specs.declared.text_error.TextError.{TextError}
 use Rattle.stat_desk.specs.declared.event.Event.{Event}
 use Rattle.stat_words.specs.Words.{Asked}
-use Rattle.stat_words.specs.Words.{Run, Sim, Replay, Direct, Gen}
+use Rattle.stat_words.specs.Words.{Run, Sim, Replay, Direct, Gen, Frames}
 use Rattle.stat_words.specs.declared.words.ReportForm.{ReportForm}
+use Rattle.stat_words.specs.declared.words.RunReport.{RunReport}
 use Rattle.stat_words.specs.declared.words.WordFault.{WordFault}
 use Rattle.topology_text.specs.Whole.{topology_of}
 use Rattle.sample_text.specs.Whole.{samples_of_text}
 use Rattle.script_text.specs.Whole.{script_of}
 use Rattle.stat_tool.specs.Call.{Answered, AreTold, DeskChange, Finishes, IsDetermined, SinkChange, all_given, answer_of, answer_of_job, end_of, given}
 use Rattle.stat_tool.specs.Files.{NamedFile, files_of, limit_of}
-use Rattle.stat_tool.specs.Jobs.{Job, RunJob, SimJob, ReplayJob, DirectJob, GenJob, RunOutput}
-use Rattle.stat_tool.specs.NextStep.{AfterPlan, Agrees, Answers, Bytes, Does, AreReadResults, ReadResult, Step, TooLong, Wants, at_journal, at_samples, at_script, by_limit, by_samples, by_script, by_topology, next_step, plan_step}
+use Rattle.stat_tool.specs.Jobs.{Job, RunJob, SimJob, ReplayJob, DirectJob, GenJob, CaptureJob, RunOutput}
+use Rattle.stat_tool.specs.NextStep.{AfterPlan, Agrees, Answers, Bytes, Does, AreReadResults, ReadResult, Step, TooLong, Wants, at_capture, at_journal, at_samples, at_script, by_limit, by_samples, by_script, by_topology, next_step, plan_step}
 use Rattle.stat_tool.specs.Outputs.{HasOutput}
 use Rattle.stat_tool.specs.declared.status.Target.TheVariants.{Report, Journal}
 use Rattle.stat_tool.specs.declared.status.Status.{Status}
-use Rattle.stat_tool.specs.declared.status.Status.TheVariants.{Done, BadWords, DeskFault, BadInput, OverLimit, SinkFault, OutOfMemory, BadJournal, Unfinished}
+use Rattle.stat_tool.specs.declared.status.Status.TheVariants.{Done, BadWords, DeskFault, BadInput, OverLimit, SinkFault, OutOfMemory, BadJournal, Unfinished, BadFrames}
 
 -- ---- the texts that the desk can tell determine what is read
 
@@ -109,31 +110,42 @@ module _ (after : AfterPlan) (stable : IsStable after) where
   plan_stays (g ∷ rest) [] front settled = absurd front
   plan_stays (g ∷ rest) (h ∷ all) front settled = ap (λ (x : ReadResult). plan_step (x ∷ all) after) (sym front.0) ∙ same_topology g rest all front.1 settled
 
-same_journal : (form : ReportForm) (p : Plan) (g : ReadResult) (rest all : List ReadResult) → at_journal form p (g ∷ all) ≡ at_journal form p (g ∷ rest)
-same_journal form p TooLong rest all = refl
-same_journal form p (Bytes bytes) rest all = refl
+same_journal : (wanted : RunReport) (p : Plan) (g : ReadResult) (rest all : List ReadResult) → at_journal wanted p (g ∷ all) ≡ at_journal wanted p (g ∷ rest)
+same_journal wanted p TooLong rest all = refl
+same_journal wanted p (Bytes bytes) rest all = refl
 
-journal_stays : (form : ReportForm) → IsStable (at_journal form)
-journal_stays form p [] all front settled = absurd settled
-journal_stays form p (g ∷ rest) [] front settled = absurd front
-journal_stays form p (g ∷ rest) (h ∷ all) front settled = ap (λ (x : ReadResult). at_journal form p (x ∷ all)) (sym front.0) ∙ same_journal form p g rest all
+journal_stays : (wanted : RunReport) → IsStable (at_journal wanted)
+journal_stays wanted p [] all front settled = absurd settled
+journal_stays wanted p (g ∷ rest) [] front settled = absurd front
+journal_stays wanted p (g ∷ rest) (h ∷ all) front settled = ap (λ (x : ReadResult). at_journal wanted p (x ∷ all)) (sym front.0) ∙ same_journal wanted p g rest all
+
+same_capture : (g : ReadResult) (rest all : List ReadResult) → at_capture (g ∷ all) ≡ at_capture (g ∷ rest)
+same_capture TooLong rest all = refl
+same_capture (Bytes bytes) rest all = refl
+
+capture_stays : (rest all : List ReadResult) → BeginsAs rest all → IsSettled (at_capture rest) → at_capture all ≡ at_capture rest
+capture_stays [] all front settled = absurd settled
+capture_stays (g ∷ rest) [] front settled = absurd front
+capture_stays (g ∷ rest) (h ∷ all) front settled = ap (λ (x : ReadResult). at_capture (x ∷ all)) (sym front.0) ∙ same_capture g rest all
 
 step_stays : (asked : Asked) (results all : List ReadResult) → BeginsAs results all → IsSettled (next_step asked results) → next_step asked all ≡ next_step asked results
-step_stays (Run names workers form) results all front settled = plan_stays (λ p rest. Does (RunJob p form)) (λ p rest all front settled. refl) results all front settled
-step_stays (Sim names seed form) results all front settled = plan_stays (λ p rest. Does (SimJob p seed form)) (λ p rest all front settled. refl) results all front settled
-step_stays (Replay names journal form) results all front settled = plan_stays (at_journal form) (journal_stays form) results all front settled
+step_stays (Run names workers wanted) results all front settled = plan_stays (λ p rest. Does (RunJob p wanted)) (λ p rest all front settled. refl) results all front settled
+step_stays (Sim names seed wanted) results all front settled = plan_stays (λ p rest. Does (SimJob p seed wanted)) (λ p rest all front settled. refl) results all front settled
+step_stays (Replay names journal wanted) results all front settled = plan_stays (at_journal wanted) (journal_stays wanted) results all front settled
 step_stays (Direct names form) results all front settled = plan_stays (λ p rest. Does (DirectJob p form)) (λ p rest all front settled. refl) results all front settled
 step_stays (Gen size seed) results all front settled = refl
+step_stays (Frames capture) results all front settled = capture_stays results all front settled
 
 -- ---- the answers
 
 -- a job ends as its output says
 end_of_job : (job : Job) (output : RunOutput) → HasOutput job output → end_of output.unfinished ≡ answer_of_job job
-end_of_job (RunJob p form) output has = ap end_of has.finished
-end_of_job (SimJob p seed form) output has = ap end_of has.0.finished
-end_of_job (ReplayJob p events form) output has = ap end_of has.unfinished
+end_of_job (RunJob p wanted) output has = ap end_of has.finished
+end_of_job (SimJob p seed wanted) output has = ap end_of has.0.finished
+end_of_job (ReplayJob p events wanted) output has = ap end_of has.unfinished
 end_of_job (DirectJob p form) output has = ap end_of has.finished
 end_of_job (GenJob size seed) output has = ap end_of has.finished
+end_of_job (CaptureJob bytes) output has = ap end_of has.finished
 
 module _ (asked : Asked) (contents : List ℕ → Option (List ℕ)) (told : AreTold contents (files_of asked)) where
   answers : (results : List ReadResult) (next : Step) → AreReadResults contents (files_of asked) results → next_step asked results ≡ next → IsSettled next → answer_of next ≡ answer_of (next_step asked (all_given contents (files_of asked)))
@@ -158,6 +170,8 @@ determined asked desk out journal events (OverLimit file line what most) a told 
     inl (answers asked desk.contents told a.0 (Answers (OverLimit file line what most)) a.1.0 a.1.1.0 tt)
 determined asked desk out journal events (BadJournal i) a told no_fault no_loss no_journal_loss =
     inl (answers asked desk.contents told a.0 (Answers (BadJournal i)) a.1.0 a.1.1.0 tt)
+determined asked desk out journal events (BadFrames at reason) a told no_fault no_loss no_journal_loss =
+    inl (answers asked desk.contents told a.0 (Answers (BadFrames at reason)) a.1.0 a.1.1.0 tt)
 determined asked desk out journal events (DeskFault role) a told no_fault no_loss no_journal_loss = absurd (no_fault a.1.1.0.1.failed.rose)
 determined asked desk out journal events (SinkFault Report) a told no_fault no_loss no_journal_loss = absurd (no_loss a.1.1.written.0.rose)
 determined asked desk out journal events (SinkFault Journal) a told no_fault no_loss no_journal_loss = absurd (no_journal_loss a.1.1.written.1.rose)

@@ -1,3 +1,4 @@
+pub mod Captures
 pub mod Determined
 pub mod DirectReleases
 pub mod Forms

@@ -8,6 +8,8 @@ use Rattle.stat_desk.specs.declared.event.Event.{Event}
 use Rattle.overlay_core.specs.Machine.{State, start, is_enabled, enabled_events}
 use Rattle.overlay_core.specs.Runs.{after, IsLegal, IsQuiet, IsWhole}
 use Rattle.overlay_core.specs.TreeReleases.{AreNumberedInOrder, TreeRelease, bare_releases}
+use Rattle.overlay_core.specs.Whole.{LosesNoDaemon}
+use Rattle.front_end.specs.Report.{AllStreamsWait}
 use Rattle.generated_job.specs.Job.{job_plan}
 use Rattle.generated_job.specs.Summary.{HasTreeOfSamples, summary_of, summary_text}
 use Rattle.generated_job.proofs.OfJournal.{is_of_journal}
@@ -22,15 +24,17 @@ use Rattle.journal_text.specs.Reading.{ReadJournal, journal_of}
 use Rattle.journal_text.specs.Text.{journal_text}
 use Rattle.journal_text.proofs.ReadBack.{read_back}
 use Rattle.stat_words.specs.declared.words.ReportForm.{ReportForm}
+use Rattle.stat_words.specs.declared.words.RunReport.{RunReport}
+use Rattle.stat_words.specs.declared.words.RunReport.TheVariants.{Releases, Frames}
 use Rattle.stat_tool.specs.Jobs.{RunOutput, ReplayJob}
 use Rattle.stat_tool.specs.Call.{IsEventRefusal, IsJobRefusal}
 use Rattle.stat_tool.specs.NextStep.{Answers, Does, by_bad_line, by_refused, first_refused, replay_step}
 use Rattle.stat_tool.specs.Outputs.{HasRun, HasSummary, IsReplay, IsReplayed}
-use Rattle.stat_tool.specs.Reports.{EndsWaves, IsReportIn, IsReportOf, losses_of}
+use Rattle.stat_tool.specs.Reports.{EndsWaves, IsDirectIn, IsReportIn, IsReportOf, IsWrittenIn, IsWrittenOf, losses_of}
 use Rattle.stat_tool.proofs.Headline.{direct_where_waiting, ends_waves, is_report, one_report}
 use Rattle.stat_tool.proofs.JournalTexts.{accepted, legal_are_of, refused_at}
 use Rattle.stat_tool.specs.declared.status.Status.{Status}
-use Rattle.stat_tool.specs.declared.status.Status.TheVariants.{Done, BadWords, DeskFault, BadInput, OverLimit, SinkFault, OutOfMemory, BadJournal, Unfinished}
+use Rattle.stat_tool.specs.declared.status.Status.TheVariants.{Done, BadWords, DeskFault, BadInput, OverLimit, SinkFault, OutOfMemory, BadJournal, Unfinished, BadFrames}
 
 -- the report of what a net has released is that of the journal that leads to it
 report_of_net : (v : NetView) (p : Plan) (form : ReportForm) (journal : List Event) (releases : List TreeRelease) (text : List ℕ) → IsPlan p → v.plan ≡ p → IsReachedBy v journal → releases ≡ v.releases
@@ -46,6 +50,28 @@ report_of_net v p form journal releases text plan same reached are report =
       text = subst (λ (rs : List TreeRelease). IsReportIn form p p.faults rs (losses_of journal) text) are report;
     })
 
+-- what a net has released makes what is wanted of the journal that leads to it
+written_of_net : (v : NetView) (p : Plan) (wanted : RunReport) (journal : List Event) (releases : List TreeRelease) (text : List ℕ) → IsPlan p → v.plan ≡ p → IsReachedBy v journal → releases ≡ v.releases
+    → IsWrittenIn wanted p releases journal text → IsWrittenOf p wanted journal text
+written_of_net v p (Releases form) journal releases text plan same reached are report = report_of_net v p form journal releases text plan same reached are report
+written_of_net v p Frames journal releases text plan same reached are log = record { legal = subst (λ (p : Plan). IsLegal p journal) same reached.legal; frames = log }
+
+-- so do the releases of a whole run
+written_of_run : (p : Plan) (wanted : RunReport) (journal : List Event) (releases : List TreeRelease) (text : List ℕ) → IsPlan p → IsWholeRun p journal releases → IsWrittenIn wanted p releases journal text → IsWrittenOf p wanted journal text
+written_of_run p (Releases form) journal releases text plan run report =
+    is_report p form journal text (record { plan = plan; legal = run.whole.0; releases = releases; reached = run.released; numbered = run.numbered; trees = run.trees; text = report })
+written_of_run p Frames journal releases text plan run log = record { legal = run.whole.0; frames = log }
+
+-- there is one text of what is wanted of a journal
+one_text : (p : Plan) (wanted : RunReport) (journal : List Event) (text other : List ℕ) → IsWrittenOf p wanted journal text → IsWrittenOf p wanted journal other → text ≡ other
+one_text p (Releases form) journal text other first second = one_report p form journal text other first second
+one_text p Frames journal text other first second = first.frames ∙ sym second.frames
+
+-- where every stream waits for all and no daemon is lost, a report is that of the direct merge
+direct_in : (p : Plan) (wanted : RunReport) (journal : List Event) (text : List ℕ) → IsPlan p → IsWhole p journal → IsWrittenOf p wanted journal text → AllStreamsWait p → ((s : ℕ) → LosesNoDaemon p journal s) → IsDirectIn wanted p journal text
+direct_in p (Releases form) journal text plan whole report waits none_lost = direct_where_waiting p form journal text plan whole report waits none_lost
+direct_in p Frames journal text plan whole log waits none_lost = tt
+
 -- where nothing is found first there is nothing
 none_there : (es : List Event) → None ≡ slice_get es 0 → es ≡ []
 none_there [] is = refl
@@ -58,30 +84,30 @@ nothing_first : (p : Plan) (journal : List Event) → IsQuiet p (after p journal
 nothing_first p journal quiet = ap (λ (es : List Event). slice_get es 0) (list_from_quiet p (after p journal) quiet)
 
 -- a whole journal's text is replayed, and the same report comes of it
-pub is_replayed : (p : Plan) (form : ReportForm) (output : RunOutput) → IsPlan p → IsWhole p output.journal → output.journal_text ≡ journal_text p output.journal → IsReportOf p form output.journal output.report → IsReplayed p form output
-is_replayed p form output plan whole written report =
+pub is_replayed : (p : Plan) (wanted : RunReport) (output : RunOutput) → IsPlan p → IsWhole p output.journal → output.journal_text ≡ journal_text p output.journal → IsWrittenOf p wanted output.journal output.report → IsReplayed p wanted output
+is_replayed p wanted output plan whole written report =
     let back : journal_of p output.journal_text ≡ record { events = output.journal; bad = None }
     = ap (journal_of p) written ∙ read_back p plan output.journal (legal_are_of p output.journal plan whole.0) in
     record {
       read_back = back;
-      accepted = ap (replay_step p form) back ∙ ap (by_refused p form (record { events = output.journal; bad = None })) (accepted p output.journal whole.0);
+      accepted = ap (replay_step p wanted) back ∙ ap (by_refused p wanted (record { events = output.journal; bad = None })) (accepted p output.journal whole.0);
       same = λ replay is. (
         is.unfinished ∙ nothing_first p output.journal whole.1,
-        one_report p form output.journal replay.report output.report is.report report,
+        one_text p wanted output.journal replay.report output.report is.report report,
       );
     }
 
 -- the output of a replay that has come to the end of its journal
-pub has_replay : (v : NetView) (p : Plan) (form : ReportForm) (releases : List TreeRelease) (output : RunOutput) → IsPlan p → v.plan ≡ p → IsReachedBy v output.journal → output.unfinished ≡ slice_get (enabled_events v.plan (state_of v)) 0
-    → releases ≡ v.releases → IsReportIn form p p.faults releases (losses_of output.journal) output.report → output.journal_text ≡ [] → IsReplay p output.journal form output
-has_replay v p form releases output plan same reached first are report unwritten =
+pub has_replay : (v : NetView) (p : Plan) (wanted : RunReport) (releases : List TreeRelease) (output : RunOutput) → IsPlan p → v.plan ≡ p → IsReachedBy v output.journal → output.unfinished ≡ slice_get (enabled_events v.plan (state_of v)) 0
+    → releases ≡ v.releases → IsWrittenIn wanted p releases output.journal output.report → output.journal_text ≡ [] → IsReplay p output.journal wanted output
+has_replay v p wanted releases output plan same reached first are report unwritten =
     let legal : IsLegal p output.journal = subst (λ (p : Plan). IsLegal p output.journal) same reached.legal in
     let next : output.unfinished ≡ slice_get (enabled_events p (after p output.journal)) 0
     = first ∙ ap (λ (st : State). slice_get (enabled_events v.plan st) 0) reached.state ∙ ap (λ (p : Plan). slice_get (enabled_events p (after p output.journal)) 0) same in
     record {
       plan = plan;
       journal = refl;
-      report = report_of_net v p form output.journal releases output.report plan same reached are report;
+      report = written_of_net v p wanted output.journal releases output.report plan same reached are report;
       unfinished = next;
       ended = λ none. ends_waves p output.journal plan (legal, (quiet_where_empty p output.journal (plan_facts p plan) legal).1 (none_there (enabled_events p (after p output.journal)) (sym none ∙ next)));
       unwritten = unwritten;
@@ -99,19 +125,18 @@ net_has_run v p journal releases same reached quiet are = record {
 }
 
 -- the output of a whole run
-pub has_run : (p : Plan) (form : ReportForm) (releases : List TreeRelease) (output : RunOutput) → IsPlan p → IsWholeRun p output.journal releases
-    → IsReportIn form p p.faults releases (losses_of output.journal) output.report → output.journal_text ≡ journal_text p output.journal → output.unfinished ≡ None → HasRun p form output
-has_run p form releases output plan run report written finished =
-    let is : IsReportOf p form output.journal output.report
-    = is_report p form output.journal output.report (record { plan = plan; legal = run.whole.0; releases = releases; reached = run.released; numbered = run.numbered; trees = run.trees; text = report }) in
+pub has_run : (p : Plan) (wanted : RunReport) (releases : List TreeRelease) (output : RunOutput) → IsPlan p → IsWholeRun p output.journal releases
+    → IsWrittenIn wanted p releases output.journal output.report → output.journal_text ≡ journal_text p output.journal → output.unfinished ≡ None → HasRun p wanted output
+has_run p wanted releases output plan run report written finished =
+    let is : IsWrittenOf p wanted output.journal output.report = written_of_run p wanted output.journal releases output.report plan run report in
     record {
       plan = plan;
       report = is;
       ended = ends_waves p output.journal plan run.whole;
       finished = finished;
       written = written;
-      replayed = is_replayed p form output plan run.whole written is;
-      all_wait = direct_where_waiting p form output.journal output.report plan run.whole is;
+      replayed = is_replayed p wanted output plan run.whole written is;
+      all_wait = direct_in p wanted output.journal output.report plan run.whole is;
     }
 
 -- ---- what the code's answers cite
@@ -127,28 +152,29 @@ pub picked_is_quiet : (q p : Plan) (seed : ℕ) (journal : List Event) → IsPla
 picked_is_quiet q p seed journal plan same is = subst (λ (es : List Event). IsQuiet p (after p es)) (sym (is ∙ ap (λ (p : Plan). picked p seed) same)) (picked_is_whole p seed (plan_facts p plan)).1
 
 -- where a journal is read to its end and no event is refused, it is replayed
-pub replay_accepted : (p : Plan) (form : ReportForm) (read : ReadJournal) → first_refused p (start p) read.events ≡ None → read.bad ≡ None → replay_step p form read ≡ Does (ReplayJob p read.events form)
-replay_accepted p form read accepted whole = ap (by_refused p form read) accepted ∙ ap (by_bad_line p form read.events) whole
+pub replay_accepted : (p : Plan) (wanted : RunReport) (read : ReadJournal) → first_refused p (start p) read.events ≡ None → read.bad ≡ None → replay_step p wanted read ≡ Does (ReplayJob p read.events wanted)
+replay_accepted p wanted read accepted whole = ap (by_refused p wanted read) accepted ∙ ap (by_bad_line p wanted read.events) whole
 
 -- at a bad line it isn't
-pub replay_bad : (p : Plan) (form : ReportForm) (read : ReadJournal) (i : ℕ) → first_refused p (start p) read.events ≡ None → read.bad ≡ Some i → replay_step p form read ≡ Answers (BadJournal i)
-replay_bad p form read i accepted bad = ap (by_refused p form read) accepted ∙ ap (by_bad_line p form read.events) bad
+pub replay_bad : (p : Plan) (wanted : RunReport) (read : ReadJournal) (i : ℕ) → first_refused p (start p) read.events ≡ None → read.bad ≡ Some i → replay_step p wanted read ≡ Answers (BadJournal i)
+replay_bad p wanted read i accepted bad = ap (by_refused p wanted read) accepted ∙ ap (by_bad_line p wanted read.events) bad
 
 -- the journal of a net is accepted
 pub net_accepted : (v : NetView) (p : Plan) (journal : List Event) → v.plan ≡ p → IsReachedBy v journal → first_refused p (start p) journal ≡ None
 net_accepted v p journal same reached = accepted p journal (subst (λ (p : Plan). IsLegal p journal) same reached.legal)
 
 -- an event that is refused comes before a bad line
-pub refusal_of_events : (p : Plan) (form : ReportForm) (read : ReadJournal) (status : Status) → IsEventRefusal (first_refused p (start p) read.events) status → IsJobRefusal (replay_step p form read) status
-refusal_of_events p form read OutOfMemory r = tt
-refusal_of_events p form read (BadJournal i) r = ap (by_refused p form read) r
-refusal_of_events p form read (OverLimit file line what most) r = absurd r
-refusal_of_events p form read (DeskFault role) r = absurd r
-refusal_of_events p form read (BadInput file line reason) r = absurd r
-refusal_of_events p form read Done r = absurd r
-refusal_of_events p form read (BadWords fault) r = absurd r
-refusal_of_events p form read (SinkFault target) r = absurd r
-refusal_of_events p form read (Unfinished e) r = absurd r
+pub refusal_of_events : (p : Plan) (wanted : RunReport) (read : ReadJournal) (status : Status) → IsEventRefusal (first_refused p (start p) read.events) status → IsJobRefusal (replay_step p wanted read) status
+refusal_of_events p wanted read OutOfMemory r = tt
+refusal_of_events p wanted read (BadJournal i) r = ap (by_refused p wanted read) r
+refusal_of_events p wanted read (OverLimit file line what most) r = absurd r
+refusal_of_events p wanted read (DeskFault role) r = absurd r
+refusal_of_events p wanted read (BadInput file line reason) r = absurd r
+refusal_of_events p wanted read Done r = absurd r
+refusal_of_events p wanted read (BadWords fault) r = absurd r
+refusal_of_events p wanted read (SinkFault target) r = absurd r
+refusal_of_events p wanted read (Unfinished e) r = absurd r
+refusal_of_events p wanted read (BadFrames at reason) r = absurd r
 
 -- where none is named there is none
 pub no_bad_line : (bad : Option ℕ) → ((i : ℕ) → bad ≡ Some i → ⊥) → bad ≡ None
@@ -156,11 +182,11 @@ no_bad_line None other = refl
 no_bad_line (Some i) other = absurd (other i refl)
 
 -- a replay that has come to its end
-pub replay_made : (p : Plan) (form : ReportForm) (read : ReadJournal) (output : RunOutput) → first_refused p (start p) read.events ≡ None → read.bad ≡ None → output.journal ≡ read.events → IsReplay p read.events form output
-    → (replay_step p form read ≡ Does (ReplayJob p output.journal form)) × IsReplay p output.journal form output
-replay_made p form read output accepted whole same is = (
-  replay_accepted p form read accepted whole ∙ ap (λ (es : List Event). Does (ReplayJob p es form)) (sym same),
-  subst (λ (es : List Event). IsReplay p es form output) (sym same) is,
+pub replay_made : (p : Plan) (wanted : RunReport) (read : ReadJournal) (output : RunOutput) → first_refused p (start p) read.events ≡ None → read.bad ≡ None → output.journal ≡ read.events → IsReplay p read.events wanted output
+    → (replay_step p wanted read ≡ Does (ReplayJob p output.journal wanted)) × IsReplay p output.journal wanted output
+replay_made p wanted read output accepted whole same is = (
+  replay_accepted p wanted read accepted whole ∙ ap (λ (es : List Event). Does (ReplayJob p es wanted)) (sym same),
+  subst (λ (es : List Event). IsReplay p es wanted output) (sym same) is,
 )
 
 -- ---- generated jobs

@@ -3,19 +3,23 @@ use Rattle.std.proofs.Common.{◌≡◌, inl, inr, ℕ, List, [], ◌∷◌, ◌
 use Rattle.overlay_setup.specs.NodeSets.{In}
 use Rattle.stat_plan.specs.Plans.{Plan}
 use Rattle.stat_plan.proofs.InLists.{append_left}
+use Rattle.stat_desk.specs.Desk.{IsWhole}
 use Rattle.stat_desk.specs.declared.event.Event.{Event}
+use Rattle.capture_text.specs.Captures.{capture_of}
 use Rattle.journal_text.specs.Reading.{ReadJournal}
 use Rattle.stat_words.specs.Words.{Asked, Names}
-use Rattle.stat_words.specs.Words.{Run, Sim, Replay, Direct}
+use Rattle.stat_words.specs.Words.{Run, Sim, Replay, Direct, Frames}
 use Rattle.stat_words.specs.declared.words.ReportForm.{ReportForm}
-use Rattle.stat_tool.specs.Call.{DeskChange, HasJournal, IsJobRefusal, IsPlanned, IsStopped, Prepared, Prevented, Prevents, Refuses}
+use Rattle.stat_words.specs.declared.words.RunReport.{RunReport}
+use Rattle.stat_tool.specs.Call.{DeskChange, HasJournal, IsCaptureRefusal, IsJobRefusal, IsPlanned, IsStopped, Prepared, Prevented, Prevents, Refuses}
 use Rattle.stat_tool.specs.Files.{NamedFile, files_of, limit_of, plan_files}
-use Rattle.stat_tool.specs.Jobs.{RunJob, SimJob, ReplayJob, DirectJob, RunOutput}
-use Rattle.stat_tool.specs.NextStep.{AfterPlan, Agrees, Answers, AreReadResults, Bytes, Does, ReadResult, Step, TooLong, Wants, at_journal, next_step, plan_step, replay_step}
+use Rattle.stat_tool.specs.Jobs.{RunJob, SimJob, ReplayJob, DirectJob, CaptureJob, RunOutput}
+use Rattle.stat_tool.specs.NextStep.{AfterPlan, Agrees, Answers, AreReadResults, Bytes, Does, ReadResult, Step, TooLong, Wants, at_journal, by_capture, next_step, plan_step, replay_step}
 use Rattle.stat_tool.specs.Outputs.{HasOutput}
-use Rattle.stat_tool.specs.declared.status.FileRole.TheVariants.{Journal}
+use Rattle.stat_tool.specs.declared.status.FileRole.{FileRole}
+use Rattle.stat_tool.specs.declared.status.FileRole.TheVariants.{Journal, Capture}
 use Rattle.stat_tool.specs.declared.status.Status.{Status}
-use Rattle.stat_tool.specs.declared.status.Status.TheVariants.{Done, BadWords, DeskFault, BadInput, OverLimit, SinkFault, OutOfMemory, BadJournal, Unfinished}
+use Rattle.stat_tool.specs.declared.status.Status.TheVariants.{Done, BadWords, DeskFault, BadInput, OverLimit, SinkFault, OutOfMemory, BadJournal, Unfinished, BadFrames}
 
 -- what the files gave, of more files
 read_less : (contents : List ℕ → Option (List ℕ)) (files more : List NamedFile) (results : List ReadResult) → AreReadResults contents files results → AreReadResults contents (files ++ more) results
@@ -38,6 +42,7 @@ prevents_less files more desk next (DeskFault role) r = (r.0, record { name = r.
 prevents_less files more desk next (BadInput file line reason) r = r
 prevents_less files more desk next (OverLimit file line what most) r = r
 prevents_less files more desk next (BadJournal i) r = r
+prevents_less files more desk next (BadFrames at reason) r = r
 prevents_less files more desk next Done r = absurd r
 prevents_less files more desk next (BadWords fault) r = absurd r
 prevents_less files more desk next (SinkFault target) r = absurd r
@@ -45,21 +50,21 @@ prevents_less files more desk next (Unfinished e) r = absurd r
 
 -- ---- where there is no plan, whatever the mode
 
-pub run_stops : (names : Names) (workers : ℕ) (form : ReportForm) (desk : DeskChange) (status : Status) → IsStopped (plan_files names) desk status → Prevented (Run names workers form) desk status
-run_stops names workers form desk status s = (s.0, (s.1.0, s.1.1 (λ p rest. Does (RunJob p form))))
+pub run_stops : (names : Names) (workers : ℕ) (wanted : RunReport) (desk : DeskChange) (status : Status) → IsStopped (plan_files names) desk status → Prevented (Run names workers wanted) desk status
+run_stops names workers wanted desk status s = (s.0, (s.1.0, s.1.1 (λ p rest. Does (RunJob p wanted))))
 
-pub sim_stops : (names : Names) (seed : ℕ) (form : ReportForm) (desk : DeskChange) (status : Status) → IsStopped (plan_files names) desk status → Prevented (Sim names seed form) desk status
-sim_stops names seed form desk status s = (s.0, (s.1.0, s.1.1 (λ p rest. Does (SimJob p seed form))))
+pub sim_stops : (names : Names) (seed : ℕ) (wanted : RunReport) (desk : DeskChange) (status : Status) → IsStopped (plan_files names) desk status → Prevented (Sim names seed wanted) desk status
+sim_stops names seed wanted desk status s = (s.0, (s.1.0, s.1.1 (λ p rest. Does (SimJob p seed wanted))))
 
 pub direct_stops : (names : Names) (form : ReportForm) (desk : DeskChange) (status : Status) → IsStopped (plan_files names) desk status → Prevented (Direct names form) desk status
 direct_stops names form desk status s = (s.0, (s.1.0, s.1.1 (λ p rest. Does (DirectJob p form))))
 
-pub replay_stops : (names : Names) (journal : List ℕ) (form : ReportForm) (desk : DeskChange) (status : Status) → IsStopped (plan_files names) desk status → Prevented (Replay names journal form) desk status
-replay_stops names journal form desk status s = (
+pub replay_stops : (names : Names) (journal : List ℕ) (wanted : RunReport) (desk : DeskChange) (status : Status) → IsStopped (plan_files names) desk status → Prevented (Replay names journal wanted) desk status
+replay_stops names journal wanted desk status s = (
   s.0,
   (
     read_less desk.contents (plan_files names) ((Journal, journal) ∷ []) s.0 s.1.0,
-    prevents_less (plan_files names) ((Journal, journal) ∷ []) desk (plan_step s.0 (at_journal form)) status (s.1.1 (at_journal form)),
+    prevents_less (plan_files names) ((Journal, journal) ∷ []) desk (plan_step s.0 (at_journal wanted)) status (s.1.1 (at_journal wanted)),
   ),
 )
 
@@ -68,11 +73,11 @@ replay_stops names journal form desk status s = (
 step_at : (files : List NamedFile) (contents : List ℕ → Option (List ℕ)) (p : Plan) (planned : IsPlanned files contents p) (after : AfterPlan) → plan_step planned.results after ≡ after p []
 step_at files contents p planned after = ap (λ (rs : List ReadResult). plan_step rs after) (sym (append-nil planned.results)) ∙ planned.step [] after
 
-pub run_prepared : (names : Names) (workers : ℕ) (form : ReportForm) (contents : List ℕ → Option (List ℕ)) (p : Plan) (output : RunOutput) → IsPlanned (plan_files names) contents p → HasOutput (RunJob p form) output → Prepared (Run names workers form) contents output
-run_prepared names workers form contents p output planned has = (planned.results, (planned.read, (RunJob p form, (step_at (plan_files names) contents p planned (λ p rest. Does (RunJob p form)), has))))
+pub run_prepared : (names : Names) (workers : ℕ) (wanted : RunReport) (contents : List ℕ → Option (List ℕ)) (p : Plan) (output : RunOutput) → IsPlanned (plan_files names) contents p → HasOutput (RunJob p wanted) output → Prepared (Run names workers wanted) contents output
+run_prepared names workers wanted contents p output planned has = (planned.results, (planned.read, (RunJob p wanted, (step_at (plan_files names) contents p planned (λ p rest. Does (RunJob p wanted)), has))))
 
-pub sim_prepared : (names : Names) (seed : ℕ) (form : ReportForm) (contents : List ℕ → Option (List ℕ)) (p : Plan) (output : RunOutput) → IsPlanned (plan_files names) contents p → HasOutput (SimJob p seed form) output → Prepared (Sim names seed form) contents output
-sim_prepared names seed form contents p output planned has = (planned.results, (planned.read, (SimJob p seed form, (step_at (plan_files names) contents p planned (λ p rest. Does (SimJob p seed form)), has))))
+pub sim_prepared : (names : Names) (seed : ℕ) (wanted : RunReport) (contents : List ℕ → Option (List ℕ)) (p : Plan) (output : RunOutput) → IsPlanned (plan_files names) contents p → HasOutput (SimJob p seed wanted) output → Prepared (Sim names seed wanted) contents output
+sim_prepared names seed wanted contents p output planned has = (planned.results, (planned.read, (SimJob p seed wanted, (step_at (plan_files names) contents p planned (λ p rest. Does (SimJob p seed wanted)), has))))
 
 pub direct_prepared : (names : Names) (form : ReportForm) (contents : List ℕ → Option (List ℕ)) (p : Plan) (output : RunOutput) → IsPlanned (plan_files names) contents p → HasOutput (DirectJob p form) output → Prepared (Direct names form) contents output
 direct_prepared names form contents p output planned has = (planned.results, (planned.read, (DirectJob p form, (step_at (plan_files names) contents p planned (λ p rest. Does (DirectJob p form)), has))))
@@ -83,41 +88,42 @@ no_memory asked desk results read = (results, (read, tt))
 
 -- ---- the journal
 
-module _ (names : Names) (journal : List ℕ) (form : ReportForm) (desk : DeskChange) (p : Plan) (planned : IsPlanned (plan_files names) desk.contents p) where
+module _ (names : Names) (journal : List ℕ) (wanted : RunReport) (desk : DeskChange) (p : Plan) (planned : IsPlanned (plan_files names) desk.contents p) where
   with_journal : (g : ReadResult) → Agrees (desk.contents journal) (limit_of Journal) g → AreReadResults desk.contents (plan_files names ++ (Journal, journal) ∷ []) (planned.results ++ g ∷ [])
   with_journal g agrees = read_on desk.contents (plan_files names) ((Journal, journal) ∷ []) planned.results (g ∷ []) planned.read planned.all (agrees, tt)
 
   -- where the journal was not read
-  pub journal_stops : (status : Status) → Refuses Journal journal desk status → Prevented (Replay names journal form) desk status
+  pub journal_stops : (status : Status) → Refuses Journal journal desk status → Prevented (Replay names journal wanted) desk status
   journal_stops OutOfMemory r = (planned.results, (read_less desk.contents (plan_files names) ((Journal, journal) ∷ []) planned.results planned.read, tt))
   journal_stops (DeskFault role) r = (
     planned.results,
     (
       read_less desk.contents (plan_files names) ((Journal, journal) ∷ []) planned.results planned.read,
       (
-        step_at (plan_files names) desk.contents p planned (at_journal form) ∙ ap Wants (sym r.0),
+        step_at (plan_files names) desk.contents p planned (at_journal wanted) ∙ ap Wants (sym r.0),
         record { name = journal; is_named = subst (λ role. In (role, journal) (plan_files names ++ (Journal, journal) ∷ [])) (sym r.0) (inr (inr (inr (inl refl)))); failed = r.1 },
       ),
     ),
   )
-  journal_stops (OverLimit file line what most) r = (planned.results ++ TooLong ∷ [], (with_journal TooLong r.1, planned.step (TooLong ∷ []) (at_journal form) ∙ ap Answers (sym r.0)))
+  journal_stops (OverLimit file line what most) r = (planned.results ++ TooLong ∷ [], (with_journal TooLong r.1, planned.step (TooLong ∷ []) (at_journal wanted) ∙ ap Answers (sym r.0)))
   journal_stops Done r = absurd r
   journal_stops (BadWords fault) r = absurd r
   journal_stops (BadInput file line reason) r = absurd r
   journal_stops (SinkFault target) r = absurd r
   journal_stops (BadJournal i) r = absurd r
   journal_stops (Unfinished e) r = absurd r
+  journal_stops (BadFrames at reason) r = absurd r
 
   module _ (read : ReadJournal) (has : HasJournal (desk.contents journal) p read) where
     -- where the journal leads
-    at_read : next_step (Replay names journal form) (planned.results ++ Bytes has.0 ∷ []) ≡ replay_step p form read
-    at_read = planned.step (Bytes has.0 ∷ []) (at_journal form) ∙ ap (replay_step p form) has.1.1
+    at_read : next_step (Replay names journal wanted) (planned.results ++ Bytes has.0 ∷ []) ≡ replay_step p wanted read
+    at_read = planned.step (Bytes has.0 ∷ []) (at_journal wanted) ∙ ap (replay_step p wanted) has.1.1
 
-    pub replay_prepared : (events : List Event) (output : RunOutput) → replay_step p form read ≡ Does (ReplayJob p events form) → HasOutput (ReplayJob p events form) output → Prepared (Replay names journal form) desk.contents output
-    replay_prepared events output leads is = (planned.results ++ Bytes has.0 ∷ [], (with_journal (Bytes has.0) has.1.0, (ReplayJob p events form, (at_read ∙ leads, is))))
+    pub replay_prepared : (events : List Event) (output : RunOutput) → replay_step p wanted read ≡ Does (ReplayJob p events wanted) → HasOutput (ReplayJob p events wanted) output → Prepared (Replay names journal wanted) desk.contents output
+    replay_prepared events output leads is = (planned.results ++ Bytes has.0 ∷ [], (with_journal (Bytes has.0) has.1.0, (ReplayJob p events wanted, (at_read ∙ leads, is))))
 
     -- why it is not replayed to its end
-    pub replay_refused : (status : Status) → IsJobRefusal (replay_step p form read) status → Prevented (Replay names journal form) desk status
+    pub replay_refused : (status : Status) → IsJobRefusal (replay_step p wanted read) status → Prevented (Replay names journal wanted) desk status
     replay_refused OutOfMemory r = (planned.results ++ Bytes has.0 ∷ [], (with_journal (Bytes has.0) has.1.0, tt))
     replay_refused (BadJournal i) r = (planned.results ++ Bytes has.0 ∷ [], (with_journal (Bytes has.0) has.1.0, at_read ∙ r))
     replay_refused (OverLimit file line what most) r = absurd r
@@ -127,3 +133,46 @@ module _ (names : Names) (journal : List ℕ) (form : ReportForm) (desk : DeskCh
     replay_refused (BadWords fault) r = absurd r
     replay_refused (SinkFault target) r = absurd r
     replay_refused (Unfinished e) r = absurd r
+    replay_refused (BadFrames at reason) r = absurd r
+
+-- ---- the capture
+
+module _ (capture : List ℕ) (desk : DeskChange) where
+  -- where it was not read
+  pub capture_stops : (status : Status) → Refuses Capture capture desk status → Prevented (Frames capture) desk status
+  capture_stops OutOfMemory r = ([], (tt, tt))
+  capture_stops (DeskFault role) r = (
+    [],
+    (
+      tt,
+      (
+        ap Wants (sym r.0),
+        record { name = capture; is_named = subst (λ (role : FileRole). In {X = NamedFile} (role, capture) ((Capture, capture) ∷ [])) (sym r.0) (inl refl); failed = r.1 },
+      ),
+    ),
+  )
+  capture_stops (OverLimit file line what most) r = (TooLong ∷ [], ((r.1, tt), ap Answers (sym r.0)))
+  capture_stops Done r = absurd r
+  capture_stops (BadWords fault) r = absurd r
+  capture_stops (BadInput file line reason) r = absurd r
+  capture_stops (SinkFault target) r = absurd r
+  capture_stops (BadJournal i) r = absurd r
+  capture_stops (Unfinished e) r = absurd r
+  capture_stops (BadFrames at reason) r = absurd r
+
+  module _ (bytes : List ℕ) (whole : IsWhole (desk.contents capture) (limit_of Capture) bytes) where
+    pub capture_prepared : (output : RunOutput) → by_capture bytes (capture_of bytes) ≡ Does (CaptureJob bytes) → HasOutput (CaptureJob bytes) output → Prepared (Frames capture) desk.contents output
+    capture_prepared output leads is = (Bytes bytes ∷ [], ((whole, tt), (CaptureJob bytes, (leads, is))))
+
+    -- why it is not printed
+    pub capture_refused : (status : Status) → IsCaptureRefusal (by_capture bytes (capture_of bytes)) status → Prevented (Frames capture) desk status
+    capture_refused OutOfMemory r = (Bytes bytes ∷ [], ((whole, tt), tt))
+    capture_refused (BadFrames at reason) r = (Bytes bytes ∷ [], ((whole, tt), r))
+    capture_refused (BadJournal i) r = absurd r
+    capture_refused (OverLimit file line what most) r = absurd r
+    capture_refused (DeskFault role) r = absurd r
+    capture_refused (BadInput file line reason) r = absurd r
+    capture_refused Done r = absurd r
+    capture_refused (BadWords fault) r = absurd r
+    capture_refused (SinkFault target) r = absurd r
+    capture_refused (Unfinished e) r = absurd r

@@ -22,7 +22,7 @@ use Rattle.stat_tool.specs.Status.{refusal_of}
 use Rattle.stat_tool.specs.declared.status.FileRole.{FileRole}
 use Rattle.stat_tool.specs.declared.status.FileRole.TheVariants.{Topology, Samples, Script}
 use Rattle.stat_tool.specs.declared.status.Status.{Status}
-use Rattle.stat_tool.specs.declared.status.Status.TheVariants.{Done, BadWords, DeskFault, BadInput, OverLimit, SinkFault, OutOfMemory, BadJournal, Unfinished}
+use Rattle.stat_tool.specs.declared.status.Status.TheVariants.{Done, BadWords, DeskFault, BadInput, OverLimit, SinkFault, OutOfMemory, BadJournal, Unfinished, BadFrames}
 
 -- a file that did not come was not read
 pub stops_unread : {A : Type 0} (read : List ℕ → Result A TextError) (role : FileRole) (name : List ℕ) (desk : DeskChange) (status : Status) → Refuses role name desk status → StopsAt read role name desk status
@@ -35,6 +35,7 @@ stops_unread read role name desk (BadInput file line reason) r = absurd r
 stops_unread read role name desk (SinkFault target) r = absurd r
 stops_unread read role name desk (BadJournal i) r = absurd r
 stops_unread read role name desk (Unfinished e) r = absurd r
+stops_unread read role name desk (BadFrames at reason) r = absurd r
 
 -- a text that was refused
 pub stops_refused : {A : Type 0} (read : List ℕ → Result A TextError) (role : FileRole) (name : List ℕ) (desk : DeskChange) (error : TextError) (bytes text : List ℕ) (status : Status)
@@ -63,6 +64,7 @@ stops_earlier read role name old mid (BadWords fault) le now last contents r = a
 stops_earlier read role name old mid (SinkFault target) le now last contents r = absurd r
 stops_earlier read role name old mid (BadJournal i) le now last contents r = absurd r
 stops_earlier read role name old mid (Unfinished e) le now last contents r = absurd r
+stops_earlier read role name old mid (BadFrames at reason) le now last contents r = absurd r
 
 -- the call stops at a file whose text was not read, where all files before it were read
 module _ {A : Type 0} (files : List NamedFile) (desk : DeskChange) (role : FileRole) (name : List ℕ) (read : List ℕ → Result A TextError) (before : List ReadResult)
@@ -90,6 +92,7 @@ module _ {A : Type 0} (files : List NamedFile) (desk : DeskChange) (role : FileR
   stops (SinkFault target) r = absurd r
   stops (BadJournal i) r = absurd r
   stops (Unfinished e) r = absurd r
+  stops (BadFrames at reason) r = absurd r
 
 -- a file that was read, as the desk had it at the start
 pub tells_earlier : {A : Type 0} (old mid : List ℕ → Option (List ℕ)) (name : List ℕ) (limit : ℕ) (read : List ℕ → Result A TextError) (x : A) → mid ≡ old → Tells (mid name) limit read x → Tells (old name) limit read x
@@ -148,6 +151,7 @@ module _ (names : Names) (desk : DeskChange) (t : Nodes) (topology : Tells (desk
       stops_plan (SinkFault target) r = absurd r
       stops_plan (BadJournal i) r = absurd r
       stops_plan (Unfinished e) r = absurd r
+      stops_plan (BadFrames at reason) r = absurd r
 
       -- the plan that is run
       pub planned : (plan : Plan) → ((rest : List ReadResult) (after : AfterPlan) → with_plan (plan_of t s c) rest after ≡ after plan rest) → IsPlanned (plan_files names) desk.contents plan
@@ -215,6 +219,7 @@ refuses_earlier role name old mid (BadInput file line reason) le now last conten
 refuses_earlier role name old mid (SinkFault target) le now last contents r = absurd r
 refuses_earlier role name old mid (BadJournal i) le now last contents r = absurd r
 refuses_earlier role name old mid (Unfinished e) le now last contents r = absurd r
+refuses_earlier role name old mid (BadFrames at reason) le now last contents r = absurd r
 
 -- where memory ran out before the words were read
 pub words_need_memory : (asked : Result Asked WordFault) (desk : DeskChange) (out journal : SinkChange) (events : List Event) (status : Status)

@@ -14,7 +14,7 @@ use Rattle.journal_text.specs.Reading.{ReadJournal, journal_of}
 use Rattle.stat_words.specs.Words.{Asked}
 use Rattle.stat_words.specs.declared.words.WordFault.{WordFault}
 use Rattle.stat_tool.specs.Files.{NamedFile, files_of, limit_of}
-use Rattle.stat_tool.specs.Jobs.{Job, RunJob, SimJob, ReplayJob, DirectJob, GenJob, RunOutput}
+use Rattle.stat_tool.specs.Jobs.{Job, RunJob, SimJob, ReplayJob, DirectJob, GenJob, CaptureJob, RunOutput}
 use Rattle.stat_tool.specs.NextStep.{AfterPlan, Answers, Bytes, Does, AreReadResults, ReadResult, Step, TooLong, Wants, next_step, plan_step, too_long}
 use Rattle.stat_tool.specs.Outputs.{HasOutput}
 use Rattle.stat_tool.specs.Status.{refusal_of}
@@ -22,7 +22,7 @@ use Rattle.stat_tool.specs.declared.status.FileRole.{FileRole}
 use Rattle.stat_tool.specs.declared.status.FileRole.TheVariants.{Journal as RoleJournal}
 use Rattle.stat_tool.specs.declared.status.Target.TheVariants.{Report, Journal}
 use Rattle.stat_tool.specs.declared.status.Status.{Status}
-use Rattle.stat_tool.specs.declared.status.Status.TheVariants.{Done, BadWords, DeskFault, BadInput, OverLimit, SinkFault, OutOfMemory, BadJournal, Unfinished}
+use Rattle.stat_tool.specs.declared.status.Status.TheVariants.{Done, BadWords, DeskFault, BadInput, OverLimit, SinkFault, OutOfMemory, BadJournal, Unfinished, BadFrames}
 
 -- a desk before and after a call: its count of faults, the last name at which it rose, and the contents of its files
 pub record DeskChange : Type 0 where
@@ -103,6 +103,7 @@ Prevents files desk next (DeskFault role) = (next ≡ Wants role) × FailsAt fil
 Prevents files desk next (BadInput file line reason) = next ≡ Answers (BadInput file line reason)
 Prevents files desk next (OverLimit file line what most) = next ≡ Answers (OverLimit file line what most)
 Prevents files desk next (BadJournal i) = next ≡ Answers (BadJournal i)
+Prevents files desk next (BadFrames at reason) = next ≡ Answers (BadFrames at reason)
 Prevents files desk next Done = ⊥
 Prevents files desk next (BadWords fault) = ⊥
 Prevents files desk next (SinkFault target) = ⊥
@@ -144,11 +145,12 @@ end_of (Some e) = Unfinished e
 
 -- the answer of a job, where nothing fails
 abbrev pub answer_of_job : Job → Status
-answer_of_job (RunJob p form) = Done
-answer_of_job (SimJob p seed form) = Done
-answer_of_job (ReplayJob p events form) = end_of (slice_get (enabled_events p (after p events)) 0)
+answer_of_job (RunJob p wanted) = Done
+answer_of_job (SimJob p seed wanted) = Done
+answer_of_job (ReplayJob p events wanted) = end_of (slice_get (enabled_events p (after p events)) 0)
 answer_of_job (DirectJob p form) = Done
 answer_of_job (GenJob size seed) = Done
+answer_of_job (CaptureJob bytes) = Done
 
 -- the answer that a step leads to, where nothing fails
 abbrev pub answer_of : Step → Status
@@ -182,6 +184,7 @@ Refuses role name desk (BadInput file line reason) = ⊥
 Refuses role name desk (SinkFault target) = ⊥
 Refuses role name desk (BadJournal i) = ⊥
 Refuses role name desk (Unfinished e) = ⊥
+Refuses role name desk (BadFrames at reason) = ⊥
 
 -- a file with these contents was read as this
 abbrev pub Tells : {A : Type 0} → Option (List ℕ) → ℕ → (List ℕ → Result A TextError) → A → Type 0
@@ -204,6 +207,7 @@ StopsAt read role name desk (BadWords fault) = ⊥
 StopsAt read role name desk (SinkFault target) = ⊥
 StopsAt read role name desk (BadJournal i) = ⊥
 StopsAt read role name desk (Unfinished e) = ⊥
+StopsAt read role name desk (BadFrames at reason) = ⊥
 
 -- what the files gave leads to this output
 abbrev pub Prepared : Asked → (List ℕ → Option (List ℕ)) → RunOutput → Type 0
@@ -238,6 +242,7 @@ IsPlanRefusal next (BadWords fault) = ⊥
 IsPlanRefusal next (SinkFault target) = ⊥
 IsPlanRefusal next (BadJournal i) = ⊥
 IsPlanRefusal next (Unfinished e) = ⊥
+IsPlanRefusal next (BadFrames at reason) = ⊥
 
 -- why a job that the files lead to has no output: memory is out, or the journal is refused
 abbrev pub IsJobRefusal : Step → Status → Type 0
@@ -250,6 +255,20 @@ IsJobRefusal next Done = ⊥
 IsJobRefusal next (BadWords fault) = ⊥
 IsJobRefusal next (SinkFault target) = ⊥
 IsJobRefusal next (Unfinished e) = ⊥
+IsJobRefusal next (BadFrames at reason) = ⊥
+
+-- why a capture's bytes are not printed: memory is out, or they are refused
+abbrev pub IsCaptureRefusal : Step → Status → Type 0
+IsCaptureRefusal next OutOfMemory = Unit {0}
+IsCaptureRefusal next (BadFrames at reason) = next ≡ Answers (BadFrames at reason)
+IsCaptureRefusal next (BadJournal i) = ⊥
+IsCaptureRefusal next (OverLimit file line what most) = ⊥
+IsCaptureRefusal next (DeskFault role) = ⊥
+IsCaptureRefusal next (BadInput file line reason) = ⊥
+IsCaptureRefusal next Done = ⊥
+IsCaptureRefusal next (BadWords fault) = ⊥
+IsCaptureRefusal next (SinkFault target) = ⊥
+IsCaptureRefusal next (Unfinished e) = ⊥
 
 -- why an event of a journal is not done, where this is the first that may not come: memory is out, or it is this one
 abbrev pub IsEventRefusal : Option ℕ → Status → Type 0
@@ -262,6 +281,7 @@ IsEventRefusal refused Done = ⊥
 IsEventRefusal refused (BadWords fault) = ⊥
 IsEventRefusal refused (SinkFault target) = ⊥
 IsEventRefusal refused (Unfinished e) = ⊥
+IsEventRefusal refused (BadFrames at reason) = ⊥
 
 -- the journal of a file with these contents was read as this
 abbrev pub HasJournal : Option (List ℕ) → Plan → ReadJournal → Type 0

@@ -1,9 +1,9 @@
 -- The files that a call reads.
 use Rattle.std.specs.Prelude.{ℕ, List, [], ◌∷◌, ◌++◌, map}
 use Rattle.stat_words.specs.Words.{Asked, Names}
-use Rattle.stat_words.specs.Words.{Run, Sim, Replay, Direct, Gen}
+use Rattle.stat_words.specs.Words.{Run, Sim, Replay, Direct, Gen, Frames}
 use Rattle.stat_tool.specs.declared.status.FileRole.{FileRole}
-use Rattle.stat_tool.specs.declared.status.FileRole.TheVariants.{Topology, Samples, Script, Journal}
+use Rattle.stat_tool.specs.declared.status.FileRole.TheVariants.{Topology, Samples, Script, Journal, Capture}
 
 -- what a file says, and its name
 abbrev pub NamedFile : Type 0
@@ -15,11 +15,12 @@ plan_files names = (Topology, names.topology) ∷ (Samples, names.samples) ∷ (
 
 -- the files that the words name, in the order in which they are read
 abbrev pub files_of : Asked → List NamedFile
-files_of (Run names workers form) = plan_files names
-files_of (Sim names seed form) = plan_files names
-files_of (Replay names journal form) = plan_files names ++ (Journal, journal) ∷ []
+files_of (Run names workers wanted) = plan_files names
+files_of (Sim names seed wanted) = plan_files names
+files_of (Replay names journal wanted) = plan_files names ++ (Journal, journal) ∷ []
 files_of (Direct names form) = plan_files names
 files_of (Gen size seed) = []
+files_of (Frames capture) = (Capture, capture) ∷ []
 
 -- their names
 abbrev pub names_in : List NamedFile → List (List ℕ)
@@ -31,3 +32,4 @@ limit_of Topology = 33554432
 limit_of Samples = 33554432
 limit_of Script = 33554432
 limit_of Journal = 1073741824
+limit_of Capture = 1073741824

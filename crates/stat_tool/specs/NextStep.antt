@@ -13,16 +13,19 @@ use Rattle.topology_text.specs.Whole.{topology_of}
 use Rattle.sample_text.specs.Whole.{samples_of_text}
 use Rattle.script_text.specs.Whole.{script_of}
 use Rattle.journal_text.specs.Reading.{ReadJournal, journal_of}
+use Rattle.packet_frame.specs.Fields.{Refusal}
+use Rattle.packet_frame.specs.Frame.{Message}
+use Rattle.capture_text.specs.Captures.{capture_of}
 use Rattle.stat_words.specs.Words.{Asked}
-use Rattle.stat_words.specs.Words.{Run, Sim, Replay, Direct, Gen}
-use Rattle.stat_words.specs.declared.words.ReportForm.{ReportForm}
+use Rattle.stat_words.specs.Words.{Run, Sim, Replay, Direct, Gen, Frames}
+use Rattle.stat_words.specs.declared.words.RunReport.{RunReport}
 use Rattle.stat_tool.specs.Files.{NamedFile, limit_of}
-use Rattle.stat_tool.specs.Jobs.{Job, RunJob, SimJob, ReplayJob, DirectJob, GenJob}
+use Rattle.stat_tool.specs.Jobs.{Job, RunJob, SimJob, ReplayJob, DirectJob, GenJob, CaptureJob}
 use Rattle.stat_tool.specs.Status.{refusal_of}
 use Rattle.stat_tool.specs.declared.status.FileRole.{FileRole}
-use Rattle.stat_tool.specs.declared.status.FileRole.TheVariants.{Topology, Samples, Script, Journal}
+use Rattle.stat_tool.specs.declared.status.FileRole.TheVariants.{Topology, Samples, Script, Journal, Capture}
 use Rattle.stat_tool.specs.declared.status.Status.{Status}
-use Rattle.stat_tool.specs.declared.status.Status.TheVariants.{OverLimit, BadJournal}
+use Rattle.stat_tool.specs.declared.status.Status.TheVariants.{OverLimit, BadJournal, BadFrames}
 
 -- what a read returned: all bytes of a file, or that it has more than its limit
 pub data ReadResult : Type 0 where
@@ -93,33 +96,46 @@ first_refused p st [] = None
 first_refused p st (e ∷ es) = if is_enabled p st e then option_map suc (first_refused p (step p st e) es) else Some 0
 
 -- events that may all come: they are replayed, where no line was bad
-abbrev pub by_bad_line : Plan → ReportForm → List Event → Option ℕ → Step
-by_bad_line p form events None = Does (ReplayJob p events form)
-by_bad_line p form events (Some i) = Answers (BadJournal i)
+abbrev pub by_bad_line : Plan → RunReport → List Event → Option ℕ → Step
+by_bad_line p wanted events None = Does (ReplayJob p events wanted)
+by_bad_line p wanted events (Some i) = Answers (BadJournal i)
 
 -- an event that may not come comes before the bad line
-abbrev pub by_refused : Plan → ReportForm → ReadJournal → Option ℕ → Step
-by_refused p form read None = by_bad_line p form read.events read.bad
-by_refused p form read (Some i) = Answers (BadJournal i)
+abbrev pub by_refused : Plan → RunReport → ReadJournal → Option ℕ → Step
+by_refused p wanted read None = by_bad_line p wanted read.events read.bad
+by_refused p wanted read (Some i) = Answers (BadJournal i)
 
 -- by what the journal was read as
-abbrev pub replay_step : Plan → ReportForm → ReadJournal → Step
-replay_step p form read = by_refused p form read (first_refused p (start p) read.events)
+abbrev pub replay_step : Plan → RunReport → ReadJournal → Step
+replay_step p wanted read = by_refused p wanted read (first_refused p (start p) read.events)
 
-abbrev pub at_journal : ReportForm → AfterPlan
-at_journal form p [] = Wants Journal
-at_journal form p (TooLong ∷ rest) = Answers (too_long Journal)
-at_journal form p (Bytes journal ∷ rest) = replay_step p form (journal_of p journal)
+abbrev pub at_journal : RunReport → AfterPlan
+at_journal wanted p [] = Wants Journal
+at_journal wanted p (TooLong ∷ rest) = Answers (too_long Journal)
+at_journal wanted p (Bytes journal ∷ rest) = replay_step p wanted (journal_of p journal)
+
+-- ---- the capture
+
+-- the bytes are printed, where they are frames to the last byte
+abbrev pub by_capture : List ℕ → Result (List (Message × ℕ)) Refusal → Step
+by_capture bytes (Ok frames) = Does (CaptureJob bytes)
+by_capture bytes (Err refusal) = Answers (BadFrames refusal.at refusal.reason)
+
+abbrev pub at_capture : List ReadResult → Step
+at_capture [] = Wants Capture
+at_capture (TooLong ∷ rest) = Answers (too_long Capture)
+at_capture (Bytes bytes ∷ rest) = by_capture bytes (capture_of bytes)
 
 -- ---- the modes
 
 -- what is asked for, by what the files gave
 abbrev pub next_step : Asked → List ReadResult → Step
-next_step (Run names workers form) results = plan_step results (λ p rest. Does (RunJob p form))
-next_step (Sim names seed form) results = plan_step results (λ p rest. Does (SimJob p seed form))
-next_step (Replay names journal form) results = plan_step results (at_journal form)
+next_step (Run names workers wanted) results = plan_step results (λ p rest. Does (RunJob p wanted))
+next_step (Sim names seed wanted) results = plan_step results (λ p rest. Does (SimJob p seed wanted))
+next_step (Replay names journal wanted) results = plan_step results (at_journal wanted)
 next_step (Direct names form) results = plan_step results (λ p rest. Does (DirectJob p form))
 next_step (Gen size seed) results = Does (GenJob size seed)
+next_step (Frames capture) results = at_capture results
 
 -- ---- what the files gave
 

@@ -10,44 +10,48 @@ use Rattle.overlay_core.specs.Whole.{LosesNoDaemon}
 use Rattle.front_end.specs.Report.{AllStreamsWait, direct_releases}
 use Rattle.journal_text.specs.Reading.{journal_of}
 use Rattle.journal_text.specs.Text.{journal_text}
+use Rattle.packet_frame.specs.Frame.{Message}
+use Rattle.packet_frame.specs.Streams.{Begins}
+use Rattle.capture_text.specs.CaptureText.{text_of_capture}
 use Rattle.generated_job.specs.Job.{job_plan}
 use Rattle.generated_job.specs.Summary.{summary_of}
 use Rattle.stat_words.specs.declared.words.ReportForm.{ReportForm}
-use Rattle.stat_tool.specs.Jobs.{Job, RunJob, SimJob, ReplayJob, DirectJob, GenJob, RunOutput}
+use Rattle.stat_words.specs.declared.words.RunReport.{RunReport}
+use Rattle.stat_tool.specs.Jobs.{Job, RunJob, SimJob, ReplayJob, DirectJob, GenJob, CaptureJob, RunOutput}
 use Rattle.stat_tool.specs.NextStep.{Does, replay_step}
-use Rattle.stat_tool.specs.Reports.{EndsWaves, IsReportIn, IsReportOf, losses_of}
+use Rattle.stat_tool.specs.Reports.{EndsWaves, IsDirectIn, IsReportIn, IsWrittenOf}
 
--- A given journal, done event by event: the report of what it releases, and the first event that may still come. No journal
--- is written. Where nothing may come, each wave has ended.
-pub record IsReplay (p : Plan) (events : List Event) (form : ReportForm) (output : RunOutput) : Type 0 where
+-- A given journal, done event by event: what is wanted of it, and the first event that may still come. No journal is written.
+-- Where nothing may come, each wave has ended.
+pub record IsReplay (p : Plan) (events : List Event) (wanted : RunReport) (output : RunOutput) : Type 0 where
   pub plan : IsPlan p
   pub journal : output.journal ≡ events
-  pub report : IsReportOf p form events output.report
+  pub report : IsWrittenOf p wanted events output.report
   pub unfinished : output.unfinished ≡ slice_get (enabled_events p (after p events)) 0
   pub ended : output.unfinished ≡ None → EndsWaves p events
   pub unwritten : output.journal_text ≡ []
 
 -- One thread that replays the text of a journal prints the same report: the text is read as that journal with no bad line,
 -- its events may come, and whatever the replay's output is, it is finished and its report is the same, byte for byte.
-pub record IsReplayed (p : Plan) (form : ReportForm) (output : RunOutput) : Type 0 where
+pub record IsReplayed (p : Plan) (wanted : RunReport) (output : RunOutput) : Type 0 where
   pub read_back : journal_of p output.journal_text ≡ record { events = output.journal; bad = None }
-  pub accepted : replay_step p form (journal_of p output.journal_text) ≡ Does (ReplayJob p output.journal form)
-  pub same : (replay : RunOutput) → IsReplay p output.journal form replay → (replay.unfinished ≡ None) × (replay.report ≡ output.report)
+  pub accepted : replay_step p wanted (journal_of p output.journal_text) ≡ Does (ReplayJob p output.journal wanted)
+  pub same : (replay : RunOutput) → IsReplay p output.journal wanted replay → (replay.unfinished ≡ None) × (replay.report ≡ output.report)
 
 -- The headline: what a run of a plan returns, on however many workers, and in whatever order they have done its events.
-pub record HasRun (p : Plan) (form : ReportForm) (output : RunOutput) : Type 0 where
+pub record HasRun (p : Plan) (wanted : RunReport) (output : RunOutput) : Type 0 where
   pub plan : IsPlan p
-  -- the report is that of the journal, each wave has ended, and no event may come
-  pub report : IsReportOf p form output.journal output.report
+  -- the report is what is wanted of the journal, each wave has ended, and no event may come
+  pub report : IsWrittenOf p wanted output.journal output.report
   pub ended : EndsWaves p output.journal
   pub finished : output.unfinished ≡ None
   -- the journal is written, and one thread that replays it prints the same report
   pub written : output.journal_text ≡ journal_text p output.journal
-  pub replayed : IsReplayed p form output
+  pub replayed : IsReplayed p wanted output
   -- where every stream waits for all and no daemon is lost, the report is that of the direct merge of each wave, whatever
   -- the journal is, with the journal's losses
   pub all_wait : AllStreamsWait p → ((s : ℕ) → LosesNoDaemon p output.journal s)
-      → IsReportIn form p p.faults (direct_releases p) (losses_of output.journal) output.report
+      → IsDirectIn wanted p output.journal output.report
 
 -- The direct merge of each wave over all ranks of its stream: no event, and no line of a fault.
 pub record HasDirect (p : Plan) (form : ReportForm) (output : RunOutput) : Type 0 where
@@ -65,10 +69,20 @@ pub record HasSummary (size seed : ℕ) (output : RunOutput) : Type 0 where
   pub finished : output.unfinished ≡ None
   pub unwritten : output.journal_text ≡ []
 
+-- The frames of a capture, printed. They are its bytes to the last one.
+pub record HasCapture (bytes : List ℕ) (output : RunOutput) : Type 0 where
+  pub frames : List (Message × ℕ)
+  pub whole : Begins frames bytes []
+  pub report : output.report ≡ text_of_capture frames
+  pub journal : output.journal ≡ []
+  pub finished : output.unfinished ≡ None
+  pub unwritten : output.journal_text ≡ []
+
 -- The table of the modes. In a simulation the seed picks the events.
 abbrev pub HasOutput : Job → RunOutput → Type 0
-HasOutput (RunJob p form) output = HasRun p form output
-HasOutput (SimJob p seed form) output = HasRun p form output × (output.journal ≡ picked p seed)
-HasOutput (ReplayJob p events form) output = IsReplay p events form output
+HasOutput (RunJob p wanted) output = HasRun p wanted output
+HasOutput (SimJob p seed wanted) output = HasRun p wanted output × (output.journal ≡ picked p seed)
+HasOutput (ReplayJob p events wanted) output = IsReplay p events wanted output
 HasOutput (DirectJob p form) output = HasDirect p form output
 HasOutput (GenJob size seed) output = HasSummary size seed output
+HasOutput (CaptureJob bytes) output = HasCapture bytes output

@@ -16,8 +16,11 @@ use Rattle.overlay_core.specs.Runs.{IsLegal, IsWhole, after}
 use Rattle.overlay_core.specs.TreeReleases.{AreNumberedInOrder, TreeRelease, bare_releases}
 use Rattle.overlay_core.specs.Whole.{EndsFinally, HasOneRelease, LosesNoDaemon}
 use Rattle.front_end.specs.JsonReport.{IsJsonReport}
-use Rattle.front_end.specs.Report.{IsDirect, IsReport}
+use Rattle.front_end.specs.Report.{IsDirect, IsReport, direct_releases}
+use Rattle.frame_log.specs.FrameLog.{frame_log}
 use Rattle.stat_words.specs.declared.words.ReportForm.{ReportForm}
+use Rattle.stat_words.specs.declared.words.RunReport.{RunReport}
+use Rattle.stat_words.specs.declared.words.RunReport.TheVariants.{Releases, Frames}
 use Rattle.stat_words.specs.declared.words.ReportForm.TheVariants.{Text, Json}
 
 -- the nodes that the events lose, in order
@@ -62,6 +65,26 @@ pub record IsReportOf (p : Plan) (form : ReportForm) (journal : List Event) (rep
   pub direct : AllByRecursion (IsDirect p) releases
   -- the coverages of a wave grow, and a partial release covers more than the one before, or something if it is the first
   pub grow : (s w : ℕ) → CoveragesGrow none (of_wave s w (bare_releases releases))
+
+-- The frames that the events of a journal receive, one after another.
+pub record IsLogOf (p : Plan) (journal : List Event) (log : List ℕ) : Type 0 where
+  pub legal : IsLegal p journal
+  pub frames : log ≡ frame_log p journal
+
+-- What is wanted of a journal: the report of its releases in a form, or its frames.
+abbrev pub IsWrittenOf : Plan → RunReport → List Event → List ℕ → Type 0
+IsWrittenOf p (Releases form) journal text = IsReportOf p form journal text
+IsWrittenOf p Frames journal text = IsLogOf p journal text
+
+-- what is wanted of a journal with these releases
+abbrev pub IsWrittenIn : RunReport → Plan → List TreeRelease → List Event → List ℕ → Type 0
+IsWrittenIn (Releases form) p releases journal text = IsReportIn form p p.faults releases (losses_of journal) text
+IsWrittenIn Frames p releases journal text = text ≡ frame_log p journal
+
+-- if it is a report of releases, it is that of the direct merge of each wave, with the journal's losses
+abbrev pub IsDirectIn : RunReport → Plan → List Event → List ℕ → Type 0
+IsDirectIn (Releases form) p journal text = IsReportIn form p p.faults (direct_releases p) (losses_of journal) text
+IsDirectIn Frames p journal text = ⊤
 
 -- The journal is whole, and ends each wave.
 pub record EndsWaves (p : Plan) (journal : List Event) : Type 0 where

@@ -6,7 +6,9 @@ ghost use Rattle.stat_tool.specs.Call.{desk_change, sink_change};
 ghost use Rattle.stat_tool.specs.Files.{files_of, names_in};
 ghost use Rattle.stat_tool.specs.Views.{output_view};
 
-use crate::modes::{prepare_direct, prepare_gen, prepare_replay, prepare_run, prepare_sim};
+use crate::modes::{
+    prepare_direct, prepare_frames, prepare_gen, prepare_replay, prepare_run, prepare_sim,
+};
 use crate::output::Output;
 use crate::status::{Outcome, Status, Target};
 use prefix_tree::PrefixTree;
@@ -17,11 +19,11 @@ use std::sync::Wait;
 use std::thread::Threads;
 
 /// Does what the words ask for: reads the files that they name, runs the overlay on their samples, and writes the
-/// report to `out` and the journal to `journal`. `T` is how the overlay keeps its trees. A run's events are done by as
+/// report, or the frames that went over the overlay's links, to `out` and the journal to `journal`. `T` is how the overlay keeps its trees. A run's events are done by as
 /// many threads of `rt` as its words say, and each passes the gate; no other mode makes a thread or passes the gate.
 ///
 /// The files are read each once, in the order topology, samples, script, journal, and each is tested before the next is
-/// read. The report and the journal's text are built whole before their first byte is written.
+/// read; a capture is read alone. The report and the journal's text are built whole before their first byte is written.
 ///
 /// `answered` has the headline: where the status is Done, the files lead to a job, and the journal and the report are
 /// an output of it, `HasOutput`. Every other status has its cause there, too.
@@ -112,16 +114,21 @@ fn prepare<R: Threads + Wait + Sync, T: PrefixTree, D: Desk, G: Gate>(
         Command::Run {
             files,
             workers,
-            form,
-        } => prepare_run::<R, T, D, G>(rt, alloc, files, workers, form, desk, gate),
-        Command::Sim { files, seed, form } => prepare_sim::<T, D>(alloc, files, seed, form, desk),
+            report,
+        } => prepare_run::<R, T, D, G>(rt, alloc, files, workers, report, desk, gate),
+        Command::Sim {
+            files,
+            seed,
+            report,
+        } => prepare_sim::<T, D>(alloc, files, seed, report, desk),
         Command::Replay {
             files,
             journal,
-            form,
-        } => prepare_replay::<T, D>(alloc, files, journal, form, desk),
+            report,
+        } => prepare_replay::<T, D>(alloc, files, journal, report, desk),
         Command::Direct { files, form } => prepare_direct::<T, D>(alloc, files, form, desk),
         Command::Gen { size, seed } => prepare_gen::<T, D>(alloc, size, seed, desk),
+        Command::Frames { capture } => prepare_frames::<T, D>(alloc, capture, desk),
     }
 }
 

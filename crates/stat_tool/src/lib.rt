@@ -13,18 +13,3 @@ pub use call::stat;
 pub use program::{Ending, ending_of, run_program};
 pub use stat_words::WordFault;
 pub use status::{FileRole, Outcome, Status, Target};
-
-#[cfg(test)]
-mod fixtures;
-#[cfg(test)]
-mod loss_tests;
-#[cfg(test)]
-mod mode_tests;
-#[cfg(test)]
-mod net_tests;
-#[cfg(test)]
-mod shy_tree;
-#[cfg(test)]
-mod tests;
-#[cfg(test)]
-mod worker_tests;

@@ -2,20 +2,20 @@
 ghost use Rattle.std.specs.Prelude.{◌≡◌, ◌≤◌, ◌∷◌, [], IfErr, IfOk, OnOk};
 ghost use Rattle.journal_text.specs.Reading.{read_view};
 ghost use Rattle.stat_words.specs.Words.{names_of};
-ghost use Rattle.stat_words.specs.Words.{Direct, Gen, Replay, Run, Sim};
+ghost use Rattle.stat_words.specs.Words.{Direct, Frames, Gen, Replay, Run, Sim};
 ghost use Rattle.stat_tool.specs.Call.{AreReadInOrder, HasJournal, Prepared, Prevented, Refuses, desk_change};
 ghost use Rattle.stat_tool.specs.Files.{files_of, names_in};
 ghost use Rattle.stat_tool.specs.Views.{output_view};
 
 use crate::generated::gen_job;
-use crate::output::{Output, direct_plan, replay_plan, run_plan, sim_plan};
+use crate::output::{Output, capture_output, direct_plan, replay_plan, run_plan, sim_plan};
 use crate::read::{read_file, read_plan};
 use crate::status::{FileRole, Status};
 use journal_text::{JournalRead, read_journal};
 use prefix_tree::PrefixTree;
 use stat_desk::{Desk, Gate};
 use stat_plan::Plan;
-use stat_words::{Files, ReportForm};
+use stat_words::{Files, ReportForm, RunReport};
 use std::alloc::Global;
 use std::sync::Wait;
 use std::thread::Threads;
@@ -26,23 +26,23 @@ pub fn prepare_run<R: Threads + Wait + Sync, T: PrefixTree, D: Desk, G: Gate>(
     alloc: Global,
     files: Files<'_>,
     workers: u8,
-    form: ReportForm,
+    wanted: RunReport,
     desk: &mut D,
     gate: &G,
 ) -> Result<Output, Status>
     requires workers { (1 ≤ workers) × (workers ≤ 32) }
     ensures ok { IfOk result
-        (λ output. Prepared (Run (names_of files.entry) workers form) (D.contents desk.old) (output_view output)) }
-    ensures err { IfErr result (Prevented (Run (names_of files.entry) workers form)
+        (λ output. Prepared (Run (names_of files.entry) workers wanted) (D.contents desk.old) (output_view output)) }
+    ensures err { IfErr result (Prevented (Run (names_of files.entry) workers wanted)
         (desk_change D.faults D.last_fault D.contents desk.old desk.new)) }
     ensures reads { AreReadInOrder (D.reads desk.old) (D.reads desk.new)
-        (names_in (files_of (Run (names_of files.entry) workers form))) }
+        (names_in (files_of (Run (names_of files.entry) workers wanted))) }
 {
     let plan = match read_plan(alloc, files, desk) {
         Ok(plan) => plan,
         Err(status) => return Err(status),
     };
-    match run_plan::<R, T, G>(rt, alloc, &plan, workers, gate, form) {
+    match run_plan::<R, T, G>(rt, alloc, &plan, workers, gate, wanted) {
         Ok(output) => Ok(output),
         Err(_) => Err(Status::OutOfMemory),
     }
@@ -53,21 +53,21 @@ pub fn prepare_sim<T: PrefixTree, D: Desk>(
     alloc: Global,
     files: Files<'_>,
     seed: u64,
-    form: ReportForm,
+    wanted: RunReport,
     desk: &mut D,
 ) -> Result<Output, Status>
     ensures ok { IfOk result
-        (λ output. Prepared (Sim (names_of files.entry) seed form) (D.contents desk.old) (output_view output)) }
-    ensures err { IfErr result (Prevented (Sim (names_of files.entry) seed form)
+        (λ output. Prepared (Sim (names_of files.entry) seed wanted) (D.contents desk.old) (output_view output)) }
+    ensures err { IfErr result (Prevented (Sim (names_of files.entry) seed wanted)
         (desk_change D.faults D.last_fault D.contents desk.old desk.new)) }
     ensures reads { AreReadInOrder (D.reads desk.old) (D.reads desk.new)
-        (names_in (files_of (Sim (names_of files.entry) seed form))) }
+        (names_in (files_of (Sim (names_of files.entry) seed wanted))) }
 {
     let plan = match read_plan(alloc, files, desk) {
         Ok(plan) => plan,
         Err(status) => return Err(status),
     };
-    match sim_plan::<T>(alloc, &plan, seed, form) {
+    match sim_plan::<T>(alloc, &plan, seed, wanted) {
         Ok(output) => Ok(output),
         Err(_) => Err(Status::OutOfMemory),
     }
@@ -78,15 +78,15 @@ pub fn prepare_replay<T: PrefixTree, D: Desk>(
     alloc: Global,
     files: Files<'_>,
     journal: &str,
-    form: ReportForm,
+    wanted: RunReport,
     desk: &mut D,
 ) -> Result<Output, Status>
     ensures ok { IfOk result (λ output.
-        Prepared (Replay (names_of files.entry) journal.now form) (D.contents desk.old) (output_view output)) }
-    ensures err { IfErr result (Prevented (Replay (names_of files.entry) journal.now form)
+        Prepared (Replay (names_of files.entry) journal.now wanted) (D.contents desk.old) (output_view output)) }
+    ensures err { IfErr result (Prevented (Replay (names_of files.entry) journal.now wanted)
         (desk_change D.faults D.last_fault D.contents desk.old desk.new)) }
     ensures reads { AreReadInOrder (D.reads desk.old) (D.reads desk.new)
-        (names_in (files_of (Replay (names_of files.entry) journal.now form))) }
+        (names_in (files_of (Replay (names_of files.entry) journal.now wanted))) }
 {
     let plan = match read_plan(alloc, files, desk) {
         Ok(plan) => plan,
@@ -96,7 +96,7 @@ pub fn prepare_replay<T: PrefixTree, D: Desk>(
         Ok(read) => read,
         Err(status) => return Err(status),
     };
-    replay_plan::<T>(alloc, &plan, read, form)
+    replay_plan::<T>(alloc, &plan, read, wanted)
 }
 
 // The events of a journal's file.
@@ -162,4 +162,22 @@ pub fn prepare_gen<T: PrefixTree, D: Desk>(
         Ok(output) => Ok(output),
         Err(_) => Err(Status::OutOfMemory),
     }
+}
+
+/// The frames of a capture, printed.
+pub fn prepare_frames<T: PrefixTree, D: Desk>(
+    alloc: Global,
+    capture: &str,
+    desk: &mut D,
+) -> Result<Output, Status>
+    ensures ok { IfOk result (λ output. Prepared (Frames capture.now) (D.contents desk.old) (output_view output)) }
+    ensures err { IfErr result (Prevented (Frames capture.now)
+        (desk_change D.faults D.last_fault D.contents desk.old desk.new)) }
+    ensures reads { AreReadInOrder (D.reads desk.old) (D.reads desk.new) (names_in (files_of (Frames capture.now))) }
+{
+    let bytes = match read_file(desk, capture, FileRole::Capture) {
+        Ok(bytes) => bytes,
+        Err(status) => return Err(status),
+    };
+    capture_output::<T>(alloc, bytes.as_slice())
 }

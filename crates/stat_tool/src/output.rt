@@ -2,21 +2,26 @@
 ghost use Rattle.std.specs.Prelude.{◌≡◌, ◌<◌, ◌≤◌, ◌++◌, ℕ, [], None, false, IfErr, IfOk, OnOk, map};
 ghost use Rattle.front_end.specs.Report.{AreDistinct, direct_release, direct_releases};
 ghost use Rattle.journal_text.specs.Reading.{read_view};
+ghost use Rattle.capture_text.specs.Captures.{capture_of};
 ghost use Rattle.overlay_core.specs.Machine.{start};
+ghost use Rattle.overlay_core.specs.Runs.{IsLegal};
 ghost use Rattle.overlay_core.specs.TreeReleases.{AreNumberedInOrder, release_view, releases_view};
 ghost use Rattle.merge_filter.specs.Contributions.{HasWave};
 ghost use Rattle.overlay_net.specs.Nets.{AllHome, IsReachedBy};
 ghost use Rattle.overlay_run.specs.Boards.{IsWholeRun};
 ghost use Rattle.overlay_setup.specs.NodeSets.{up_to};
 ghost use Rattle.stat_plan.specs.Invariants.{IsPlan};
-ghost use Rattle.stat_tool.specs.Call.{IsEventRefusal, IsJobRefusal};
-ghost use Rattle.stat_tool.specs.Jobs.{DirectJob, ReplayJob, RunJob, SimJob};
-ghost use Rattle.stat_tool.specs.NextStep.{Does, first_refused, replay_step};
+ghost use Rattle.stat_tool.specs.Call.{IsCaptureRefusal, IsEventRefusal, IsJobRefusal};
+ghost use Rattle.stat_tool.specs.Jobs.{CaptureJob, DirectJob, ReplayJob, RunJob, SimJob};
+ghost use Rattle.stat_tool.specs.NextStep.{Does, by_capture, first_refused, replay_step};
 ghost use Rattle.stat_tool.specs.Outputs.{HasOutput, HasRun};
-ghost use Rattle.stat_tool.specs.Reports.{IsReportIn, losses_of};
+ghost use Rattle.stat_tool.specs.Reports.{IsReportIn, IsWrittenIn, losses_of};
+ghost use Rattle.stat_tool.specs.Status.{refusal_of_capture};
 ghost use Rattle.stat_tool.specs.Views.{output_view};
 
 use crate::status::Status;
+use capture_text::{capture_text, captures_are_frames};
+use frame_log::frame_log;
 use front_end::{
     direct_json, direct_text, numbered_releases_are_distinct, report_json, report_text,
 };
@@ -26,10 +31,11 @@ use overlay_core::{Kind, Release};
 use overlay_net::{Net, NetError};
 use overlay_run::{Ran, run_workers};
 use overlay_setup::StreamDef;
+use packet_frame::FrameError;
 use prefix_tree::PrefixTree;
 use stat_desk::{Event, Gate, Journal};
 use stat_plan::Plan;
-use stat_words::ReportForm;
+use stat_words::{ReportForm, RunReport};
 use std::alloc::{AllocError, Global};
 use std::sync::Wait;
 use std::thread::Threads;
@@ -54,10 +60,10 @@ pub fn run_plan<R: Threads + Wait + Sync, T: PrefixTree, G: Gate>(
     plan: &Plan,
     workers: u8,
     gate: &G,
-    form: ReportForm,
+    wanted: RunReport,
 ) -> Result<Output, AllocError>
     requires workers { (1 ≤ workers) × (workers ≤ 32) }
-    ensures { IfOk result (λ output. HasOutput (RunJob plan.now form) (output_view output)) }
+    ensures { IfOk result (λ output. HasOutput (RunJob plan.now wanted) (output_view output)) }
 {
     let Ran { journal, releases } = run_workers::<R, T, G>(
         rt,
@@ -66,7 +72,7 @@ pub fn run_plan<R: Threads + Wait + Sync, T: PrefixTree, G: Gate>(
         u32::from(workers),
         gate,
     )?;
-    finished(alloc, plan, &releases, journal, form)
+    finished(alloc, plan, &releases, journal, wanted)
 }
 
 /// Runs a plan with the events that a seed picks, until none is enabled.
@@ -74,14 +80,14 @@ pub fn sim_plan<T: PrefixTree>(
     alloc: Global,
     plan: &Plan,
     seed: u64,
-    form: ReportForm,
+    wanted: RunReport,
 ) -> Result<Output, AllocError>
-    ensures { IfOk result (λ output. HasOutput (SimJob plan.now seed form) (output_view output)) }
+    ensures { IfOk result (λ output. HasOutput (SimJob plan.now seed wanted) (output_view output)) }
 {
     plan.invariant();
     let mut net: Net<'_, T> = Net::new(alloc, plan)?;
     let journal = net.run_picked(seed)?;
-    finished(alloc, plan, net.releases(), journal, form)
+    finished(alloc, plan, net.releases(), journal, wanted)
 }
 
 // The output of a whole run, of which this is the journal and these are the releases.
@@ -90,14 +96,14 @@ fn finished<T: PrefixTree>(
     plan: &Plan,
     releases: &[Release<T>],
     journal: Journal,
-    form: ReportForm,
+    wanted: RunReport,
 ) -> Result<Output, AllocError>
     requires whole { IsWholeRun plan.now journal (releases_view T.tree releases.now) }
-    ensures run { IfOk result (λ output. HasRun plan.now form (output_view output)) }
+    ensures run { IfOk result (λ output. HasRun plan.now wanted (output_view output)) }
     ensures journal { IfOk result (λ output. output.journal ≡ journal) }
 {
     plan.invariant();
-    let report = report_of(alloc, plan, releases, &journal, form)?;
+    let report = text_of::<T>(alloc, plan, releases, &journal, wanted)?;
     let journal_text = write_journal(alloc, plan, &journal)?;
     Ok(Output {
         unfinished: None,
@@ -113,12 +119,12 @@ pub fn replay_plan<T: PrefixTree>(
     alloc: Global,
     plan: &Plan,
     read: JournalRead,
-    form: ReportForm,
+    wanted: RunReport,
 ) -> Result<Output, Status>
-    ensures ok { IfOk result (λ output. (replay_step plan.now form (read_view read)
-        ≡ Does (ReplayJob plan.now output.journal form))
-        × HasOutput (ReplayJob plan.now output.journal form) (output_view output)) }
-    ensures err { IfErr result (IsJobRefusal (replay_step plan.now form (read_view read))) }
+    ensures ok { IfOk result (λ output. (replay_step plan.now wanted (read_view read)
+        ≡ Does (ReplayJob plan.now output.journal wanted))
+        × HasOutput (ReplayJob plan.now output.journal wanted) (output_view output)) }
+    ensures err { IfErr result (IsJobRefusal (replay_step plan.now wanted (read_view read))) }
 {
     let Ok(mut net) = Net::<T>::new(alloc, plan) else {
         return Err(Status::OutOfMemory);
@@ -130,7 +136,7 @@ pub fn replay_plan<T: PrefixTree>(
     if let Some(number) = read.bad {
         return Err(Status::BadJournal(number));
     }
-    match replayed(alloc, plan, &net, read.events, form) {
+    match replayed(alloc, plan, &net, read.events, wanted) {
         Ok(output) => Ok(output),
         Err(_) => Err(Status::OutOfMemory),
     }
@@ -142,18 +148,18 @@ fn replayed<T: PrefixTree>(
     plan: &Plan,
     net: &Net<'_, T>,
     journal: Journal,
-    form: ReportForm,
+    wanted: RunReport,
 ) -> Result<Output, AllocError>
     requires same { net.now.plan ≡ plan.now }
     requires usable { net.now.failed ≡ false }
     requires reached { IsReachedBy net.now journal }
     requires home { AllHome net.now }
-    ensures replay { IfOk result (λ output. HasOutput (ReplayJob plan.now journal form) (output_view output)) }
+    ensures replay { IfOk result (λ output. HasOutput (ReplayJob plan.now journal wanted) (output_view output)) }
     ensures journal { IfOk result (λ output. output.journal ≡ journal) }
 {
     plan.invariant();
     let unfinished = net.enabled(0);
-    let report = report_of(alloc, plan, net.releases(), &journal, form)?;
+    let report = text_of::<T>(alloc, plan, net.releases(), &journal, wanted)?;
     Ok(Output {
         unfinished,
         journal,
@@ -260,6 +266,26 @@ fn losses_of(alloc: Global, journal: &Journal) -> Result<Vec<u32>, AllocError>
     Ok(lost)
 }
 
+// What is wanted of a journal with these releases: their report, or the frames that its events receive. For the frames its
+// events are done once more.
+fn text_of<T: PrefixTree>(
+    alloc: Global,
+    plan: &Plan,
+    releases: &[Release<T>],
+    journal: &Journal,
+    wanted: RunReport,
+) -> Result<Vec<u8>, AllocError>
+    requires legal { IsLegal plan.now journal.now }
+    requires numbered { AreNumberedInOrder [] (releases_view T.tree releases.now) }
+    ensures { IfOk result
+        (λ text. IsWrittenIn wanted plan.now (releases_view T.tree releases.now) journal.now text.items) }
+{
+    match wanted {
+        RunReport::Releases(form) => report_of(alloc, plan, releases, journal, form),
+        RunReport::Frames => frame_log::<T>(alloc, plan, journal),
+    }
+}
+
 // The report of what was released, and of what came of the plan's faults in this journal.
 fn report_of<T: PrefixTree>(
     alloc: Global,
@@ -277,6 +303,34 @@ fn report_of<T: PrefixTree>(
     match form {
         ReportForm::Text => report_text(alloc, plan, releases, &lost),
         ReportForm::Json => report_json(alloc, plan, releases, &lost),
+    }
+}
+
+/// The frames of a capture's bytes, printed. Refused with `BadFrames` where they are not whole frames to the last byte.
+pub fn capture_output<T: PrefixTree>(alloc: Global, bytes: &[u8]) -> Result<Output, Status>
+    ensures ok { IfOk result (λ output. (by_capture bytes.now (capture_of bytes.now) ≡ Does (CaptureJob bytes.now))
+        × HasOutput (CaptureJob bytes.now) (output_view output)) }
+    ensures err { IfErr result (IsCaptureRefusal (by_capture bytes.now (capture_of bytes.now))) }
+{
+    captures_are_frames();
+    match capture_text::<T>(alloc, bytes) {
+        Ok(report) => Ok(Output {
+            unfinished: None,
+            journal: Journal::new(alloc),
+            report,
+            journal_text: Vec::new(alloc),
+        }),
+        Err(error) => Err(capture_refusal(error)),
+    }
+}
+
+// The status of a capture that was refused.
+fn capture_refusal(error: FrameError) -> Status
+    ensures { result ≡ refusal_of_capture error }
+{
+    match error {
+        FrameError::Refused { at, reason } => Status::BadFrames { at, reason },
+        FrameError::OutOfMemory => Status::OutOfMemory,
     }
 }
 

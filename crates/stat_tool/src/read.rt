@@ -29,7 +29,7 @@ fn limit_of(role: FileRole) -> u64
 {
     match role {
         FileRole::Topology | FileRole::Samples | FileRole::Script => 33_554_432,
-        FileRole::Journal => 1_073_741_824,
+        FileRole::Journal | FileRole::Capture => 1_073_741_824,
     }
 }
 

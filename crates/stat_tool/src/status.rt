@@ -2,6 +2,7 @@
 ghost use Rattle.std.specs.Prelude.{◌≡◌};
 ghost use Rattle.stat_tool.specs.Status.{number_of};
 
+use packet_frame::FrameReason;
 use stat_desk::{Event, Journal};
 use stat_words::WordFault;
 use std::fmt;
@@ -18,6 +19,8 @@ pub enum FileRole {
     Script,
     /// Which events happen, in order.
     Journal,
+    /// Frames, one after another.
+    Capture,
 }
 
 /// What is written.
@@ -60,6 +63,12 @@ pub enum Status {
     BadJournal(u64),
     /// The journal to be replayed ends where this event, and perhaps others, may still come. The report was written.
     Unfinished(Event),
+    /// The capture is not a sequence of whole frames: the first field behind its whole frames that breaks its rule, or in
+    /// which the capture ends, by the offset of that field's first byte.
+    BadFrames {
+        at: u64,
+        reason: FrameReason,
+    },
 }
 
 impl Status {
@@ -77,6 +86,7 @@ impl Status {
             Status::OutOfMemory => 7,
             Status::BadJournal(_) => 8,
             Status::Unfinished(_) => 9,
+            Status::BadFrames { .. } => 10,
         }
     }
 }
@@ -88,6 +98,7 @@ impl fmt::Display for FileRole {
             FileRole::Samples => "samples",
             FileRole::Script => "script",
             FileRole::Journal => "journal",
+            FileRole::Capture => "capture",
         })
     }
 }
@@ -118,6 +129,7 @@ impl fmt::Display for Status {
             Status::OutOfMemory => write!(f, "out of memory"),
             Status::BadJournal(number) => write!(f, "journal event {number} refused"),
             Status::Unfinished(event) => write_unfinished(*event, f),
+            Status::BadFrames { at, reason } => write!(f, "capture at {at}: {reason:?}"),
         }
     }
 }

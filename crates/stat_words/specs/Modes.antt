@@ -11,7 +11,7 @@ use Rattle.stat_words.specs.declared.words.Opt.TheVariants.{Topology, Samples, S
 use Rattle.stat_words.specs.declared.words.WordFault.{WordFault}
 use Rattle.stat_words.specs.declared.words.WordFault.TheVariants.{Options}
 use Rattle.stat_words.specs.declared.modes.Mode.{Mode}
-use Rattle.stat_words.specs.declared.modes.Mode.TheVariants.{Run, Sim, Replay, Direct, Gen}
+use Rattle.stat_words.specs.declared.modes.Mode.TheVariants.{Run, Sim, Replay, Direct, Gen, Frames}
 
 -- the word of an option, without its two dashes
 abbrev pub word_of : Opt → Text
@@ -32,9 +32,10 @@ mode_word Sim = codes "sim"
 mode_word Replay = codes "replay"
 mode_word Direct = codes "direct"
 mode_word Gen = codes "gen"
+mode_word Frames = codes "frames"
 
 abbrev pub modes : List Mode
-modes = Run ∷ Sim ∷ Replay ∷ Direct ∷ Gen ∷ []
+modes = Run ∷ Sim ∷ Replay ∷ Direct ∷ Gen ∷ Frames ∷ []
 
 -- the mode of a word
 abbrev pub mode_of : Text → Option Mode
@@ -58,6 +59,7 @@ options_of Sim = file_options ++ optional Seed ∷ optional Report ∷ []
 options_of Replay = file_options ++ required JournalIn ∷ optional Report ∷ []
 options_of Direct = file_options ++ optional Report ∷ []
 options_of Gen = optional Seed ∷ required Size ∷ []
+options_of Frames = required Capture ∷ []
 
 -- an option as clap is told of it: `--word`, with one value
 abbrev pub rule_for : Opt × Bool → Rule

@@ -2,10 +2,11 @@
 use Rattle.std.specs.Prelude.{◌≡◌, refl, ℕ, List, [], ◌∷◌, codes, Ok, Err, Some, None}
 use Rattle.clap.specs.Walk.{bundle_met, walked}
 use Rattle.clap.specs.Faults.{defaults_fault, flags_fault, walk_fault}
-use Rattle.stat_words.specs.Values.{file_name, number_of, number_between, report_form}
-use Rattle.stat_words.specs.Words.{Names, Run, Sim, Replay, Direct, Gen, asked, form_in, seed_in, workers_in}
+use Rattle.stat_words.specs.Values.{file_name, number_of, number_between, report_form, run_report}
+use Rattle.stat_words.specs.Words.{Names, Run, Sim, Replay, Direct, Gen, Frames, asked, form_in, run_report_in, seed_in, workers_in}
 use Rattle.stat_words.specs.declared.words.ReportForm.TheVariants.{Text}
-use Rattle.stat_words.specs.declared.words.Opt.TheVariants.{Seed, Size}
+use Rattle.stat_words.specs.declared.words.RunReport.TheVariants as report
+use Rattle.stat_words.specs.declared.words.Opt.TheVariants.{Capture, Seed, Size, Report}
 use Rattle.stat_words.specs.declared.words.WordFault.TheVariants.{NoMode, UnknownMode, Options, Value}
 
 -- the defaults, where an option isn't given
@@ -17,6 +18,9 @@ seed_zero = refl
 
 text_report : form_in [] ≡ Ok Text
 text_report = refl
+
+text_report_of_runs : run_report_in [] ≡ Ok (report.Releases Text)
+text_report_of_runs = refl
 
 -- zeros in front mean nothing, and 21 digits are no number
 zeros : number_of (codes "08") ≡ Some 8
@@ -44,8 +48,12 @@ too_large = refl
 dash : file_name (codes "-x") ≡ None
 dash = refl
 
-frames : report_form (codes "frames") ≡ None
-frames = refl
+-- a run can write its frames, a direct merge has none
+frames_of_runs : run_report (codes "frames") ≡ Some report.Frames
+frames_of_runs = refl
+
+no_frames : report_form (codes "frames") ≡ None
+no_frames = refl
 
 -- the words of three files, and their names
 abbrev three_files : List (List ℕ)
@@ -67,15 +75,15 @@ unfolding asked
 help = refl
 
 -- each mode with what it requires, and the defaults
-run : asked (codes "run" ∷ three_files) ≡ Ok (Run names 4 Text)
+run : asked (codes "run" ∷ three_files) ≡ Ok (Run names 4 (report.Releases Text))
 unfolding asked walked walk_fault bundle_met flags_fault defaults_fault
 run = refl
 
-sim : asked (codes "sim" ∷ three_files) ≡ Ok (Sim names 0 Text)
+sim : asked (codes "sim" ∷ three_files) ≡ Ok (Sim names 0 (report.Releases Text))
 unfolding asked walked walk_fault bundle_met flags_fault defaults_fault
 sim = refl
 
-replay : asked (codes "replay" ∷ codes "--journal-in=j" ∷ three_files) ≡ Ok (Replay names (codes "j") Text)
+replay : asked (codes "replay" ∷ codes "--journal-in=j" ∷ three_files) ≡ Ok (Replay names (codes "j") (report.Releases Text))
 unfolding asked walked walk_fault bundle_met flags_fault defaults_fault
 replay = refl
 
@@ -86,6 +94,22 @@ direct = refl
 gen : asked (codes "gen" ∷ codes "--size=256" ∷ []) ≡ Ok (Gen 256 0)
 unfolding asked walked walk_fault bundle_met flags_fault defaults_fault
 gen = refl
+
+frames : asked (codes "frames" ∷ codes "--capture" ∷ codes "c" ∷ []) ≡ Ok (Frames (codes "c"))
+unfolding asked walked walk_fault bundle_met flags_fault defaults_fault
+frames = refl
+
+frames_as_report : asked (codes "sim" ∷ codes "--report=frames" ∷ three_files) ≡ Ok (Sim names 0 report.Frames)
+unfolding asked walked walk_fault bundle_met flags_fault defaults_fault
+frames_as_report = refl
+
+direct_has_no_frames : asked (codes "direct" ∷ codes "--report=frames" ∷ three_files) ≡ Err (Value Report)
+unfolding asked walked walk_fault bundle_met flags_fault defaults_fault
+direct_has_no_frames = refl
+
+no_name_of_a_capture : asked (codes "frames" ∷ codes "--capture=" ∷ []) ≡ Err (Value Capture)
+unfolding asked walked walk_fault bundle_met flags_fault defaults_fault
+no_name_of_a_capture = refl
 
 -- options of another mode, missing, given twice, with no value; a stray word; `--`
 other_mode : asked (codes "gen" ∷ codes "--size=1" ∷ codes "--workers=1" ∷ []) ≡ Err Options

@@ -9,6 +9,8 @@ use Rattle.stat_words.specs.Modes.{word_of}
 use Rattle.stat_words.specs.declared.words.Opt.{Opt}
 use Rattle.stat_words.specs.declared.words.ReportForm.{ReportForm}
 use Rattle.stat_words.specs.declared.words.ReportForm.TheVariants as form
+use Rattle.stat_words.specs.declared.words.RunReport.{RunReport}
+use Rattle.stat_words.specs.declared.words.RunReport.TheVariants as report
 use Rattle.stat_words.specs.declared.words.WordFault.{WordFault}
 use Rattle.stat_words.specs.declared.words.WordFault.TheVariants.{Options, Value}
 
@@ -38,6 +40,13 @@ abbrev pub report_form : Text → Option ReportForm
 report_form word =
     if bytes_eq word (codes "text") then Some form.Text
     else (if bytes_eq word (codes "json") then Some form.Json else None)
+
+-- what is written of a run: a report of its releases, or its frames
+abbrev pub run_report : Text → Option RunReport
+run_report word =
+    if bytes_eq word (codes "text") then Some (report.Releases form.Text)
+    else (if bytes_eq word (codes "json") then Some (report.Releases form.Json)
+    else (if bytes_eq word (codes "frames") then Some report.Frames else None))
 
 -- a value as it is read, or the fault that it is a bad one
 abbrev pub good_or : {A : Type 0} → Opt → Option A → Result A WordFault

@@ -3,13 +3,15 @@ use Rattle.std.specs.Prelude.{◌≤◌, ◌-◌, ◌^◌, ℕ, List, [], ◌∷
 use Rattle.clap.specs.Words.{Row, Text}
 use Rattle.stat_words.specs.Modes.{mode_of, given}
 use Rattle.stat_words.specs.Outcomes.{IsReadOrOutOfMemory}
-use Rattle.stat_words.specs.Values.{file_name, number_between, report_form, value_of, value_or}
+use Rattle.stat_words.specs.Values.{file_name, number_between, report_form, run_report, value_of, value_or}
 use Rattle.stat_words.specs.declared.words.Command.{Command}
 use Rattle.stat_words.specs.declared.words.Command.TheVariants as command
 use Rattle.stat_words.specs.declared.words.Files.{Files}
-use Rattle.stat_words.specs.declared.words.Opt.TheVariants.{Topology, Samples, Script, JournalIn, Workers, Seed, Size, Report}
+use Rattle.stat_words.specs.declared.words.Opt.TheVariants.{Topology, Samples, Script, JournalIn, Capture, Workers, Seed, Size, Report}
 use Rattle.stat_words.specs.declared.words.ReportForm.{ReportForm}
 use Rattle.stat_words.specs.declared.words.ReportForm.TheVariants as form
+use Rattle.stat_words.specs.declared.words.RunReport.{RunReport}
+use Rattle.stat_words.specs.declared.words.RunReport.TheVariants as report
 use Rattle.stat_words.specs.declared.words.WordFault.{WordFault}
 use Rattle.stat_words.specs.declared.words.WordFault.TheVariants.{NoMode, UnknownMode}
 use Rattle.stat_words.specs.declared.words.WordsError.{WordsError}
@@ -23,13 +25,14 @@ pub record Names : Type 0 where
   pub script : List ℕ
 
 -- What the words ask for: a mode, and the values of its options. A run has a number of workers, a simulation a seed, a
--- replay the name of a journal, and a generated job its size and a seed.
+-- replay the name of a journal, a generated job its size and a seed, and what prints frames the name of a capture.
 pub data Asked : Type 0 where
-  Run : Names → ℕ → ReportForm → Asked
-  Sim : Names → ℕ → ReportForm → Asked
-  Replay : Names → List ℕ → ReportForm → Asked
+  Run : Names → ℕ → RunReport → Asked
+  Sim : Names → ℕ → RunReport → Asked
+  Replay : Names → List ℕ → RunReport → Asked
   Direct : Names → ReportForm → Asked
   Gen : ℕ → ℕ → Asked
+  Frames : List ℕ → Asked
 
 -- a second step where the first finds no fault
 abbrev pub and_then : {A B : Type 0} → Result A WordFault → (A → Result B WordFault) → Result B WordFault
@@ -59,23 +62,32 @@ size_in = value_of Size (number_between 1 256)
 abbrev pub form_in : List Row → Result ReportForm WordFault
 form_in = value_or form.Text Report report_form
 
+abbrev pub run_report_in : List Row → Result RunReport WordFault
+run_report_in = value_or (report.Releases form.Text) Report run_report
+
+abbrev pub capture_in : List Row → Result Text WordFault
+capture_in = value_of Capture file_name
+
 -- what a mode makes of its options; their values are tested in the order of `Opt`
 abbrev pub asked_in : Mode → List Row → Result Asked WordFault
 asked_in mode.Run rows =
-    and_then (names_in rows) (λ names. and_then (workers_in rows) (λ workers. and_then (form_in rows) (λ form.
-    Ok (Run names workers form))))
+    and_then (names_in rows) (λ names. and_then (workers_in rows) (λ workers. and_then (run_report_in rows) (λ report.
+    Ok (Run names workers report))))
 asked_in mode.Sim rows =
-    and_then (names_in rows) (λ names. and_then (seed_in rows) (λ seed. and_then (form_in rows) (λ form.
-    Ok (Sim names seed form))))
+    and_then (names_in rows) (λ names. and_then (seed_in rows) (λ seed. and_then (run_report_in rows) (λ report.
+    Ok (Sim names seed report))))
 asked_in mode.Replay rows =
-    and_then (names_in rows) (λ names. and_then (journal_in rows) (λ journal. and_then (form_in rows) (λ form.
-    Ok (Replay names journal form))))
+    and_then (names_in rows) (λ names. and_then (journal_in rows) (λ journal. and_then (run_report_in rows) (λ report.
+    Ok (Replay names journal report))))
 asked_in mode.Direct rows =
     and_then (names_in rows) (λ names. and_then (form_in rows) (λ form.
     Ok (Direct names form)))
 asked_in mode.Gen rows =
     and_then (seed_in rows) (λ seed. and_then (size_in rows) (λ size.
     Ok (Gen size seed)))
+asked_in mode.Frames rows =
+    and_then (capture_in rows) (λ capture.
+    Ok (Frames capture))
 
 -- what the words after a mode ask for
 abbrev pub asked_after : Option Mode → List Text → Result Asked WordFault
@@ -93,11 +105,12 @@ names_of files = record { topology = files.topology.now; samples = files.samples
 
 -- what a command says
 abbrev pub asked_of : Command → Asked
-asked_of (command.Run files workers form) = Run (names_of files) workers form
-asked_of (command.Sim files seed form) = Sim (names_of files) seed form
-asked_of (command.Replay files journal form) = Replay (names_of files) journal.now form
+asked_of (command.Run files workers report) = Run (names_of files) workers report
+asked_of (command.Sim files seed report) = Sim (names_of files) seed report
+asked_of (command.Replay files journal report) = Replay (names_of files) journal.now report
 asked_of (command.Direct files form) = Direct (names_of files) form
 asked_of (command.Gen size seed) = Gen size seed
+asked_of (command.Frames capture) = Frames capture.now
 
 -- the result is what the words ask for, or their fault, or memory ran out
 abbrev pub Reads : Result Asked WordFault → Result Command WordsError → Type 0
@@ -105,6 +118,6 @@ Reads = IsReadOrOutOfMemory asked_of
 
 -- the numbers of a command are in their ranges
 abbrev pub IsInRanges : Command → Type 0
-IsInRanges (command.Run files workers form) = (1 ≤ workers) × (workers ≤ 32)
+IsInRanges (command.Run files workers report) = (1 ≤ workers) × (workers ≤ 32)
 IsInRanges (command.Gen size seed) = (1 ≤ size) × (size ≤ 256)
 IsInRanges _ = Unit {0}

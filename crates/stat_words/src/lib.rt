@@ -8,7 +8,4 @@ mod values;
 mod words;
 
 pub use read::read_words;
-pub use words::{Command, Files, Opt, ReportForm, WordFault, WordsError};
-
-#[cfg(test)]
-mod tests;
+pub use words::{Command, Files, Opt, ReportForm, RunReport, WordFault, WordsError};

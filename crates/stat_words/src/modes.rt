@@ -22,6 +22,8 @@ pub(crate) enum Mode {
     Direct,
     /// A generated job.
     Gen,
+    /// The frames of a capture.
+    Frames,
 }
 
 /// The mode of a word.
@@ -34,6 +36,7 @@ pub(crate) fn mode_of(word: &str) -> Option<Mode>
         "replay" => Some(Mode::Replay),
         "direct" => Some(Mode::Direct),
         "gen" => Some(Mode::Gen),
+        "frames" => Some(Mode::Frames),
         _ => None,
     }
 }
@@ -102,6 +105,7 @@ fn command_of<'a>(alloc: Global, mode: Mode) -> Result<Command<'a>, AllocError>
             let command = with_option(alloc, bare_command(alloc), Opt::Seed, false)?;
             with_option(alloc, command, Opt::Size, true)
         }
+        Mode::Frames => with_option(alloc, bare_command(alloc), Opt::Capture, true),
     }
 }
 

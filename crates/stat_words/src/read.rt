@@ -5,7 +5,7 @@ ghost use Rattle.stat_words.specs.Outcomes.{IsReadAs};
 ghost use Rattle.stat_words.specs.Words.{IsInRanges, Reads, asked, asked_in, asked_of};
 
 use crate::modes::{Mode, given, mode_of};
-use crate::values::{file, files, form, seed, size, workers};
+use crate::values::{file, files, form, report, seed, size, workers};
 use crate::words::{Command, Opt, WordFault, WordsError};
 use clap::ArgMatches;
 use std::alloc::Global;
@@ -19,17 +19,17 @@ fn command_in<'a>(mode: Mode, matches: &ArgMatches<'a>) -> Result<Command<'a>, W
         Mode::Run => Ok(Command::Run {
             files: files(matches)?,
             workers: workers(matches)?,
-            form: form(matches)?,
+            report: report(matches)?,
         }),
         Mode::Sim => Ok(Command::Sim {
             files: files(matches)?,
             seed: seed(matches)?,
-            form: form(matches)?,
+            report: report(matches)?,
         }),
         Mode::Replay => Ok(Command::Replay {
             files: files(matches)?,
             journal: file(matches, Opt::JournalIn)?,
-            form: form(matches)?,
+            report: report(matches)?,
         }),
         Mode::Direct => Ok(Command::Direct {
             files: files(matches)?,
@@ -40,6 +40,9 @@ fn command_in<'a>(mode: Mode, matches: &ArgMatches<'a>) -> Result<Command<'a>, W
             let size = size(matches)?;
             Ok(Command::Gen { size, seed })
         }
+        Mode::Frames => Ok(Command::Frames {
+            capture: file(matches, Opt::Capture)?,
+        }),
     }
 }
 
@@ -52,11 +55,11 @@ fn command_in<'a>(mode: Mode, matches: &ArgMatches<'a>) -> Result<Command<'a>, W
 /// # Errors
 ///
 /// - `NoMode`: there are no words.
-/// - `UnknownMode`: the first word is not `run`, `sim`, `replay`, `direct` or `gen`.
+/// - `UnknownMode`: the first word is not `run`, `sim`, `replay`, `direct`, `gen` or `frames`.
 /// - `Options`: a word `--`, an option that is unknown, repeated, abbreviated or missing, a missing value, or a stray
 ///   word.
 /// - `Value`: a file's name that is empty or begins with `-`, a number that isn't 1 to 20 digits or is out of its
-///   range, a form that is neither `text` nor `json`.
+///   range, a report that is neither `text` nor `json`, nor, of a run, `frames`.
 /// - `OutOfMemory`.
 #[tactic(auto, unfolding(crate::specs::Words::asked))]
 pub fn read_words<'a>(alloc: Global, words: &'a [String]) -> Result<Command<'a>, WordsError>

@@ -5,10 +5,10 @@ ghost use Rattle.std.specs.List.{list_all};
 ghost use Rattle.clap.specs.Words.{first_of};
 ghost use Rattle.stat_words.specs.Modes.{rows_in, word_of};
 ghost use Rattle.stat_words.specs.Outcomes.{IsReadAs};
-ghost use Rattle.stat_words.specs.Values.{file_name as file_name_of, is_number as is_number_in, number_between as number_between_of, report_form as report_form_of, value_of};
-ghost use Rattle.stat_words.specs.Words.{form_in, names_in, names_of, seed_in, size_in, workers_in};
+ghost use Rattle.stat_words.specs.Values.{file_name as file_name_of, is_number as is_number_in, number_between as number_between_of, report_form as report_form_of, run_report as run_report_of, value_of};
+ghost use Rattle.stat_words.specs.Words.{form_in, names_in, names_of, run_report_in, seed_in, size_in, workers_in};
 
-use crate::words::{Files, Opt, ReportForm, WordFault};
+use crate::words::{Files, Opt, ReportForm, RunReport, WordFault};
 use clap::ArgMatches;
 
 /// How many digits a number has at most.
@@ -67,6 +67,18 @@ fn report_form(word: &str) -> Option<ReportForm>
     match word {
         "text" => Some(ReportForm::Text),
         "json" => Some(ReportForm::Json),
+        _ => None,
+    }
+}
+
+// What the word says is to be written of a run.
+fn run_report(word: &str) -> Option<RunReport>
+    ensures { result ≡ run_report_of word.now }
+{
+    match word {
+        "text" => Some(RunReport::Releases(ReportForm::Text)),
+        "json" => Some(RunReport::Releases(ReportForm::Json)),
+        "frames" => Some(RunReport::Frames),
         _ => None,
     }
 }
@@ -144,5 +156,15 @@ pub(crate) fn form<'a>(matches: &ArgMatches<'a>) -> Result<ReportForm, WordFault
     match value(matches, Opt::Report) {
         Some(word) => report_form(word).ok_or(WordFault::Value(Opt::Report)),
         None => Ok(ReportForm::Text),
+    }
+}
+
+/// What is written of a run.
+pub(crate) fn report<'a>(matches: &ArgMatches<'a>) -> Result<RunReport, WordFault>
+    ensures { result ≡ run_report_in (rows_in matches.now) }
+{
+    match value(matches, Opt::Report) {
+        Some(word) => run_report(word).ok_or(WordFault::Value(Opt::Report)),
+        None => Ok(RunReport::Releases(ReportForm::Text)),
     }
 }

@@ -16,7 +16,7 @@ pub enum Opt {
     Script,
     /// `--journal-in`, the file of the journal that is replayed.
     JournalIn,
-    /// `--capture`, a file of frames. No mode has it yet.
+    /// `--capture`, a file of frames.
     Capture,
     /// `--workers`, the number of threads, 1 to 32.
     Workers,
@@ -24,7 +24,7 @@ pub enum Opt {
     Seed,
     /// `--size`, the size of a generated job, 1 to 256.
     Size,
-    /// `--report`, the form of the report: `text` or `json`.
+    /// `--report`, what is written: `text`, `json` or, of a run, `frames`.
     Report,
 }
 
@@ -79,6 +79,15 @@ pub enum ReportForm {
     Json,
 }
 
+/// What is written of a run.
+#[derive(Clone, Copy, Debug, PartialEq, Eq)]
+pub enum RunReport {
+    /// The report of its releases, in a form.
+    Releases(ReportForm),
+    /// The frames that its nodes received.
+    Frames,
+}
+
 /// The names of the three files. None is empty or begins with `-`.
 #[derive(Clone, Copy, Debug, PartialEq, Eq)]
 pub struct Files<'a> {
@@ -97,19 +106,19 @@ pub enum Command<'a> {
     Run {
         files: Files<'a>,
         workers: u8,
-        form: ReportForm,
+        report: RunReport,
     },
     /// A run in an order that is drawn from a seed.
     Sim {
         files: Files<'a>,
         seed: u64,
-        form: ReportForm,
+        report: RunReport,
     },
     /// The run that a journal tells of.
     Replay {
         files: Files<'a>,
         journal: &'a str,
-        form: ReportForm,
+        report: RunReport,
     },
     /// The report computed from the samples at once, with no overlay.
     Direct {
@@ -120,6 +129,10 @@ pub enum Command<'a> {
     Gen {
         size: u16,
         seed: u64,
+    },
+    /// The frames of a capture, printed.
+    Frames {
+        capture: &'a str,
     },
 }
 

@@ -12,7 +12,7 @@ use Rattle.stat_tool.proofs.modes.prepare_replay.Goals as goal
 pub returns-in-Err-clause-err : goal.returns-in-Err-clause-err
 returns-in-Err-clause-err g c =
     let desk = desk_change g.D.Desk.faults g.D.Desk.last_fault g.D.Desk.contents c.args.desk.now c.read_plan.new.desk in
-    replay_stops (names_of c.args.files) c.args.journal.now c.args.form desk c.in-Err.status c.in-Err.ensures.err
+    replay_stops (names_of c.args.files) c.args.journal.now c.args.wanted desk c.in-Err.status c.in-Err.ensures.err
 
 pub returns-in-Err-clause-reads : goal.returns-in-Err-clause-reads
 returns-in-Err-clause-reads g c =
@@ -22,7 +22,7 @@ pub returns-in-Err-read_events-clause-err : goal.returns-in-Err-read_events-clau
 returns-in-Err-read_events-clause-err g c =
     let desk = desk_change g.D.Desk.faults g.D.Desk.last_fault g.D.Desk.contents c.args.desk.now c.read_events.new.desk in
     let mid = desk_change g.D.Desk.faults g.D.Desk.last_fault g.D.Desk.contents c.read_plan.new.desk c.read_events.new.desk in
-    journal_stops (names_of c.args.files) c.args.journal.now c.args.form desk c.in-Ok.plan c.in-Ok.ensures.ok c.in-Err-read_events.status
+    journal_stops (names_of c.args.files) c.args.journal.now c.args.wanted desk c.in-Ok.plan c.in-Ok.ensures.ok c.in-Err-read_events.status
     (refuses_earlier Journal c.args.journal.now desk mid c.in-Err-read_events.status c.read_plan.ensures.later refl refl c.read_plan.ensures.contents c.in-Err-read_events.ensures.err)
 
 pub returns-in-Err-read_events-clause-reads : goal.returns-in-Err-read_events-clause-reads
@@ -35,7 +35,7 @@ returns-clause-ok g c =
     let read = read_view c.in-Ok-read_events.read in
     let has : HasJournal (desk.contents c.args.journal.now) c.in-Ok.plan read
     = subst (λ (t : List ℕ → Option (List ℕ)). HasJournal (t c.args.journal.now) c.in-Ok.plan read) c.read_plan.ensures.contents c.in-Ok-read_events.ensures.ok in
-    if_ok c.replay_plan.result _ _ (λ output is. replay_prepared (names_of c.args.files) c.args.journal.now c.args.form desk c.in-Ok.plan c.in-Ok.ensures.ok read has output.journal (output_view output) is.0 is.1) c.replay_plan.ensures.ok
+    if_ok c.replay_plan.result _ _ (λ output is. replay_prepared (names_of c.args.files) c.args.journal.now c.args.wanted desk c.in-Ok.plan c.in-Ok.ensures.ok read has output.journal (output_view output) is.0 is.1) c.replay_plan.ensures.ok
 
 pub returns-clause-err : goal.returns-clause-err
 returns-clause-err g c =
@@ -43,7 +43,7 @@ returns-clause-err g c =
     let read = read_view c.in-Ok-read_events.read in
     let has : HasJournal (desk.contents c.args.journal.now) c.in-Ok.plan read
     = subst (λ (t : List ℕ → Option (List ℕ)). HasJournal (t c.args.journal.now) c.in-Ok.plan read) c.read_plan.ensures.contents c.in-Ok-read_events.ensures.ok in
-    if_err c.replay_plan.result _ _ (λ status is. replay_refused (names_of c.args.files) c.args.journal.now c.args.form desk c.in-Ok.plan c.in-Ok.ensures.ok read has status is) c.replay_plan.ensures.err
+    if_err c.replay_plan.result _ _ (λ status is. replay_refused (names_of c.args.files) c.args.journal.now c.args.wanted desk c.in-Ok.plan c.in-Ok.ensures.ok read has status is) c.replay_plan.ensures.err
 
 pub returns-clause-reads : goal.returns-clause-reads
 returns-clause-reads g c =

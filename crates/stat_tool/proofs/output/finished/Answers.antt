@@ -11,4 +11,4 @@ write_journal-requires g c = legal_are_of c.args.plan.now c.args.journal c.invar
 pub returns-clause-run : goal.returns-clause-run
 returns-clause-run g c =
     let output : RunOutput = record { unfinished = None; journal = c.args.journal; report = c.in_ok-report.report.items; journal_text = c.in_ok-journal_text.journal_text.items } in
-    has_run c.args.plan.now c.args.form (releases_view g.T.PrefixTree.tree c.args.releases.now) output c.invariant.ensures c.requires.whole c.in_ok-report.ensures c.in_ok-journal_text.ensures refl
+    has_run c.args.plan.now c.args.wanted (releases_view g.T.PrefixTree.tree c.args.releases.now) output c.invariant.ensures c.requires.whole c.in_ok-report.ensures c.in_ok-journal_text.ensures refl

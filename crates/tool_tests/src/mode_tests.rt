@@ -1,10 +1,10 @@
 //! Simulations, replays, direct merges and generated jobs: worked rows through whole calls.
 use crate::fixtures::{
-    ALL_SCR, DONT_WAIT_SCR, FOUR_RELEASE, FOUR_SMP, INNER_TOP, ONE_TOP, REPLAY_WORDS, TWO_TOP,
-    WORDS, WORKED, call, desk_of, put,
+    ALL_SCR, DONT_WAIT_SCR, FOUR_RELEASE, FOUR_SMP, INNER_TOP, LOST_JOURNAL, LOST_SCR, ONE_TOP,
+    REPLAY_WORDS, TWO_TOP, WORDS, WORKED, call, desk_of, put,
 };
-use crate::status::Status;
 use stat_desk::{Event, MemDesk};
+use stat_tool::Status;
 use std::alloc::{AllocError, Global};
 
 // ---- replays
@@ -95,22 +95,8 @@ recv b:0 fe:0
     Replayed {
         topology: INNER_TOP,
         samples: FOUR_SMP,
-        script: "stream 0 wait-for-all waves 1 samples 1 on all\nlose c0:0 after 2 keep 1\n",
-        journal: "sample a:0 0 0
-sample b:0 0 0
-recv c0:0 a:0
-recv c0:0 b:0
-lose c0:0
-recv a:0 c0:0
-recv b:0 c0:0
-recv fe:0 a:0
-recv fe:0 a:0
-recv fe:0 c0:0
-recv fe:0 c0:0
-recv fe:0 b:0
-recv fe:0 b:0
-recv a:0 fe:0
-recv b:0 fe:0",
+        script: LOST_SCR,
+        journal: LOST_JOURNAL,
         status: Status::Done,
         releases: FOUR_RELEASE,
         faults: "fault c0:0 lost after 2\n",

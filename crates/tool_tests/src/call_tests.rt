@@ -5,9 +5,10 @@ use crate::fixtures::{
     words_of,
 };
 use crate::shy_tree::ShyTree;
-use crate::{FileRole, Status, Target, WordFault, stat};
+use packet_frame::FrameReason;
 use prefix_tree::OwnedTree;
 use stat_desk::{Event, FileDesk, FileSink, MemDesk, MemSink, OpenGate, StdSink};
+use stat_tool::{FileRole, Status, Target, WordFault, stat};
 use stat_words::Opt;
 use std::alloc::{AllocError, Global};
 use std::fs;
@@ -179,7 +180,9 @@ fn ends_with<R: Threads + Wait + Sync>(
     match file {
         FileRole::Topology => ends(rt, alloc, text, samples, script),
         FileRole::Samples => ends(rt, alloc, topology, text, script),
-        FileRole::Script | FileRole::Journal => ends(rt, alloc, topology, samples, text),
+        FileRole::Script | FileRole::Journal | FileRole::Capture => {
+            ends(rt, alloc, topology, samples, text)
+        }
     }
 }
 
@@ -439,10 +442,14 @@ end
 
 #[test]
 fn runs_a_million_ranks(rt: HostRuntime) -> Result<(), AllocError> {
-    let mut desk = wide_job(rt.alloc())?;
-    let (status, out) = run_on(&rt, rt.alloc(), &mut desk)?;
-    assert_eq!(rt; status, Status::Done);
-    assert_eq!(rt; out.bytes(), WIDE_REPORT.as_bytes());
+    let alloc = rt.alloc();
+    for mode in ["run", "sim", "direct"] {
+        let mut desk = wide_job(alloc)?;
+        let words = [mode, "--topology=t", "--samples=s", "--script=c"];
+        let called = call(&rt, alloc, &mut desk, words.as_slice())?;
+        assert_eq!(rt; called.status, Status::Done);
+        assert_eq!(rt; called.report.bytes(), WIDE_REPORT.as_bytes());
+    }
     Ok(())
 }
 
@@ -479,57 +486,8 @@ fn takes_files_of_33554432_bytes_and_no_longer_ones(rt: HostRuntime) -> Result<(
     Ok(())
 }
 
-// A run of the small job whose sinks fail at these calls.
-fn run_with_faults<R: Threads + Wait + Sync>(
-    rt: &R,
-    alloc: Global,
-    report_call: u64,
-    journal_call: u64,
-) -> Result<Called, AllocError> {
-    let mut desk = desk_of(alloc, TWO_TOP, FOUR_SMP, ALL_SCR)?;
-    let mut report = MemSink::new(alloc, 16, 10_000)?;
-    let mut journal = MemSink::new(alloc, 16, 10_000)?;
-    report.fail_at(report_call)?;
-    journal.fail_at(journal_call)?;
-    call_into(rt, alloc, &mut desk, WORDS.as_slice(), report, journal)
-}
-
-#[test]
-fn tells_faults_of_the_sinks(rt: HostRuntime) -> Result<(), AllocError> {
-    let first = run_with_faults(&rt, rt.alloc(), 2, 1)?;
-    assert_eq!(rt; first.status, Status::SinkFault(Target::Report));
-    assert_eq!(rt; first.report.bytes(), b"stream 0 wave 0 ".as_slice());
-    assert!(rt; first.journal.bytes().is_empty());
-    assert_eq!(rt; first.events.len(), 6);
-    let second = run_with_faults(&rt, rt.alloc(), 1_000, 2)?;
-    assert_eq!(rt; second.status, Status::SinkFault(Target::Journal));
-    assert!(rt; second.report.bytes().ends_with(b"\nend\n".as_slice()));
-    assert_eq!(rt; second.journal.bytes(), b"sample a:0 0 0\nr".as_slice());
-    assert_eq!(rt; second.events.len(), 6);
-    Ok(())
-}
-
-const ROLES: [(u64, FileRole); 3] = [
-    (1, FileRole::Topology),
-    (2, FileRole::Samples),
-    (3, FileRole::Script),
-];
-
-#[test]
-fn tells_faults_of_the_desk(rt: HostRuntime) -> Result<(), AllocError> {
-    let alloc = rt.alloc();
-    for (call, role) in ROLES.as_slice() {
-        let mut desk = desk_of(alloc, TWO_TOP, FOUR_SMP, ALL_SCR)?;
-        desk.fail_at(*call)?;
-        let (status, out) = run_on(&rt, alloc, &mut desk)?;
-        assert_eq!(rt; status, Status::DeskFault(*role));
-        assert_eq!(rt; out.bytes(), b"".as_slice());
-    }
-    Ok(())
-}
-
 // Words with which nothing is read or written, and their faults.
-const OTHER_WORDS: [(&[&str], WordFault); 6] = [
+const OTHER_WORDS: [(&[&str], WordFault); 8] = [
     (&[], WordFault::NoMode),
     (&["trace"], WordFault::UnknownMode),
     (&["run", "--topology", "t"], WordFault::Options),
@@ -549,6 +507,17 @@ const OTHER_WORDS: [(&[&str], WordFault); 6] = [
         &["direct", "--script=c", "--samples=s", "--topology=-t"],
         WordFault::Value(Opt::Topology),
     ),
+    (
+        &[
+            "direct",
+            "--script=c",
+            "--samples=s",
+            "--topology=t",
+            "--report=frames",
+        ],
+        WordFault::Value(Opt::Report),
+    ),
+    (&["frames"], WordFault::Options),
 ];
 
 #[test]
@@ -563,7 +532,7 @@ fn refuses_other_words(rt: HostRuntime) -> Result<(), AllocError> {
     Ok(())
 }
 
-const TEXTS: [(Status, &str, u8); 10] = [
+const TEXTS: [(Status, &str, u8); 12] = [
     (
         Status::BadWords(WordFault::Options),
         "bad words: options",
@@ -614,6 +583,19 @@ const TEXTS: [(Status, &str, u8); 10] = [
         }),
         "journal ends before sample 1 0 2",
         9,
+    ),
+    (
+        Status::BadFrames {
+            at: 16,
+            reason: FrameReason::NotCanonical,
+        },
+        "capture at 16: NotCanonical",
+        10,
+    ),
+    (
+        Status::DeskFault(FileRole::Capture),
+        "cannot read capture",
+        3,
     ),
 ];
 

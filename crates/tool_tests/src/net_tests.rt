@@ -1,26 +1,23 @@
 //! The bound of a net's journals, and in what order a plan's lines are gone through.
-use crate::fixtures::{FOUR_SMP, TWO_TOP, desk_of};
-use crate::read::read_plan;
-use crate::status::Status;
+use crate::fixtures::{FOUR_SMP, TWO_TOP};
 use overlay_net::Net;
 use prefix_tree::OwnedTree;
 use stat_plan::Plan;
-use stat_words::Files;
 use std::alloc::Global;
 
 const SCRIPT: &str = "stream 0 time-out 1 waves 1 samples 1 on all\n";
 
-fn plan_of(alloc: Global, samples: &str) -> Result<Plan, Status> {
-    let mut desk = match desk_of(alloc, TWO_TOP, samples, SCRIPT) {
-        Ok(desk) => desk,
-        Err(_) => return Err(Status::OutOfMemory),
+fn plan_of(alloc: Global, samples: &str) -> Option<Plan> {
+    let Ok(topology) = topology_text::read(alloc, TWO_TOP.as_bytes()) else {
+        return None;
     };
-    let files = Files {
-        topology: "t",
-        samples: "s",
-        script: "c",
+    let Ok(samples) = sample_text::read(alloc, samples.as_bytes(), &topology) else {
+        return None;
     };
-    read_plan(alloc, files, &mut desk)
+    let Ok(script) = script_text::read(alloc, SCRIPT.as_bytes(), &topology) else {
+        return None;
+    };
+    Plan::build(alloc, topology, samples, script).ok()
 }
 
 #[test]

@@ -3,7 +3,7 @@ use crate::fixtures::{
     ALL_SCR, FOUR_RELEASE, FOUR_SMP, NO_B, STORM_RELEASE, STORM_SMP, STORM_TOP, TWO_TOP, desk_of,
     lines_of, run_on,
 };
-use crate::status::Status;
+use stat_tool::Status;
 use std::alloc::{AllocError, Global};
 use std::sync::Wait;
 use std::thread::Threads;

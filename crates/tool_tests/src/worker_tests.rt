@@ -4,9 +4,9 @@ use crate::fixtures::{
     SOLVER_SMP, STORM_SMP, STORM_TOP, TWO_INNER_TOP, TWO_TOP, call, call_into, desk_of, lines_of,
     put, words_of,
 };
-use crate::{Status, Target, stat};
 use prefix_tree::OwnedTree;
 use stat_desk::{Event, Gate, MemDesk, MemSink};
+use stat_tool::{Status, Target, stat};
 use std::alloc::{AllocError, Global};
 use std::sync::Wait;
 use std::sync::atomic::{AtomicBool, AtomicU64, Ordering};

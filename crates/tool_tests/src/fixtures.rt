@@ -1,7 +1,7 @@
 //! Worked jobs: their files, as texts and in a desk, and the reports that their runs must write.
-use crate::{Status, stat};
 use prefix_tree::OwnedTree;
 use stat_desk::{Event, Journal, MemDesk, MemSink, OpenGate};
+use stat_tool::{Status, stat};
 use std::alloc::{AllocError, Global};
 use std::sync::Wait;
 use std::thread::Threads;
@@ -132,6 +132,27 @@ class 1:[1] paths 1
   main;compute
 fault b:0 lost after 0
 end
+";
+
+// The inner node is lost after it has sent.
+pub const LOST_SCR: &str =
+    "stream 0 wait-for-all waves 1 samples 1 on all\nlose c0:0 after 2 keep 1\n";
+
+pub const LOST_JOURNAL: &str = "sample a:0 0 0
+sample b:0 0 0
+recv c0:0 a:0
+recv c0:0 b:0
+lose c0:0
+recv a:0 c0:0
+recv b:0 c0:0
+recv fe:0 a:0
+recv fe:0 a:0
+recv fe:0 c0:0
+recv fe:0 c0:0
+recv fe:0 b:0
+recv fe:0 b:0
+recv a:0 fe:0
+recv b:0 fe:0
 ";
 
 // A job's three files, and the report that the run of it must write.

@@ -1,0 +1,378 @@
+//! The frames of runs, and captures that are printed or refused.
+use crate::fixtures::{
+    ALL_SCR, Called, DONT_WAIT_SCR, FOUR_SMP, INNER_TOP, LOST_JOURNAL, LOST_SCR, STORM_SMP,
+    STORM_TOP, TWO_TOP, call, call_into, desk_of, lines_of, put,
+};
+use packet_frame::FrameReason;
+use stat_desk::{Event, MemDesk, MemSink};
+use stat_tool::Status;
+use std::alloc::{AllocError, Global};
+use std::sync::Wait;
+use std::thread::Threads;
+
+fn digit(byte: u8) -> u8 {
+    match byte {
+        b'0'..=b'9' => byte - b'0',
+        b'a'..=b'f' => byte - b'a' + 10,
+        _ => 0,
+    }
+}
+
+// The bytes of a text in hexadecimal, with blanks between them.
+fn bytes_of(alloc: Global, text: &str) -> Result<Vec<u8>, AllocError> {
+    let mut bytes = Vec::new(alloc);
+    let mut high = None;
+    for byte in text.as_bytes() {
+        if byte.is_ascii_whitespace() {
+            continue;
+        }
+        match high {
+            None => high = Some(digit(*byte) << 4),
+            Some(first) => {
+                bytes.push(first | digit(*byte))?;
+                high = None;
+            }
+        }
+    }
+    Ok(bytes)
+}
+
+// The printing of a capture.
+fn print<R: Threads + Wait + Sync>(
+    rt: &R,
+    alloc: Global,
+    capture: &[u8],
+) -> Result<Called, AllocError> {
+    let mut desk = MemDesk::new(alloc);
+    put(alloc, &mut desk, "f", capture)?;
+    call(rt, alloc, &mut desk, ["frames", "--capture=f"].as_slice())
+}
+
+// ---- captures
+
+// What a job of two ranks sends, in both versions, and the lines of these frames.
+const OLD_FRAMES: &str =
+    "01010000 00000001 0000000000000002 0002 01 0004 6d61696e 00000000 02 0002 696f 00000001 0000000000000002
+01010000 00000001 0000000000000001 0001 01 0004 6d61696e 00000001 0000000000000001 01020000 01020000";
+
+const FRAMES: &str =
+    "02010000 00000001 00000001 00000001 0002 01 0004 6d61696e 00000000 02 0002 696f 00000001 0000000000000001
+02010000 00000001 00000000 00000000 0001 01 0004 6d61696e 00000001 0000000000000001 02020000 02020000";
+
+const FRAME_LINES: &str = "0 up stream 0 wave 0 covered 1:[1] rows 2
+  1:[1] - main
+    1:[1] 1:[1] io
+46 up stream 0 wave 0 covered 1:[0] rows 1
+  1:[0] 1:[0] main
+83 done stream 0 wave 0
+87 done stream 0 wave 0
+end 4 frames
+";
+
+const PRINTED: [(&str, &str); 7] = [
+    ("", "end 0 frames\n"),
+    (
+        "010100000000000100000000000000010000",
+        "0 up stream 0 wave 0 covered 1:[0] rows 0\nend 1 frames\n",
+    ),
+    (OLD_FRAMES, FRAME_LINES),
+    (FRAMES, FRAME_LINES),
+    (
+        "0103 0204 0104 0203 0202070f",
+        "0 attach\n2 down\n4 down\n6 attach\n8 done stream 7 wave 15\nend 5 frames\n",
+    ),
+    (
+        "02010000 00000004 0000000000000000 0000000200000002 0000000400000004 0000000600000006 0001 01000161 00000001 000000000000000a",
+        "0 up stream 0 wave 0 covered 4:[0,2,4,6] rows 1\n  2:[2,6] 2:[2,6] a\nend 1 frames\n",
+    ),
+    (
+        "0204 02010102 00000001 0000000000000001 0000",
+        "0 down\n2 up stream 1 wave 2 covered 2:[0-1] rows 0\nend 2 frames\n",
+    ),
+];
+
+#[test]
+fn prints_captures(rt: HostRuntime) -> Result<(), AllocError> {
+    let alloc = rt.alloc();
+    for (capture, lines) in PRINTED.as_slice() {
+        let called = print(&rt, alloc, bytes_of(alloc, capture)?.as_slice())?;
+        assert_eq!(rt; called.status, Status::Done);
+        assert_eq!(rt; called.report.bytes(), lines.as_bytes());
+        assert!(rt; called.events.is_empty() && called.journal.bytes().is_empty());
+    }
+    Ok(())
+}
+
+const REFUSED: [(&str, u64, FrameReason); 29] = [
+    ("0101000000000001000000000000000100", 16, FrameReason::Short),
+    (
+        "01010000000000020000000000000001 00000000000000000000",
+        16,
+        FrameReason::NotCanonical,
+    ),
+    ("0109", 1, FrameReason::BadKind),
+    ("03", 0, FrameReason::BadKind),
+    ("01", 1, FrameReason::Short),
+    ("01030105", 3, FrameReason::BadKind),
+    ("010108", 2, FrameReason::OverLimit),
+    ("01010010", 3, FrameReason::OverLimit),
+    ("010100000100", 4, FrameReason::OverLimit),
+    ("0101000000000000", 6, FrameReason::BadLength),
+    ("0101000000010000", 6, FrameReason::NotCanonical),
+    (
+        "01010000000000020000000000000000",
+        8,
+        FrameReason::NotCanonical,
+    ),
+    (
+        "010100000000000100000000000000010801",
+        16,
+        FrameReason::OverLimit,
+    ),
+    (
+        "010100000000000100000000000000010001 02",
+        18,
+        FrameReason::NotCanonical,
+    ),
+    (
+        "010100000000000100000000000000010001 81",
+        18,
+        FrameReason::OverLimit,
+    ),
+    (
+        "010100000000000100000000000000010001 010000",
+        19,
+        FrameReason::BadLength,
+    ),
+    (
+        "010100000000000100000000000000010001 0100016100000000",
+        24,
+        FrameReason::NotCanonical,
+    ),
+    (
+        "010100000000000100000000000000010001 01000161000000010000000000000002",
+        26,
+        FrameReason::NotCanonical,
+    ),
+    (
+        "010100000000000100000000000000010002 01000162000000010000000000000001 01000161",
+        37,
+        FrameReason::NotCanonical,
+    ),
+    (
+        "02010000 00000004 0000000000000000 0000000200000002 0000000400000004 0000000600000006 0001 01000161 00000001 0000000000000010",
+        50,
+        FrameReason::NotCanonical,
+    ),
+    (
+        "02010000 00000002 0000000000000000 00000001",
+        16,
+        FrameReason::NotCanonical,
+    ),
+    (
+        "02010000 00000001 00000005 00000004",
+        12,
+        FrameReason::NotCanonical,
+    ),
+    ("02010000 00000001 00100000", 8, FrameReason::OverLimit),
+    ("02010000 00000000", 4, FrameReason::BadLength),
+    ("02010000 00080001", 4, FrameReason::OverLimit),
+    // behind whole frames
+    ("0203 0204 02020000 0205", 9, FrameReason::BadKind),
+    ("0203 0204 02020000 02", 9, FrameReason::Short),
+    ("0203 0204 02020000 0202", 10, FrameReason::Short),
+    ("0203 0204 02020000 020208", 10, FrameReason::OverLimit),
+];
+
+#[test]
+fn refuses_captures(rt: HostRuntime) -> Result<(), AllocError> {
+    let alloc = rt.alloc();
+    for (capture, at, reason) in REFUSED.as_slice() {
+        let called = print(&rt, alloc, bytes_of(alloc, capture)?.as_slice())?;
+        let refused = Status::BadFrames {
+            at: *at,
+            reason: *reason,
+        };
+        assert_eq!(rt; called.status, refused, "at {capture}");
+        assert!(rt; called.report.bytes().is_empty() && called.journal.bytes().is_empty());
+    }
+    Ok(())
+}
+
+// ---- captures of more than one piece
+
+// Done frames, more than three pieces of 4,096 bytes of them, behind two bytes: none begins or ends with a piece.
+fn long_capture(alloc: Global) -> Result<Vec<u8>, AllocError> {
+    let mut bytes = bytes_of(alloc, "0203")?;
+    for _ in 0..4_000 {
+        bytes.extend_from_slice(&[2, 2, 0, 0])?;
+    }
+    Ok(bytes)
+}
+
+fn long_lines(alloc: Global) -> Result<String, AllocError> {
+    let mut lines = String::from_str(alloc, "0 attach\n")?;
+    for i in 0..4_000u32 {
+        let line = format!(in alloc; "{} done stream 0 wave 0\n", 4 * i + 2)?;
+        lines.push_str(line.as_str())?;
+    }
+    lines.push_str("end 4001 frames\n")?;
+    Ok(lines)
+}
+
+#[test]
+fn prints_captures_of_several_pieces(rt: HostRuntime) -> Result<(), AllocError> {
+    let alloc = rt.alloc();
+    let mut desk = MemDesk::new(alloc);
+    put(alloc, &mut desk, "f", long_capture(alloc)?.as_slice())?;
+    let report = MemSink::new(alloc, 4_096, 200_000)?;
+    let journal = MemSink::new(alloc, 16, 16)?;
+    let words = ["frames", "--capture", "f"];
+    let called = call_into(&rt, alloc, &mut desk, words.as_slice(), report, journal)?;
+    assert_eq!(rt; called.status, Status::Done);
+    assert_eq!(rt; called.report.bytes(), long_lines(alloc)?.as_bytes());
+    Ok(())
+}
+
+#[test]
+fn refuses_captures_of_several_pieces(rt: HostRuntime) -> Result<(), AllocError> {
+    let alloc = rt.alloc();
+    let mut capture = long_capture(alloc)?;
+    capture.extend_from_slice(&[2, 2, 0])?;
+    let called = print(&rt, alloc, capture.as_slice())?;
+    let short = Status::BadFrames {
+        at: 16_005,
+        reason: FrameReason::Short,
+    };
+    assert_eq!(rt; called.status, short);
+    assert!(rt; called.report.bytes().is_empty());
+    Ok(())
+}
+
+// ---- the frames of runs
+
+const TWO_SMP: &str = "daemon a:0 0\ndaemon b:0 1\nstack 0 0 main\nstack 0 1 main;io\n";
+
+#[test]
+fn a_simulation_writes_its_frames(rt: HostRuntime) -> Result<(), AllocError> {
+    let alloc = rt.alloc();
+    let mut desk = desk_of(alloc, TWO_TOP, TWO_SMP, DONT_WAIT_SCR)?;
+    let words = [
+        "sim",
+        "--topology=t",
+        "--samples=s",
+        "--script=c",
+        "--report=frames",
+        "--seed=0",
+    ];
+    let called = call(&rt, alloc, &mut desk, words.as_slice())?;
+    assert_eq!(rt; called.status, Status::Done);
+    assert_eq!(rt; called.report.bytes(), bytes_of(alloc, FRAMES)?.as_slice());
+    assert_eq!(rt; called.events.len(), 6);
+    let printed = print(&rt, alloc, called.report.bytes())?;
+    assert_eq!(rt; printed.report.bytes(), FRAME_LINES.as_bytes());
+    Ok(())
+}
+
+const RUN_WORDS: [&str; 7] = [
+    "run",
+    "--topology=t",
+    "--samples=s",
+    "--script=c",
+    "--report",
+    "frames",
+    "--workers=3",
+];
+
+const REPLAY_WORDS: [&str; 7] = [
+    "replay",
+    "--topology=t",
+    "--samples=s",
+    "--script=c",
+    "--report",
+    "frames",
+    "--journal-in=j",
+];
+
+// What a lost node has sent is in the log, where it is received.
+#[test]
+fn a_replay_writes_the_frames_of_its_run(rt: HostRuntime) -> Result<(), AllocError> {
+    let alloc = rt.alloc();
+    for set in [0, 1, 21, 63] {
+        let faults = lines_of(alloc, set, 2, 1)?;
+        let script = format!(in alloc; "{ALL_SCR}{faults}")?;
+        let mut desk = desk_of(alloc, STORM_TOP, STORM_SMP, script.as_str())?;
+        let run = call(&rt, alloc, &mut desk, RUN_WORDS.as_slice())?;
+        put(alloc, &mut desk, "j", run.journal.bytes())?;
+        let replay = call(&rt, alloc, &mut desk, REPLAY_WORDS.as_slice())?;
+        assert_eq!(rt; replay.status, Status::Done);
+        assert!(rt; run.report.bytes() == replay.report.bytes());
+        let printed = print(&rt, alloc, run.report.bytes())?;
+        assert_eq!(rt; printed.status, Status::Done);
+    }
+    Ok(())
+}
+
+// An inner node is lost after it has sent: what it sent is received after the loss, and before the notice of it.
+const LOST_LINES: &str = "0 up stream 0 wave 0 covered 2:[0-1] rows 3
+  2:[0-1] - main
+    1:[0] 1:[0] MPI_Barrier
+    1:[1] 1:[1] compute
+77 up stream 0 wave 0 covered 2:[2-3] rows 2
+  2:[2-3] - main
+    2:[2-3] 2:[2-3] MPI_Barrier
+132 down
+134 down
+136 attach
+138 up stream 0 wave 0 covered 2:[0-1] rows 3
+  2:[0-1] - main
+    1:[0] 1:[0] MPI_Barrier
+    1:[1] 1:[1] compute
+215 up stream 0 wave 0 covered 4:[0-3] rows 3
+  4:[0-3] - main
+    3:[0,2-3] 3:[0,2-3] MPI_Barrier
+    1:[1] 1:[1] compute
+292 down
+294 attach
+296 up stream 0 wave 0 covered 2:[2-3] rows 2
+  2:[2-3] - main
+    2:[2-3] 2:[2-3] MPI_Barrier
+351 done stream 0 wave 0
+355 done stream 0 wave 0
+end 12 frames
+";
+
+#[test]
+fn a_lost_node_has_sent_frames(rt: HostRuntime) -> Result<(), AllocError> {
+    let alloc = rt.alloc();
+    let mut desk = desk_of(alloc, INNER_TOP, FOUR_SMP, LOST_SCR)?;
+    put(alloc, &mut desk, "j", LOST_JOURNAL.as_bytes())?;
+    let called = call(&rt, alloc, &mut desk, REPLAY_WORDS.as_slice())?;
+    assert_eq!(rt; called.status, Status::Done);
+    let printed = print(&rt, alloc, called.report.bytes())?;
+    assert_eq!(rt; printed.report.bytes(), LOST_LINES.as_bytes());
+    Ok(())
+}
+
+// A journal that ends early has the frames that it receives.
+#[test]
+fn a_journal_that_ends_early_has_its_frames(rt: HostRuntime) -> Result<(), AllocError> {
+    let alloc = rt.alloc();
+    let mut desk = desk_of(alloc, TWO_TOP, TWO_SMP, DONT_WAIT_SCR)?;
+    put(
+        alloc,
+        &mut desk,
+        "j",
+        b"sample b:0 0 0\nrecv fe:0 b:0\n".as_slice(),
+    )?;
+    let called = call(&rt, alloc, &mut desk, REPLAY_WORDS.as_slice())?;
+    let next = Event::Sample {
+        node: 1,
+        stream: 0,
+        wave: 0,
+    };
+    assert_eq!(rt; called.status, Status::Unfinished(next));
+    let frames = bytes_of(alloc, FRAMES)?;
+    assert_eq!(rt; called.report.bytes(), &frames.as_slice()[..46]);
+    Ok(())
+}
