@@ -13,23 +13,15 @@ ghost use Rattle.arena_tree.specs.Laws.{CutShowsSameRows, MergeUnitesRows, Steps
 ghost use Rattle.arena_tree.specs.ReadingOrder.{ReadsInOrder};
 
 mod apply;
-#[cfg(test)]
-mod cost_tests;
-#[cfg(test)]
-mod memory_tests;
 mod merge;
 mod node;
 mod plan;
 mod row;
 mod shared;
 mod target;
-#[cfg(test)]
-mod tests;
 mod trail;
 mod tree;
 mod walk;
-#[cfg(test)]
-mod walk_tests;
 
 pub use tree::ArenaTree;
 

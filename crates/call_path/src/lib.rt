@@ -21,8 +21,6 @@ use std::marker::Model;
 mod frame_text;
 mod function_name;
 mod read;
-#[cfg(test)]
-mod tests;
 mod text_order;
 
 /// The most frames of a path.

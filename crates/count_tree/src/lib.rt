@@ -23,9 +23,6 @@ ghost use Rattle.std.specs.Prelude.{◌≡◌, ◌<◌, ℕ, ◌↔◌, List, So
 ghost use Rattle.std.specs.List.{flat_map, sum};
 ghost use Rattle.count_tree.specs.Places.{lengths, place_of};
 
-#[cfg(test)]
-mod tests;
-
 use std::alloc::{AllocError, Global};
 use std::marker::Model;
 

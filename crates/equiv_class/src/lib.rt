@@ -22,8 +22,6 @@ use std::alloc::{AllocError, Global};
 
 mod rank_blocks;
 mod states;
-#[cfg(test)]
-mod tests;
 
 /// Ranks that were seen in just the same paths, and those paths.
 #[derive(Drop)]

@@ -10,8 +10,6 @@ mod json_tree;
 mod laws;
 mod release_text;
 mod report;
-#[cfg(test)]
-mod tests;
 mod tree_text;
 
 pub use class_text::write_number;

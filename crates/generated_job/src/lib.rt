@@ -10,8 +10,6 @@ mod laws;
 mod numbered;
 mod plan;
 mod run_summary;
-#[cfg(test)]
-mod tests;
 mod texts;
 
 pub use laws::{

@@ -21,8 +21,6 @@ mod laws;
 mod lines;
 mod numbers;
 mod read;
-#[cfg(test)]
-mod tests;
 mod words;
 mod write;
 

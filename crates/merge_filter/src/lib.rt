@@ -16,8 +16,6 @@ ghost use Rattle.stat_plan.specs.Plans.{Plan, daemons, grain, ranks, sample_coun
 ghost use Rattle.merge_filter.specs.Contributions.{HasWave, IsPartialMerge, contrib, coverage_of};
 
 mod own_tree;
-#[cfg(test)]
-mod tests;
 
 use overlay_setup::Grain;
 use own_tree::own_tree;

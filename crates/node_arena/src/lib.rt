@@ -23,8 +23,6 @@ ghost use Rattle.node_arena.specs.Layout.{IsGrown, IsCleared};
 
 mod chunk;
 mod slots;
-#[cfg(test)]
-mod tests;
 
 use chunk::Chunk;
 use std::alloc::{AllocError, Global};

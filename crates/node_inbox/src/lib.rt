@@ -20,8 +20,6 @@
 mod delivery;
 mod inbox;
 mod senders;
-#[cfg(test)]
-mod tests;
 
 pub use delivery::{deliver, make_rooms};
 pub use inbox::Inbox;

@@ -16,6 +16,3 @@ mod step;
 
 pub use node::Node;
 pub use output::Outgoing;
-
-#[cfg(test)]
-mod tests;

@@ -2,8 +2,6 @@
 #![tactic(auto)]
 
 mod build;
-#[cfg(test)]
-mod captures;
 mod cover;
 mod decoding;
 mod encoding;
@@ -15,14 +13,10 @@ mod header;
 mod laws;
 mod number;
 mod packet;
-#[cfg(test)]
-mod plain_decoder;
 mod reader;
 mod rows;
 mod scan;
 mod sets;
-#[cfg(test)]
-mod tests;
 
 pub use decoding::decode;
 pub use encoding::{encode, encode_up};

@@ -22,8 +22,6 @@ use rank_set::RankSet;
 use std::alloc::{AllocError, Global};
 
 mod owned;
-#[cfg(test)]
-mod tests;
 
 /// The most rows of a tree besides the root.
 pub const PREFIX_LIMIT: usize = 2_048;

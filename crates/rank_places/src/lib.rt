@@ -13,8 +13,6 @@ ghost use Rattle.rank_places.specs.Places.{to_places, from_places};
 mod collected;
 mod moving;
 mod table;
-#[cfg(test)]
-mod tests;
 
 use moving::moved;
 use rank_set::RankSet;

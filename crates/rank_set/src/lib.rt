@@ -16,8 +16,6 @@ pub mod laws;
 mod one_word;
 mod read;
 mod run_list;
-#[cfg(test)]
-mod tests;
 mod text;
 mod words;
 

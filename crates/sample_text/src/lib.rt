@@ -17,8 +17,6 @@ ghost use Rattle.sample_text.specs.Whole.{samples_of_text};
 
 mod parser;
 mod paths;
-#[cfg(test)]
-mod tests;
 mod words;
 
 use overlay_setup::Topology;

@@ -15,8 +15,6 @@ mod lose_line;
 mod numbers;
 mod parser;
 mod stream_line;
-#[cfg(test)]
-mod tests;
 mod words;
 
 use overlay_setup::{Script, Topology};

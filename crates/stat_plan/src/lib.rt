@@ -19,8 +19,6 @@ mod path_order;
 mod plan;
 mod plan_error;
 mod samples;
-#[cfg(test)]
-mod tests;
 
 pub use machine::{Act, Timer};
 pub use plan::Plan;

@@ -5,9 +5,6 @@ ghost use Rattle.stat_plan.specs.Machine.Due.{due_act};
 ghost use Rattle.stat_plan.specs.Machine.Waves.{has_grown};
 ghost use Rattle.std.specs.Prelude.{◌≡◌};
 
-#[cfg(test)]
-mod tests;
-
 use overlay_setup::Mode;
 use rank_set::RankSet;
 use stat_plan::{Act, Timer};

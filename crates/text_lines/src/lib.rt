@@ -9,8 +9,6 @@
 
 mod line_parser;
 mod lines;
-#[cfg(test)]
-mod tests;
 mod text_error;
 
 pub use line_parser::{LineParser, read_lines};

@@ -14,8 +14,6 @@ ghost use Rattle.overlay_setup.specs.Topologies.{Nodes};
 ghost use Rattle.text_lines.specs.Parsing.{IsValueOf, IsErrorOf};
 
 mod parser;
-#[cfg(test)]
-mod tests;
 mod tokens;
 mod whole;
 

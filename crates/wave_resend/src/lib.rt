@@ -11,8 +11,6 @@ mod find;
 mod queries;
 mod start;
 mod state;
-#[cfg(test)]
-mod tests;
 
 pub use book::WaveBook;
 pub use state::WaveState;

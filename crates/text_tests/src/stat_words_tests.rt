@@ -1,0 +1,296 @@
+//! Which words are read, and as what.
+use stat_words::{Command, Files, Opt, ReportForm, RunReport, WordFault, WordsError, read_words};
+use std::alloc::{AllocError, Global};
+
+const FILES: Files<'static> = Files {
+    topology: "t",
+    samples: "s",
+    script: "c",
+};
+
+const TEXT: RunReport = RunReport::Releases(ReportForm::Text);
+
+const JSON: RunReport = RunReport::Releases(ReportForm::Json);
+
+/// Words, and the command that they ask for.
+const READ: [(&str, Command<'static>); 19] = [
+    (
+        "run --topology t --samples s --script c",
+        Command::Run {
+            files: FILES,
+            workers: 4,
+            report: TEXT,
+        },
+    ),
+    (
+        "run --report=json --script=c --workers=08 --samples s --topology t",
+        Command::Run {
+            files: FILES,
+            workers: 8,
+            report: JSON,
+        },
+    ),
+    (
+        "run --topology t --samples s --script c --workers 32 --report text",
+        Command::Run {
+            files: FILES,
+            workers: 32,
+            report: TEXT,
+        },
+    ),
+    (
+        "sim --topology t --samples s --script c",
+        Command::Sim {
+            files: FILES,
+            seed: 0,
+            report: TEXT,
+        },
+    ),
+    (
+        "sim --seed 18446744073709551615 --topology t --samples s --script c --report json",
+        Command::Sim {
+            files: FILES,
+            seed: 18446744073709551615,
+            report: JSON,
+        },
+    ),
+    (
+        "sim --topology t --samples s --script c --seed 00000000000000000007",
+        Command::Sim {
+            files: FILES,
+            seed: 7,
+            report: TEXT,
+        },
+    ),
+    (
+        "replay --topology t --samples s --script c --journal-in j",
+        Command::Replay {
+            files: FILES,
+            journal: "j",
+            report: TEXT,
+        },
+    ),
+    (
+        "replay --journal-in=j --topology t --samples s --script c --report json",
+        Command::Replay {
+            files: FILES,
+            journal: "j",
+            report: JSON,
+        },
+    ),
+    (
+        "direct --topology t --samples s --script c",
+        Command::Direct {
+            files: FILES,
+            form: ReportForm::Text,
+        },
+    ),
+    (
+        "direct --topology t --samples s --script c --report=json",
+        Command::Direct {
+            files: FILES,
+            form: ReportForm::Json,
+        },
+    ),
+    ("gen --size 256", Command::Gen { size: 256, seed: 0 }),
+    ("gen --seed=9 --size=1", Command::Gen { size: 1, seed: 9 }),
+    ("gen --size 0016", Command::Gen { size: 16, seed: 0 }),
+    ("gen --size 2 --seed 0", Command::Gen { size: 2, seed: 0 }),
+    (
+        "run --topology t --samples s --script c --report frames",
+        Command::Run {
+            files: FILES,
+            workers: 4,
+            report: RunReport::Frames,
+        },
+    ),
+    (
+        "sim --topology t --samples s --script c --report=frames --seed 1",
+        Command::Sim {
+            files: FILES,
+            seed: 1,
+            report: RunReport::Frames,
+        },
+    ),
+    (
+        "replay --topology t --samples s --script c --journal-in j --report frames",
+        Command::Replay {
+            files: FILES,
+            journal: "j",
+            report: RunReport::Frames,
+        },
+    ),
+    ("frames --capture c", Command::Frames { capture: "c" }),
+    ("frames --capture=c", Command::Frames { capture: "c" }),
+];
+
+/// Words that have no mode, or not the options of their mode.
+const NOT_OF_THE_TABLE: [(&str, WordFault); 28] = [
+    ("", WordFault::NoMode),
+    ("trace", WordFault::UnknownMode),
+    ("frame --capture c", WordFault::UnknownMode),
+    ("frames", WordFault::Options),
+    ("frames --topology t", WordFault::Options),
+    ("frames --capture c --report text", WordFault::Options),
+    ("frames --capture c --capture c", WordFault::Options),
+    ("--help", WordFault::UnknownMode),
+    ("--topology t run", WordFault::UnknownMode),
+    ("-- run", WordFault::UnknownMode),
+    ("RUN", WordFault::UnknownMode),
+    ("run", WordFault::Options),
+    ("run --topology t", WordFault::Options),
+    ("gen", WordFault::Options),
+    ("gen --seed 1", WordFault::Options),
+    ("gen --size 1 --workers 1", WordFault::Options),
+    ("gen --size", WordFault::Options),
+    ("gen --size 1 --size 1", WordFault::Options),
+    ("gen --size 1 --seed=1 --seed=1", WordFault::Options),
+    ("gen --size 1 stray", WordFault::Options),
+    ("gen --size 1 --", WordFault::Options),
+    ("gen -- --size 1", WordFault::Options),
+    ("gen --size -1", WordFault::Options),
+    ("gen --siz 1", WordFault::Options),
+    ("gen --size 1 -h", WordFault::Options),
+    ("gen --size 1 --help", WordFault::Options),
+    ("gen --size 1 --version", WordFault::Options),
+    (
+        "replay --topology t --samples s --script c",
+        WordFault::Options,
+    ),
+];
+
+/// Words whose options are those of the mode, but not each value.
+const BAD_VALUES: [(&str, Opt); 29] = [
+    ("run --topology= --samples s --script c", Opt::Topology),
+    ("run --topology=-x --samples s --script c", Opt::Topology),
+    ("run --topology - --samples s --script c", Opt::Topology),
+    ("direct --topology t --samples=-s --script=", Opt::Samples),
+    ("direct --topology t --samples s --script=-c", Opt::Script),
+    (
+        "replay --topology t --samples s --script c --journal-in= --report xml",
+        Opt::JournalIn,
+    ),
+    (
+        "sim --seed x --topology=-t --samples s --script c",
+        Opt::Topology,
+    ),
+    (
+        "run --topology t --samples s --script c --workers 0",
+        Opt::Workers,
+    ),
+    (
+        "run --topology t --samples s --script c --workers 33 --report xml",
+        Opt::Workers,
+    ),
+    (
+        "run --topology t --samples s --script c --workers=",
+        Opt::Workers,
+    ),
+    (
+        "run --topology t --samples s --script c --workers 4294967297",
+        Opt::Workers,
+    ),
+    (
+        "sim --topology t --samples s --script c --seed 18446744073709551616",
+        Opt::Seed,
+    ),
+    (
+        "sim --topology t --samples s --script c --seed 000000000000000000007",
+        Opt::Seed,
+    ),
+    ("gen --size 1 --seed=-5", Opt::Seed),
+    ("gen --size 1 --seed=+5", Opt::Seed),
+    ("gen --size 1 --seed 0x5", Opt::Seed),
+    ("gen --size 1 --seed 99999999999999999999", Opt::Seed),
+    ("gen --size 0 --seed x", Opt::Seed),
+    ("gen --size 0", Opt::Size),
+    ("gen --size 257", Opt::Size),
+    ("gen --size=", Opt::Size),
+    ("gen --size 1.5", Opt::Size),
+    (
+        "run --topology t --samples s --script c --report xml",
+        Opt::Report,
+    ),
+    (
+        "direct --topology t --samples s --script c --report frames",
+        Opt::Report,
+    ),
+    (
+        "sim --topology t --samples s --script c --report=",
+        Opt::Report,
+    ),
+    (
+        "replay --topology t --samples s --script c --journal-in j --report Text",
+        Opt::Report,
+    ),
+    (
+        "run --topology t --samples s --script c --report frame",
+        Opt::Report,
+    ),
+    ("frames --capture=", Opt::Capture),
+    ("frames --capture=-", Opt::Capture),
+];
+
+/// The lines of the faults.
+const LINES: [(WordFault, &str); 6] = [
+    (WordFault::NoMode, "no mode"),
+    (WordFault::UnknownMode, "unknown mode"),
+    (WordFault::Options, "options"),
+    (WordFault::Value(Opt::JournalIn), "value of --journal-in"),
+    (WordFault::Value(Opt::Capture), "value of --capture"),
+    (WordFault::Value(Opt::Report), "value of --report"),
+];
+
+fn words_of(alloc: Global, text: &str) -> Result<Vec<String>, AllocError> {
+    let mut words = Vec::new(alloc);
+    for word in text.split_whitespace() {
+        words.push(String::from_str(alloc, word)?)?;
+    }
+    Ok(words)
+}
+
+#[test]
+fn reads_commands(rt: HostRuntime) -> Result<(), AllocError> {
+    let alloc = rt.alloc();
+    for (text, command) in READ.as_slice() {
+        let words = words_of(alloc, text)?;
+        assert_eq!(rt;
+            read_words(alloc, words.as_slice()),
+            Ok(*command),
+            "at {text}"
+        );
+    }
+    Ok(())
+}
+
+#[test]
+fn refuses_words_that_are_not_of_the_table(rt: HostRuntime) -> Result<(), AllocError> {
+    let alloc = rt.alloc();
+    for (text, fault) in NOT_OF_THE_TABLE.as_slice() {
+        let words = words_of(alloc, text)?;
+        let want = Err(WordsError::Fault(*fault));
+        assert_eq!(rt; read_words(alloc, words.as_slice()), want, "at {text}");
+    }
+    Ok(())
+}
+
+#[test]
+fn refuses_bad_values_in_their_order(rt: HostRuntime) -> Result<(), AllocError> {
+    let alloc = rt.alloc();
+    for (text, option) in BAD_VALUES.as_slice() {
+        let words = words_of(alloc, text)?;
+        let want = Err(WordsError::Fault(WordFault::Value(*option)));
+        assert_eq!(rt; read_words(alloc, words.as_slice()), want, "at {text}");
+    }
+    Ok(())
+}
+
+#[test]
+fn shows_faults(rt: HostRuntime) -> Result<(), AllocError> {
+    let alloc = rt.alloc();
+    for (fault, line) in LINES.as_slice() {
+        let shown = format!(in alloc; "{fault}")?;
+        assert_eq!(rt; shown.as_str(), *line);
+    }
+    Ok(())
+}

@@ -1,0 +1,150 @@
+//! The ends of lines, blanks and numbers, by texts from outside.
+
+use text_lines::{
+    after_blanks, cut_word, next_line, next_text_line, next_word, number_in, says_nothing,
+};
+
+// A text, its first line, and what is left after it.
+const LINES: [(&str, Option<(&str, &str)>); 8] = [
+    ("", None),
+    ("\n", Some(("", ""))),
+    ("\r", Some(("", ""))),
+    ("\r\n\n", Some(("", "\n"))),
+    ("a\r\r\nb", Some(("a\r", "b"))),
+    ("a\rb\n", Some(("a\rb", ""))),
+    ("a b\r", Some(("a b", ""))),
+    ("a\n\n", Some(("a", "\n"))),
+];
+
+#[test]
+fn cuts_lines(rt: HostRuntime) {
+    for (text, want) in LINES {
+        let line = next_line(text.as_bytes());
+        assert_eq!(rt;
+            line.map(|parts| parts.0),
+            want.map(|parts| parts.0.as_bytes()),
+            "{text:?}"
+        );
+        assert_eq!(rt;
+            line.map(|parts| parts.1),
+            want.map(|parts| parts.1.as_bytes()),
+            "{text:?}"
+        );
+    }
+}
+
+#[test]
+fn cuts_lines_of_text(rt: HostRuntime) {
+    for (text, want) in LINES {
+        let line = next_text_line(text);
+        assert_eq!(rt;
+            line.map(|parts| parts.0),
+            want.map(|parts| parts.0),
+            "{text:?}"
+        );
+        assert_eq!(rt;
+            line.map(|parts| parts.1),
+            want.map(|parts| parts.1),
+            "{text:?}"
+        );
+    }
+}
+
+// A line, its first word, and what is left after it.
+const WORDS: [(&str, Option<(&str, &str)>); 7] = [
+    ("", None),
+    (" \t ", None),
+    ("stack", Some(("stack", ""))),
+    ("\t stack 0", Some(("stack", " 0"))),
+    ("stack\t\t0 1", Some(("stack", "\t\t0 1"))),
+    ("a\u{b}b\u{a0} c", Some(("a\u{b}b\u{a0}", " c"))),
+    ("a\r b", Some(("a\r", " b"))),
+];
+
+#[test]
+fn cuts_words(rt: HostRuntime) {
+    for (line, want) in WORDS {
+        let word = next_word(line.as_bytes());
+        assert_eq!(rt;
+            word.map(|parts| parts.0),
+            want.map(|parts| parts.0.as_bytes()),
+            "{line:?}"
+        );
+        assert_eq!(rt;
+            word.map(|parts| parts.1),
+            want.map(|parts| parts.1.as_bytes()),
+            "{line:?}"
+        );
+    }
+}
+
+// A line, the word that it begins with, and what is left after the blank behind it.
+const CUTS: [(&str, Option<(&str, &str)>); 7] = [
+    ("", None),
+    (" stack", None),
+    ("\tstack 0", None),
+    ("stack", None),
+    ("stack ", Some(("stack", ""))),
+    ("0  m", Some(("0", " m"))),
+    ("a\r\tb c", Some(("a\r", "b c"))),
+];
+
+#[test]
+fn cuts_the_word_in_front(rt: HostRuntime) {
+    for (line, want) in CUTS {
+        let word = cut_word(line.as_bytes());
+        assert_eq!(rt;
+            word.map(|parts| parts.0),
+            want.map(|parts| parts.0.as_bytes()),
+            "{line:?}"
+        );
+        assert_eq!(rt;
+            word.map(|parts| parts.1),
+            want.map(|parts| parts.1.as_bytes()),
+            "{line:?}"
+        );
+    }
+}
+
+const SILENT: [(&str, bool); 7] = [
+    ("", true),
+    (" \t", true),
+    ("#", true),
+    ("# a", true),
+    (" # a", false),
+    ("a # b", false),
+    ("\r", false),
+];
+
+#[test]
+fn knows_lines_that_say_nothing(rt: HostRuntime) {
+    for (line, silent) in SILENT {
+        assert_eq!(rt; says_nothing(line.as_bytes()), silent, "{line:?}");
+    }
+    assert_eq!(rt; after_blanks(b" \t a "), b"a ".as_slice());
+}
+
+const NUMBERS: [(&str, Option<u32>); 9] = [
+    ("", None),
+    ("+1", None),
+    ("-0", None),
+    ("1x", None),
+    ("0", Some(0)),
+    (
+        "000000000000000000000000000000000000000000000000000000000000007",
+        Some(7),
+    ),
+    ("65535", Some(65_535)),
+    ("65536", Some(65_536)),
+    (
+        "999999999999999999999999999999999999999999999999999999999999999",
+        Some(65_536),
+    ),
+];
+
+#[test]
+fn reads_numbers_of_any_length(rt: HostRuntime) {
+    for (word, number) in NUMBERS {
+        assert_eq!(rt; number_in(word.as_bytes(), 65_536), number, "{word:?}");
+    }
+}

@@ -1,0 +1,29 @@
+//! Tests of the trees of paths and of what they stand on, and nothing else: a crate with tests is proved twice, so
+//! tests have crates of their own. Each module has the tests of the library with its name; those that begin with `arena`
+//! have the tests of `arena_tree`.
+#![tactic(auto)]
+
+#[cfg(test)]
+mod arena_cost;
+#[cfg(test)]
+mod arena_memory;
+#[cfg(test)]
+mod arena_tree_tests;
+#[cfg(test)]
+mod arena_walk;
+#[cfg(test)]
+mod call_path_tests;
+#[cfg(test)]
+mod count_tree_tests;
+#[cfg(test)]
+mod equiv_class_tests;
+#[cfg(test)]
+mod node_arena_tests;
+#[cfg(test)]
+mod node_inbox_tests;
+#[cfg(test)]
+mod prefix_tree_tests;
+#[cfg(test)]
+mod rank_places_tests;
+#[cfg(test)]
+mod rank_set_tests;
