@@ -373,6 +373,7 @@ fn a_journal_that_ends_early_has_its_frames(rt: HostRuntime) -> Result<(), Alloc
     };
     assert_eq!(rt; called.status, Status::Unfinished(next));
     let frames = bytes_of(alloc, FRAMES)?;
-    assert_eq!(rt; called.report.bytes(), &frames.as_slice()[..46]);
+    assert_eq!(rt; called.report.bytes().len(), 46usize);
+    assert!(rt; frames.as_slice().starts_with(called.report.bytes()));
     Ok(())
 }
