@@ -53,6 +53,16 @@ impl Plan {
         }
     }
 
+    /// No steps, and room for so many, for a tree of `base` nodes.
+    pub(crate) fn with_capacity(alloc: Global, base: u32, steps: u32) -> Result<Plan, AllocError>
+        ensures base { IfOk result (λ plan. plan.base ≡ base) }
+        ensures steps { IfOk result (λ plan. plan.steps ≡ []) }
+    {
+        let mut plan = Plan::new(alloc, base);
+        plan.steps.reserve(steps as usize)?;
+        Ok(plan)
+    }
+
     /// How many nodes the steps add.
     pub(crate) fn nodes(&self) -> u32
         ensures { result ≡ nodes_added self.now.steps }

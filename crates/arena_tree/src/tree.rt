@@ -118,7 +118,7 @@ impl PrefixTree for ArenaTree {
     }
 
     fn merge(&mut self, other: &ArenaTree) -> Result<(), TreeError> {
-        let mut plan = Plan::new(self.alloc, self.nodes.len());
+        let mut plan = Plan::with_capacity(self.alloc, self.nodes.len(), other.nodes.len())?;
         let into = Target {
             link: Link::Top,
             node: self.first,

@@ -175,10 +175,20 @@ impl FrameText {
         ensures { IfOk result (λ all. all ≡ map func self.now) }
     {
         let mut all = FrameText::new(*self.ends.allocator());
+        all.reserve(self.len(), self.text().len() + 1)?;
         for i in 0..self.len() {
             all.push(function_of(self.frame(i)))?;
         }
         Ok(all)
+    }
+
+    /// Makes room for so many frames more, which have so many bytes in all with a `;` before each.
+    pub fn reserve(&mut self, frames: usize, bytes: usize) -> Result<(), AllocError>
+        ensures { self.new ≡ self.old }
+    {
+        self.ends.reserve(frames)?;
+        self.text.reserve(bytes)?;
+        Ok(())
     }
 
     /// Keeps the first `depth` frames.
@@ -204,7 +214,7 @@ impl FrameText {
             self.text.push(';')?;
         }
         self.text.push_str(frame)?;
-        self.ends.push(self.text.as_str().len() as u32)?;
+        self.ends.push_reserved(self.text.as_str().len() as u32);
         Ok(())
     }
 }

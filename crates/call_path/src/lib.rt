@@ -120,6 +120,13 @@ impl CallPath {
         Ok(CallPath { frames })
     }
 
+    /// Makes room for so many frames more, which have so many bytes in all with a `;` before each.
+    pub fn reserve(&mut self, frames: usize, bytes: usize) -> Result<(), AllocError>
+        ensures { self.new ≡ self.old }
+    {
+        self.frames.reserve(frames, bytes)
+    }
+
     /// Keeps the first `depth` frames.
     pub fn cut(&mut self, depth: usize)
         requires { 0 < depth }
@@ -216,6 +223,13 @@ impl PathBuilder {
         ensures err { OnErr result (self.new ≡ self.old) }
     {
         self.frames.push(frame)
+    }
+
+    /// Makes room for so many frames more, which have so many bytes in all with a `;` before each.
+    pub fn reserve(&mut self, frames: usize, bytes: usize) -> Result<(), AllocError>
+        ensures { self.new ≡ self.old }
+    {
+        self.frames.reserve(frames, bytes)
     }
 
     /// Keeps the first `depth` frames.

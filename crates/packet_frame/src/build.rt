@@ -18,14 +18,21 @@ use prefix_tree::{PrefixTree, TreeError};
 use rank_set::RankSet;
 use std::alloc::{AllocError, Global};
 
-// The path of one frame. It is made in a list of frames that has its room already.
+// How many frames of a path, and bytes of them, room is made for beforehand.
+const FRAMES_AT_ONCE: usize = 32;
+
+const BYTES_AT_ONCE: usize = 1_024;
+
+// The path of one frame, with room for more. It is made in a list of frames that has its room already.
 fn first_path(frames: &mut PathBuilder, name: &str) -> Result<CallPath, AllocError>
     requires { IsTrue (is_good_frame name.now) }
     ensures { IfOk result (λ path. path ≡ name.now ∷ []) }
 {
     frames.cut(0);
     frames.push(name)?;
-    frames.path()
+    let mut path = frames.path()?;
+    path.reserve(FRAMES_AT_ONCE, BYTES_AT_ONCE)?;
+    Ok(path)
 }
 
 // Keeps the first frames of a path, and puts a frame behind them. One path serves for all rows, so that a tree takes

@@ -25,6 +25,11 @@ use std::alloc::{AllocError, Global};
 /// The version that is written.
 const VERSION: u8 = 2;
 
+// How many bytes room is made for beforehand: for each row of a tree, and besides.
+const BYTES_A_ROW: usize = 40;
+
+const BYTES_BESIDES: usize = 64;
+
 /// The bytes of a packet's frame, in version 2; its fields are in docs/FORMATS.md. `decode` reads the packet from them
 /// again, whatever bytes follow. The stream must be below 8, the wave below 16, and the coverage of a tree not empty.
 ///
@@ -75,6 +80,7 @@ fn put_up<T: PrefixTree>(
         (out.new.items ≡ out.old.items ++ spelling_of 2 (Up stream wave (T.tree tree.now))) }
     ensures may { OnOk result (MayBePacket 2 (Up stream wave (T.tree tree.now))) }
 {
+    out.reserve(BYTES_BESIDES + BYTES_A_ROW * tree.rows())?;
     out.extend_from_slice(&[VERSION, 1, stream, wave])?;
     put_tree(tree, out)
 }

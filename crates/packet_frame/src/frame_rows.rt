@@ -60,13 +60,12 @@ impl FrameRows {
         self.names.clear();
     }
 
-    /// Makes room for so many rows more, with names of 32 bytes each.
-    pub fn reserve(&mut self, count: u16) -> Result<(), AllocError>
+    /// Makes room for so many rows more, whose names have so many bytes in all.
+    pub fn reserve(&mut self, rows: usize, bytes: usize) -> Result<(), AllocError>
         ensures { self.new ≡ self.old }
     {
-        let count = count as usize;
-        self.rows.reserve(count)?;
-        self.names.reserve(32 * count)?;
+        self.rows.reserve(rows)?;
+        self.names.reserve(bytes)?;
         Ok(())
     }
 

@@ -16,6 +16,9 @@ use std::cmp::Ordering;
 // For how many rows room is made when their number is read, which alone says nothing of how long the input is.
 const ROWS_AT_ONCE: u16 = 32;
 
+// How many bytes of a name room is made for, beforehand.
+const NAME_AT_ONCE: usize = 32;
+
 impl Scan {
     #[tactic(auto, unfolding(crate::specs::Frame::row_count_form))]
     pub fn take_row_count(&mut self, field: &[u8]) -> Result<(), FieldError>
@@ -28,9 +31,11 @@ impl Scan {
         if count > 2_048 {
             return Err(FieldError::Broken(FrameReason::OverLimit));
         }
+        let at_once = count.min(ROWS_AT_ONCE) as usize;
         self.rows.clear();
-        self.rows.reserve(count.min(ROWS_AT_ONCE))?;
+        self.rows.reserve(at_once, NAME_AT_ONCE * at_once)?;
         self.path.cut(0);
+        self.path.reserve(at_once, NAME_AT_ONCE * at_once)?;
         self.ended = true;
         self.rows_left = count;
         self.next_row();

@@ -37,7 +37,7 @@ invariant_of-self-2 c =
           ∙ ap (λ t. t ++ c.args.frame.now) c.in_ok-reserve-2.ensures.bytes
           ∙ ap (λ b. longer b (string_bytes c.self.inside.text) c.args.frame.now) (w.if-not-is_empty.ensures ∙ ap (λ xs. length xs == 0) ends_stay)
     ] in
-    push_cuts c.args.self.now (string_bytes c.self.inside.text) c.self.inside.ends.items c.self.view_is c.self.invariant c.args.frame.now (string_bytes c.push_str.new.self) c.requires.below_limit c.requires.good is (length c.as_str.result.now) c.push-2.new.self.items (ap length c.as_str.ensures.value) (c.in_ok-push-2.ensures.items ∙ ap (λ es. es ++ (length c.as_str.result.now) ∷ []) (elim c.if-not-is_empty.branch [ then-not-is_empty+in_ok-push w ↦ ap (λ s. s.ends.items) w.self-inside-is ∙ c.in_ok-reserve.ensures.items | else-not-is_empty w ↦ ap (λ s. s.ends.items) w.self-inside-is ∙ c.in_ok-reserve.ensures.items ]))
+    push_cuts c.args.self.now (string_bytes c.self.inside.text) c.self.inside.ends.items c.self.view_is c.self.invariant c.args.frame.now (string_bytes c.push_str.new.self) c.requires.below_limit c.requires.good is (length c.as_str.result.now) c.push_reserved.new.self.items (ap length c.as_str.ensures.value) (c.push_reserved.ensures.items ∙ ap (λ es. es ++ (length c.as_str.result.now) ∷ []) (elim c.if-not-is_empty.branch [ then-not-is_empty+in_ok-push w ↦ ap (λ s. s.ends.items) w.self-inside-is ∙ c.in_ok-reserve.ensures.items | else-not-is_empty w ↦ ap (λ s. s.ends.items) w.self-inside-is ∙ c.in_ok-reserve.ensures.items ]))
 
 pub returns-clause-ok : goal.returns-clause-ok
 returns-clause-ok c =
@@ -54,4 +54,4 @@ returns-clause-ok c =
           ∙ ap (λ t. t ++ c.args.frame.now) c.in_ok-reserve-2.ensures.bytes
           ∙ ap (λ b. longer b (string_bytes c.self.inside.text) c.args.frame.now) (w.if-not-is_empty.ensures ∙ ap (λ xs. length xs == 0) ends_stay)
     ] in
-    push_is c.args.self.now (string_bytes c.self.inside.text) c.self.inside.ends.items c.self.view_is c.self.invariant c.args.frame.now (string_bytes c.push_str.new.self) c.requires.below_limit c.requires.good is (length c.as_str.result.now) c.push-2.new.self.items (ap length c.as_str.ensures.value) (c.in_ok-push-2.ensures.items ∙ ap (λ es. es ++ (length c.as_str.result.now) ∷ []) (elim c.if-not-is_empty.branch [ then-not-is_empty+in_ok-push w ↦ ap (λ s. s.ends.items) w.self-inside-is ∙ c.in_ok-reserve.ensures.items | else-not-is_empty w ↦ ap (λ s. s.ends.items) w.self-inside-is ∙ c.in_ok-reserve.ensures.items ]))
+    push_is c.args.self.now (string_bytes c.self.inside.text) c.self.inside.ends.items c.self.view_is c.self.invariant c.args.frame.now (string_bytes c.push_str.new.self) c.requires.below_limit c.requires.good is (length c.as_str.result.now) c.push_reserved.new.self.items (ap length c.as_str.ensures.value) (c.push_reserved.ensures.items ∙ ap (λ es. es ++ (length c.as_str.result.now) ∷ []) (elim c.if-not-is_empty.branch [ then-not-is_empty+in_ok-push w ↦ ap (λ s. s.ends.items) w.self-inside-is ∙ c.in_ok-reserve.ensures.items | else-not-is_empty w ↦ ap (λ s. s.ends.items) w.self-inside-is ∙ c.in_ok-reserve.ensures.items ]))
