@@ -9,6 +9,7 @@ use prefix_tree::PrefixTree;
 use stat_desk::{FileDesk, FileSink, OpenGate, StdSink};
 use stat_words::WordFault;
 use std::env;
+use std::io::ErrorKind;
 use std::rt::{Env, Files};
 use std::sync::Wait;
 use std::thread::Threads;
@@ -41,7 +42,7 @@ pub fn ending_of(status: Status) -> Ending
 }
 
 /// The call with the program's words, the real files, standard output, and a file `stat.journal` for the journal, which
-/// is made when it is first written to. No event waits at the gate. Words that can't be had are bad words. What the
+/// is made when it is first written to. No event waits at the gate. Words of which one is not UTF-8 are bad words. What the
 /// outside gives and takes no clause can say; that the number and the line are those of one status, it says.
 pub fn run_program<T: PrefixTree, R: Env + Files + Print + AllocGlobal + Threads + Wait + Sync>(
     rt: &R,
@@ -51,13 +52,25 @@ pub fn run_program<T: PrefixTree, R: Env + Files + Print + AllocGlobal + Threads
     ending_of(status_of_run::<T, R>(rt))
 }
 
+// The status of a program whose words can't be had.
+fn status_without_words(cause: ErrorKind) -> Status
+    ensures memory { cause ≡ ErrorKind.OutOfMemory → result ≡ Status.OutOfMemory }
+    ensures others { ¬ (cause ≡ ErrorKind.OutOfMemory) → result ≡ Status.BadWords WordFault.Options }
+{
+    match cause {
+        ErrorKind::OutOfMemory => Status::OutOfMemory,
+        _ => Status::BadWords(WordFault::Options),
+    }
+}
+
 // The status of that call.
 fn status_of_run<T: PrefixTree, R: Env + Files + Print + AllocGlobal + Threads + Wait + Sync>(
     rt: &R,
 ) -> Status {
     let alloc = rt.alloc();
-    let Ok(args) = env::args(rt) else {
-        return Status::BadWords(WordFault::Options);
+    let args = match env::args(rt) {
+        Ok(args) => args,
+        Err(error) => return status_without_words(error.kind()),
     };
     let Ok(words) = args.skip(1).collect::<Vec<String>>(alloc) else {
         return Status::OutOfMemory;
