@@ -10,10 +10,12 @@ use Rattle.arena_tree.specs.declared.node.Link.{Link}
 use Rattle.arena_tree.specs.declared.node.Link.TheVariants.{Top, FirstOf, NextOf}
 use Rattle.arena_tree.specs.declared.node.Step.TheVariants.{New}
 use Rattle.arena_tree.specs.NodeViews.{NodeView}
-use Rattle.arena_tree.specs.RunForest.{RunForest, no_runs, run_node, count_nodes, cut_count}
+use Rattle.arena_tree.specs.RowMerge.{united_marks}
+use Rattle.arena_tree.specs.RunForest.{RunForest, no_runs, run_node, row_marks, count_nodes, cut_count}
 use Rattle.arena_tree.specs.Placement.{first_place, count_place, HasDistinctPlaces, node_view, AreNodesOf}
 use Rattle.arena_tree.specs.Links.{LinkedNodes, with_change, with_first, with_next, relink, first_after, LeadsTo, IsOutside, IsNotAt}
-use Rattle.arena_tree.specs.Steps.{new_view, with_marks, with_frames, apply_step, shared_step, rest_over, count_among, Becomes}
+use Rattle.arena_tree.specs.Steps.{new_view, more_for, with_more_marks, with_frames, apply_step, shared_step, rest_over, count_among, Becomes}
+use Rattle.arena_tree.proofs.More.{more_makes_union}
 use Rattle.arena_tree.proofs.Counting.{agrees, count_among-below, count_among-one, count_among-add, inside, nodes_still_hold, below_all, span_in}
 use Rattle.arena_tree.proofs.Changes.{change_same, change_other, length-with_change, length-relink, relink_other, relink_same, begins_same, at_end, before_end}
 
@@ -125,7 +127,7 @@ pub record Opened (h h1 : LinkedNodes) (n a : ℕ) (f : List ℕ) (common : Path
   pub size : count_nodes kb ≡ count_nodes b + m
   pub first : h1.first ≡ h.first
 
-module _ (n a : ℕ) (f : List ℕ) (fs common : Path) (v m : Marks) (b s : RunForest) (h : LinkedNodes) (len : length h.nodes ≡ n) (nodes_hold : AreNodesOf h.nodes (run_node a f fs m b s)) (no_common : HasDistinctPlaces (run_node a f fs m b s)) where
+module _ (n a : ℕ) (f : List ℕ) (fs common : Path) (w m : Marks) (b s : RunForest) (h : LinkedNodes) (len : length h.nodes ≡ n) (nodes_hold : AreNodesOf h.nodes (run_node a f fs m b s)) (no_common : HasDistinctPlaces (run_node a f fs m b s)) where
   in_all : a < length h.nodes
   in_all = slice_get_within h.nodes a (node_view f fs m b s) nodes_hold.0
 
@@ -136,17 +138,21 @@ module _ (n a : ℕ) (f : List ℕ) (fs common : Path) (v m : Marks) (b s : RunF
       let z : count_place y b ≡ count_place a b = ap (λ u. count_place u b) e in
       omega (arith, some, here, o, z)
 
-  pub node_shared : (mine : Path) → fs ≡ common ++ mine → Opened h (apply_step h (shared_step a f mine common v m b)) n a f common v (rest_over n mine m b) b s (cut_count mine)
-  node_shared [] is = record {
-    len = let e = length-with_change h.nodes a (with_marks v.0 v.1) in omega (arith, e, len);
-    here = change_same h.nodes a (with_marks v.0 v.1) (node_view f fs m b s) nodes_hold.0 ∙ (λ i. Some (node_view f ((is ∙ append-nil common) i) v b s));
-    kept = λ y lt ne. change_other h.nodes a y (with_marks v.0 v.1) ne;
-    nodes_hold = nodes_still_hold h.nodes (with_change a (with_marks v.0 v.1) h.nodes) b (λ y some. change_other h.nodes a y (with_marks v.0 v.1) (other y some)) nodes_hold.1;
-    places = λ y. omega arith;
-    size = omega arith;
-    first = refl;
-  }
+  pub node_shared : (mine : Path) → fs ≡ common ++ mine → Opened h (apply_step h (shared_step a f mine common w m b)) n a f common (united_marks (row_marks mine m) w) (rest_over n mine m b) b s (cut_count mine)
+  node_shared [] is =
+      let up : NodeView → NodeView = with_more_marks (more_for m.0 w.0) (more_for m.1 w.1) in
+      record {
+        len = let e = length-with_change h.nodes a up in omega (arith, e, len);
+        here = change_same h.nodes a up (node_view f fs m b s) nodes_hold.0
+            ∙ (λ i. Some (node_view f ((is ∙ append-nil common) i) (more_makes_union m.0 w.0 i, more_makes_union m.1 w.1 i) b s));
+        kept = λ y lt ne. change_other h.nodes a y up ne;
+        nodes_hold = nodes_still_hold h.nodes (with_change a up h.nodes) b (λ y some. change_other h.nodes a y up (other y some)) nodes_hold.1;
+        places = λ y. omega arith;
+        size = omega arith;
+        first = refl;
+      }
   node_shared (g ∷ gs) is =
+      let v : Marks = united_marks (row_marks (g ∷ gs) m) w in
       let up : NodeView → NodeView = with_frames (f ∷ common) v.0 v.1 (length h.nodes) in
       let low : NodeView = record { frames = g ∷ gs; label = m.0; ends = m.1; first = first_place b; next = 4294967295 } in
       let long : length (with_change a up h.nodes) ≡ n = length-with_change h.nodes a up ∙ len in

@@ -1,5 +1,6 @@
 pub mod Counting
 pub mod Changes
+pub mod More
 pub mod Orders
 pub mod MergedRows
 pub mod BareForests

@@ -10,12 +10,12 @@ use Rattle.prefix_tree.specs.Tree.{Marks}
 use Rattle.arena_tree.specs.declared.node.Link.{Link}
 use Rattle.arena_tree.specs.declared.node.Link.TheVariants.{FirstOf, NextOf}
 use Rattle.arena_tree.specs.declared.node.Step.{Step}
-use Rattle.arena_tree.specs.declared.node.Step.TheVariants.{Old, Cut}
+use Rattle.arena_tree.specs.declared.node.Step.TheVariants.{Cut}
 use Rattle.arena_tree.specs.declared.target.Target.{Target}
 use Rattle.arena_tree.specs.NodeViews.{NodeView, view_of}
 use Rattle.arena_tree.specs.RowForest.{frame_cmp}
 use Rattle.arena_tree.specs.RunForest.{RunForest, no_runs, run_node, row_ends, FrameSplit, split_frames, split_parts, cut_count}
-use Rattle.arena_tree.specs.RunMerge.{shared_marks, new_nodes}
+use Rattle.arena_tree.specs.RunMerge.{added_marks, new_nodes}
 use Rattle.arena_tree.specs.Placement.{first_place}
 use Rattle.arena_tree.specs.Steps.{nodes_added_by, rows_added_by, shared_step, rest_over, merge_steps}
 use Rattle.arena_tree.specs.Reading.{run_of, forest_at, LeadsToForest}
@@ -40,19 +40,15 @@ pub drop_some : (p : Path) (k : ℕ) → k < length p → 0 < length (drop k p)
 drop_some p k lt = let long = length-drop k p in omega (arith, long, lt)
 
 -- where no frames are left
-pub step_old : (a : ℕ) (upper lower : Path) (l e : Ranks) (m : Marks) (more : Ranks) (first : ℕ) → lower ≡ []
-    → Old a l (union m.1 more) ≡ step_at a upper lower (l, union (row_ends lower m.1) more) m first
-step_old a upper lower l e m more first is = λ i. step_at a upper (sym is i) (l, union (row_ends (sym is i) m.1) more) m first
-
 pub below_old : (into : Target) (lower : Path) (kept place first : ℕ) → lower ≡ []
     → record { link = FirstOf into.place; node = first; skip = 0; place = first } ≡ target_below into lower kept place first
 below_old into lower kept place first is = ap (λ p. target_below into p kept place first) (sym is)
 
 -- where some are
-pub step_cut : (a : ℕ) (upper lower : Path) (l : Ranks) (m : Marks) (more : Ranks) (first : ℕ) → 0 < length lower
-    → Cut a upper l more (view_of lower m first 4294967295) ≡ step_at a upper lower (l, union (row_ends lower m.1) more) m first
-step_cut a upper [] l m more first lt = absurd (omega (arith, lt))
-step_cut a upper (g ∷ gs) l m more first lt = ap (λ e. Cut a upper l e (view_of (g ∷ gs) m first 4294967295)) (sym (union-none more))
+pub step_cut : (a : ℕ) (upper lower : Path) (m w : Marks) (first : ℕ) → 0 < length lower
+    → Cut a upper (union m.0 w.0) w.1 (view_of lower m first 4294967295) ≡ step_at a upper lower w m first
+step_cut a upper [] m w first lt = absurd (omega (arith, lt))
+step_cut a upper (g ∷ gs) m w first lt = ap (λ e. Cut a upper (union m.0 w.0) e (view_of (g ∷ gs) m first 4294967295)) (sym (union-none w.1))
 
 pub below_cut : (into : Target) (lower : Path) (kept place first : ℕ) → 0 < length lower
     → record { link = FirstOf into.place; node = into.node; skip = kept; place = place } ≡ target_below into lower kept place first
@@ -60,21 +56,21 @@ below_cut into [] kept place first lt = absurd (omega (arith, lt))
 below_cut into (g ∷ gs) kept place first lt = refl
 
 -- the step, by what it is of
-pub step_shared : (a : ℕ) (f : List ℕ) (own common : Path) (v m : Marks) (b : RunForest) → shared_step a f own common v m b ≡ step_at a (f ∷ common) own v m (first_place b)
-step_shared a f [] common v m b = refl
-step_shared a f (g ∷ gs) common v m b = refl
+pub step_shared : (a : ℕ) (f : List ℕ) (own common : Path) (w m : Marks) (b : RunForest) → shared_step a f own common w m b ≡ step_at a (f ∷ common) own w m (first_place b)
+step_shared a f [] common w m b = refl
+step_shared a f (g ∷ gs) common w m b = refl
 
-nodes_at : (a : ℕ) (upper own : Path) (v m : Marks) (first : ℕ) → nodes_added_by (step_at a upper own v m first) ≡ cut_count own
-nodes_at a upper [] v m first = refl
-nodes_at a upper (g ∷ gs) v m first = refl
+nodes_at : (a : ℕ) (upper own : Path) (w m : Marks) (first : ℕ) → nodes_added_by (step_at a upper own w m first) ≡ cut_count own
+nodes_at a upper [] w m first = refl
+nodes_at a upper (g ∷ gs) w m first = refl
 
 few_cuts : (own : Path) → cut_count own ≤ 1
 few_cuts [] = omega arith
 few_cuts (g ∷ gs) = omega arith
 
-rows_at : (a : ℕ) (upper own : Path) (v m : Marks) (first : ℕ) → rows_added_by (step_at a upper own v m first) ≡ 0
-rows_at a upper [] v m first = refl
-rows_at a upper (g ∷ gs) v m first = refl
+rows_at : (a : ℕ) (upper own : Path) (w m : Marks) (first : ℕ) → rows_added_by (step_at a upper own w m first) ≡ 0
+rows_at a upper [] w m first = refl
+rows_at a upper (g ∷ gs) w m first = refl
 
 -- the target below
 link_below : (into : Target) (own : Path) (kept place first : ℕ) → (target_below into own kept place first).link ≡ FirstOf into.place
@@ -106,14 +102,14 @@ leads_below cs into c (g ∷ gs) kept place is lt there to few =
 -- the steps of a node that begins with the same frame, where the parts of both runs are known
 parts_known : (l : Link) (n a x : ℕ) (f g : List ℕ) (fs gs : Path) (m w : Marks) (b s c t : RunForest) (z : FrameSplit) → split_frames fs gs ≡ z → frame_cmp g f ≡ Equal
     → merge_steps l n (run_node a f fs m b s) (run_node x g gs w c t)
-    ≡ shared_step a f z.own z.common (shared_marks z m w) m b ∷ merge_steps (FirstOf a) (n + cut_count z.own) (rest_over n z.own m b) (rest_over 0 z.other w c)
+    ≡ shared_step a f z.own z.common (added_marks z w) m b ∷ merge_steps (FirstOf a) (n + cut_count z.own) (rest_over n z.own m b) (rest_over 0 z.other w c)
     ++ merge_steps (NextOf a) (n + cut_count z.own + new_nodes [] (rest_over n z.own m b) [] (rest_over 0 z.other w c)) s t
 parts_known l n a x f g fs gs m w b s c t z is e =
     subst (λ (z : FrameSplit). merge_steps l n (run_node a f fs m b s) (run_node x g gs w c t)
-    ≡ shared_step a f z.own z.common (shared_marks z m w) m b ∷ merge_steps (FirstOf a) (n + cut_count z.own) (rest_over n z.own m b) (rest_over 0 z.other w c)
+    ≡ shared_step a f z.own z.common (added_marks z w) m b ∷ merge_steps (FirstOf a) (n + cut_count z.own) (rest_over n z.own m b) (rest_over 0 z.other w c)
     ++ merge_steps (NextOf a) (n + cut_count z.own + new_nodes [] (rest_over n z.own m b) [] (rest_over 0 z.other w c)) s t) is
     (steps_same l n a x f g fs gs m w b s c t e
-    ∙ (λ i. shared_step a f (split_frames fs gs).own (split_frames fs gs).common (shared_marks (split_frames fs gs) m w) m b
+    ∙ (λ i. shared_step a f (split_frames fs gs).own (split_frames fs gs).common (added_marks (split_frames fs gs) w) m b
     ∷ merge_steps (FirstOf a) (turned i) (rest_over n (split_frames fs gs).own m b) (rest_over 0 (split_frames fs gs).other w c)
     ++ merge_steps (NextOf a) (turned i + counted i) s t))
   where
@@ -129,7 +125,7 @@ module _ (cs : List NodeView) (into after below : Target) (c : NodeView) (to : I
     (is_split : split_frames (drop (into.skip + 1) c.frames) (drop (skip + 1) p) ≡ split_parts (take n0 (drop (into.skip + 1) c.frames)) (drop (into.skip + 1 + n0) c.frames) (drop (skip + 1 + n0) p))
     (label ends more : Ranks) (more_is : more ≡ row_ends (drop (skip + (1 + n0)) p) ends) (old new : PlanView)
     (planned : new ≡ plan_with old (step_at into.place (take (1 + n0) (drop into.skip c.frames)) (drop (into.skip + (1 + n0)) c.frames)
-    (union c.label label, union (row_ends (drop (into.skip + (1 + n0)) c.frames) c.ends) more) (c.label, c.ends) c.first ∷ []))
+    (label, more) (c.label, c.ends) c.first ∷ []))
     (below_is : below ≡ target_below into (drop (into.skip + (1 + n0)) c.frames) (into.skip + (1 + n0)) (next_place old) c.first)
     (after_is : IsAfter into c.next after) where
   abbrev k : ℕ
@@ -150,11 +146,11 @@ module _ (cs : List NodeView) (into after below : Target) (c : NodeView) (to : I
   abbrev g : List ℕ
   g = begins.frame
 
-  abbrev v : Marks
-  v = (union c.label label, union (row_ends own c.ends) more)
+  abbrev w : Marks
+  w = (label, more)
 
   abbrev step : Step
-  step = step_at into.place (take (1 + n0) (drop into.skip c.frames)) own v m c.first
+  step = step_at into.place (take (1 + n0) (drop into.skip c.frames)) own w m c.first
 
   f_at : (f : List ℕ) × (slice_get c.frames into.skip ≡ Some f)
   f_at = some_at c.frames into.skip (target_frame cs into.node into.place into.skip c to there)
@@ -188,10 +184,10 @@ module _ (cs : List NodeView) (into after below : Target) (c : NodeView) (to : I
       let more : suc n0 ≡ 1 + n0 = omega arith in
       ap (λ j. take j (f ∷ drop (into.skip + 1) c.frames)) more ∙ ap (take (1 + n0)) (sym (drop_at c.frames into.skip f f_at.1))
 
-  step_is : shared_step into.place f own common (shared_marks (split_parts common own other) m (label, ends)) m b ≡ step
+  step_is : shared_step into.place f own common (added_marks (split_parts common own other) (label, ends)) m b ≡ step
   step_is =
-      step_shared into.place f own common (shared_marks (split_parts common own other) m (label, ends)) m b
-      ∙ (λ i. step_at into.place (upper_is i) own (union c.label label, union (row_ends own c.ends) (sym more_is i)) m (it.first.begins i))
+      step_shared into.place f own common (added_marks (split_parts common own other) (label, ends)) m b
+      ∙ (λ i. step_at into.place (upper_is i) own (label, sym more_is i) m (it.first.begins i))
 
   positive : 0 < k
   positive = omega arith
@@ -200,7 +196,7 @@ module _ (cs : List NodeView) (into after below : Target) (c : NodeView) (to : I
   below_forest = sym (ap (target_forest cs) below_is ∙ forest_below cs into c own k (next_place old) refl positive there)
 
   added : cut_count own ≡ nodes_added_by step
-  added = sym (nodes_at into.place (take (1 + n0) (drop into.skip c.frames)) own v m c.first)
+  added = sym (nodes_at into.place (take (1 + n0) (drop into.skip c.frames)) own w m c.first)
 
   link_is : FirstOf into.place ≡ below.link
   link_is = sym (ap (λ (t : Target). t.link) below_is ∙ link_below into own k (next_place old) c.first)
@@ -221,7 +217,7 @@ module _ (cs : List NodeView) (into after below : Target) (c : NodeView) (to : I
     rest_leads = after_target cs into after c.next after_is it.next;
     below_leads = subst (IsTarget cs) (sym below_is) (leads_below cs into c own k (next_place old) refl positive there it.first (target_few cs into.node into.place into.skip to));
     places = let few = few_cuts own in omega (arith, few, added);
-    rows = rows_at into.place (take (1 + n0) (drop into.skip c.frames)) own v m c.first;
+    rows = rows_at into.place (take (1 + n0) (drop into.skip c.frames)) own w m c.first;
     steps_split = same;
   }
 

@@ -11,7 +11,7 @@ use Rattle.arena_tree.specs.declared.node.Link.TheVariants.{FirstOf, NextOf}
 use Rattle.arena_tree.specs.declared.node.Step.{Step}
 use Rattle.arena_tree.specs.RowForest.{frame_cmp}
 use Rattle.arena_tree.specs.RunForest.{RunForest, no_runs, run_node, count_nodes, count_rows, FrameSplit, split_frames, cut_count}
-use Rattle.arena_tree.specs.RunMerge.{shared_marks, new_nodes, new_rows}
+use Rattle.arena_tree.specs.RunMerge.{added_marks, new_nodes, new_rows}
 use Rattle.arena_tree.specs.Steps.{nodes_added_by, nodes_added, rows_added_by, rows_added, shared_step, copy_steps, side_steps, merge_steps}
 
 pub nodes_added-append : (ss ts : List Step) → nodes_added (ss ++ ts) ≡ nodes_added ss + nodes_added ts
@@ -69,7 +69,7 @@ nodes_added-steps l n p [] m0 (run_node a f fs m b s) [] w0 (run_node x g gs w c
     let two = nodes_added-steps (NextOf n) (suc n + count_nodes c) 0 [] (none, none) (run_node a f fs m b s) [] (none, none) t in
     omega (arith, e, one, two))
     (let e = nodes_added-append (side_steps (FirstOf a) (cut_count z.own + n) n z.own m b z.other w c) (side_steps (NextOf a) (cut_count z.own + n + new_nodes z.own b z.other c) 0 [] (none, none) s [] (none, none) t) in
-    let one = nodes_added-shared a f z.own z.common (shared_marks z m w) m b in
+    let one = nodes_added-shared a f z.own z.common (added_marks z w) m b in
     let two = nodes_added-steps (FirstOf a) (cut_count z.own + n) n z.own m b z.other w c in
     let three = nodes_added-steps (NextOf a) (cut_count z.own + n + new_nodes z.own b z.other c) 0 [] (none, none) s [] (none, none) t in
     omega (arith, e, one, two, three))
@@ -78,7 +78,7 @@ nodes_added-steps l n p [] m0 (run_node a f fs m b s) (g ∷ gs) w c =
     let z : FrameSplit = split_frames fs gs in
     nodes_by (frame_cmp g f) _ _ _ _ _ _
     (let one = nodes_added-copy (FirstOf n) (suc n) c in omega (arith, one))
-    (let one = nodes_added-shared a f z.own z.common (shared_marks z m w) m b in
+    (let one = nodes_added-shared a f z.own z.common (added_marks z w) m b in
     let two = nodes_added-steps (FirstOf a) (cut_count z.own + n) n z.own m b z.other w c in
     omega (arith, one, two))
     (nodes_added-steps (NextOf a) n 0 [] (none, none) s (g ∷ gs) w c)
@@ -91,7 +91,7 @@ nodes_added-steps l n p (f ∷ fs) m b [] w0 (run_node x g gs w c t) =
     let two = nodes_added-steps (NextOf n) (suc n + count_nodes c) p (f ∷ fs) m b [] (none, none) t in
     omega (arith, e, one, two))
     (let e = nodes_added-append (side_steps (FirstOf p) (cut_count z.own + n) n z.own m b z.other w c) (copy_steps (NextOf p) (cut_count z.own + n + new_nodes z.own b z.other c) t) in
-    let one = nodes_added-shared p f z.own z.common (shared_marks z m w) m b in
+    let one = nodes_added-shared p f z.own z.common (added_marks z w) m b in
     let two = nodes_added-steps (FirstOf p) (cut_count z.own + n) n z.own m b z.other w c in
     let three = nodes_added-copy (NextOf p) (cut_count z.own + n + new_nodes z.own b z.other c) t in
     omega (arith, e, one, two, three))
@@ -115,7 +115,7 @@ rows_added-steps l n p [] m0 (run_node a f fs m b s) [] w0 (run_node x g gs w c 
     let two = rows_added-steps (NextOf n) (suc n + count_nodes c) 0 [] (none, none) (run_node a f fs m b s) [] (none, none) t in
     omega (arith, e, one, two))
     (let e = rows_added-append (side_steps (FirstOf a) (cut_count z.own + n) n z.own m b z.other w c) (side_steps (NextOf a) (cut_count z.own + n + new_nodes z.own b z.other c) 0 [] (none, none) s [] (none, none) t) in
-    let one = rows_added-shared a f z.own z.common (shared_marks z m w) m b in
+    let one = rows_added-shared a f z.own z.common (added_marks z w) m b in
     let two = rows_added-steps (FirstOf a) (cut_count z.own + n) n z.own m b z.other w c in
     let three = rows_added-steps (NextOf a) (cut_count z.own + n + new_nodes z.own b z.other c) 0 [] (none, none) s [] (none, none) t in
     omega (arith, e, one, two, three))
@@ -124,7 +124,7 @@ rows_added-steps l n p [] m0 (run_node a f fs m b s) (g ∷ gs) w c =
     let z : FrameSplit = split_frames fs gs in
     rows_by (frame_cmp g f) _ _ _ _ _ _
     (let one = rows_added-copy (FirstOf n) (suc n) c in omega (arith, one))
-    (let one = rows_added-shared a f z.own z.common (shared_marks z m w) m b in
+    (let one = rows_added-shared a f z.own z.common (added_marks z w) m b in
     let two = rows_added-steps (FirstOf a) (cut_count z.own + n) n z.own m b z.other w c in
     omega (arith, one, two))
     (rows_added-steps (NextOf a) n 0 [] (none, none) s (g ∷ gs) w c)
@@ -137,7 +137,7 @@ rows_added-steps l n p (f ∷ fs) m b [] w0 (run_node x g gs w c t) =
     let two = rows_added-steps (NextOf n) (suc n + count_nodes c) p (f ∷ fs) m b [] (none, none) t in
     omega (arith, e, one, two))
     (let e = rows_added-append (side_steps (FirstOf p) (cut_count z.own + n) n z.own m b z.other w c) (copy_steps (NextOf p) (cut_count z.own + n + new_nodes z.own b z.other c) t) in
-    let one = rows_added-shared p f z.own z.common (shared_marks z m w) m b in
+    let one = rows_added-shared p f z.own z.common (added_marks z w) m b in
     let two = rows_added-steps (FirstOf p) (cut_count z.own + n) n z.own m b z.other w c in
     let three = rows_added-copy (NextOf p) (cut_count z.own + n + new_nodes z.own b z.other c) t in
     omega (arith, e, one, two, three))

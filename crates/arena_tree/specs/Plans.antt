@@ -10,9 +10,10 @@ use Rattle.arena_tree.specs.declared.node.Step.TheVariants.{Old, Cut}
 use Rattle.arena_tree.specs.declared.target.Target.{Target}
 use Rattle.arena_tree.specs.NodeViews.{NodeView, view_of}
 use Rattle.arena_tree.specs.Placement.{no_place}
-use Rattle.arena_tree.specs.RunForest.{RunForest}
+use Rattle.arena_tree.specs.RowMerge.{united_marks}
+use Rattle.arena_tree.specs.RunForest.{RunForest, row_marks}
 use Rattle.arena_tree.specs.RunMerge.{new_nodes}
-use Rattle.arena_tree.specs.Steps.{nodes_added_by, nodes_added, rows_added_by, rows_added, rest_over, merge_steps}
+use Rattle.arena_tree.specs.Steps.{more_for, nodes_added_by, nodes_added, rows_added_by, rows_added, rest_over, merge_steps}
 use Rattle.arena_tree.specs.Reading.{run_of, frame_side}
 use Rattle.arena_tree.specs.Targets.{target_forest, IsTarget}
 
@@ -34,10 +35,10 @@ pub record HasRoom (p : PlanView) (k : ℕ) : Type 0 where
   pub places : next_place p + k ≤ 8192
   pub rows : rows_added p.steps + k ≤ 8192
 
--- the step of a node that keeps its upper frames and gets other marks, where its lower ones, if it has any, go to a new node with the old marks
+-- the step of a node that keeps its upper frames and gets the marks w besides, where its lower ones, if it has any, go to a new node with the old marks
 abbrev pub step_at : ℕ → Path → Path → Marks → Marks → ℕ → Step
-step_at a upper [] v m first = Old a v.0 v.1
-step_at a upper (g ∷ gs) v m first = Cut a upper v.0 v.1 (view_of (g ∷ gs) m first no_place)
+step_at a upper [] w m first = Old a (more_for m.0 w.0) (more_for m.1 w.1)
+step_at a upper (g ∷ gs) w m first = Cut a upper (united_marks (row_marks (g ∷ gs) m) w).0 (united_marks (row_marks (g ∷ gs) m) w).1 (view_of (g ∷ gs) m first no_place)
 
 -- the target below a node then
 abbrev pub target_below : Target → Path → ℕ → ℕ → ℕ → Target

@@ -8,9 +8,13 @@ use Rattle.arena_tree.specs.RowForest.{frame_cmp}
 use Rattle.arena_tree.specs.RowMerge.{united_marks}
 use Rattle.arena_tree.specs.RunForest.{RunForest, no_runs, run_node, row_marks, count_nodes, count_rows, FrameSplit, split_frames, cut_count, renumbered}
 
--- the marks of the last row that two runs share
+-- the marks that the last row that two runs share gets from the second
+abbrev pub added_marks : FrameSplit → Marks → Marks
+added_marks s w = row_marks s.other w
+
+-- the marks that it has then
 abbrev pub shared_marks : FrameSplit → Marks → Marks → Marks
-shared_marks s m w = united_marks (row_marks s.own m) (row_marks s.other w)
+shared_marks s m w = united_marks (row_marks s.own m) (added_marks s w)
 
 -- how many nodes are new, among them those that are cut off. Each side is a forest, or, where it has frames, one run over a forest.
 abbrev pub new_nodes : Path → RunForest → Path → RunForest → ℕ

@@ -1,7 +1,8 @@
 -- The steps of a merge, and what they make of the nodes.
 -- No clause of a public call cites this file: it says how a change is planned and done.
 use Rattle.std.specs.Prelude.{◌≡◌, ℕ, zero, suc, ◌+◌, ◌<◌, cond, nat_eq, length, List, [], ◌∷◌, ◌++◌, slice_get}
-use Rattle.rank_set.specs.Ranks.{Ranks, none}
+use Rattle.rank_set.specs.Ranks.{Ranks, none, union}
+use Rattle.rank_set.specs.Words.{spans}
 use Rattle.call_path.specs.Path.{Path}
 use Rattle.prefix_tree.specs.Tree.{Marks}
 use Rattle.prefix_tree.specs.Owned.{by_order}
@@ -11,8 +12,9 @@ use Rattle.arena_tree.specs.declared.node.Step.{Step}
 use Rattle.arena_tree.specs.declared.node.Step.TheVariants.{Old, Cut, New}
 use Rattle.arena_tree.specs.NodeViews.{NodeView}
 use Rattle.arena_tree.specs.RowForest.{frame_cmp}
-use Rattle.arena_tree.specs.RunForest.{RunForest, no_runs, run_node, count_nodes, split_frames, cut_count}
-use Rattle.arena_tree.specs.RunMerge.{shared_marks, new_nodes}
+use Rattle.arena_tree.specs.RowMerge.{united_marks}
+use Rattle.arena_tree.specs.RunForest.{RunForest, no_runs, run_node, row_marks, count_nodes, split_frames, cut_count}
+use Rattle.arena_tree.specs.RunMerge.{added_marks, new_nodes}
 use Rattle.arena_tree.specs.Placement.{no_place, first_place, count_place, AreNodesOf}
 use Rattle.arena_tree.specs.Links.{LinkedNodes, with_change, relink, first_after}
 
@@ -20,17 +22,25 @@ use Rattle.arena_tree.specs.Links.{LinkedNodes, with_change, relink, first_after
 abbrev pub new_view : List ℕ → Path → Marks → ℕ → NodeView
 new_view g gs w n = record { frames = g ∷ gs; label = w.0; ends = w.1; first = no_place; next = n }
 
--- a node with other marks
-abbrev pub with_marks : Ranks → Ranks → NodeView → NodeView
-with_marks l e c = record { frames = c.frames; label = l; ends = e; first = c.first; next = c.next }
+-- what a step has for a set that gets the ranks of another: the other, if the set can take it up in its words, or else their union
+abbrev pub more_for : Ranks → Ranks → Ranks
+more_for s t = cond (spans s t) t (union s t)
+
+-- a set after that
+abbrev pub with_more : Ranks → Ranks → Ranks
+with_more s more = cond (spans s more) (union s more) more
+
+-- a node with more marks
+abbrev pub with_more_marks : Ranks → Ranks → NodeView → NodeView
+with_more_marks l e c = record { frames = c.frames; label = with_more c.label l; ends = with_more c.ends e; first = c.first; next = c.next }
 
 -- a node with fewer frames, with other marks, above the node at a place
 abbrev pub with_frames : Path → Ranks → Ranks → ℕ → NodeView → NodeView
 with_frames fs l e n c = record { frames = fs; label = l; ends = e; first = n; next = c.next }
 
--- what a step makes of the nodes: new marks at a place; a node cut in two, whose lower part is a node more; or a node more that a link leads to
+-- what a step makes of the nodes: more marks at a place; a node cut in two, whose lower part is a node more; or a node more that a link leads to
 abbrev pub apply_step : LinkedNodes → Step → LinkedNodes
-apply_step h (Old a l e) = record { first = h.first; nodes = with_change a (with_marks l e) h.nodes }
+apply_step h (Old a l e) = record { first = h.first; nodes = with_change a (with_more_marks l e) h.nodes }
 apply_step h (Cut a fs l e x) = record { first = h.first; nodes = with_change a (with_frames fs l e (length h.nodes)) h.nodes ++ x ∷ [] }
 apply_step h (New k x) = record { first = first_after k (length h.nodes) h.first; nodes = relink k (length h.nodes) h.nodes ++ x ∷ [] }
 
@@ -61,10 +71,10 @@ abbrev pub rows_added : List Step → ℕ
 rows_added [] = 0
 rows_added (s ∷ ss) = rows_added_by s + rows_added ss
 
--- the step of a node with other marks, which is cut where frames of its own are left
+-- the step of a node that gets the marks w besides, which is cut where frames of its own are left
 abbrev pub shared_step : ℕ → List ℕ → Path → Path → Marks → Marks → RunForest → Step
-shared_step a f [] common v m b = Old a v.0 v.1
-shared_step a f (g ∷ gs) common v m b = Cut a (f ∷ common) v.0 v.1 (record { frames = g ∷ gs; label = m.0; ends = m.1; first = first_place b; next = no_place })
+shared_step a f [] common w m b = Old a (more_for m.0 w.0) (more_for m.1 w.1)
+shared_step a f (g ∷ gs) common w m b = Cut a (f ∷ common) (united_marks (row_marks (g ∷ gs) m) w).0 (united_marks (row_marks (g ∷ gs) m) w).1 (record { frames = g ∷ gs; label = m.0; ends = m.1; first = first_place b; next = no_place })
 
 -- what stands below a node then
 abbrev pub rest_over : ℕ → Path → Marks → RunForest → RunForest
@@ -84,21 +94,21 @@ side_steps l n p [] m0 (run_node a f fs m b s) [] w no_runs = []
 side_steps l n p [] m0 (run_node a f fs m b s) [] w0 (run_node x g gs w c t) =
     by_order (frame_cmp g f)
     (New l (new_view g gs w a) ∷ copy_steps (FirstOf n) (suc n) c ++ side_steps (NextOf n) (suc n + count_nodes c) 0 [] (none, none) (run_node a f fs m b s) [] (none, none) t)
-    (shared_step a f (split_frames fs gs).own (split_frames fs gs).common (shared_marks (split_frames fs gs) m w) m b ∷
+    (shared_step a f (split_frames fs gs).own (split_frames fs gs).common (added_marks (split_frames fs gs) w) m b ∷
     side_steps (FirstOf a) (cut_count (split_frames fs gs).own + n) n (split_frames fs gs).own m b (split_frames fs gs).other w c
     ++ side_steps (NextOf a) (cut_count (split_frames fs gs).own + n + new_nodes (split_frames fs gs).own b (split_frames fs gs).other c) 0 [] (none, none) s [] (none, none) t)
     (side_steps (NextOf a) n 0 [] (none, none) s [] (none, none) (run_node x g gs w c t))
 side_steps l n p [] m0 (run_node a f fs m b s) (g ∷ gs) w c =
     by_order (frame_cmp g f)
     (New l (new_view g gs w a) ∷ copy_steps (FirstOf n) (suc n) c)
-    (shared_step a f (split_frames fs gs).own (split_frames fs gs).common (shared_marks (split_frames fs gs) m w) m b ∷
+    (shared_step a f (split_frames fs gs).own (split_frames fs gs).common (added_marks (split_frames fs gs) w) m b ∷
     side_steps (FirstOf a) (cut_count (split_frames fs gs).own + n) n (split_frames fs gs).own m b (split_frames fs gs).other w c)
     (side_steps (NextOf a) n 0 [] (none, none) s (g ∷ gs) w c)
 side_steps l n p (f ∷ fs) m b [] w0 no_runs = []
 side_steps l n p (f ∷ fs) m b [] w0 (run_node x g gs w c t) =
     by_order (frame_cmp g f)
     (New l (new_view g gs w p) ∷ copy_steps (FirstOf n) (suc n) c ++ side_steps (NextOf n) (suc n + count_nodes c) p (f ∷ fs) m b [] (none, none) t)
-    (shared_step p f (split_frames fs gs).own (split_frames fs gs).common (shared_marks (split_frames fs gs) m w) m b ∷
+    (shared_step p f (split_frames fs gs).own (split_frames fs gs).common (added_marks (split_frames fs gs) w) m b ∷
     side_steps (FirstOf p) (cut_count (split_frames fs gs).own + n) n (split_frames fs gs).own m b (split_frames fs gs).other w c
     ++ copy_steps (NextOf p) (cut_count (split_frames fs gs).own + n + new_nodes (split_frames fs gs).own b (split_frames fs gs).other c) t)
     (copy_steps (NextOf p) n (run_node x g gs w c t))

@@ -2,20 +2,20 @@
 
 ghost use Rattle.std.specs.Prelude.{◌≡◌, ◌≤◌, ◌<◌, ◌+◌, length};
 ghost use Rattle.arena_tree.specs.Links.{with_change, with_first, with_next, relink, first_after, linked};
-ghost use Rattle.arena_tree.specs.Steps.{with_marks, with_frames, apply_step, apply_steps, nodes_added, nodes_added_by};
+ghost use Rattle.arena_tree.specs.Steps.{with_more_marks, with_frames, apply_step, apply_steps, nodes_added, nodes_added_by};
 
 use crate::node::{Link, Node, Step};
 use call_path::CallPath;
 use node_arena::{Arena, Place};
 use rank_set::RankSet;
 
-// Gives the node at a place other marks, if there is one.
+// Gives the node at a place more marks, if there is one.
 fn mark(nodes: &mut Arena<Node>, at: Place, label: RankSet, ends: RankSet)
-    ensures items { nodes.new.items ≡ with_change at (with_marks label ends) nodes.old.items }
+    ensures items { nodes.new.items ≡ with_change at (with_more_marks label ends) nodes.old.items }
     ensures spare { nodes.new.spare ≡ nodes.old.spare }
 {
     if at < nodes.len() {
-        nodes.get_mut(at).set_marks(label, ends);
+        nodes.get_mut(at).add_marks(label, ends);
     }
 }
 

@@ -4,7 +4,7 @@ ghost use Rattle.std.specs.Prelude.{◌≡◌, ◌<◌, slice_get, Some, IfOk, I
 ghost use Rattle.call_path.specs.Good.{is_good_frame};
 ghost use Rattle.arena_tree.specs.NodeViews.{view_of, view_behind};
 ghost use Rattle.arena_tree.specs.Links.{with_first, with_next};
-ghost use Rattle.arena_tree.specs.Steps.{with_marks, with_frames};
+ghost use Rattle.arena_tree.specs.Steps.{with_more, with_more_marks, with_frames};
 
 use call_path::CallPath;
 use node_arena::Place;
@@ -125,11 +125,12 @@ impl Node {
         })
     }
 
-    pub(crate) fn set_marks(&mut self, label: RankSet, ends: RankSet)
-        ensures { self.new ≡ with_marks label ends self.old }
+    /// Unites marks into its own.
+    pub(crate) fn add_marks(&mut self, label: RankSet, ends: RankSet)
+        ensures { self.new ≡ with_more_marks label ends self.old }
     {
-        drop(mem::replace(&mut self.label, label));
-        drop(mem::replace(&mut self.ends, ends));
+        put_more(&mut self.label, label);
+        put_more(&mut self.ends, ends);
     }
 
     /// Keeps these frames, above the node at a place.
@@ -158,5 +159,16 @@ impl Node {
         ensures { self.new ≡ with_next to self.old }
     {
         self.next = to;
+    }
+}
+
+/// Takes up more ranks in the words of a set, or is replaced by them where it can't. It allocates nothing.
+fn put_more(ranks: &mut RankSet, more: RankSet)
+    ensures { ranks.new ≡ with_more ranks.old more }
+{
+    if ranks.spans(&more) {
+        ranks.unite_within(&more);
+    } else {
+        drop(mem::replace(ranks, more));
     }
 }

@@ -4,8 +4,7 @@ ghost use Rattle.std.specs.Prelude.{◌≡◌, ◌≢◌, ◌+◌, ◌<◌, ◌�
 ghost use Rattle.rank_set.specs.Ranks.{none, union};
 ghost use Rattle.arena_tree.specs.declared.node.Step.TheVariants.{Old, Cut, New};
 ghost use Rattle.arena_tree.specs.NodeViews.{view_behind};
-ghost use Rattle.arena_tree.specs.RunForest.{row_ends};
-ghost use Rattle.arena_tree.specs.Steps.{nodes_added, rows_added};
+ghost use Rattle.arena_tree.specs.Steps.{more_for, nodes_added, rows_added};
 ghost use Rattle.arena_tree.specs.Plans.{plan_with, next_place, HasRoom, step_at, target_below};
 
 use crate::node::{Link, NO_PLACE, Node, Step};
@@ -118,11 +117,8 @@ impl Plan {
         requires not_empty { 0 < shared }
         requires within { into.skip + shared ≤ length node.now.frames }
         ensures plan { OnOk result (self.new ≡ plan_with self.old (step_at into.place
-            (take shared (drop into.skip node.now.frames)) (drop (into.skip + shared) node.now.frames) (
-              union node.now.label label.now,
-              union (row_ends (drop (into.skip + shared) node.now.frames) node.now.ends) ends.now,
-            )
-            (node.now.label, node.now.ends) node.now.first ∷ [])) }
+            (take shared (drop into.skip node.now.frames)) (drop (into.skip + shared) node.now.frames)
+            (label.now, ends.now) (node.now.label, node.now.ends) node.now.first ∷ [])) }
         ensures below { IfOk result (λ below. below ≡ target_below into (drop (into.skip + shared) node.now.frames)
             (into.skip + shared) (next_place self.old) node.now.first) }
     {
@@ -155,10 +151,10 @@ impl Plan {
         ends: &RankSet,
     ) -> Result<(), AllocError>
         ensures { OnOk result (self.new ≡ plan_with self.old
-            (Old at (union node.now.label label.now) (union node.now.ends ends.now) ∷ [])) }
+            (Old at (more_for node.now.label label.now) (more_for node.now.ends ends.now) ∷ [])) }
     {
-        let label = node.label().united(label)?;
-        let ends = node.ends().united(ends)?;
+        let label = more_for(node.label(), label)?;
+        let ends = more_for(node.ends(), ends)?;
         self.steps.push(Step::Old(at, label, ends))?;
         Ok(())
     }
@@ -193,5 +189,17 @@ impl Plan {
             .push(Step::Cut(into.place, upper, label, ends, lower))?;
         self.next = place + 1;
         Ok(place)
+    }
+}
+
+/// What a step has for a set that gets the ranks of another: a copy of the other, which is small where the set is wide,
+/// or their union where the set's words don't reach so far.
+fn more_for(ranks: &RankSet, other: &RankSet) -> Result<RankSet, AllocError>
+    ensures { IfOk result (λ more. more ≡ more_for ranks.now other.now) }
+{
+    if ranks.spans(other) {
+        other.copy()
+    } else {
+        ranks.united(other)
     }
 }

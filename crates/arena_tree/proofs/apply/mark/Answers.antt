@@ -1,12 +1,12 @@
 use Rattle.std.proofs.Common.{slice_set, ◌∙◌, ap, arith}
-use Rattle.arena_tree.specs.Steps.{with_marks}
+use Rattle.arena_tree.specs.Steps.{with_more_marks}
 use Rattle.arena_tree.proofs.Changes.{with_change-set, change_past}
 use Rattle.arena_tree.proofs.apply.mark.Goals as goal
 
 pub returns-then-at-len-clause-items : goal.returns-then-at-len-clause-items
 returns-then-at-len-clause-items c =
-    ap (slice_set c.args.nodes.now.items c.args.at) c.set_marks.ensures
-    ∙ with_change-set c.args.nodes.now.items c.args.at (with_marks c.args.label c.args.ends) c.get_mut.result.now c.get_mut.ensures.value
+    ap (slice_set c.args.nodes.now.items c.args.at) c.add_marks.ensures
+    ∙ with_change-set c.args.nodes.now.items c.args.at (with_more_marks c.args.label c.args.ends) c.get_mut.result.now c.get_mut.ensures.value
 
 pub returns-else-at-len-clause-items : goal.returns-else-at-len-clause-items
-returns-else-at-len-clause-items c = change_past c.args.nodes.now.items c.args.at (with_marks c.args.label c.args.ends) (omega (arith, c.len.ensures, c.if-at-len.false))
+returns-else-at-len-clause-items c = change_past c.args.nodes.now.items c.args.at (with_more_marks c.args.label c.args.ends) (omega (arith, c.len.ensures, c.if-at-len.false))
