@@ -1,3 +1,4 @@
+pub mod Halves
 pub mod WaveSamples
 pub mod Prefixes
 pub mod Standing

@@ -5,14 +5,14 @@
 //! number of times: the result is a partial merge that covers the ranks of all.
 #![tactic(auto)]
 
-ghost use Rattle.std.specs.Prelude.{◌≡◌, ◌≤◌, IfOk, IsSome, OnOk, OnErr};
+ghost use Rattle.std.specs.Prelude.{◌≡◌, ◌≤◌, ℕ, IfOk, IsSome, OnOk, OnErr};
 ghost use Rattle.rank_set.specs.Ranks.{Ranks, none, union};
 ghost use Rattle.call_path.specs.Pairs.{Pairs};
 ghost use Rattle.prefix_tree.specs.Pairs.{IsWithin};
 ghost use Rattle.prefix_tree.specs.Tree.{count_below, tree_of};
 ghost use Rattle.stat_plan.specs.Samples.{prefix_count};
 ghost use Rattle.overlay_setup.specs.NodeSets.{In};
-ghost use Rattle.stat_plan.specs.Plans.{Plan, daemons, grain, ranks, sample_count, stream_of, stream_ranks};
+ghost use Rattle.stat_plan.specs.Plans.{Plan, daemons, grain, ranks, ranks_on, sample_count, stream_of, stream_ranks};
 ghost use Rattle.merge_filter.specs.Contributions.{HasWave, IsPartialMerge, contrib, coverage_of};
 
 mod own_tree;
@@ -187,8 +187,35 @@ impl<T: PrefixTree> Contribution<T> {
     }
 }
 
-/// All samples of a wave: each daemon's own part is made, and they are absorbed one after another, in the daemons'
-/// order.
+// The parts of some daemons of a stream, merged by halves: a set is copied once for each halving, and not for each daemon.
+fn merge_parts<T: PrefixTree>(
+    alloc: Global,
+    plan: &Plan,
+    some: &[u32],
+    s: u8,
+    w: u8,
+) -> Result<Contribution<T>, AllocError>
+    requires wave { HasWave plan.now s w }
+    requires daemons { (d : ℕ) → In d some.now → In d (daemons plan.now s) }
+    ensures stream { IfOk result (λ c. c.stream ≡ s) }
+    ensures wave { IfOk result (λ c. c.wave ≡ w) }
+    ensures coverage { IfOk result (λ c. coverage_of c ≡ ranks_on plan.now some.now) }
+    ensures partial_merge { IfOk result (IsPartialMerge plan.now) }
+{
+    let Some(first) = some.first() else {
+        return Ok(Contribution::none(alloc, s, w));
+    };
+    if some.len() == 1 {
+        return Contribution::of_daemon(alloc, plan, *first, s, w);
+    }
+    let (front, back) = some.split_at(some.len() / 2);
+    let mut all: Contribution<T> = merge_parts(alloc, plan, front, s, w)?;
+    let rest: Contribution<T> = merge_parts(alloc, plan, back, s, w)?;
+    all.absorb(plan, &rest)?;
+    Ok(all)
+}
+
+/// All samples of a wave: each daemon's own part is made, and they are merged.
 pub fn direct<T: PrefixTree>(
     alloc: Global,
     plan: &Plan,
@@ -201,10 +228,5 @@ pub fn direct<T: PrefixTree>(
     ensures coverage { IfOk result (λ c. coverage_of c ≡ stream_ranks plan.now s) }
     ensures partial_merge { IfOk result (IsPartialMerge plan.now) }
 {
-    let mut all: Contribution<T> = Contribution::none(alloc, s, w);
-    for d in daemons_of(plan, s) {
-        let own: Contribution<T> = Contribution::of_daemon(alloc, plan, *d, s, w)?;
-        all.absorb(plan, &own)?;
-    }
-    Ok(all)
+    merge_parts(alloc, plan, daemons_of(plan, s), s, w)
 }
