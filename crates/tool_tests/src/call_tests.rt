@@ -1,9 +1,5 @@
 //! Whole calls over a desk and a sink in memory, with worked jobs, and one over the real files.
-use crate::fixtures::{
-    ALL_SCR, Called, DONT_WAIT_SCR, FOUR_SMP, INNER_TOP, ONE_TOP, SOLVER_SMP, TWO_INNER_TOP,
-    TWO_TOP, WORDS, WORKED, call, call_into, desk_of, desk_of_bytes, put, recv, run_on, sample,
-    words_of,
-};
+use crate::calls::{Called, call, call_into, run_on};
 use crate::shy_tree::ShyTree;
 use packet_frame::FrameReason;
 use prefix_tree::OwnedTree;
@@ -15,6 +11,11 @@ use std::fs;
 use std::sync::Wait;
 use std::thread::Threads;
 use text_lines::{Quantity, Reason};
+use worked_jobs::desks::{WORDS, desk_of, desk_of_bytes, put, recv, sample, words_of};
+use worked_jobs::jobs::{
+    ALL_SCR, DONT_WAIT_SCR, FOUR_SMP, INNER_TOP, ONE_TOP, SOLVER_SMP, TWO_INNER_TOP, TWO_TOP,
+    WORKED,
+};
 
 // A text of each file, and its first fault: its line and its reason. The other files are good.
 const BAD_TOPOLOGY: [(&[u8], u64, Reason); 9] = [

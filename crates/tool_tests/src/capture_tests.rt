@@ -1,14 +1,16 @@
 //! The frames of runs, and captures that are printed or refused.
-use crate::fixtures::{
-    ALL_SCR, Called, DONT_WAIT_SCR, FOUR_SMP, INNER_TOP, LOST_JOURNAL, LOST_SCR, STORM_SMP,
-    STORM_TOP, TWO_TOP, call, call_into, desk_of, lines_of, put,
-};
+use crate::calls::{Called, call, call_into};
 use packet_frame::FrameReason;
 use stat_desk::{Event, MemDesk, MemSink};
 use stat_tool::Status;
 use std::alloc::{AllocError, Global};
 use std::sync::Wait;
 use std::thread::Threads;
+use worked_jobs::desks::{desk_of, lines_of, put};
+use worked_jobs::jobs::{
+    ALL_SCR, DONT_WAIT_SCR, FOUR_SMP, INNER_TOP, LOST_JOURNAL, LOST_SCR, STORM_SMP, STORM_TOP,
+    TWO_TOP,
+};
 
 fn digit(byte: u8) -> u8 {
     match byte {

@@ -1,13 +1,14 @@
 //! Devices that fail at each of their calls, and journals that may not be replayed.
-use crate::fixtures::{
-    ALL_SCR, Called, FOUR_REPORT, FOUR_SMP, INNER_TOP, LOST_JOURNAL, LOST_SCR, ONE_TOP,
-    REPLAY_WORDS, TWO_TOP, call, call_into, desk_of, put,
-};
+use crate::calls::{Called, call, call_into};
 use stat_desk::MemSink;
 use stat_tool::{FileRole, Status, Target};
 use std::alloc::{AllocError, Global};
 use std::sync::Wait;
 use std::thread::Threads;
+use worked_jobs::desks::{REPLAY_WORDS, desk_of, put};
+use worked_jobs::jobs::{
+    ALL_SCR, FOUR_REPORT, FOUR_SMP, INNER_TOP, LOST_JOURNAL, LOST_SCR, ONE_TOP, TWO_TOP,
+};
 
 // ---- the desk
 

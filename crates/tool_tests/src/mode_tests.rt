@@ -1,11 +1,13 @@
 //! Simulations, replays, direct merges and generated jobs: worked rows through whole calls.
-use crate::fixtures::{
-    ALL_SCR, DONT_WAIT_SCR, FOUR_RELEASE, FOUR_SMP, INNER_TOP, LOST_JOURNAL, LOST_SCR, ONE_TOP,
-    REPLAY_WORDS, TWO_TOP, WORDS, WORKED, call, desk_of, put,
-};
+use crate::calls::call;
 use stat_desk::{Event, MemDesk};
 use stat_tool::Status;
 use std::alloc::{AllocError, Global};
+use worked_jobs::desks::{REPLAY_WORDS, WORDS, desk_of, put};
+use worked_jobs::jobs::{
+    ALL_SCR, DONT_WAIT_SCR, FOUR_RELEASE, FOUR_SMP, INNER_TOP, LOST_JOURNAL, LOST_SCR, ONE_TOP,
+    TWO_TOP, WORKED,
+};
 
 // ---- replays
 

@@ -1,9 +1,9 @@
 //! The bound of a net's journals, and in what order a plan's lines are gone through.
-use crate::fixtures::{FOUR_SMP, TWO_TOP};
 use overlay_net::Net;
 use prefix_tree::OwnedTree;
 use stat_plan::Plan;
 use std::alloc::Global;
+use worked_jobs::jobs::{FOUR_SMP, TWO_TOP};
 
 const SCRIPT: &str = "stream 0 time-out 1 waves 1 samples 1 on all\n";
 

@@ -1,31 +1,12 @@
 //! Storms: simulations that lose many nodes, by many seeds.
-use crate::fixtures::{
-    ALL_SCR, Called, REPLAY_WORDS, STORM_RELEASE, STORM_SMP, STORM_TOP, call, desk_of, lines_of,
-    put,
-};
+use crate::calls::{is_replayed, simulate};
 use stat_desk::MemDesk;
 use stat_tool::Status;
 use std::alloc::{AllocError, Global};
 use std::sync::Wait;
 use std::thread::Threads;
-
-// A simulation with events that this seed picks.
-fn simulate<R: Threads + Wait + Sync>(
-    rt: &R,
-    alloc: Global,
-    desk: &mut MemDesk,
-    seed: u32,
-) -> Result<Called, AllocError> {
-    let option = format!(in alloc; "--seed={seed}")?;
-    let words = [
-        "sim",
-        "--topology=t",
-        "--samples=s",
-        "--script=c",
-        option.as_str(),
-    ];
-    call(rt, alloc, desk, words.as_slice())
-}
+use worked_jobs::desks::{desk_of, lines_of};
+use worked_jobs::jobs::{ALL_SCR, STORM_RELEASE, STORM_SMP, STORM_TOP};
 
 // ---- inner nodes
 
@@ -242,18 +223,10 @@ fn is_sound<R: Threads + Wait + Sync>(
         return Ok(false);
     };
     let finals = behind(rest, end).is_some() && behind(rest, b" partial\nstream 1").is_none();
-    put(alloc, &mut desk, "j", called.journal.bytes())?;
-    let replay = call(rt, alloc, &mut desk, REPLAY_WORDS.as_slice())?;
     // 15 nodes, 2 waves, 2 ticks: 15 * 15 + 9 * 15 + 3 * 15 * 2 * (15 + 9) * 3
     let bounded = called.events.len() <= 6_840;
-    let ended = called.status == Status::Done && replay.status == Status::Done;
-    Ok(
-        finals
-            && bounded
-            && ended
-            && report == replay.report.bytes()
-            && all_are_direct(alloc, report)?,
-    )
+    let direct = all_are_direct(alloc, report)?;
+    Ok(finals && bounded && direct && is_replayed(rt, alloc, &mut desk, &called)?)
 }
 
 // Whether that is so for all seeds below 32.

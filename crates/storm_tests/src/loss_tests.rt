@@ -1,12 +1,13 @@
 //! Runs that lose nodes.
-use crate::fixtures::{
-    ALL_SCR, FOUR_RELEASE, FOUR_SMP, NO_B, STORM_RELEASE, STORM_SMP, STORM_TOP, TWO_TOP, desk_of,
-    lines_of, run_on,
-};
+use crate::calls::run_on;
 use stat_tool::Status;
 use std::alloc::{AllocError, Global};
 use std::sync::Wait;
 use std::thread::Threads;
+use worked_jobs::desks::{desk_of, lines_of};
+use worked_jobs::jobs::{
+    ALL_SCR, FOUR_RELEASE, FOUR_SMP, NO_B, STORM_RELEASE, STORM_SMP, STORM_TOP, TWO_TOP,
+};
 
 const NO_A_NOR_B: &str = "stream 0 wave 0 release 1 final
 covered 0:[]

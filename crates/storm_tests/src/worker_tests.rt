@@ -1,9 +1,5 @@
 //! Runs on several workers.
-use crate::fixtures::{
-    ALL_SCR, Called, FOUR_REPORT, FOUR_SMP, INNER_TOP, NO_B, REPLAY_WORDS, SOLVER_REPORT,
-    SOLVER_SMP, STORM_SMP, STORM_TOP, TWO_INNER_TOP, TWO_TOP, call, call_into, desk_of, lines_of,
-    put, words_of,
-};
+use crate::calls::{call_into, is_replayed, run_with};
 use prefix_tree::OwnedTree;
 use stat_desk::{Event, Gate, MemDesk, MemSink};
 use stat_tool::{Status, Target, stat};
@@ -11,24 +7,11 @@ use std::alloc::{AllocError, Global};
 use std::sync::Wait;
 use std::sync::atomic::{AtomicBool, AtomicU64, Ordering};
 use std::thread::{Threads, yield_now};
-
-// A run on so many workers.
-fn run_with<R: Threads + Wait + Sync>(
-    rt: &R,
-    alloc: Global,
-    desk: &mut MemDesk,
-    workers: u32,
-) -> Result<Called, AllocError> {
-    let option = format!(in alloc; "--workers={workers}")?;
-    let words = [
-        "run",
-        "--topology=t",
-        "--samples=s",
-        "--script=c",
-        option.as_str(),
-    ];
-    call(rt, alloc, desk, words.as_slice())
-}
+use worked_jobs::desks::{desk_of, lines_of, words_of};
+use worked_jobs::jobs::{
+    ALL_SCR, FOUR_REPORT, FOUR_SMP, INNER_TOP, NO_B, SOLVER_REPORT, SOLVER_SMP, STORM_SMP,
+    STORM_TOP, TWO_INNER_TOP, TWO_TOP,
+};
 
 // Jobs whose report is the same in every run, and that report.
 const JOBS: [(&str, &str, &str, &str); 4] = [
@@ -126,24 +109,21 @@ fn one_worker_goes_on_while_another_is_held(rt: HostRuntime) -> Result<(), Alloc
 // ---- journals
 
 // Whether a run on so many workers ends, and one thread that replays its journal prints the same report.
-fn is_replayed<R: Threads + Wait + Sync>(
+fn runs_are_replayed<R: Threads + Wait + Sync>(
     rt: &R,
     alloc: Global,
     desk: &mut MemDesk,
     workers: u32,
 ) -> Result<bool, AllocError> {
     let run = run_with(rt, alloc, desk, workers)?;
-    put(alloc, desk, "j", run.journal.bytes())?;
-    let replay = call(rt, alloc, desk, REPLAY_WORDS.as_slice())?;
-    let ended = run.status == Status::Done && replay.status == Status::Done;
-    Ok(ended && run.report.bytes() == replay.report.bytes())
+    is_replayed(rt, alloc, desk, &run)
 }
 
 #[test]
 fn replays_what_eight_workers_have_done(rt: HostRuntime) -> Result<(), AllocError> {
     let alloc = rt.alloc();
     let mut desk = desk_of(alloc, TWO_INNER_TOP, SOLVER_SMP, ALL_SCR)?;
-    assert!(rt; is_replayed(&rt, alloc, &mut desk, 8)?);
+    assert!(rt; runs_are_replayed(&rt, alloc, &mut desk, 8)?);
     Ok(())
 }
 
@@ -161,7 +141,7 @@ fn replays_two_hundred_storms(rt: HostRuntime) -> Result<(), AllocError> {
     for run in 0..50 {
         for workers in [2, 3, 8, 32] {
             let mut desk = storm(alloc, run)?;
-            assert!(rt; is_replayed(&rt, alloc, &mut desk, workers)?);
+            assert!(rt; runs_are_replayed(&rt, alloc, &mut desk, workers)?);
         }
     }
     Ok(())
