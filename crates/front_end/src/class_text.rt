@@ -1,6 +1,6 @@
 //! The text of classes.
 ghost use Rattle.std.specs.List.{flat_map};
-ghost use Rattle.std.specs.Prelude.{◌≡◌, ◌++◌, OnOk};
+ghost use Rattle.std.specs.Prelude.{◌≡◌, ◌++◌, OnErr, OnOk};
 ghost use Rattle.std.specs.Fmt.{decimal};
 ghost use Rattle.equiv_class.specs.ClassList.{class_view, class_views};
 ghost use Rattle.front_end.specs.ClassText.{class_text as text_of_class, classes_text, path_line};
@@ -48,9 +48,10 @@ fn write_path(path: &CallPath, out: &mut Vec<u8>) -> Result<(), AllocError>
     Ok(())
 }
 
-/// Appends the decimal digits of a number.
+/// Appends the decimal digits of a number. On failure `out` is unchanged.
 pub fn write_number(n: usize, out: &mut Vec<u8>) -> Result<(), AllocError>
-    ensures { OnOk result (out.new.items ≡ out.old.items ++ decimal n) }
+    ensures ok { OnOk result (out.new.items ≡ out.old.items ++ decimal n) }
+    ensures err { OnErr result (out.new.items ≡ out.old.items) }
 {
     let digits = n.to_string(*out.allocator())?;
     out.extend_from_slice(digits.as_bytes())?;

@@ -1,5 +1,5 @@
 //! The text of a release.
-ghost use Rattle.std.specs.Prelude.{◌≡◌, ◌++◌, ◌<◌, OnOk};
+ghost use Rattle.std.specs.Prelude.{◌≡◌, ◌++◌, ◌<◌, OnErr, OnOk};
 ghost use Rattle.std.specs.Fmt.{decimal};
 ghost use Rattle.std.specs.List.{AllByRecursion, flat_map};
 ghost use Rattle.stat_plan.specs.Plans.{daemons, nodes};
@@ -52,12 +52,15 @@ pub fn write_heading<T: PrefixTree>(
     Ok(())
 }
 
-/// Appends a word and a number.
+/// Appends a word and a number. On failure `out` is unchanged.
 pub fn write_numbered(word: &[u8], number: usize, out: &mut Vec<u8>) -> Result<(), AllocError>
-    ensures { OnOk result (out.new.items ≡ out.old.items ++ word.now ++ decimal number) }
+    ensures ok { OnOk result (out.new.items ≡ out.old.items ++ word.now ++ decimal number) }
+    ensures err { OnErr result (out.new.items ≡ out.old.items) }
 {
-    out.extend_from_slice(word)?;
-    write_number(number, out)
+    let mut text = Vec::from_slice(*out.allocator(), word)?;
+    write_number(number, &mut text)?;
+    out.extend_from_slice(&text)?;
+    Ok(())
 }
 
 // The word for the kind of a release.

@@ -1,6 +1,6 @@
 //! The text of a tree. Mostly the ranks of a row are those of the row before it, and the ranks that end there are all of
 //! them. So the text of the last label is kept, and written again where it is the text of the next ranks.
-ghost use Rattle.std.specs.Prelude.{◌≡◌, ◌++◌, OnOk};
+ghost use Rattle.std.specs.Prelude.{◌≡◌, ◌++◌, OnErr, OnOk};
 ghost use Rattle.rank_set.specs.Text.{text_of};
 ghost use Rattle.front_end.specs.TreeText.{ends_text, indent, line_of, rows_text, tree_text as text_of_tree};
 
@@ -16,11 +16,22 @@ pub fn write_tree<T: PrefixTree>(tree: &T, out: &mut Vec<u8>) -> Result<(), Allo
     let mut label_text = Vec::new(*out.allocator());
     root.label.write_text(&mut label_text)?;
     write_row(&root, &label_text, out)?;
-    write_rows(tree, out)
+    write_below(tree, out)
 }
 
-/// Appends a line for each row of the tree besides the root, in order.
+/// Appends a line for each row of the tree besides the root, in order. On failure `out` is unchanged.
 pub fn write_rows<T: PrefixTree>(tree: &T, out: &mut Vec<u8>) -> Result<(), AllocError>
+    ensures ok { OnOk result (out.new.items ≡ out.old.items ++ rows_text (T.tree tree.now)) }
+    ensures err { OnErr result (out.new.items ≡ out.old.items) }
+{
+    let mut text = Vec::new(*out.allocator());
+    write_below(tree, &mut text)?;
+    out.extend_from_slice(&text)?;
+    Ok(())
+}
+
+// Appends a line for each row of the tree besides the root, in order.
+fn write_below<T: PrefixTree>(tree: &T, out: &mut Vec<u8>) -> Result<(), AllocError>
     ensures { OnOk result (out.new.items ≡ out.old.items ++ rows_text (T.tree tree.now)) }
 {
     let mut label = tree.row(0).label;

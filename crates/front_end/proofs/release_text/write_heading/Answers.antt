@@ -15,6 +15,6 @@ returns g c =
     let space = c.push.new.self.items in
     let kind = c.extend_from_slice.new.self.items in
     heading_written out (decimal r.stream) (decimal r.wave) (decimal r.number) (kind_text r.kind) stream wave number space kind c.push-2.new.self.items
-    (c.in_ok-write_numbered.ensures ∙ ap (λ n. out ++ codes "stream " ++ decimal n) c.from.ensures)
-    (c.in_ok-write_numbered-2.ensures ∙ ap (λ n. stream ++ codes " wave " ++ decimal n) c.from-2.ensures)
-    c.in_ok-write_numbered-3.ensures c.in_ok-push.ensures.items (c.in_ok-extend_from_slice.ensures.items ∙ ap (λ ys. space ++ ys) c.kind_text.ensures) c.in_ok-push-2.ensures.items
+    (c.in_ok-write_numbered.ensures.ok ∙ ap (λ n. out ++ codes "stream " ++ decimal n) c.from.ensures)
+    (c.in_ok-write_numbered-2.ensures.ok ∙ ap (λ n. stream ++ codes " wave " ++ decimal n) c.from-2.ensures)
+    c.in_ok-write_numbered-3.ensures.ok c.in_ok-push.ensures.items (c.in_ok-extend_from_slice.ensures.items ∙ ap (λ ys. space ++ ys) c.kind_text.ensures) c.in_ok-push-2.ensures.items

@@ -3,7 +3,7 @@ use Rattle.std.specs.List.{flat_map}
 use Rattle.rank_set.specs.Text.{text_of}
 use Rattle.prefix_tree.specs.Tree.{rows_of}
 use Rattle.front_end.specs.TreeText.{row_text, rows_text}
-use Rattle.front_end.proofs.tree_text.write_rows.Given as goal
+use Rattle.front_end.proofs.tree_text.write_below.Given as goal
 
 abbrev pub invariant-loop-row : goal.invariant-loop-row
 invariant-loop-row g l = record {

@@ -5,8 +5,8 @@ use Rattle.rank_set.specs.Text.{text_of}
 use Rattle.prefix_tree.specs.Tree.{rows_of}
 use Rattle.front_end.specs.TreeText.{line_of, row_text}
 use Rattle.front_end.proofs.Lines.{lines_from, lines_end}
-use Rattle.front_end.proofs.tree_text.write_rows.Goals.{then-not-equals+in_ok-write_text-2, else-not-equals}
-use Rattle.front_end.proofs.tree_text.write_rows.Goals as goal
+use Rattle.front_end.proofs.tree_text.write_below.Goals.{then-not-equals+in_ok-write_text-2, else-not-equals}
+use Rattle.front_end.proofs.tree_text.write_below.Goals as goal
 
 pub loop-row-preserved : goal.loop-row-preserved
 loop-row-preserved g c =
