@@ -22,12 +22,12 @@ pub fn capture_text<T: PrefixTree>(alloc: Global, bytes: &[u8]) -> Result<Vec<u8
     ensures text { IfOk result (λ text. result_map text_of_capture (capture_of bytes.now) ≡ Ok text.items) }
     ensures refusal { IfErr result (IsRefused bytes.now) }
 {
-    let mut feeder = Feeder::new(alloc);
+    let mut feeder: Feeder<T> = Feeder::new(alloc);
     let mut printer = Printer::new(alloc);
     let mut left = bytes;
     while !left.is_empty() {
         let (piece, behind) = left.split_at(left.len().min(PIECE));
-        let packets = feeder.feed::<T>(alloc, piece)?;
+        let packets = feeder.feed(alloc, piece)?;
         printer.write(packets)?;
         left = behind;
     }

@@ -214,12 +214,16 @@ fn writes_attach_and_down(rt: HostRuntime) -> Result<(), Fail> {
 }
 
 // What a piece gives: the lengths of the frames that become whole.
-fn fed(alloc: Global, feeder: &mut Feeder, piece: &[u8]) -> Result<Vec<usize>, FrameError>
+fn fed(
+    alloc: Global,
+    feeder: &mut Feeder<OwnedTree>,
+    piece: &[u8],
+) -> Result<Vec<usize>, FrameError>
     requires { feeder.old.before + length feeder.old.rest + length piece.now < 2 ^ 64 }
     ensures { feeder.new.before + length feeder.new.rest
         ≤ feeder.old.before + length feeder.old.rest + length piece.now }
 {
-    let packets = feeder.feed::<OwnedTree>(alloc, piece)?;
+    let packets = feeder.feed(alloc, piece)?;
     let mut lengths = Vec::new(alloc);
     for (_, length) in &packets {
         lengths.push(*length)?;
@@ -382,7 +386,7 @@ fn assert_stream(rt: &impl Abort, alloc: Global, stream: &Stream) -> Result<(), 
 fn assert_second(
     rt: &impl Abort,
     alloc: Global,
-    feeder: &mut Feeder,
+    feeder: &mut Feeder<OwnedTree>,
     second: &[u8],
     stream: &Stream,
 ) -> Result<(), FrameError>

@@ -1,5 +1,5 @@
 -- One form after another.
-use Rattle.std.proofs.Common.{◌≡◌, ℕ, suc, nat_eq, cond, true, false, Bool, List, ◌∷◌, Option, Some, None, Result, Ok, Err, OnOk, IfErr, refl, sym, ap, ◌∙◌}
+use Rattle.std.proofs.Common.{◌≡◌, ℕ, suc, nat_eq, cond, true, false, Bool, List, [], ◌∷◌, Option, Some, None, Result, Ok, Err, OnOk, IfErr, refl, sym, ap, ◌∙◌}
 use Rattle.std.specs.Int.{Width, byte_len, from_be_bytes}
 use Rattle.rank_set.specs.Runs.{ranks_of_runs}
 use Rattle.packet_frame.specs.declared.error.FrameReason.{FrameReason}
@@ -7,10 +7,13 @@ use Rattle.packet_frame.specs.declared.error.FieldError.{FieldError}
 use Rattle.packet_frame.specs.declared.error.FieldError.TheVariants as errors
 use Rattle.rank_set.specs.Ranks.{none, union-none}
 use Rattle.packet_frame.specs.declared.error.FrameReason.TheVariants.{BadLength}
-use Rattle.packet_frame.specs.declared.packet.Packet.TheVariants.{Done}
+use Rattle.packet_frame.specs.declared.packet.Packet.{Packet}
+use Rattle.packet_frame.specs.declared.packet.Packet.TheVariants.{Up, Done}
+use Rattle.prefix_tree.specs.Tree.{Tree}
 use Rattle.packet_frame.specs.Fields.{Form, whole, field, ◌>>=◌, list_form, Rules, broken, number, after_field}
-use Rattle.packet_frame.specs.Frame.{Message, content_form, coverage_form, set_form, runs_form, run_count_form, tree_form, next_run, after_run, is_first, word_limit, no_rules}
-use Rattle.packet_frame.specs.Scanning.{after_cover, runs_left, Takes}
+use Rattle.packet_frame.specs.Frame.{sent_of, content_form, coverage_form, set_form, runs_form, run_count_form, row_count_form, tree_form, next_run, after_run, next_row, after_row, is_first, word_limit, no_rules}
+use Rattle.packet_frame.specs.Scanning.{after_cover, runs_left, with_tree, Takes}
+use Rattle.packet_frame.proofs.RowTrees.{all_rows}
 
 pub bind_assoc : {A B C : Type 0} (f : Form A) (g : A → Form B) (h : B → Form C) → (f >>= g) >>= h ≡ f >>= (λ x. g x >>= h)
 bind_assoc (whole a) g h = refl
@@ -26,12 +29,19 @@ first_and_rest form after s left k =
     ∙ bind_same (form left s) _ _ (λ x. bind_assoc (list_form form after (after s x) left) (λ xs. whole (x ∷ xs)) k)
 
 module _ (version kind stream wave : ℕ) (has_tree : kind ≡ 1) where
-  tree_follows : content_form version kind stream wave ≡ coverage_form version >>= after_cover version stream wave
+  tree_follows : content_form version kind stream wave >>= with_tree ≡ coverage_form version >>= after_cover version stream wave
   unfolding content_form tree_form
-  tree_follows = ap (λ (n : ℕ). cond (nat_eq n 1) (coverage_form version >>= after_cover version stream wave) (whole (Done stream wave))) has_tree
+  tree_follows =
+      ap (λ (n : ℕ). cond (nat_eq n 1) (tree_form version stream wave) (whole (Done stream wave)) >>= with_tree) has_tree
+      ∙ bind_assoc (coverage_form version) _ with_tree
+      ∙ bind_same (coverage_form version) _ _ (λ cover.
+      bind_assoc row_count_form _ with_tree
+      ∙ bind_same row_count_form _ _ (λ count.
+      bind_assoc (list_form (next_row version cover) after_row ([], true) count) (λ rows. whole (Up stream wave (sent_of cover rows))) with_tree
+      ∙ bind_same (list_form (next_row version cover) after_row ([], true) count) _ _ (λ rows. ap (λ t. whole (Up stream wave t)) (all_rows cover rows))))
 
   -- version 1 has a coverage of words
-  pub words_follow : is_first version ≡ true → content_form version kind stream wave ≡ set_form (word_limit version) (Some BadLength) no_rules >>= after_cover version stream wave
+  pub words_follow : is_first version ≡ true → content_form version kind stream wave >>= with_tree ≡ set_form (word_limit version) (Some BadLength) no_rules >>= after_cover version stream wave
   unfolding coverage_form
   words_follow first =
       tree_follows
@@ -39,7 +49,7 @@ module _ (version kind stream wave : ℕ) (has_tree : kind ≡ 1) where
       ∙ ap (λ (b : Bool). set_form (cond b 256 16384) (Some BadLength) no_rules >>= after_cover version stream wave) (sym first)
 
   -- version 2 has one of runs
-  pub runs_follow : is_first version ≡ false → content_form version kind stream wave ≡ run_count_form >>= runs_left version stream wave none 0
+  pub runs_follow : is_first version ≡ false → content_form version kind stream wave >>= with_tree ≡ run_count_form >>= runs_left version stream wave none 0
   unfolding coverage_form runs_form
   runs_follow second =
       tree_follows
@@ -59,7 +69,7 @@ pub take_number : {A : Type 0} (w : Width) (rules : ℕ → Rules) (k : ℕ → 
 take_number w rules k bytes n e h = take_field (byte_len w) (λ b. broken (rules (from_be_bytes w b))) (λ b. k (from_be_bytes w b)) bytes (ap (λ (m : ℕ). broken (rules m)) (sym e) ∙ h) ∙ ap (λ (m : ℕ). Ok (k m)) (sym e)
 
 -- the rest is done by a call whose only error is out of memory
-pub takes_by : (old mid new : Form Message) (bytes : List ℕ) (r : Result (Unit {0}) FieldError) → after_field old bytes ≡ Ok mid → OnOk r (mid ≡ new) → IfErr r (λ e. e ≡ errors.OutOfMemory) → Takes old bytes r new
+pub takes_by : (old mid new : Form (Packet Tree)) (bytes : List ℕ) (r : Result (Unit {0}) FieldError) → after_field old bytes ≡ Ok mid → OnOk r (mid ≡ new) → IfErr r (λ e. e ≡ errors.OutOfMemory) → Takes old bytes r new
 takes_by old mid new bytes (Ok x) taken left fails = taken ∙ ap Ok left
 takes_by old mid new bytes (Err (errors.Broken reason)) taken left fails = absurd cc
 takes_by old mid new bytes (Err errors.OutOfMemory) taken left fails = tt

@@ -1,16 +1,15 @@
 pub mod Binding
 pub mod Blocks
-pub mod Built
 pub mod Covering
 pub mod Feeds
 pub mod FewRows
 pub mod FormLaws
 pub mod Growing
-pub mod Naming
 pub mod ReadFields
 pub mod ReadRows
 pub mod ReadSets
 pub mod ReadTrees
+pub mod RowTrees
 pub mod Rowing
 pub mod SentTrees
 pub mod Setting

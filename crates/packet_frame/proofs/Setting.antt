@@ -4,8 +4,8 @@ use Rattle.std.proofs.lemmas.List.{append-nil}
 use Rattle.std.proofs.Math.Seq.{get_or-append_seam}
 use Rattle.std.specs.List.{list_all}
 use Rattle.std.proofs.Common.{subst, get_or, not, take, cond, nat_lt, inl, inr, ◌≤◌}
-use Rattle.std.proofs.lemmas.Bool.{ltb-true, or_cases, true≢false}
-use Rattle.rank_set.specs.Ranks.{Ranks, Has, has, none, same_ranks, has-those, has-union, has-none, has-in_order, in_order, all_have, size, is_subset}
+use Rattle.std.proofs.lemmas.Bool.{ltb-true, or_cases, and_parts, true≢false}
+use Rattle.rank_set.specs.Ranks.{Ranks, Has, has, none, same_ranks, has-those, has-union, has-none, has-in_order, in_order, all_have, size, is_subset, subset_has, subset_from}
 use Rattle.rank_places.specs.Places.{place, from_places}
 use Rattle.rank_set.proofs.WordSets.{ranks_in-none}
 use Rattle.rank_set.proofs.WordLists.{ranks_in-push}
@@ -13,13 +13,15 @@ use Rattle.rank_set.specs.Words.{ranks_in}
 use Rattle.packet_frame.specs.declared.error.FrameReason.{FrameReason}
 use Rattle.packet_frame.specs.declared.error.FrameReason.TheVariants.{NotCanonical}
 use Rattle.packet_frame.specs.Fields.{Form, whole, ◌>>=◌, list_form, Rules, broken}
-use Rattle.packet_frame.specs.Frame.{word_form, next_word, after_word, words_form, offset_form, word_count_form, set_form, word_limit, is_first, ends_rule, ranks_at, Message}
+use Rattle.packet_frame.specs.Frame.{word_form, next_word, after_word, words_form, offset_form, word_count_form, set_form, word_limit, is_first, ends_rule, ranks_at}
 use Rattle.call_path.specs.Path.{Path}
 use Rattle.packet_frame.specs.declared.scan.Scan.{Scan}
-use Rattle.packet_frame.specs.FrameRows.{NamedRow}
+use Rattle.prefix_tree.specs.Tree.{Tree}
+use Rattle.packet_frame.specs.declared.packet.Packet.{Packet}
+use Rattle.packet_frame.specs.Rows.{HasGrown}
 use Rattle.packet_frame.specs.declared.scan.Part.{Part}
 use Rattle.packet_frame.specs.declared.scan.Part.TheVariants as parts
-use Rattle.packet_frame.specs.Scanning.{words_left, word_rule, IsInPart, IsInSet, last_path, after_ends, after_set, set_then, rows_view}
+use Rattle.packet_frame.specs.Scanning.{words_left, word_rule, IsInPart, IsInSet, MayEnd, after_ends, after_set, set_then}
 use Rattle.packet_frame.proofs.Binding.{bind_assoc, bind_same, first_and_rest}
 
 module _ {B : Type 0} (of_word : ℕ → ℕ → Rules) (k : Ranks → Form B) where
@@ -71,9 +73,40 @@ places_below offset ws w count before fine p member =
       | inr h ↦ ltb-true p count (all_have (λ q. nat_lt q count) (in_order one) p fine (sym (has-in_order one p) ∙ h))
     ]
 
--- no word gives no place
-pub no_places : (offset count : ℕ) (ws : List ℕ) → ws ≡ [] → (p : ℕ) → Has p (ranks_in offset ws) → p < count
-no_places offset count ws e p member = absurd (true≢false (sym member ∙ ap (λ s. has s p) (ap (ranks_in offset) e ∙ ranks_in-none offset) ∙ has-none p))
+-- one more word of covered ranks
+subset_more : (offset : ℕ) (ws : List ℕ) (w : ℕ) (cover : Ranks) → is_subset (ranks_in offset ws) cover ≡ true → is_subset (ranks_in (offset + length ws) (w ∷ [])) cover ≡ true → is_subset (ranks_in offset (ws ++ w ∷ [])) cover ≡ true
+subset_more offset ws w cover before fine = subset_from _ cover (λ r member.
+    let one = ranks_in (offset + length ws) (w ∷ []) in
+    let either : (has (ranks_in offset ws) r || has one r) ≡ true = sym (has-union (ranks_in offset ws) one r) ∙ ap (λ s. has s r) (sym (ranks_in-push offset ws w)) ∙ member in
+    elim (or_cases (has (ranks_in offset ws) r) (has one r) either) [
+      | inl h ↦ subset_has _ cover before r h
+      | inr h ↦ subset_has _ cover fine r h
+    ])
+
+-- what the rule says of a word of a row's ends
+abbrev pub ObeysEnds : (version index w : ℕ) → Ranks → Type 0
+ObeysEnds version index w cover = (is_first version ≡ true → is_subset (ranks_in index (w ∷ [])) cover ≡ true) × (is_first version ≡ false → list_all (λ p. nat_lt p (size cover)) (in_order (ranks_in index (w ∷ []))) ≡ true)
+
+may_end_more : (version offset : ℕ) (ws : List ℕ) (w : ℕ) (cover : Ranks) → MayEnd version cover (ranks_in offset ws) → ObeysEnds version (offset + length ws) w cover → MayEnd version cover (ranks_in offset (ws ++ w ∷ []))
+may_end_more version offset ws w cover before fine = (
+  λ first. subset_more offset ws w cover (before.0 first) (fine.0 first),
+  λ second. places_below offset ws w (size cover) (before.1 second) (fine.1 second),
+)
+
+-- no word gives no number
+pub no_numbers : (version offset : ℕ) (cover : Ranks) (ws : List ℕ) → ws ≡ [] → MayEnd version cover (ranks_in offset ws)
+no_numbers version offset cover ws e =
+    let nothing : (p : ℕ) → Has p (ranks_in offset ws) → ⊥ = λ p member. true≢false (sym member ∙ ap (λ s. has s p) (ap (ranks_in offset) e ∙ ranks_in-none offset) ∙ has-none p) in
+    (λ _. subset_from _ cover (λ p member. absurd (nothing p member)), λ _ p member. absurd (nothing p member))
+
+-- the ranks of such numbers are covered
+pub ends_covered : (version : ℕ) (cover numbers : Ranks) → MayEnd version cover numbers → is_subset (ranks_at version cover numbers) cover ≡ true
+unfolding from_places
+ends_covered version cover numbers may = by_case (is_first version) refl
+  where
+    by_case : (first : Bool) → is_first version ≡ first → is_subset (cond first numbers (from_places cover numbers)) cover ≡ true
+    by_case true e = may.0 e
+    by_case false e = subset_from _ cover (λ r member. (and_parts _ _ (sym (has-those (λ q. has numbers (place cover q)) cover r) ∙ member)).0)
 
 -- ---- the first and the last word are not 0
 
@@ -100,23 +133,24 @@ module _ (ws : List ℕ) (w left : ℕ) (fine : (not (nat_eq (length ws) 0 || na
       last_is : (xs : List ℕ) → get_or (xs ++ w ∷ []) (length (xs ++ w ∷ []) - 1) 0 ≡ w
       last_is xs = ap (λ (n : ℕ). get_or (xs ++ w ∷ []) n 0) (let e : length (xs ++ w ∷ []) - 1 ≡ length xs = omega (arith, length-append xs (w ∷ [])) in e) ∙ get_or-append_seam xs w [] 0
 
--- what the rule of a word says of places
-pub obeyed : (part : Part) (version index w : ℕ) (cover : Ranks) → broken (word_rule part version cover index w) ≡ None → part ≡ parts.Ends → is_first version ≡ false → list_all (λ p. nat_lt p (size cover)) (in_order (ranks_in index (w ∷ []))) ≡ true
+-- what the rule of a word says
+pub obeyed : (part : Part) (version index w : ℕ) (cover : Ranks) → broken (word_rule part version cover index w) ≡ None → part ≡ parts.Ends → ObeysEnds version index w cover
 unfolding ends_rule
-obeyed parts.Coverage version index w cover fine ends second = absurd cc
-obeyed parts.Ends version index w cover fine ends second =
+obeyed parts.Coverage version index w cover fine ends = absurd cc
+obeyed parts.Ends version index w cover fine ends =
     let numbers = ranks_in index (w ∷ []) in
-    let below = list_all (λ p. nat_lt p (size cover)) (in_order numbers) in
-    let one : broken ((below, NotCanonical) ∷ []) ≡ None = ap (λ (b : Bool). broken ((cond b (is_subset numbers cover) below, NotCanonical) ∷ [])) (sym second) ∙ fine in
-    by_case below one
+    let below = list_all (λ p. nat_lt p (size cover)) (in_order numbers) in (
+      λ first. kept (is_subset numbers cover) (ap (λ (b : Bool). broken ((cond b (is_subset numbers cover) below, NotCanonical) ∷ [])) (sym first) ∙ fine),
+      λ second. kept below (ap (λ (b : Bool). broken ((cond b (is_subset numbers cover) below, NotCanonical) ∷ [])) (sym second) ∙ fine),
+    )
   where
-    by_case : (b : Bool) → broken ((b, NotCanonical) ∷ []) ≡ None → b ≡ true
-    by_case true h = refl
-    by_case false h = absurd cc
+    kept : (b : Bool) → broken ((b, NotCanonical) ∷ []) ≡ None → b ≡ true
+    kept true h = refl
+    kept false h = absurd cc
 
 -- a word more of a set
-pub with_word : (s t : Scan) (w : ℕ) → IsInSet s → 0 < s.left → t.left ≡ s.left - 1 → t.words.items ≡ s.words.items ++ w ∷ [] → t.offset ≡ s.offset → t.part ≡ s.part → IsInPart t.part t → t.version ≡ s.version → t.cover ≡ s.cover → (not (nat_eq (length s.words.items) 0 || nat_eq (s.left - 1) 0) || not (nat_eq w 0)) ≡ true → (s.part ≡ parts.Ends → is_first s.version ≡ false → list_all (λ p. nat_lt p (size s.cover)) (in_order (ranks_in (s.offset + length s.words.items) (w ∷ []))) ≡ true) → IsInSet t
-with_word s t w is some left words offset part ready version cover fine places =
+pub with_word : {X : Type 0} (s t : Scan X) (w : ℕ) → IsInSet s → 0 < s.left → t.left ≡ s.left - 1 → t.words.items ≡ s.words.items ++ w ∷ [] → t.offset ≡ s.offset → t.part ≡ s.part → IsInPart t.part t → t.version ≡ s.version → t.cover ≡ s.cover → (not (nat_eq (length s.words.items) 0 || nat_eq (s.left - 1) 0) || not (nat_eq w 0)) ≡ true → (s.part ≡ parts.Ends → ObeysEnds s.version (s.offset + length s.words.items) w s.cover) → IsInSet t
+with_word s t w is some left words offset part ready version cover fine obeys =
     let len : length t.words.items ≡ length s.words.items + 1 = ap length words ∙ length-append s.words.items (w ∷ []) in
     record {
       part = ready;
@@ -124,25 +158,28 @@ with_word s t w is some left words offset part ready version cover fine places =
       first = λ _. subst (λ (ws : List ℕ). 0 < get_or ws 0 0) (sym words) (first_word s.words.items w (s.left - 1) fine is.first);
       last = λ none _. subst (λ (ws : List ℕ). 0 < get_or ws (length ws - 1) 0) (sym words) (last_word s.words.items w (s.left - 1) fine (sym left ∙ none));
       nothing = λ _ none. absurd (omega (arith, len, none));
-      places = λ ends second p member.
-          subst (λ (c : Ranks). p < size c) (sym cover) (places_below s.offset s.words.items w (size s.cover) (is.places (sym part ∙ ends) (ap is_first (sym version) ∙ second)) (places (sym part ∙ ends) (ap is_first (sym version) ∙ second)) p (subst (λ (ws : List ℕ). Has p (ranks_in s.offset ws)) words (subst (λ (o : ℕ). Has p (ranks_in o t.words.items)) offset member)));
+      ends = λ here.
+          subst (λ (c : Ranks). MayEnd t.version c (ranks_in t.offset t.words.items)) (sym cover) (
+          subst (λ (v : ℕ). MayEnd v s.cover (ranks_in t.offset t.words.items)) (sym version) (
+          subst (λ (ws : List ℕ). MayEnd s.version s.cover (ranks_in t.offset ws)) (sym words) (
+          subst (λ (o : ℕ). MayEnd s.version s.cover (ranks_in o (s.words.items ++ w ∷ []))) (sym offset) (
+          may_end_more s.version s.offset s.words.items w s.cover (is.ends (sym part ∙ here)) (obeys (sym part ∙ here))))));
     }
 
 -- the part stays ready where nothing of it changes
-pub part_kept : (part : Part) (s t : Scan) → s.kind ≡ t.kind → s.version ≡ t.version → s.covered ≡ t.covered → s.places ≡ t.places → s.cover ≡ t.cover → s.rows_left ≡ t.rows_left → s.depth ≡ t.depth → s.path ≡ t.path → s.rows ≡ t.rows → IsInPart part s → IsInPart part t
-part_kept parts.Coverage s t kind version covered places cover count depth path rows h = (sym kind ∙ h.0, sym version ∙ h.1)
-part_kept parts.Ends s t kind version covered places cover count depth path rows h = record {
+pub part_kept : {X : Type 0} (part : Part) (s t : Scan X) → s.kind ≡ t.kind → s.version ≡ t.version → s.covered ≡ t.covered → s.places ≡ t.places → s.cover ≡ t.cover → s.rows_left ≡ t.rows_left → s.depth ≡ t.depth → s.path ≡ t.path → s.tree ≡ t.tree → IsInPart part s → IsInPart part t
+part_kept parts.Coverage s t kind version covered places cover count depth path tree h = (sym kind ∙ h.0, sym version ∙ h.1)
+part_kept parts.Ends s t kind version covered places cover count depth path tree h = record {
   kind = sym kind ∙ h.kind;
   covered = (sym covered ∙ h.covered.0 ∙ ap size cover, sym places ∙ h.covered.1 ∙ cover);
   some = subst (λ (n : ℕ). 0 < n) count h.some;
   depth = subst (λ (n : ℕ). 1 ≤ n) depth h.depth;
   depth_limit = subst (λ (n : ℕ). n ≤ 128) depth h.depth_limit;
   len = ap length (sym path) ∙ h.len ∙ depth;
-  kept = same_front s.depth t.depth s.path t.path s.rows t.rows depth path rows h.kept;
+  before = h.before;
+  grown = subst (λ (n : ℕ). HasGrown t.cover t.tree h.before n) count (subst (λ (u : Tree). HasGrown t.cover u h.before s.rows_left) tree (subst (λ (c : Ranks). HasGrown c s.tree h.before s.rows_left) cover h.grown));
+  kept = subst (λ (d : ℕ). take (d - 1) t.path ≡ take (d - 1) h.before) depth (subst (λ (p : Path). take (s.depth - 1) p ≡ take (s.depth - 1) h.before) path h.kept);
 }
-  where
-    same_front : (d e : ℕ) (p q : Path) (rs qs : List NamedRow) → d ≡ e → p ≡ q → rs ≡ qs → take (d - 1) p ≡ take (d - 1) (last_path [] rs) → take (e - 1) q ≡ take (e - 1) (last_path [] qs)
-    same_front d e p q rs qs de pq rq k = ap (λ (n : ℕ). take (n - 1) q) (sym de) ∙ ap (take (d - 1)) (sym pq) ∙ k ∙ ap (λ xs. take (d - 1) (last_path [] xs)) rq ∙ ap (λ (n : ℕ). take (n - 1) (last_path [] qs)) de
 
 -- the limit of words of either version
 pub within_words : (version n : ℕ) → n ≤ word_limit version → n ≤ 16384
@@ -170,11 +207,11 @@ ranks_at_none version cover = by_case (is_first version)
     by_case false = from_no_places cover
 
 -- no words are no ends
-pub no_ends : (s : Scan) → s.part ≡ parts.Ends → s.words.items ≡ [] → after_ends s.version s.stream s.wave s.cover (rows_view [] s.rows) s.path s.rows_left none ≡ set_then s (ranks_in s.offset s.words.items)
+pub no_ends : {X : Type 0} (s : Scan X) → s.part ≡ parts.Ends → s.words.items ≡ [] → after_ends s.version s.stream s.wave s.cover s.tree s.path s.rows_left none ≡ set_then s (ranks_in s.offset s.words.items)
 no_ends s part empty =
-    let then : Ranks → Form Message = after_ends s.version s.stream s.wave s.cover (rows_view [] s.rows) s.path s.rows_left in
+    let then : Ranks → Form (Packet Tree) = after_ends s.version s.stream s.wave s.cover s.tree s.path s.rows_left in
     sym (
-    ap (λ (p : Part). after_set p s.version s.stream s.wave s.cover (rows_view [] s.rows) s.path s.rows_left (ranks_in s.offset s.words.items)) part
+    ap (λ (p : Part). after_set p s.version s.stream s.wave s.cover s.tree s.path s.rows_left (ranks_in s.offset s.words.items)) part
     ∙ ap (λ ws. then (ranks_at s.version s.cover (ranks_in s.offset ws))) empty
     ∙ ap (λ r. then (ranks_at s.version s.cover r)) (ranks_in-none s.offset)
     ∙ ap then (ranks_at_none s.version s.cover)

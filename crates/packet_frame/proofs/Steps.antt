@@ -7,20 +7,21 @@ use Rattle.packet_frame.specs.declared.error.FrameReason.TheVariants.{Short}
 use Rattle.packet_frame.specs.declared.scan.Field.{Field}
 use Rattle.packet_frame.specs.declared.scan.Field.TheVariants as fields
 use Rattle.packet_frame.specs.declared.scan.Scan.{Scan}
-use Rattle.packet_frame.specs.Fields.{Form, whole, field, piece, read, width_of, after_field}
-use Rattle.packet_frame.specs.Frame.{frame_form, version_form, kind_form, stream_form, wave_form, run_count_form, first_rank_form, last_rank_form, offset_form, word_count_form, word_form, row_count_form, depth_form, name_length_form, name_form, word_limit}
-use Rattle.packet_frame.specs.Scanning.{left, left_at, IsReady, Takes, field_width, set_then, word_rule, needed, rows_view}
+use Rattle.packet_frame.specs.Fields.{Refusal, Form, whole, field, ◌>>=◌, piece, read, and_then, width_of, after_field}
+use Rattle.packet_frame.specs.Sent.{packet_map, tree_from, as_packet}
+use Rattle.packet_frame.specs.Frame.{Message, frame_form, version_form, kind_form, stream_form, wave_form, run_count_form, first_rank_form, last_rank_form, offset_form, word_count_form, word_form, row_count_form, depth_form, name_length_form, name_form, word_limit}
+use Rattle.packet_frame.specs.Scanning.{left, left_at, IsReady, Takes, field_width, set_then, word_rule, needed, with_tree}
 use Rattle.packet_frame.specs.declared.error.FieldError.{FieldError}
 use Rattle.packet_frame.specs.declared.error.FieldError.TheVariants as faults
 use Rattle.packet_frame.specs.declared.reader.Reader.{Reader}
 use Rattle.packet_frame.specs.Reading.{first_of, IsOn, Waits, IsWhole, refusal_at, Fails}
-use Rattle.packet_frame.proofs.FormLaws.{option_case, read-short, read-refused, read-next, same_piece, still_enough}
+use Rattle.packet_frame.proofs.FormLaws.{option_case, read-bind, read-short, read-refused, read-next, same_piece, still_enough}
 use Rattle.packet_frame.proofs.Covering.{run_follows}
 use Rattle.packet_frame.proofs.Setting.{set_follows, word_follows}
 use Rattle.packet_frame.proofs.Rowing.{row_follows}
 
 -- the widths are those of the forms
-pub width_is : (f : Field) (s : Scan) → IsReady f s → width_of (left_at f s) ≡ field_width f s
+pub width_is : {X : Type 0} (f : Field) (s : Scan X) → IsReady f s → width_of (left_at f s) ≡ field_width f s
 unfolding frame_form version_form kind_form stream_form wave_form run_count_form first_rank_form last_rank_form offset_form word_count_form word_form row_count_form depth_form name_length_form name_form
 width_is fields.Version s ready = refl
 width_is fields.Kind s ready = refl
@@ -33,13 +34,13 @@ width_is fields.Offset s ready = ap width_of (set_follows (word_rule s.part s.ve
 width_is fields.WordCount s ready = refl
 width_is fields.Word s ready = ap width_of (word_follows (word_rule s.part s.version s.cover) (set_then s) s.offset s.words.items s.left (s.left - 1) (omega (arith, ready.1)))
 width_is fields.RowCount s ready = refl
-width_is fields.Depth s ready = ap width_of (row_follows s.version s.stream s.wave s.cover (rows_view [] s.rows) s.path s.ended s.rows_left (s.rows_left - 1) (omega (arith, ready.1)))
+width_is fields.Depth s ready = ap width_of (row_follows s.version s.stream s.wave s.cover s.tree s.path s.ended s.rows_left (s.rows_left - 1) (omega (arith, ready.1)))
 width_is fields.NameLength s ready = refl
 width_is fields.Name s ready = refl
 width_is fields.End s ready = refl
 
 -- every field before the end has a byte
-pub width_some : (f : Field) (s : Scan) → IsReady f s → (f ≡ fields.End → ⊥) → 0 < field_width f s
+pub width_some : {X : Type 0} (f : Field) (s : Scan X) → IsReady f s → (f ≡ fields.End → ⊥) → 0 < field_width f s
 width_some fields.Version s ready not_end = omega arith
 width_some fields.Kind s ready not_end = omega arith
 width_some fields.Stream s ready not_end = omega arith
@@ -126,8 +127,24 @@ field_short (field width rule next) bytes at within less = read-short width rule
 
 -- ---- the reader
 
+with_trees : (r : Result (Message × ℕ) Refusal) → and_then r (λ x. Ok (packet_map tree_from x.0, x.1)) ≡ as_packet r
+with_trees (Ok x) = refl
+with_trees (Err e) = refl
+
+-- a reader before the first field
+pub on_first : {X : Type 0} (r : Reader X) → r.scan.field ≡ fields.Version → r.at ≡ 0 → IsOn r []
+on_first r first start = record {
+  ready = subst (λ (f : Field). IsReady f r.scan) (sym first) tt;
+  within = omega (arith, start);
+  goes_on = λ more.
+      ap (λ (f : Field). read (left_at f r.scan) more r.at) first
+      ∙ ap (read (frame_form >>= with_tree) more) start
+      ∙ read-bind frame_form with_tree more 0
+      ∙ with_trees (first_of more);
+}
+
 -- a field was taken
-pub goes_on : (r : Reader) (t : Scan) (bytes : List ℕ) → IsOn r bytes → r.at + field_width r.scan.field r.scan ≤ length bytes → after_field (left r.scan) (piece bytes r.at (field_width r.scan.field r.scan)) ≡ Ok (left t) → IsReady t.field t → IsOn (record { at = r.at + field_width r.scan.field r.scan; scan = t }) bytes
+pub goes_on : {X : Type 0} (r : Reader X) (t : Scan X) (bytes : List ℕ) → IsOn r bytes → r.at + field_width r.scan.field r.scan ≤ length bytes → after_field (left r.scan) (piece bytes r.at (field_width r.scan.field r.scan)) ≡ Ok (left t) → IsReady t.field t → IsOn (record { at = r.at + field_width r.scan.field r.scan; scan = t }) bytes
 goes_on r t bytes on within taken ready =
     let w : width_of (left r.scan) ≡ field_width r.scan.field r.scan = width_is r.scan.field r.scan on.ready in
     record {
@@ -142,38 +159,43 @@ goes_on r t bytes on within taken ready =
         let same = ap (λ (n : ℕ). after_field (left r.scan) (piece bytes r.at n)) w ∙ taken in
         field_taken (left r.scan) (left t) bytes more r.at le same ∙ ap (λ (n : ℕ). read (left t) (bytes ++ more) (r.at + n)) w
 
-now_on : (r : Reader) (bytes : List ℕ) → IsOn r bytes → read (left r.scan) bytes r.at ≡ first_of bytes
-now_on r bytes on = ap (λ all. read (left r.scan) all r.at) (sym (append-nil bytes)) ∙ on.goes_on [] ∙ ap first_of (append-nil bytes)
+now_on : {X : Type 0} (r : Reader X) (bytes : List ℕ) → IsOn r bytes → read (left r.scan) bytes r.at ≡ as_packet (first_of bytes)
+now_on r bytes on = ap (λ all. read (left r.scan) all r.at) (sym (append-nil bytes)) ∙ on.goes_on [] ∙ ap (λ all. as_packet (first_of all)) (append-nil bytes)
+
+-- a refusal is the same with trees and without
+refusal_is : (r : Result (Message × ℕ) Refusal) (e : Refusal) → as_packet r ≡ Err e → r ≡ Err e
+refusal_is (Ok x) e is = absurd cc
+refusal_is (Err f) e is = cc
 
 -- a field breaks a rule
-pub breaks : (r : Reader) (bytes : List ℕ) (reason : FrameReason) → IsOn r bytes → r.at + field_width r.scan.field r.scan ≤ length bytes → after_field (left r.scan) (piece bytes r.at (field_width r.scan.field r.scan)) ≡ Err reason → first_of bytes ≡ Err (record { at = r.at; reason = reason })
+pub breaks : {X : Type 0} (r : Reader X) (bytes : List ℕ) (reason : FrameReason) → IsOn r bytes → r.at + field_width r.scan.field r.scan ≤ length bytes → after_field (left r.scan) (piece bytes r.at (field_width r.scan.field r.scan)) ≡ Err reason → first_of bytes ≡ Err (record { at = r.at; reason = reason })
 breaks r bytes reason on within refused =
     let w : width_of (left r.scan) ≡ field_width r.scan.field r.scan = width_is r.scan.field r.scan on.ready in
     let le = subst (λ (n : ℕ). r.at + n ≤ length bytes) (sym w) within in
-    sym (now_on r bytes on) ∙ field_refused (left r.scan) bytes r.at reason le (ap (λ (n : ℕ). after_field (left r.scan) (piece bytes r.at n)) w ∙ refused)
+    refusal_is _ _ (sym (now_on r bytes on) ∙ field_refused (left r.scan) bytes r.at reason le (ap (λ (n : ℕ). after_field (left r.scan) (piece bytes r.at n)) w ∙ refused))
 
 -- the input ends in a field
-pub waits : (r : Reader) (bytes : List ℕ) → IsOn r bytes → length bytes < r.at + field_width r.scan.field r.scan → Waits bytes r.at
+pub waits : {X : Type 0} (r : Reader X) (bytes : List ℕ) → IsOn r bytes → length bytes < r.at + field_width r.scan.field r.scan → Waits bytes r.at
 waits r bytes on less =
     let w : width_of (left r.scan) ≡ field_width r.scan.field r.scan = width_is r.scan.field r.scan on.ready in
-    sym (now_on r bytes on) ∙ field_short (left r.scan) bytes r.at on.within (subst (λ (n : ℕ). length bytes < r.at + n) (sym w) less)
+    refusal_is _ _ (sym (now_on r bytes on) ∙ field_short (left r.scan) bytes r.at on.within (subst (λ (n : ℕ). length bytes < r.at + n) (sym w) less))
 
 -- no field is left
-pub ends : (r : Reader) (bytes : List ℕ) → IsOn r bytes → r.scan.field ≡ fields.End → IsWhole r bytes
+pub ends : {X : Type 0} (r : Reader X) (bytes : List ℕ) → IsOn r bytes → r.scan.field ≡ fields.End → IsWhole r bytes
 ends r bytes on end = sym (now_on r bytes on) ∙ ap (λ f. read (left_at f r.scan) bytes r.at) end
 
 -- what a field's taking says of the reader
-pub fails_at : (r : Reader) (bytes : List ℕ) (e : FieldError) (t : Scan) → IsOn r bytes → r.at + field_width r.scan.field r.scan ≤ length bytes → Takes (left r.scan) (piece bytes r.at (field_width r.scan.field r.scan)) (Err e) (left t) → Fails bytes (refusal_at r.at e)
+pub fails_at : {X : Type 0} (r : Reader X) (bytes : List ℕ) (e : FieldError) (t : Scan X) → IsOn r bytes → r.at + field_width r.scan.field r.scan ≤ length bytes → Takes (left r.scan) (piece bytes r.at (field_width r.scan.field r.scan)) (Err e) (left t) → Fails bytes (refusal_at r.at e)
 fails_at r bytes (faults.Broken reason) t on within taken = (breaks r bytes reason on within taken.0, taken.1, on.within)
 fails_at r bytes faults.OutOfMemory t on within taken = tt
 
 -- ---- the same of a field that is known to come next
 
-pub took : (r : Reader) (t : Scan) (f : Field) (bytes : List ℕ) → IsOn r bytes → r.scan.field ≡ f → r.at + field_width f r.scan ≤ length bytes → after_field (left_at f r.scan) (piece bytes r.at (field_width f r.scan)) ≡ Ok (left t) → IsReady t.field t → IsOn (record { at = r.at + field_width f r.scan; scan = t }) bytes
+pub took : {X : Type 0} (r : Reader X) (t : Scan X) (f : Field) (bytes : List ℕ) → IsOn r bytes → r.scan.field ≡ f → r.at + field_width f r.scan ≤ length bytes → after_field (left_at f r.scan) (piece bytes r.at (field_width f r.scan)) ≡ Ok (left t) → IsReady t.field t → IsOn (record { at = r.at + field_width f r.scan; scan = t }) bytes
 took r t f bytes on next = subst (λ (g : Field). r.at + field_width g r.scan ≤ length bytes → after_field (left_at g r.scan) (piece bytes r.at (field_width g r.scan)) ≡ Ok (left t) → IsReady t.field t → IsOn (record { at = r.at + field_width g r.scan; scan = t }) bytes) next (goes_on r t bytes on)
 
-pub waits_for : (r : Reader) (f : Field) (bytes : List ℕ) → IsOn r bytes → r.scan.field ≡ f → length bytes < r.at + field_width f r.scan → Waits bytes r.at
+pub waits_for : {X : Type 0} (r : Reader X) (f : Field) (bytes : List ℕ) → IsOn r bytes → r.scan.field ≡ f → length bytes < r.at + field_width f r.scan → Waits bytes r.at
 waits_for r f bytes on next = subst (λ (g : Field). length bytes < r.at + field_width g r.scan → Waits bytes r.at) next (waits r bytes on)
 
-pub fails_in : (r : Reader) (f : Field) (bytes : List ℕ) (e : FieldError) (t : Scan) → IsOn r bytes → r.scan.field ≡ f → r.at + field_width f r.scan ≤ length bytes → Takes (left_at f r.scan) (piece bytes r.at (field_width f r.scan)) (Err e) (left t) → Fails bytes (refusal_at r.at e)
+pub fails_in : {X : Type 0} (r : Reader X) (f : Field) (bytes : List ℕ) (e : FieldError) (t : Scan X) → IsOn r bytes → r.scan.field ≡ f → r.at + field_width f r.scan ≤ length bytes → Takes (left_at f r.scan) (piece bytes r.at (field_width f r.scan)) (Err e) (left t) → Fails bytes (refusal_at r.at e)
 fails_in r f bytes e t on next = subst (λ (g : Field). r.at + field_width g r.scan ≤ length bytes → Takes (left_at g r.scan) (piece bytes r.at (field_width g r.scan)) (Err e) (left t) → Fails bytes (refusal_at r.at e)) next (fails_at r bytes e t on)

@@ -36,7 +36,7 @@ Ends fed (Err (errors.Refused at reason)) = (fed.refusal ≡ Some (refused_at at
 Ends fed (Err errors.OutOfMemory) = ⊥
 
 -- what was read of bytes before they ended in a frame, or refused
-abbrev pub FramesOf : List ℕ → Result (List (Packet Tree × ℕ) × ℕ) FrameError → Reader → Type 0
+abbrev pub FramesOf : {X : Type 0} → List ℕ → Result (List (Packet Tree × ℕ) × ℕ) FrameError → Reader X → Type 0
 FramesOf bytes (Ok x) reader = (messages : List (Message × ℕ)) × Begins messages bytes (drop x.1 bytes) × (x.1 ≡ taken messages) × (x.0 ≡ packets_from messages) × IsOn reader (drop x.1 bytes) × Waits (drop x.1 bytes) reader.at
 FramesOf bytes (Err (errors.Refused at reason)) reader = Breaks bytes (refused_at at reason)
 FramesOf bytes (Err errors.OutOfMemory) reader = Unit {0}
@@ -47,7 +47,7 @@ IsWithin bytes (errors.Refused at reason) = at ≤ length bytes
 IsWithin bytes errors.OutOfMemory = Unit {0}
 
 -- what a feeder keeps: how far the bytes that wait were read, and where they end in a field
-pub record IsFed (before : ℕ) (reader : Reader) (rest : List ℕ) (waiting : ℕ) (refused : Option (ℕ × FrameReason)) : Type 0 where
+pub record IsFed {X : Type 0} (before : ℕ) (reader : Reader X) (rest : List ℕ) (waiting : ℕ) (refused : Option (ℕ × FrameReason)) : Type 0 where
   pub fits : before + length rest < 2 ^ 64
   pub within : waiting ≤ length rest
   pub on : refused ≡ None → IsOn reader rest

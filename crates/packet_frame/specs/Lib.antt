@@ -1,11 +1,10 @@
 pub mod Fields
 pub mod Frame
-pub mod FrameRows
+pub mod Sent
+pub mod Rows
 pub mod Scanning
 pub mod Reading
 pub mod Spelling
-pub mod Sent
-pub mod Building
 pub mod Answers
 pub mod FormLaws
 pub mod Streams

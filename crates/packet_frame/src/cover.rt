@@ -7,6 +7,7 @@ ghost use Rattle.packet_frame.specs.Scanning.{left, left_at, Takes, IsReady, aft
 use crate::error::{FieldError, FrameReason};
 use crate::number::u32_of;
 use crate::scan::{Field, Scan};
+use prefix_tree::PrefixTree;
 use rank_places::CoverPlaces;
 use rank_set::{RANK_LIMIT, RankError, RankSet};
 use std::alloc::Global;
@@ -14,7 +15,7 @@ use std::alloc::Global;
 /// The most runs of a coverage.
 const RUN_LIMIT: u32 = RANK_LIMIT / 2;
 
-impl Scan {
+impl<T: PrefixTree> Scan<T> {
     #[tactic(auto, unfolding(crate::specs::Frame::run_count_form))]
     pub fn take_run_count(&mut self, alloc: Global, field: &[u8]) -> Result<(), FieldError>
         requires ready { IsReady fields.RunCount self.old }

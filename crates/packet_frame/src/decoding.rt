@@ -4,7 +4,6 @@ ghost use Rattle.packet_frame.specs.Answers.{Gives};
 ghost use Rattle.packet_frame.specs.Sent.{packet_map, as_packet};
 ghost use Rattle.packet_frame.specs.Reading.{first_of};
 
-use crate::build::packet_of;
 use crate::error::{FrameError, FrameReason};
 use crate::packet::Packet;
 use crate::reader::Reader;
@@ -19,13 +18,13 @@ use std::alloc::Global;
 pub fn decode<T: PrefixTree>(alloc: Global, bytes: &[u8]) -> Result<(Packet<T>, usize), FrameError>
     ensures { Gives (λ x. (packet_map T.tree x.0, x.1)) result (as_packet (first_of bytes.now)) }
 {
-    let mut reader = Reader::new(alloc);
+    let mut reader: Reader<T> = Reader::new(alloc);
     if !reader.run(alloc, bytes)? {
         return Err(FrameError::Refused {
             at: reader.at as u64,
             reason: FrameReason::Short,
         });
     }
-    let packet = packet_of(alloc, &reader.scan)?;
+    let packet = reader.scan.take_packet(alloc);
     Ok((packet, reader.at))
 }

@@ -6,7 +6,6 @@ ghost use Rattle.packet_frame.specs.Sent.{packet_map};
 ghost use Rattle.packet_frame.specs.Feeding.{Feeds, Ends, FramesOf, IsWithin};
 ghost use Rattle.packet_frame.specs.Answers.{result_map};
 
-use crate::build::packet_of;
 use crate::error::{FrameError, FrameReason};
 use crate::packet::Packet;
 use crate::reader::Reader;
@@ -18,17 +17,17 @@ use std::marker::Model;
 /// before them took, and the refusal, if one was given. Each byte is read once, however the stream is cut; only after
 /// running out of memory the bytes that wait are read again.
 #[derive(Drop)]
-pub struct Feeder {
+pub struct Feeder<T: PrefixTree> {
     before: u64,
     rest: Vec<u8>,
     // How far the rest was read.
-    reader: Reader,
+    reader: Reader<T>,
     // The offset in the rest of the field in which it ends.
     waiting: usize,
     refusal: Option<(u64, FrameReason)>,
 }
 
-impl Model for Feeder {
+impl<T: PrefixTree> Model for Feeder<T> {
     ghost use Rattle.std.specs.Prelude.{option_map};
     ghost use Rattle.packet_frame.specs.Streams.{Fed};
     ghost use Rattle.packet_frame.specs.Feeding.{coded_fed, refused_at, IsFed};
@@ -51,7 +50,7 @@ impl Model for Feeder {
 // reader goes on where it stopped in the first of them, and stops in the one behind them.
 fn packets_at<T: PrefixTree>(
     alloc: Global,
-    reader: &mut Reader,
+    reader: &mut Reader<T>,
     bytes: &[u8],
 ) -> Result<(Vec<(Packet<T>, usize)>, usize), FrameError>
     requires { IsOn reader.old bytes.now }
@@ -75,7 +74,7 @@ fn packets_at<T: PrefixTree>(
             }
             Err(FrameError::OutOfMemory) => return Err(FrameError::OutOfMemory),
         }
-        let packet = packet_of(alloc, &reader.scan)?;
+        let packet = reader.scan.take_packet(alloc);
         packets.push((packet, reader.at))?;
         taken += reader.at;
         reader.restart();
@@ -85,7 +84,7 @@ fn packets_at<T: PrefixTree>(
 // The same of bytes that wait, which lose those that the frames take. On failure they stay.
 fn packets_in<T: PrefixTree>(
     alloc: Global,
-    reader: &mut Reader,
+    reader: &mut Reader<T>,
     rest: &mut Vec<u8>,
 ) -> Result<(Vec<(Packet<T>, usize)>, usize), FrameError>
     requires { IsOn reader.old rest.old.items }
@@ -104,9 +103,9 @@ fn packets_in<T: PrefixTree>(
     Ok((packets, taken))
 }
 
-impl Feeder {
+impl<T: PrefixTree> Feeder<T> {
     /// A stream of which no byte came yet.
-    pub fn new(alloc: Global) -> Feeder
+    pub fn new(alloc: Global) -> Feeder<T>
         ensures before { result.before ≡ 0 }
         ensures rest { result.rest ≡ [] }
         ensures refusal { result.refusal ≡ None }
@@ -126,7 +125,7 @@ impl Feeder {
     /// the piece gives no packets, and each later call of `feed` and `finish` returns the same error. The error is never
     /// `Short`. On failure the bytes that wait stay as they were; after running out of memory the same piece may be fed
     /// again.
-    pub fn feed<T: PrefixTree>(
+    pub fn feed(
         &mut self,
         alloc: Global,
         piece: &[u8],

@@ -7,8 +7,9 @@ ghost use Rattle.packet_frame.specs.Scanning.{left, left_at, Takes, IsReady};
 use crate::error::{FieldError, FrameReason};
 use crate::number::u8_of;
 use crate::scan::{Field, Part, Scan};
+use prefix_tree::PrefixTree;
 
-impl Scan {
+impl<T: PrefixTree> Scan<T> {
     #[tactic(auto, unfolding(crate::specs::Frame::frame_form, crate::specs::Frame::version_form))]
     pub fn take_version(&mut self, field: &[u8]) -> Result<(), FieldError>
         requires ready { IsReady fields.Version self.old }
@@ -37,7 +38,11 @@ impl Scan {
             return Err(FieldError::Broken(FrameReason::BadKind));
         }
         self.kind = kind;
-        self.field = if kind <= 2 { Field::Stream } else { Field::End };
+        if kind <= 2 {
+            self.field = Field::Stream;
+            return Ok(());
+        }
+        self.field = Field::End;
         Ok(())
     }
 

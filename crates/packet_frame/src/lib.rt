@@ -1,19 +1,19 @@
 //! What goes over a link: packets as bytes.
 #![tactic(auto)]
 
-mod build;
 mod cover;
 mod decoding;
 mod encoding;
 mod error;
 mod feeder;
 mod frame;
-mod frame_rows;
 mod header;
 mod laws;
 mod number;
 mod packet;
 mod reader;
+mod row_path;
+mod row_tree;
 mod rows;
 mod scan;
 mod sets;

@@ -7,18 +7,19 @@ ghost use Rattle.packet_frame.specs.Reading.{IsOn, IsWhole, Waits, Fails, refusa
 
 use crate::error::{FieldError, FrameError, FrameReason};
 use crate::scan::{Field, Scan};
+use prefix_tree::PrefixTree;
 use std::alloc::Global;
 
 /// A frame that is being read: its fields so far, and the offset of the next field's first byte.
 #[derive(Drop)]
-pub struct Reader {
+pub struct Reader<T: PrefixTree> {
     pub at: usize,
-    pub scan: Scan,
+    pub scan: Scan<T>,
 }
 
-impl Reader {
+impl<T: PrefixTree> Reader<T> {
     /// Before the first field of a frame.
-    pub fn new(alloc: Global) -> Reader
+    pub fn new(alloc: Global) -> Reader<T>
         ensures on { IsOn result [] }
         ensures start { result.at ≡ 0 }
     {

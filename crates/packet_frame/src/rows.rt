@@ -1,27 +1,24 @@
 //! Rows of a tree.
 
-ghost use Rattle.std.specs.Prelude.{◌≡◌, ◌≤◌, ◌-◌, length, true, false, [], slice_get, OnOk, IfErr, IfSome, IfNone};
+ghost use Rattle.std.specs.Prelude.{◌≡◌, ◌≤◌, ◌-◌, length, true, false, slice_get, OnOk, IfErr, IfSome, IfNone, IsTrue};
 ghost use Rattle.std.specs.List.{list_all};
+ghost use Rattle.rank_set.specs.Ranks.{is_subset};
 ghost use Rattle.call_path.specs.Good.{is_plain};
 ghost use Rattle.packet_frame.specs.Frame.{is_after, is_name};
 ghost use Rattle.packet_frame.specs.declared.scan.Field.TheVariants as fields;
-ghost use Rattle.packet_frame.specs.Scanning.{left, left_at, Takes, IsReady, IsBeforeRow, IsNamed, after_ends, rows_view, is_plain_ascii};
+ghost use Rattle.packet_frame.specs.Scanning.{left, left_at, Takes, IsReady, IsBeforeRow, IsNamed, after_ends, is_plain_ascii};
 
 use crate::error::{FieldError, FrameReason};
 use crate::number::{u8_of, u16_of};
 use crate::scan::{Field, Part, Scan};
+use prefix_tree::PrefixTree;
 use rank_set::RankSet;
+use std::alloc::Global;
 use std::cmp::Ordering;
 
-// For how many rows room is made when their number is read, which alone says nothing of how long the input is.
-const ROWS_AT_ONCE: u16 = 32;
-
-// How many bytes of a name room is made for, beforehand.
-const NAME_AT_ONCE: usize = 32;
-
-impl Scan {
+impl<T: PrefixTree> Scan<T> {
     #[tactic(auto, unfolding(crate::specs::Frame::row_count_form))]
-    pub fn take_row_count(&mut self, field: &[u8]) -> Result<(), FieldError>
+    pub fn take_row_count(&mut self, alloc: Global, field: &[u8]) -> Result<(), FieldError>
         requires ready { IsReady fields.RowCount self.old }
         requires width { length field.now ≡ 2 }
         ensures takes { Takes (left_at fields.RowCount self.old) field.now result (left self.new) }
@@ -31,11 +28,8 @@ impl Scan {
         if count > 2_048 {
             return Err(FieldError::Broken(FrameReason::OverLimit));
         }
-        let at_once = count.min(ROWS_AT_ONCE) as usize;
-        self.rows.clear();
-        self.rows.reserve(at_once, NAME_AT_ONCE * at_once)?;
-        self.path.cut(0);
-        self.path.reserve(at_once, NAME_AT_ONCE * at_once)?;
+        self.tree.restart(alloc, &self.cover)?;
+        self.path.clear();
         self.ended = true;
         self.rows_left = count;
         self.next_row();
@@ -112,8 +106,7 @@ impl Scan {
         if !self.is_in_order(field) {
             return Err(FieldError::Broken(FrameReason::NotCanonical));
         }
-        self.path.cut(self.depth as usize - 1);
-        self.path.push(name)?;
+        self.path.put(self.depth as usize - 1, name)?;
         self.part = Part::Ends;
         self.field = Field::Offset;
         Ok(())
@@ -135,17 +128,16 @@ impl Scan {
     // The row is whole. Each caller has this code in its own, and with no ends much of it falls away.
     #[inline(always)]
     pub fn end_row(&mut self, ends: RankSet) -> Result<(), FieldError>
-        requires { IsNamed self.old }
+        requires named { IsNamed self.old }
+        requires covered { IsTrue (is_subset ends self.old.cover) }
         ensures ends { OnOk result
-            (after_ends self.old.version self.old.stream self.old.wave self.old.cover (rows_view [] self.old.rows)
-            self.old.path self.old.rows_left ends ≡ left self.new) }
+            (after_ends self.old.version self.old.stream self.old.wave self.old.cover self.old.tree self.old.path
+            self.old.rows_left ends ≡ left self.new) }
         ensures err { IfErr result (λ e. e ≡ FieldError.OutOfMemory) }
         ensures ready { OnOk result (IsReady self.new.field self.new) }
     {
         self.ended = ends.count() != 0;
-        let keep = self.depth - 1;
-        let name = self.path.frame(keep as usize);
-        self.rows.push(keep, name, ends)?;
+        self.tree.grow(&ends, &self.path)?;
         self.rows_left -= 1;
         self.next_row();
         Ok(())

@@ -1,11 +1,14 @@
 //! The fields of a frame, one after another, wherever the input ends.
 
 ghost use Rattle.std.specs.Prelude.{◌≡◌, length, OnOk};
-ghost use Rattle.packet_frame.specs.Scanning.{left, left_at, Takes, IsReady, IsFollowed, field_width};
+ghost use Rattle.packet_frame.specs.Sent.{packet_map};
+ghost use Rattle.packet_frame.specs.Scanning.{left, left_at, Takes, IsReady, IsFollowed, field_width, packet_read};
 
 use crate::error::FieldError;
-use crate::frame_rows::FrameRows;
-use call_path::PathBuilder;
+use crate::packet::Packet;
+use crate::row_path::RowPath;
+use crate::row_tree::RowTree;
+use prefix_tree::PrefixTree;
 use rank_places::CoverPlaces;
 use rank_set::RankSet;
 use std::alloc::Global;
@@ -40,7 +43,7 @@ pub enum Part {
 
 /// The fields of a frame that were read so far, and which comes next.
 #[derive(Drop)]
-pub struct Scan {
+pub struct Scan<T: PrefixTree> {
     pub field: Field,
     pub version: u8,
     pub kind: u8,
@@ -60,20 +63,21 @@ pub struct Scan {
     pub words: Vec<u64>,
     /// How many words or runs are left.
     pub left: u32,
-    pub rows: FrameRows,
+    /// The tree of the rows that were read.
+    pub tree: RowTree<T>,
     /// How many rows are left, the one that is being read among them.
     pub rows_left: u16,
     /// The path of the row before, or, from its name on, of the row that is being read.
-    pub path: PathBuilder,
+    pub path: RowPath,
     /// Whether the row before has ends.
     pub ended: bool,
     pub depth: u8,
     pub name_length: u16,
 }
 
-impl Scan {
+impl<T: PrefixTree> Scan<T> {
     /// Before the first field of a frame.
-    pub fn new(alloc: Global) -> Scan
+    pub fn new(alloc: Global) -> Scan<T>
         ensures { result.field ≡ Field.Version }
     {
         Scan {
@@ -90,12 +94,31 @@ impl Scan {
             offset: 0,
             words: Vec::new(alloc),
             left: 0,
-            rows: FrameRows::new(alloc),
+            tree: RowTree::new(alloc),
             rows_left: 0,
-            path: PathBuilder::new(alloc),
+            path: RowPath::new(alloc),
             ended: true,
             depth: 0,
             name_length: 0,
+        }
+    }
+
+    /// Takes out the packet of a frame that was read to its end.
+    pub fn take_packet(&mut self, alloc: Global) -> Packet<T>
+        ensures { packet_map T.tree result ≡ packet_read self.old }
+    {
+        match self.kind {
+            1 => Packet::Up {
+                stream: self.stream,
+                wave: self.wave,
+                tree: self.tree.take(alloc),
+            },
+            2 => Packet::Done {
+                stream: self.stream,
+                wave: self.wave,
+            },
+            3 => Packet::Attach,
+            _ => Packet::Down,
         }
     }
 
@@ -135,7 +158,7 @@ impl Scan {
             Field::Offset => self.take_offset(bytes),
             Field::WordCount => self.take_word_count(alloc, bytes),
             Field::Word => self.take_word(alloc, bytes),
-            Field::RowCount => self.take_row_count(bytes),
+            Field::RowCount => self.take_row_count(alloc, bytes),
             Field::Depth => self.take_depth(bytes),
             Field::NameLength => self.take_name_length(bytes),
             Field::Name => self.take_name(bytes),

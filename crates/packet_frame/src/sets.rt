@@ -1,23 +1,23 @@
 //! Sets of numbers as words.
 
-ghost use Rattle.std.specs.Prelude.{ℕ, ◌≡◌, ◌<◌, ◌+◌, ◌-◌, ◌||◌, nat_eq, cond, length, false, None, Some, OnOk, IfErr, IfSome};
-ghost use Rattle.rank_set.specs.Ranks.{Has, size};
+ghost use Rattle.std.specs.Prelude.{◌≡◌, ◌<◌, ◌+◌, ◌-◌, ◌||◌, nat_eq, cond, length, false, None, Some, OnOk, IfErr, IfSome};
 ghost use Rattle.rank_set.specs.Words.{AreWords, ranks_in};
 ghost use Rattle.packet_frame.specs.declared.error.FrameReason.TheVariants.{NotCanonical};
 ghost use Rattle.packet_frame.specs.Fields.{broken, is_short};
-ghost use Rattle.packet_frame.specs.Frame.{is_first, word_limit};
+ghost use Rattle.packet_frame.specs.Frame.{word_limit};
 ghost use Rattle.packet_frame.specs.declared.scan.Part.TheVariants as parts;
 ghost use Rattle.packet_frame.specs.declared.scan.Field.TheVariants as fields;
-ghost use Rattle.packet_frame.specs.Scanning.{left, left_at, Takes, IsReady, IsInPart, IsInSet, needed, word_rule, set_then, set_left};
+ghost use Rattle.packet_frame.specs.Scanning.{left, left_at, Takes, IsReady, IsInPart, IsInSet, MayEnd, needed, word_rule, set_then, set_left};
 
 use crate::error::{FieldError, FrameReason};
 use crate::number::{u16_of, u64_of};
 use crate::scan::{Field, Part, Scan};
+use prefix_tree::PrefixTree;
 use rank_set::{RankSet, word_is_below};
 use std::alloc::Global;
 use std::mem;
 
-impl Scan {
+impl<T: PrefixTree> Scan<T> {
     // How many words a set may reach over.
     fn word_limit(&self) -> u32
         ensures { result ≡ word_limit self.now.version }
@@ -144,8 +144,8 @@ impl Scan {
     fn end_set(&mut self, alloc: Global) -> Result<(), FieldError>
         requires part { IsInPart self.old.part self.old }
         requires words { AreWords self.old.offset self.old.words.items }
-        requires places { self.old.part ≡ parts.Ends → is_first self.old.version ≡ false
-            → (p : ℕ) → Has p (ranks_in self.old.offset self.old.words.items) → p < size self.old.cover }
+        requires may_end { self.old.part ≡ parts.Ends
+            → MayEnd self.old.version self.old.cover (ranks_in self.old.offset self.old.words.items) }
         ensures ends { OnOk result
             (set_then self.old (ranks_in self.old.offset self.old.words.items) ≡ left self.new) }
         ensures err { IfErr result (λ e. e ≡ FieldError.OutOfMemory) }
@@ -162,8 +162,8 @@ impl Scan {
     fn end_words(&mut self, alloc: Global) -> Result<(), FieldError>
         requires part { IsInPart self.old.part self.old }
         requires words { AreWords self.old.offset self.old.words.items }
-        requires places { self.old.part ≡ parts.Ends → is_first self.old.version ≡ false
-            → (p : ℕ) → Has p (ranks_in self.old.offset self.old.words.items) → p < size self.old.cover }
+        requires may_end { self.old.part ≡ parts.Ends
+            → MayEnd self.old.version self.old.cover (ranks_in self.old.offset self.old.words.items) }
         ensures ends { OnOk result
             (set_then self.old (ranks_in self.old.offset self.old.words.items) ≡ left self.new) }
         ensures err { IfErr result (λ e. e ≡ FieldError.OutOfMemory) }

@@ -6,13 +6,13 @@ use Rattle.packet_frame.proofs.Steps.{took, waits_for, fails_in}
 use Rattle.packet_frame.proofs.reader.Reader.read.Goals as goal
 
 pub returns-then-rest-width-clause-waits : goal.returns-then-rest-width-clause-waits
-returns-then-rest-width-clause-waits c =
+returns-then-rest-width-clause-waits g c =
     let r = c.args.self.now in
     let less : length c.args.bytes.now < r.at + field_width c.args.field r.scan = omega (arith, c.if-rest-width.true, c.width-width.ensures, c.split_at.ensures.back_len) in
     λ _. waits_for r c.args.field c.args.bytes.now c.requires.on c.requires.next less
 
 pub returns-in-Err-clause-refused : goal.returns-in-Err-clause-refused
-returns-in-Err-clause-refused c =
+returns-in-Err-clause-refused g c =
     let r = c.args.self.now in
     let f = c.args.field in
     let w = field_width f r.scan in
@@ -22,7 +22,7 @@ returns-in-Err-clause-refused c =
     subst (Fails c.args.bytes.now) (sym c.refused.ensures) (fails_in r f c.args.bytes.now c.in-Err.error c.take.new.self c.requires.on c.requires.next within taken)
 
 pub returns-clause-on : goal.returns-clause-on
-returns-clause-on c =
+returns-clause-on g c =
     let r = c.args.self.now in
     let f = c.args.field in
     let w = field_width f r.scan in

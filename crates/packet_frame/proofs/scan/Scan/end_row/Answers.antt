@@ -1,22 +1,20 @@
-use Rattle.std.proofs.Common.{ℕ, ◌-◌, Bool, not, [], ◌∷◌, ◌++◌, sym, ap, ◌∙◌, nat_eq}
-use Rattle.packet_frame.specs.Frame.{row_of}
-use Rattle.packet_frame.specs.Scanning.{rows_left, rows_view, last_path}
-use Rattle.packet_frame.proofs.Rowing.{named_path, last_path-push, rows_view-push}
+use Rattle.std.proofs.Common.{◌-◌, sym, subst}
+use Rattle.prefix_tree.specs.Tree.{Tree}
+use Rattle.packet_frame.specs.Rows.{HasGrown}
+use Rattle.packet_frame.proofs.Growing.{named_more, named_room, named_covered}
 use Rattle.packet_frame.proofs.scan.Scan.end_row.Goals as goal
 
-pub next_row-requires : goal.next_row-requires
-next_row-requires c =
+pub grow-requires-clause-covered : goal.grow-requires-clause-covered
+grow-requires-clause-covered g c κs within = named_covered c.args.self.now c.requires.named c.args.ends c.requires.covered
+
+pub grow-requires-clause-room : goal.grow-requires-clause-room
+grow-requires-clause-room g c κs within = named_room c.args.self.now c.requires.named c.args.ends
+
+pub next_row-requires-after_bounds : goal.next_row-requires-after_bounds
+next_row-requires-after_bounds g c κs within =
     let s = c.args.self.now in
     record {
-      kind = c.requires.kind;
-      covered = c.requires.covered;
-      path = ap (last_path []) c.in_ok-push.ensures ∙ last_path-push [] s.rows _ ∙ named_path s c.frame-name.result.now c.requires c.frame-name.ensures.frame;
+      kind = c.requires.named.kind;
+      covered = c.requires.named.covered;
+      grown = subst (λ (t : Tree). HasGrown s.cover t s.path (s.rows_left - 1)) (sym c.in_ok-grow.ensures) (named_more s c.requires.named c.args.ends);
     }
-
-pub returns-clause-ends : goal.returns-clause-ends
-returns-clause-ends c =
-    let s = c.args.self.now in
-    let path = named_path s c.frame-name.result.now c.requires c.frame-name.ensures.frame in
-    let rows = ap (rows_view []) c.in_ok-push.ensures ∙ rows_view-push [] s.rows _ ∙ ap (λ p. rows_view [] s.rows ++ row_of p c.args.ends ∷ []) path in
-    let ended = ap (λ (n : ℕ). not (nat_eq n 0)) c.count.ensures.count in
-    sym (c.next_row.ensures.left ∙ ap (λ rs. rows_left s.version s.stream s.wave s.cover rs s.path (not (nat_eq c.count.result 0)) (s.rows_left - 1)) rows ∙ ap (λ (b : Bool). rows_left s.version s.stream s.wave s.cover (rows_view [] s.rows ++ row_of s.path c.args.ends ∷ []) s.path b (s.rows_left - 1)) ended)

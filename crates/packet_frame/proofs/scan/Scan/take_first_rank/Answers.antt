@@ -13,7 +13,7 @@ use Rattle.packet_frame.proofs.scan.Scan.take_first_rank.Goals as goal
 
 pub returns-clause-takes : goal.returns-clause-takes
 unfolding first_rank_form
-returns-clause-takes c =
+returns-clause-takes g c =
     let s = c.args.self.now in
     let n = c.u32_of-first.result in
     let fine : broken ((nat_lt n RANK_LIMIT, OverLimit) ∷ (nat_le s.least n, NotCanonical) ∷ []) ≡ None = search rules in

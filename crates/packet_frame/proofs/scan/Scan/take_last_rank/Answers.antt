@@ -14,7 +14,7 @@ use Rattle.packet_frame.proofs.scan.Scan.take_last_rank.Goals as goal
 
 pub returns-then-self-eq0-clause-takes : goal.returns-then-self-eq0-clause-takes
 unfolding last_rank_form
-returns-then-self-eq0-clause-takes c =
+returns-then-self-eq0-clause-takes g c =
     let s = c.args.self.now in
     let n = c.u32_of-last.result in
     let fine : broken ((nat_lt n RANK_LIMIT, OverLimit) ∷ (nat_le s.least n, NotCanonical) ∷ []) ≡ None = search rules in
@@ -25,7 +25,7 @@ returns-then-self-eq0-clause-takes c =
 
 pub returns-clause-takes : goal.returns-clause-takes
 unfolding last_rank_form
-returns-clause-takes c =
+returns-clause-takes g c =
     let s = c.args.self.now in
     let n = c.u32_of-last.result in
     let fine : broken ((nat_lt n RANK_LIMIT, OverLimit) ∷ (nat_le s.least n, NotCanonical) ∷ []) ≡ None = search rules in

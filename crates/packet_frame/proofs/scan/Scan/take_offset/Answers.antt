@@ -10,7 +10,7 @@ use Rattle.packet_frame.proofs.scan.Scan.take_offset.Goals as goal
 
 pub returns-clause-takes : goal.returns-clause-takes
 unfolding offset_form
-returns-clause-takes c =
+returns-clause-takes g c =
     let s = c.args.self.now in
     let n = c.u16_of-offset.result in
     let fine : broken ((nat_lt n (word_limit s.version), OverLimit) ∷ []) ≡ None = search rules in

@@ -8,8 +8,8 @@ use Rattle.packet_frame.proofs.Binding.{take_number, takes_by}
 use Rattle.packet_frame.proofs.Setting.{part_kept, with_word, word_follows, obeyed}
 use Rattle.packet_frame.proofs.scan.Scan.take_word.Goals as goal
 
-pub next_word-requires : goal.next_word-requires
-next_word-requires c =
+pub next_word-requires-after_bounds : goal.next_word-requires-after_bounds
+next_word-requires-after_bounds g c κs within =
     let s = c.args.self.now in
     let w = c.u64_of-word.result in
     let fine : (not (nat_eq (length s.words.items) 0 || nat_eq (s.left - 1) 0) || not (nat_eq w 0)) ≡ true = search rules in
@@ -18,7 +18,7 @@ next_word-requires c =
 
 pub returns-clause-takes : goal.returns-clause-takes
 unfolding word_form
-returns-clause-takes c =
+returns-clause-takes g c =
     let s = c.args.self.now in
     let w = c.u64_of-word.result in
     let fine : (not (nat_eq (length s.words.items) 0 || nat_eq (s.left - 1) 0) || not (nat_eq w 0)) ≡ true = search rules in

@@ -1,16 +1,17 @@
 use Rattle.std.proofs.Common.{◌≡◌, ◌+◌, ◌≤◌, refl, sym, ap, ◌∙◌, arith, length}
 use Rattle.packet_frame.specs.Frame.{word_limit}
-use Rattle.packet_frame.proofs.Setting.{no_places, part_kept, within_words}
+use Rattle.packet_frame.proofs.Setting.{no_numbers, part_kept, within_words}
+use Rattle.packet_frame.proofs.scan.Scan.take_word_count.Given as given
 use Rattle.packet_frame.proofs.scan.Scan.take_word_count.Goals as goal
 
-no_offset : (c : goal.After-next_word-arg-1) → c.from-self.result ≡ 0 → c.args.self.now.offset ≡ 0
-no_offset c zero = elim c.else-self-ne0.branch [
+no_offset : (g : given.Over) (c : goal.After-next_word-arg-1 g) → c.from-self.result ≡ 0 → c.args.self.now.offset ≡ 0
+no_offset g c zero = elim c.else-self-ne0.branch [
   | goal.else-self-ne0-via-then-self-ne0+else-count-eq0 w ↦ absurd (w.if-count-eq0.false (sym c.from-self.ensures ∙ zero))
   | goal.else-self-ne0-via-else-self-ne0 w ↦ w.if-self-ne0.false
 ]
 
-pub next_word-requires : goal.next_word-requires
-next_word-requires c =
+pub next_word-requires-after_bounds : goal.next_word-requires-after_bounds
+next_word-requires-after_bounds g c κs within =
     let s = c.args.self.now in
     let none : length c.clear.new.self.items ≡ 0 = ap length c.clear.ensures.items in
     record {
@@ -20,6 +21,6 @@ next_word-requires c =
           omega (arith, none, within_words s.version (s.offset + c.u16_of-count.result) within, c.from-self.ensures);
       first = λ some. absurd (omega (arith, none, some));
       last = λ _ some. absurd (omega (arith, none, some));
-      nothing = λ zero _. no_offset c zero;
-      places = λ _ _. no_places s.offset _ c.clear.new.self.items c.clear.ensures.items;
+      nothing = λ zero _. no_offset g c zero;
+      ends = λ _. no_numbers s.version s.offset s.cover c.clear.new.self.items c.clear.ensures.items;
     }

@@ -1,0 +1,88 @@
+//! The tree that the rows of a frame make.
+
+ghost use Rattle.std.specs.Prelude.{◌≡◌, ◌≢◌, ◌<◌, ◌≤◌, [], length, OnOk, IsTrue};
+ghost use Rattle.rank_set.specs.Ranks.{none, is_subset};
+ghost use Rattle.prefix_tree.specs.Tree.{tree_of, added, count_below};
+ghost use Rattle.packet_frame.specs.Rows.{grown};
+
+use crate::row_path::RowPath;
+use call_path::CallPath;
+use prefix_tree::{PrefixTree, TreeError};
+use rank_set::RankSet;
+use std::alloc::{AllocError, Global};
+use std::marker::Model;
+use std::mem;
+
+/// The tree of the rows that were read so far.
+#[derive(Drop)]
+pub struct RowTree<T: PrefixTree> {
+    tree: T,
+}
+
+impl<T: PrefixTree> Model for RowTree<T> {
+    ghost use Rattle.prefix_tree.specs.Tree.{Tree};
+    ghost use Rattle.prefix_tree.specs.Code.{coded_tree};
+
+    ghost Value = { Tree };
+
+    ghost coded = { coded_tree };
+
+    ghost view = { λ a. T.tree a.tree };
+}
+
+impl<T: PrefixTree> RowTree<T> {
+    /// The tree of no rows and no ranks.
+    pub fn new(alloc: Global) -> RowTree<T>
+        ensures { result ≡ tree_of [] none }
+    {
+        RowTree {
+            tree: T::empty(alloc),
+        }
+    }
+
+    /// Begins anew: the tree of no rows over a coverage.
+    pub fn restart(&mut self, alloc: Global, cover: &RankSet) -> Result<(), AllocError>
+        ensures { OnOk result (self.new ≡ tree_of [] cover.now) }
+    {
+        self.tree = T::empty(alloc);
+        self.tree.cover(cover)
+    }
+
+    /// Adds the ends of one more row, if it has any. Most rows have none, and take but the test.
+    #[inline(always)]
+    pub fn grow(&mut self, ends: &RankSet, path: &RowPath) -> Result<(), AllocError>
+        requires path { 0 < length path.now }
+        requires covered { IsTrue (is_subset ends.now self.old.coverage) }
+        requires room { count_below (grown self.old ends.now path.now) ≤ 2048 }
+        ensures { OnOk result (self.new ≡ grown self.old ends.now path.now) }
+    {
+        if ends.count() == 0 {
+            return Ok(());
+        }
+        let Some(path) = path.whole() else {
+            unreachable!()
+        };
+        self.add(ends, path)
+    }
+
+    // Adds a path that each of some ranks was seen in.
+    fn add(&mut self, ends: &RankSet, path: &CallPath) -> Result<(), AllocError>
+        requires some { ends.now ≢ none }
+        requires covered { IsTrue (is_subset ends.now self.old.coverage) }
+        requires room { count_below (added self.old ends.now path.now) ≤ 2048 }
+        ensures { OnOk result (self.new ≡ added self.old ends.now path.now) }
+    {
+        match self.tree.add(ends, path) {
+            Ok(()) => Ok(()),
+            Err(TreeError::OutOfMemory) => Err(AllocError),
+            Err(TreeError::TooManyPrefixes) => unreachable!(),
+        }
+    }
+
+    /// Takes the tree out.
+    pub fn take(&mut self, alloc: Global) -> T
+        ensures { T.tree result ≡ self.old }
+    {
+        mem::replace(&mut self.tree, T::empty(alloc))
+    }
+}
