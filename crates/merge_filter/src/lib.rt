@@ -187,7 +187,8 @@ impl<T: PrefixTree> Contribution<T> {
     }
 }
 
-// The parts of some daemons of a stream, merged by halves: a set is copied once for each halving, and not for each daemon.
+// The parts of some daemons of a stream, merged by halves: a set is copied once for each halving, and not for each
+// daemon.
 fn merge_parts<T: PrefixTree>(
     alloc: Global,
     plan: &Plan,

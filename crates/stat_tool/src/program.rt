@@ -42,8 +42,8 @@ pub fn ending_of(status: Status) -> Ending
 }
 
 /// The call with the program's words, the real files, standard output, and a file `stat.journal` for the journal, which
-/// is made when it is first written to. No event waits at the gate. Words of which one is not UTF-8 are bad words. What the
-/// outside gives and takes no clause can say; that the number and the line are those of one status, it says.
+/// is made when it is first written to. No event waits at the gate. Words of which one is not UTF-8 are bad words. What
+/// the outside gives and takes no clause can say; that the number and the line are those of one status, it says.
 pub fn run_program<T: PrefixTree, R: Env + Files + Print + AllocGlobal + Threads + Wait + Sync>(
     rt: &R,
 ) -> Ending
