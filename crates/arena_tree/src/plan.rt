@@ -9,6 +9,7 @@ ghost use Rattle.arena_tree.specs.Plans.{plan_with, next_place, HasRoom, step_at
 
 use crate::node::{Link, NO_PLACE, Node, Step};
 use crate::target::Target;
+use call_path::CallPath;
 use node_arena::Place;
 use rank_set::RankSet;
 use std::alloc::{AllocError, Global};
@@ -180,8 +181,7 @@ impl Plan {
         let place = self.next;
         // For the proof: no more than `FRAME_LIMIT` frames.
         let _len = node.frames().len();
-        let mut upper = node.frames().behind(into.skip)?;
-        upper.cut(shared);
+        let upper = kept_frames(node.frames(), into.skip, shared)?;
         let lower = node.behind(into.skip + shared, node.first(), NO_PLACE)?;
         let label = node.label().united(label)?;
         let ends = ends.copy()?;
@@ -190,6 +190,21 @@ impl Plan {
         self.next = place + 1;
         Ok(place)
     }
+}
+
+/// The `shared` frames of a path behind the first `skip`.
+fn kept_frames(path: &CallPath, skip: usize, shared: usize) -> Result<CallPath, AllocError>
+    requires not_empty { 0 < shared }
+    requires within { skip + shared ≤ length path.now }
+    ensures { IfOk result (λ kept. kept ≡ take shared (drop skip path.now)) }
+{
+    // Most often they are the first, and no others are copied.
+    if skip == 0 {
+        return path.prefix(shared);
+    }
+    let mut kept = path.behind(skip)?;
+    kept.cut(shared);
+    Ok(kept)
 }
 
 /// What a step has for a set that gets the ranks of another: a copy of the other, which is small where the set is wide,

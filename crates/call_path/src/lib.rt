@@ -163,6 +163,15 @@ impl CallPath {
         Ok(CallPath { frames })
     }
 
+    /// The frames as a list that is built on. Nothing is copied.
+    pub fn into_builder(self) -> PathBuilder
+        ensures { result ≡ self }
+    {
+        PathBuilder {
+            frames: self.frames,
+        }
+    }
+
     /// Appends the frames, joined by `;`.
     pub fn write_text(&self, out: &mut Vec<u8>) -> Result<(), AllocError>
         ensures ok { OnOk result (out.new.items ≡ out.old.items ++ path_text self.now) }
@@ -239,7 +248,17 @@ impl PathBuilder {
         self.frames.cut(depth);
     }
 
-    /// The path of the frames.
+    /// The path of the frames. Nothing is copied.
+    pub fn into_path(self) -> CallPath
+        requires { 0 < length self }
+        ensures { result ≡ self }
+    {
+        CallPath {
+            frames: self.frames,
+        }
+    }
+
+    /// A path of the frames, as they are now.
     pub fn path(&self) -> Result<CallPath, AllocError>
         requires { 0 < length self.now }
         ensures { IfOk result (λ path. path ≡ self.now) }

@@ -1,15 +1,10 @@
 -- The rows of a frame, one after another, and the tree that they make.
-use Rattle.std.specs.Prelude.{◌≡◌, ℕ, ◌+◌, ◌≤◌, cond, take, List, [], ◌∷◌, ◌++◌, length, Option, None, Some}
+use Rattle.std.specs.Prelude.{◌≡◌, ℕ, ◌+◌, ◌≤◌, cond, take, List, [], ◌∷◌, ◌++◌, length}
 use Rattle.rank_set.specs.Ranks.{Ranks, is_empty}
 use Rattle.call_path.specs.Path.{Path}
 use Rattle.prefix_tree.specs.Tree.{Tree, tree_of, added}
 use Rattle.packet_frame.specs.Frame.{Row, row_of}
 use Rattle.packet_frame.specs.Sent.{pairs_of_rows}
-
--- the frames of a path, if there is one
-abbrev pub frames_of : Option Path → Path
-frames_of None = []
-frames_of (Some p) = p
 
 -- a tree with the ends of one more row
 abbrev pub grown : Tree → Ranks → Path → Tree

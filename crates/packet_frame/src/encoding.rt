@@ -1,6 +1,6 @@
 //! Bytes of packets.
 
-ghost use Rattle.std.specs.Prelude.{ℕ, ◌≡◌, ◌≢◌, ◌++◌, ◌<◌, ◌≤◌, true, length, List, Ok, OnOk, IfOk};
+ghost use Rattle.std.specs.Prelude.{ℕ, ◌≡◌, ◌≢◌, ◌++◌, ◌∷◌, ◌<◌, ◌≤◌, true, length, List, Ok, OnOk, IfOk};
 ghost use Rattle.std.specs.List.{flat_map};
 ghost use Rattle.std.specs.Int.{w16, w64, to_be_bytes};
 ghost use Rattle.std.specs.Str.{IsUtf8};
@@ -137,8 +137,7 @@ fn put_row(row: &Row<'_>, places: &CoverPlaces, out: &mut Vec<u8>) -> Result<(),
     ensures bytes { OnOk result (out.new.items ≡ out.old.items ++ shown_bytes places.now row.now) }
     ensures text { OnOk result (IsUtf8 row.now.frame.now) }
 {
-    out.push(row.depth as u8)?;
-    put_name(row.frame, out)?;
+    put_name(row.depth as u8, row.frame, out)?;
     put_ends(row.ends, places, out)
 }
 
@@ -153,14 +152,15 @@ fn put_ends(ends: &RankSet, places: &CoverPlaces, out: &mut Vec<u8>) -> Result<(
     put_set(&places.to_places(ends)?, out)
 }
 
-// Appends a frame of a path: its length, and its bytes.
-fn put_name(name: &str, out: &mut Vec<u8>) -> Result<(), AllocError>
+// Appends a row's depth, and its last frame: the frame's length, and its bytes.
+fn put_name(depth: u8, name: &str, out: &mut Vec<u8>) -> Result<(), AllocError>
     requires { length name.now ≤ 1023 }
     ensures bytes { OnOk result
-        (out.new.items ≡ out.old.items ++ (to_be_bytes w16 (length name.now) ++ name.now)) }
+        (out.new.items ≡ out.old.items ++ depth ∷ (to_be_bytes w16 (length name.now) ++ name.now)) }
     ensures text { OnOk result (IsUtf8 name.now) }
 {
-    out.extend_from_slice(&(name.len() as u16).to_be_bytes())?;
+    let [high, low] = (name.len() as u16).to_be_bytes();
+    out.extend_from_slice(&[depth, high, low])?;
     out.extend_from_slice(name.as_bytes())
 }
 

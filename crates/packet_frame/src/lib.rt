@@ -12,7 +12,6 @@ mod laws;
 mod number;
 mod packet;
 mod reader;
-mod row_path;
 mod row_tree;
 mod rows;
 mod scan;

@@ -5,8 +5,7 @@ ghost use Rattle.rank_set.specs.Ranks.{none, is_subset};
 ghost use Rattle.prefix_tree.specs.Tree.{tree_of, added, count_below};
 ghost use Rattle.packet_frame.specs.Rows.{grown};
 
-use crate::row_path::RowPath;
-use call_path::CallPath;
+use call_path::{CallPath, PathBuilder};
 use prefix_tree::{PrefixTree, TreeError};
 use rank_set::RankSet;
 use std::alloc::{AllocError, Global};
@@ -50,19 +49,20 @@ impl<T: PrefixTree> RowTree<T> {
 
     /// Adds the ends of one more row, if it has any. Most rows have none, and take but the test.
     #[inline(always)]
-    pub fn grow(&mut self, ends: &RankSet, path: &RowPath) -> Result<(), AllocError>
-        requires path { 0 < length path.now }
+    pub fn grow(&mut self, alloc: Global, ends: &RankSet, frames: &mut PathBuilder) -> Result<(), AllocError>
+        requires path { 0 < length frames.old }
         requires covered { IsTrue (is_subset ends.now self.old.coverage) }
-        requires room { count_below (grown self.old ends.now path.now) ≤ 2048 }
-        ensures { OnOk result (self.new ≡ grown self.old ends.now path.now) }
+        requires room { count_below (grown self.old ends.now frames.old) ≤ 2048 }
+        ensures tree { OnOk result (self.new ≡ grown self.old ends.now frames.old) }
+        ensures path { frames.new ≡ frames.old }
     {
         if ends.count() == 0 {
             return Ok(());
         }
-        let Some(path) = path.whole() else {
-            unreachable!()
-        };
-        self.add(ends, path)
+        let path = mem::replace(frames, PathBuilder::new(alloc)).into_path();
+        let added = self.add(ends, &path);
+        *frames = path.into_builder();
+        added
     }
 
     // Adds a path that each of some ranks was seen in.

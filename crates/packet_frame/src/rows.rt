@@ -16,6 +16,11 @@ use rank_set::RankSet;
 use std::alloc::Global;
 use std::cmp::Ordering;
 
+// For how many frames of a path, and bytes of them, room is made before the first row.
+const FRAMES_AT_ONCE: usize = 32;
+
+const BYTES_AT_ONCE: usize = 1_024;
+
 impl<T: PrefixTree> Scan<T> {
     #[tactic(auto, unfolding(crate::specs::Frame::row_count_form))]
     pub fn take_row_count(&mut self, alloc: Global, field: &[u8]) -> Result<(), FieldError>
@@ -29,7 +34,8 @@ impl<T: PrefixTree> Scan<T> {
             return Err(FieldError::Broken(FrameReason::OverLimit));
         }
         self.tree.restart(alloc, &self.cover)?;
-        self.path.clear();
+        self.path.cut(0);
+        self.path.reserve(FRAMES_AT_ONCE, BYTES_AT_ONCE)?;
         self.ended = true;
         self.rows_left = count;
         self.next_row();
@@ -106,7 +112,8 @@ impl<T: PrefixTree> Scan<T> {
         if !self.is_in_order(field) {
             return Err(FieldError::Broken(FrameReason::NotCanonical));
         }
-        self.path.put(self.depth as usize - 1, name)?;
+        self.path.cut(self.depth as usize - 1);
+        self.path.push(name)?;
         self.part = Part::Ends;
         self.field = Field::Offset;
         Ok(())
@@ -127,7 +134,7 @@ impl<T: PrefixTree> Scan<T> {
 
     // The row is whole. Each caller has this code in its own, and with no ends much of it falls away.
     #[inline(always)]
-    pub fn end_row(&mut self, ends: RankSet) -> Result<(), FieldError>
+    pub fn end_row(&mut self, alloc: Global, ends: RankSet) -> Result<(), FieldError>
         requires named { IsNamed self.old }
         requires covered { IsTrue (is_subset ends self.old.cover) }
         ensures ends { OnOk result
@@ -137,7 +144,7 @@ impl<T: PrefixTree> Scan<T> {
         ensures ready { OnOk result (IsReady self.new.field self.new) }
     {
         self.ended = ends.count() != 0;
-        self.tree.grow(&ends, &self.path)?;
+        self.tree.grow(alloc, &ends, &mut self.path)?;
         self.rows_left -= 1;
         self.next_row();
         Ok(())
@@ -174,12 +181,26 @@ fn all_plain_ascii(bytes: &[u8]) -> bool
     all
 }
 
+// The same of 8 to 15 bytes: the first 8 and the last 8, since single bytes take longer.
+fn two_plain_blocks(field: &[u8]) -> bool
+    requires at_least { 8 ≤ length field.now }
+    requires at_most { length field.now ≤ 16 }
+    ensures { result ≡ list_all is_plain_ascii field.now }
+{
+    let (first, _) = field.split_at(8);
+    let (_, last) = field.split_at(field.len() - 8);
+    all_plain_ascii(first) & all_plain_ascii(last)
+}
+
 // It tests blocks of 16 bytes, and the last 16 in place of those that are left, since single bytes take longer.
 fn are_plain_ascii(field: &[u8]) -> bool
     ensures { result ≡ list_all is_plain_ascii field.now }
 {
-    if field.len() < 16 {
+    if field.len() < 8 {
         return all_plain_ascii(field);
+    }
+    if field.len() < 16 {
+        return two_plain_blocks(field);
     }
     let (_, last) = field.split_at(field.len() - 16);
     let mut all = all_plain_ascii(last);

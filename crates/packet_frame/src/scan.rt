@@ -6,8 +6,8 @@ ghost use Rattle.packet_frame.specs.Scanning.{left, left_at, Takes, IsReady, IsF
 
 use crate::error::FieldError;
 use crate::packet::Packet;
-use crate::row_path::RowPath;
 use crate::row_tree::RowTree;
+use call_path::PathBuilder;
 use prefix_tree::PrefixTree;
 use rank_places::CoverPlaces;
 use rank_set::RankSet;
@@ -68,7 +68,7 @@ pub struct Scan<T: PrefixTree> {
     /// How many rows are left, the one that is being read among them.
     pub rows_left: u16,
     /// The path of the row before, or, from its name on, of the row that is being read.
-    pub path: RowPath,
+    pub path: PathBuilder,
     /// Whether the row before has ends.
     pub ended: bool,
     pub depth: u8,
@@ -96,7 +96,7 @@ impl<T: PrefixTree> Scan<T> {
             left: 0,
             tree: RowTree::new(alloc),
             rows_left: 0,
-            path: RowPath::new(alloc),
+            path: PathBuilder::new(alloc),
             ended: true,
             depth: 0,
             name_length: 0,

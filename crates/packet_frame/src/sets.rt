@@ -153,7 +153,7 @@ impl<T: PrefixTree> Scan<T> {
     {
         // Most rows have no ends, and take no more than this.
         if self.part == Part::Ends && self.words.is_empty() {
-            return self.end_row(RankSet::new(alloc));
+            return self.end_row(alloc, RankSet::new(alloc));
         }
         self.end_words(alloc)
     }
@@ -176,10 +176,10 @@ impl<T: PrefixTree> Scan<T> {
                 self.cover = numbers;
                 self.end_cover(alloc)
             }
-            Part::Ends if self.version == 1 => self.end_row(numbers),
+            Part::Ends if self.version == 1 => self.end_row(alloc, numbers),
             Part::Ends => {
                 let ends = self.places.from_places(&numbers)?;
-                self.end_row(ends)
+                self.end_row(alloc, ends)
             }
         }
     }

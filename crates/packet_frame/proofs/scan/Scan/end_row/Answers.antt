@@ -1,4 +1,5 @@
 use Rattle.std.proofs.Common.{◌-◌, sym, subst}
+use Rattle.call_path.specs.Path.{Path}
 use Rattle.prefix_tree.specs.Tree.{Tree}
 use Rattle.packet_frame.specs.Rows.{HasGrown}
 use Rattle.packet_frame.proofs.Growing.{named_more, named_room, named_covered}
@@ -16,5 +17,7 @@ next_row-requires-after_bounds g c κs within =
     record {
       kind = c.requires.named.kind;
       covered = c.requires.named.covered;
-      grown = subst (λ (t : Tree). HasGrown s.cover t s.path (s.rows_left - 1)) (sym c.in_ok-grow.ensures) (named_more s c.requires.named c.args.ends);
+      grown =
+          subst (λ (p : Path). HasGrown s.cover c.grow.new.self p (s.rows_left - 1)) (sym c.in_ok-grow.ensures.path) (
+          subst (λ (t : Tree). HasGrown s.cover t s.path (s.rows_left - 1)) (sym c.in_ok-grow.ensures.tree) (named_more s c.requires.named c.args.ends));
     }
