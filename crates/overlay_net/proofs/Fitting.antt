@@ -8,7 +8,7 @@ use Rattle.overlay_core.specs.Machine.{State, is_enabled}
 use Rattle.event_claims.specs.Claims.{Outs, claimed, come_home}
 use Rattle.overlay_node.specs.NodeViews.{Counts, IsNodeOf, node_of, received_with}
 use Rattle.overlay_net.specs.Claims.{ClaimView, FitsNet, IsMovedOut, IsSameClaim, MayBeHandled, MayBeWorked}
-use Rattle.overlay_net.specs.Nets.{NetView, state_of}
+use Rattle.overlay_net.specs.Nets.{NetView, outs_of, state_of}
 use Rattle.overlay_net.specs.Places.{out_at}
 use Rattle.overlay_net.specs.States.{IsSameNet}
 
@@ -28,13 +28,23 @@ worked_same p c d same h = record {
   within_limit = subst (λ x. x.count < 2 ^ 62) (sym same.node) h.within_limit;
 }
 
--- it fits still
-pub fits_stay : (v w : NetView) (c d : ClaimView) → IsSameNet v w → IsSameClaim c d → FitsNet v c → FitsNet w d
-fits_stay v w c d net same h = record {
-  out = (λ i. out_at (net.outs i) (event_node (same.event i))) ∙ h.out ∙ ap Some (sym same.event);
-  moved = subst (λ p. IsMovedOut p (state_of w) d) (sym net.plan) (subst (λ s. IsMovedOut v.plan s d) (sym net.state) (moved_same v.plan (state_of v) c d same h.moved));
-  worked = subst (λ p. MayBeWorked p d) (sym net.plan) (worked_same v.plan c d same h.worked);
+-- after its work it still fits
+pub fits_same : (v : NetView) (c d : ClaimView) → IsSameClaim c d → FitsNet v c → FitsNet v d
+fits_same v c d same h = record {
+  out = ap (λ e. outs_of v (event_node e)) same.event ∙ h.out ∙ ap Some (sym same.event);
+  moved = moved_same v.plan (state_of v) c d same h.moved;
+  worked = worked_same v.plan c d same h.worked;
 }
+
+-- and after room was made
+pub fits_stay : (v w : NetView) (c d : ClaimView) → IsSameNet v w → IsSameClaim c d → FitsNet v c → FitsNet w d
+fits_stay v w c d net same h =
+    let k = fits_same v c d same h in
+    record {
+      out = (λ i. out_at (net.outs i) (event_node d.event)) ∙ k.out;
+      moved = subst (λ p. IsMovedOut p (state_of w) d) (sym net.plan) (subst (λ s. IsMovedOut v.plan s d) (sym net.state) k.moved);
+      worked = subst (λ p. MayBeWorked p d) (sym net.plan) k.worked;
+    }
 
 -- where no other node is out, none is after the event
 pub home_again : (out : Outs) (e f : Event) → f ≡ e → ((n : ℕ) → out n ≡ None) → (n : ℕ) → come_home (claimed out e) f n ≡ None

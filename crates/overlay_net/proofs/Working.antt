@@ -1,5 +1,5 @@
 -- The work on a claim.
-use Rattle.std.proofs.Common.{◌≡◌, ◌≢◌, ◌∙◌, ◌+◌, ℕ, suc, Bool, true, false, ◌==◌, ◌&&◌, ◌||◌, not, cond, List, [], ◌∷◌, ◌++◌, map, filter, Option, refl, sym, ap, subst, inl, inr, eqb-true, eq-eqb, arith, append-nil}
+use Rattle.std.proofs.Common.{◌≡◌, ◌≢◌, ◌∙◌, ◌+◌, ℕ, suc, Bool, true, false, ◌==◌, ◌&&◌, ◌||◌, not, cond, List, [], ◌∷◌, ◌++◌, map, filter, Option, Some, None, refl, sym, ap, subst, inl, inr, eqb-true, eq-eqb, arith, append-nil}
 use Rattle.std.proofs.lemmas.Bool.{cases_Bool}
 use Rattle.std.proofs.lemmas.List.{map-append}
 use Rattle.std.proofs.lemmas.List.Elements.{filter-append}
@@ -12,8 +12,10 @@ use Rattle.overlay_node.specs.Frames.{IsFrame, IsFrameOf, packet_of}
 use Rattle.overlay_node.specs.NodeViews.{NodeView}
 use Rattle.overlay_node.specs.Outputs.{AreFrames, Output, packets_of}
 use Rattle.overlay_node.proofs.Frames.{all_append, brings, is_frame}
-use Rattle.overlay_net.specs.Claims.{Leaves, Left, notices}
+use Rattle.overlay_net.specs.Claims.{ClaimView, Leaves, Left, WasWorked, notices}
 use Rattle.overlay_net.specs.Handled.{HasHandled}
+use Rattle.overlay_net.specs.Views.{IsClaimOf, claim_of, left_of}
+use Rattle.overlay_net.specs.declared.claimed.Work.{Work}
 
 -- whether one of two nodes is an ancestor of the other, by two tests
 pub related_first : (p : Plan) (n b : ℕ) (t : Bool) → t ≡ is_under p n b → t ≡ true → t ≡ is_related p n b
@@ -97,3 +99,41 @@ pub handled_leaves : (p : Plan) (x y z : NodeView) (e : Event) (frame : Option (
 handled_leaves p x y z e frame o q other same out h =
     handled_left p x e frame (record { node = y; sends = o.sends; releases = o.releases }) other
     (subst (λ (v : NodeView). HasHandled p x v e frame o.sends o.releases) (sym same) (subst (λ (r : Output). HasHandled p x z e frame r.sends r.releases) (sym out) h))
+
+-- ---- a claim before its work and after it
+
+-- without work, nothing is left
+no_work : {X : Type 0} (x : NodeView) (work : Option (Work X)) → left_of x work ≡ None → work ≡ None
+no_work x None none = refl
+no_work x (Some work) none = cc
+
+-- before its work, a claim is what was moved out
+pub fresh_claim : {X : Type 0} (e : Event) (before : NodeView) (taken : Option (List ℕ)) (x : NodeView) (frame : Option (List ℕ)) (work : Option (Work X)) (c : ClaimView)
+    → IsClaimOf before taken x frame work → claim_of e before taken x work ≡ c → c.left ≡ None → ◌≡◌ {A = ClaimView} (record { event = e; node = x; frame = frame; left = None }) c
+fresh_claim e before taken x frame work c is seen fresh =
+    let none : work ≡ None = no_work x work (ap (λ (v : ClaimView). v.left) seen ∙ fresh) in
+    let same = is.fresh none in
+    (λ i. record { event = e; node = same.0 i; frame = same.1 i; left = None }) ∙ ap (claim_of e before taken x) (sym none) ∙ seen
+
+-- after it, it has the receivers
+pub worked_claim : {X : Type 0} (before : NodeView) (taken : Option (List ℕ)) (x : NodeView) (frame : Option (List ℕ)) (work : Work X)
+    → work.receivers.items ≡ map (λ v. v.0) work.out.sends → IsClaimOf before taken x frame (Some work)
+worked_claim before taken x frame work are = record {
+  fresh = λ none. cc;
+  receivers = λ w is. have work w is are;
+}
+  where
+    have : {X : Type 0} (v w : Work X) → Some v ≡ Some w → v.receivers.items ≡ map (λ s. s.0) v.out.sends → w.receivers.items ≡ map (λ s. s.0) w.out.sends
+    have {X = X} v w is h = let e : v ≡ w = cc in subst (λ (u : Work X). u.receivers.items ≡ map (λ s. s.0) u.out.sends) e h
+
+-- and what the event leaves of what was moved out
+pub was_worked : {X : Type 0} (p : Plan) (before : NodeView) (taken : Option (List ℕ)) (x y : NodeView) (frame : Option (List ℕ)) (work : Work X) (c : ClaimView) (e : Event)
+    → ◌≡◌ {A = ClaimView} (record { event = e; node = x; frame = frame; left = None }) c → c.node ≡ before → c.frame ≡ taken
+    → Leaves p x e frame (record { node = y; sends = work.out.sends; releases = work.out.releases }) → WasWorked p (claim_of e before taken y (Some work))
+was_worked p before taken x y frame work c e is node took h =
+    let left : Left = record { node = y; sends = work.out.sends; releases = work.out.releases } in
+    record {
+      left = left;
+      is = refl;
+      leaves = subst (λ v. Leaves p v e taken left) (ap (λ (v : ClaimView). v.node) is ∙ node) (subst (λ f. Leaves p x e f left) (ap (λ (v : ClaimView). v.frame) is ∙ took) h);
+    }

@@ -1,6 +1,6 @@
 //! An event that was claimed, with what was moved out of the net for it.
 
-ghost use Rattle.std.specs.Prelude.{◌≡◌, ◌<◌, [], OnOk, IfOk, None, Some, map};
+ghost use Rattle.std.specs.Prelude.{◌≡◌, ◌<◌, [], IfOk, None, Some, map};
 ghost use Rattle.stat_plan.specs.Plans.{nodes};
 ghost use Rattle.overlay_node.specs.Outputs.{AreFrames, packets_of};
 ghost use Rattle.overlay_node.specs.Frames.{IsFrameOf};
@@ -8,7 +8,6 @@ ghost use Rattle.overlay_core.specs.Nodes.{Down};
 ghost use Rattle.overlay_core.specs.TreeReleases.{releases_view};
 ghost use Rattle.stat_plan.specs.Plans.{is_related};
 ghost use Rattle.overlay_net.specs.Claims.{IsSameClaim, Leaves, Left, MayBeWorked, WasWorked, notices};
-ghost use Rattle.overlay_net.specs.Views.{claim_of, left_of};
 
 use overlay_node::{Node, Outgoing};
 use packet_frame::{Frame, Packet, encode};
@@ -35,7 +34,7 @@ pub struct Claimed<T: PrefixTree> {
     event: Event,
     node: Node<T>,
     frame: Option<Frame>,
-    // After a failure of `work` it is there, too, and says nothing.
+    // What the event left, once it was worked on.
     work: Option<Work<T>>,
     // The node and the frame as they were moved out, for contracts alone.
     before: Snapshot<Node<T>>,
@@ -51,7 +50,7 @@ impl<T: PrefixTree> Model for Claimed<T> {
 
     ghost coded = { coded_claim };
 
-    ghost view = { λ c. claim_of T.tree c.event c.before.value c.taken.value c.node c.work };
+    ghost view = { λ c. claim_of c.event c.before.value c.taken.value c.node c.work };
 
     ghost invariant = { λ c. IsClaimOf c.before.value c.taken.value c.node c.frame c.work };
 }
@@ -120,43 +119,31 @@ impl<T: PrefixTree> Claimed<T> {
     /// Does the event at its node: the node takes its samples, handles the frame, or lets its timers go on. A loss
     /// leaves the node as it is; its notices are made. The plan must be the net's.
     ///
-    /// Fails only if memory runs out. The claim must not be used any more then.
-    pub fn work(&mut self, alloc: Global, plan: &Plan) -> Result<(), AllocError>
-        requires fresh { self.old.left ≡ None }
-        requires may { MayBeWorked plan.now self.old }
-        ensures worked { OnOk result (WasWorked plan.now self.new) }
-        ensures same { IsSameClaim self.old self.new }
+    /// Fails only if memory runs out, and drops the claim then: nothing is left of it and its node.
+    pub fn work(self, alloc: Global, plan: &Plan) -> Result<Claimed<T>, AllocError>
+        requires fresh { self.left ≡ None }
+        requires may { MayBeWorked plan.now self }
+        ensures worked { IfOk result (WasWorked plan.now) }
+        ensures same { IfOk result (IsSameClaim self) }
     {
-        let frame = self.frame.take();
-        match do_event(alloc, plan, &mut self.node, self.event, frame) {
-            Ok(work) => {
-                self.work = Some(work);
-                Ok(())
-            }
-            Err(error) => {
-                self.work = Some(no_work(alloc));
-                Err(error)
-            }
-        }
-    }
-}
-
-// No work: nothing is sent or released.
-fn no_work<T: PrefixTree>(alloc: Global) -> Work<T>
-    ensures { result.receivers.items ≡ map (λ v. v.0) result.out.sends }
-{
-    Work {
-        out: no_output(alloc),
-        receivers: Vec::new(alloc),
-    }
-}
-
-fn no_output<T: PrefixTree>(alloc: Global) -> Outgoing<T>
-    ensures { (result.sends ≡ []) × (result.releases ≡ []) }
-{
-    Outgoing {
-        sends: Vec::new(alloc),
-        releases: Vec::new(alloc),
+        let Claimed {
+            event,
+            node,
+            frame,
+            work,
+            before,
+            taken,
+        } = self;
+        drop(work);
+        let (node, work) = do_event(alloc, plan, node, event, frame)?;
+        Ok(Claimed {
+            event,
+            node,
+            frame: None,
+            work: Some(work),
+            before,
+            taken,
+        })
     }
 }
 
@@ -164,21 +151,24 @@ fn no_output<T: PrefixTree>(alloc: Global) -> Outgoing<T>
 fn do_event<T: PrefixTree>(
     alloc: Global,
     plan: &Plan,
-    node: &mut Node<T>,
+    node: Node<T>,
     event: Event,
     frame: Option<Frame>,
-) -> Result<Work<T>, AllocError>
-    requires { MayBeWorked plan.now (record { event = event; node = node.old; frame = frame; left = None }) }
-    ensures leaves { IfOk result (λ work. Leaves plan.now node.old event frame
-        (record { node = node.new; sends = work.out.sends; releases = work.out.releases })) }
-    ensures receivers { IfOk result (λ work. work.receivers.items ≡ map (λ v. v.0) work.out.sends) }
+) -> Result<(Node<T>, Work<T>), AllocError>
+    requires { MayBeWorked plan.now (record { event = event; node = node; frame = frame; left = None }) }
+    ensures leaves { IfOk result (λ r. Leaves plan.now node event frame
+        (record { node = r.0; sends = r.1.out.sends; releases = r.1.out.releases })) }
+    ensures receivers { IfOk result (λ r. r.1.receivers.items ≡ map (λ v. v.0) r.1.out.sends) }
 {
-    let out = match event {
-        Event::Lose { node: n } => make_notices(alloc, plan, n)?,
+    let (after, out) = match event {
+        Event::Lose { node: n } => {
+            let out = make_notices(alloc, plan, n)?;
+            (node, out)
+        }
         _ => node.handle(alloc, plan, event, frame)?,
     };
     let receivers = receivers_of(alloc, out.sends.as_slice())?;
-    Ok(Work { out, receivers })
+    Ok((after, Work { out, receivers }))
 }
 
 // The receivers of what is sent.

@@ -170,8 +170,8 @@ pub fn apply<T: PrefixTree>(
     ensures reached { OnOk result (ExtendsState T.tree plan.now event state.old state.new) }
 {
     let alloc = *state.releases.allocator();
-    let mut claim = claim(plan, state, event);
-    claim.work(alloc, plan)?;
+    let claim = claim(plan, state, event);
+    let claim = claim.work(alloc, plan)?;
     prepare(alloc, plan, state, &claim)?;
     commit(plan, state, claim);
     Ok(())

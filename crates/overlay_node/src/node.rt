@@ -63,34 +63,36 @@ impl<T: PrefixTree> Node<T> {
         })
     }
 
-    /// Does an event of the node: takes its samples, receives a frame, or lets its timers go on. `frame` is the frame that
-    /// is received at `Recv`, and none at other events. After an error the node must not be used any more.
+    /// Does an event of the node: takes its samples, receives a frame, or lets its timers go on. `frame` is the frame
+    /// that is received at `Recv`, and none at other events. Returns the node afterwards, and with it the packets whose
+    /// frames it sends, in order, and what it releases: all are the machine's.
     ///
-    /// The node afterwards, the packets whose frames it sends, in order, and what it releases are the machine's.
+    /// Fails only if memory runs out, and drops the node then: nothing of it is left.
     pub fn handle(
-        &mut self,
+        self,
         alloc: Global,
         plan: &Plan,
         event: Event,
         frame: Option<Frame>,
-    ) -> Result<Outgoing<T>, AllocError>
-        requires node { IsNodeOf plan.now self.old }
-        requires event { MayHandle plan.now self.old event frame }
-        requires count { self.old.count < 2 ^ 62 }
-        ensures number { IfOk result (λ out. self.new.number ≡ self.old.number) }
-        ensures node { IfOk result (λ out. IsNodeAfter plan.now self.old self.new event frame) }
+    ) -> Result<(Node<T>, Outgoing<T>), AllocError>
+        requires node { IsNodeOf plan.now self }
+        requires event { MayHandle plan.now self event frame }
+        requires count { self.count < 2 ^ 62 }
+        ensures number { IfOk result (λ r. r.0.number ≡ self.number) }
+        ensures node { IfOk result (λ r. IsNodeAfter plan.now self r.0 event frame) }
         ensures sends { IfOk result
-            (λ out. out.sends ≡ frames_of plan.now (outcome_at plan.now self.old event frame).work.sends) }
+            (λ r. r.1.sends ≡ frames_of plan.now (outcome_at plan.now self event frame).work.sends) }
         ensures packets { IfOk result
-            (λ out. packets_of out.sends ≡ (outcome_at plan.now self.old event frame).work.sends) }
-        ensures frames { IfOk result (λ out. AreFrames plan.now out.sends) }
+            (λ r. packets_of r.1.sends ≡ (outcome_at plan.now self event frame).work.sends) }
+        ensures frames { IfOk result (λ r. AreFrames plan.now r.1.sends) }
         ensures releases { IfOk result
-            (λ out. bare_releases out.releases ≡ (outcome_at plan.now self.old event frame).work.releases) }
-        ensures fits { IfOk result (λ out. IsNodeOf plan.now self.new) }
-        ensures trees { IfOk result (λ out. AllByRecursion (ReleaseFits plan.now) out.releases) }
-        ensures numbers { IfOk result (λ out. ContinueNumbers self.old.held out.releases) }
-        ensures counts { IfOk result (λ out. CountMore self.old.held self.new.held out.releases) }
+            (λ r. bare_releases r.1.releases ≡ (outcome_at plan.now self event frame).work.releases) }
+        ensures fits { IfOk result (λ r. IsNodeOf plan.now r.0) }
+        ensures trees { IfOk result (λ r. AllByRecursion (ReleaseFits plan.now) r.1.releases) }
+        ensures numbers { IfOk result (λ r. ContinueNumbers self.held r.1.releases) }
+        ensures counts { IfOk result (λ r. CountMore self.held r.0.held r.1.releases) }
     {
+        let mut node = self;
         let mut out = Outgoing {
             sends: Vec::new(alloc),
             releases: Vec::new(alloc),
@@ -98,15 +100,15 @@ impl<T: PrefixTree> Node<T> {
         plan.invariant();
         step(
             plan,
-            &mut self.kin,
-            &mut self.book,
-            self.held.as_mut_slice(),
+            &mut node.kin,
+            &mut node.book,
+            node.held.as_mut_slice(),
             event,
             frame,
             &mut out,
         )?;
-        self.count += 1;
-        Ok(out)
+        node.count += 1;
+        Ok((node, out))
     }
 
     /// The first wave of a stream that the node serves of which nothing has come in yet, if there is one.

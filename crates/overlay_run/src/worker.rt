@@ -107,14 +107,15 @@ fn do_claim<'p, R: Wait, T: PrefixTree, G: Gate>(
     ensures number { seat_number seat.new ≡ seat_number seat.old }
     ensures idle { result ≡ true → IsIdle turn.now seat.new }
 {
-    let mut claim = claim;
     let event = claim.event();
     gate.pass(&event);
-    if claim.work(alloc, plan).is_err() {
-        stop_run(rt, turn, seat);
-        return false;
+    match claim.work(alloc, plan) {
+        Ok(claim) => commit_claim(rt, alloc, turn, seat, claim),
+        Err(_) => {
+            stop_run(rt, turn, seat);
+            false
+        }
     }
-    commit_claim(rt, alloc, turn, seat, claim)
 }
 
 /// Does events until the run is done or stopped. Returns false if memory ran out; the run is then stopped, and the seat
