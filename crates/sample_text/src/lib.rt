@@ -42,16 +42,20 @@ fn take_text_lines(text: &str, parser: &mut Parser<'_>) -> Result<(), TextError>
     Ok(())
 }
 
-// Takes the lines of a text into a parser, up to the first that it refuses. A text in UTF-8 is tested once, and of
-// another text each line.
-fn take_lines(text: &[u8], parser: &mut Parser<'_>) -> Result<(), TextError>
-    requires { IsConsistent parser.old }
-    ensures taken { OnOk result (TakesLines takes_line parser.old 1 (lines text.now) parser.new) }
-    ensures ready { OnOk result (IsConsistent parser.new) }
-    ensures refused { IfErr result (λ e. RefusesLines takes_line refuses_line parser.old 1 (lines text.now) e) }
+// The parser after the lines of a text, or the error of the first line that it refuses. A text in UTF-8 is tested once,
+// and of another text each line.
+fn take_lines<'t>(text: &[u8], parser: Parser<'t>) -> Result<Parser<'t>, TextError>
+    requires { IsConsistent parser }
+    ensures taken { IfOk result (λ next. TakesLines takes_line parser.entry 1 (lines text.now) next) }
+    ensures ready { IfOk result (λ next. IsConsistent next) }
+    ensures refused { IfErr result (λ e. RefusesLines takes_line refuses_line parser.entry 1 (lines text.now) e) }
 {
     match str::from_utf8(text) {
-        Ok(text) => take_text_lines(text, parser),
+        Ok(text) => {
+            let mut parser = parser;
+            take_text_lines(text, &mut parser)?;
+            Ok(parser)
+        }
         Err(_) => read_lines(text, parser),
     }
 }
@@ -70,7 +74,7 @@ pub fn read(alloc: Global, text: &[u8], topology: &Topology) -> Result<Samples, 
         samples_of_text topology.now text.now ≡ Ok samples }
 {
     topology.invariant();
-    let mut parser = Parser::new(alloc, topology)?;
-    take_lines(text, &mut parser)?;
+    let empty = Parser::new(alloc, topology)?;
+    let parser = take_lines(text, empty)?;
     parser.finish()
 }

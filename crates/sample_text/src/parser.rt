@@ -199,6 +199,19 @@ impl<'t> Parser<'t> {
         }
     }
 
+    // Takes the next line, whose bytes may be any.
+    fn take_line(&mut self, line_number: u64, line: &[u8]) -> Result<(), TextError>
+        requires { IsConsistent self.old }
+        ensures taken { OnOk result (takes_line self.old line_number line.now self.new) }
+        ensures ready { OnOk result (IsConsistent self.new) }
+        ensures refused { IfErr result (λ e. refuses_line self.old line_number line.now e) }
+    {
+        match str::from_utf8(line) {
+            Ok(line) => self.take_text(line_number, line),
+            Err(_) => read_other_line(line_number, line),
+        }
+    }
+
     /// The samples, after the check of the whole text.
     pub fn finish(self) -> Result<Samples, TextError>
         requires consistent { IsConsistent self }
@@ -227,10 +240,9 @@ impl LineParser for Parser<'_> {
 
     ghost refuses = { RefusesBy parser_nodes parser_view with_line };
 
-    fn take(&mut self, line_number: u64, line: &[u8]) -> Result<(), TextError> {
-        match str::from_utf8(line) {
-            Ok(line) => self.take_text(line_number, line),
-            Err(_) => read_other_line(line_number, line),
-        }
+    fn take(self, line_number: u64, line: &[u8]) -> Result<Self, TextError> {
+        let mut parser = self;
+        parser.take_line(line_number, line)?;
+        Ok(parser)
     }
 }

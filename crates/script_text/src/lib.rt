@@ -40,7 +40,7 @@ pub fn read(alloc: Global, text: &[u8], topology: &Topology) -> Result<Script, T
         script_of topology.now text.now ≡ Ok script }
 {
     topology.invariant();
-    let mut parser = Parser::new(alloc, topology);
-    read_lines(text, &mut parser)?;
+    let empty = Parser::new(alloc, topology);
+    let parser = read_lines(text, empty)?;
     parser.finish()
 }

@@ -153,11 +153,13 @@ impl LineParser for Parser<'_> {
 
     ghost refuses = { RefusesBy parser_nodes parser_view with_line };
 
-    fn take(&mut self, line_number: u64, line: &[u8]) -> Result<(), TextError> {
+    fn take(self, line_number: u64, line: &[u8]) -> Result<Self, TextError> {
         if says_nothing(line) {
-            return Ok(());
+            return Ok(self);
         }
         self.topology.invariant();
-        self.directive(line_number, line)
+        let mut parser = self;
+        parser.directive(line_number, line)?;
+        Ok(parser)
     }
 }

@@ -1,5 +1,5 @@
 -- The lines of a text, the words of a line, and the numbers that words write.
-use Rattle.std.specs.Prelude.{ℕ, Bool, true, false, ◌||◌, not, nat_eq, cond, List, [], ◌∷◌, length, map, drop, Option, None, Some}
+use Rattle.std.specs.Prelude.{ℕ, Bool, true, false, ◌&&◌, ◌||◌, not, nat_eq, nat_lt, cond, List, [], ◌∷◌, length, map, drop, Option, None, Some}
 use Rattle.std.specs.Char.{is_ascii_digit}
 use Rattle.std.specs.List.{prefix_len, list_all}
 use Rattle.rank_set.specs.Digits.{value_after}
@@ -58,6 +58,10 @@ after_blanks line = drop (blanks_len line) line
 -- what is left just after a line's first word
 abbrev pub after_word : List ℕ → List ℕ
 after_word line = drop (word_len (after_blanks line)) (after_blanks line)
+
+-- whether a line begins with a word that a blank follows
+abbrev pub begins_with_word_and_blank : List ℕ → Bool
+begins_with_word_and_blank line = nat_lt 0 (word_len line) && nat_lt (word_len line) (length line)
 
 -- whether there are no words
 abbrev pub are_none : List (List ℕ) → Bool

@@ -1,6 +1,6 @@
 -- Texts, their lines, words and numbers.
-use Rattle.std.specs.Prelude.{◌≡◌, refl, [], ◌∷◌, ◌++◌, codes, None, Some}
-use Rattle.text_lines.specs.Lines.{lines, pieces, words, number_in}
+use Rattle.std.specs.Prelude.{◌≡◌, refl, [], ◌∷◌, ◌++◌, codes, true, false, None, Some}
+use Rattle.text_lines.specs.Lines.{lines, pieces, words, begins_with_word_and_blank, number_in}
 
 -- no bytes are no line
 no_line : lines [] ≡ []
@@ -26,6 +26,18 @@ two_returns = refl
 three_words : words (codes " daemon  a:0" ++ 9 ∷ codes "0-1 ") ≡ codes "daemon" ∷ codes "a:0" ∷ codes "0-1" ∷ []
 unfolding words
 three_words = refl
+
+-- a tab is a blank that ends a word
+tab_behind : begins_with_word_and_blank (codes "a" ++ 9 ∷ []) ≡ true
+tab_behind = refl
+
+-- a line that is one word has no blank behind it
+word_alone : begins_with_word_and_blank (codes "stack") ≡ false
+word_alone = refl
+
+-- a line that begins with a blank does not begin with a word
+blank_in_front : begins_with_word_and_blank (codes " stack 0") ≡ false
+blank_in_front = refl
 
 -- zeros in front mean nothing
 zeros : number_in (codes "0012") ≡ Some 12

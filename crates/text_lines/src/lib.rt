@@ -2,9 +2,10 @@
 //! was refused.
 //!
 //! All readers have one shape: a parser with `new`, `take`, which takes the next line or token with its line's number,
-//! and `finish`, which checks the whole text. A reader that goes line by line implements [`LineParser`], and
-//! [`read_lines`] is the loop. The first error is a [`TextError`]. `specs/Lines.antt` says what the lines, words and
-//! numbers of a text are, and `specs/Parsing.antt` what a parser makes of lines.
+//! and `finish`, which checks the whole text. A reader that goes line by line implements [`LineParser`], whose `take`
+//! moves the parser, so that none is left after a refusal; [`read_lines`] is the loop. The first error is a
+//! [`TextError`]. `specs/Lines.antt` says what the lines, words and numbers of a text are, and `specs/Parsing.antt` what
+//! a parser makes of lines.
 #![tactic(auto)]
 
 mod line_parser;

@@ -4,11 +4,11 @@
 //! end. A text that ends with a line feed has no line after it. Words are the longest runs of bytes other than spaces
 //! and tabs.
 
-ghost use Rattle.std.specs.Prelude.{◌≡◌, ◌<◌, ◌≤◌, ◌+◌, ◌^◌, ◌⊎◌, length, min, MatchOption, IfSome, [], ◌∷◌, option_map};
+ghost use Rattle.std.specs.Prelude.{◌≡◌, ◌<◌, ◌≤◌, ◌+◌, ◌^◌, is_some, length, min, MatchOption, IfSome, [], ◌∷◌, option_map};
 ghost use Rattle.std.specs.Char.{is_ascii_digit};
 ghost use Rattle.std.specs.List.{list_all};
 ghost use Rattle.std.specs.Str.{bytes_eq};
-ghost use Rattle.text_lines.specs.Lines.{is_blank, line_len, word_len, blanks_len, lines, words, without_return, after_blanks, after_word, number_in, says_nothing};
+ghost use Rattle.text_lines.specs.Lines.{is_blank, line_len, word_len, blanks_len, lines, words, without_return, after_blanks, after_word, begins_with_word_and_blank, number_in, says_nothing};
 
 use rank_set::digits::capped_value;
 
@@ -128,13 +128,13 @@ pub fn next_word(line: &[u8]) -> Option<(&[u8], &[u8])>
     Some(rest.split_at(word_len(rest)))
 }
 
-/// The word that a line begins with, and what is left after the one blank behind it; none where the line begins with a
-/// blank, or has no blank.
+/// The word that a line begins with, and what is left after the one blank behind it. It is none exactly if the line does
+/// not begin with a word that a blank follows: if it is empty, begins with a blank, or has no blank.
 pub fn cut_word(line: &[u8]) -> Option<(&[u8], &[u8])>
     ensures words { IfSome result (λ cut. words line.now ≡ cut.0.now ∷ words cut.1.now) }
     ensures rest { IfSome result (λ cut. after_blanks (after_word line.now) ≡ after_blanks cut.1.now) }
     ensures length { IfSome result (λ cut. length cut.0.now + length cut.1.now + 1 ≡ length line.now) }
-    ensures none { result ≡ None → (word_len line.now ≡ 0) ⊎ (word_len line.now ≡ length line.now) }
+    ensures exact { is_some result ≡ begins_with_word_and_blank line.now }
 {
     let (word, after) = line.split_at(word_len(line));
     match after.split_first() {

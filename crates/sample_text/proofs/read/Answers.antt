@@ -15,31 +15,31 @@ use Rattle.sample_text.proofs.InvariantLemmas.{holds_after}
 use Rattle.sample_text.proofs.Lines.{samples_bad, samples_good}
 use Rattle.sample_text.proofs.read.Goals as goal
 
-pub returns-in_err-take_lines-clause-err : goal.returns-in_err-take_lines-clause-err
-returns-in_err-take_lines-clause-err c =
+pub returns-in_err-parser-clause-err : goal.returns-in_err-parser-clause-err
+returns-in_err-parser-clause-err c =
     let t = c.args.topology.now in
     let text = c.args.text.now in
-    handed_on c.from_residual-in_err-take_lines.result c.in_err-take_lines.field-0.0 (λ e. e ≢ OutOfMemory → samples_of_text t text ≡ Err e) c.from_residual-in_err-take_lines.ensures
-    (λ memory. samples_bad t text c.in_err-take_lines.field-0.0
-    (first_error parser_nodes parser_view with_line t (nothing_parsed t) (lines text) c.in_ok-parser.parser c.in_ok-parser.ensures.nodes c.in_ok-parser.ensures.view c.in_err-take_lines.field-0.0 c.in_err-take_lines.ensures.refused memory))
+    handed_on c.from_residual-in_err-parser.result c.in_err-parser.field-0.0 (λ e. e ≢ OutOfMemory → samples_of_text t text ≡ Err e) c.from_residual-in_err-parser.ensures
+    (λ memory. samples_bad t text c.in_err-parser.field-0.0
+    (first_error parser_nodes parser_view with_line t (nothing_parsed t) (lines text) c.in_ok-empty.empty c.in_ok-empty.ensures.nodes c.in_ok-empty.ensures.view c.in_err-parser.field-0.0 c.in_err-parser.ensures.refused memory))
 
 pub finish-requires-clause-invariant : goal.finish-requires-clause-invariant
 finish-requires-clause-invariant c =
     let t = c.args.topology.now in
-    let new = c.take_lines.new.parser in
-    let parsed = all_parsed parser_nodes parser_view with_line t (nothing_parsed t) (lines c.args.text.now) c.in_ok-parser.parser c.in_ok-parser.ensures.nodes c.in_ok-parser.ensures.view new c.in_ok-take_lines.ensures.taken in
-    let same = same_context parser_nodes parser_view with_line t (nothing_parsed t) (lines c.args.text.now) c.in_ok-parser.parser c.in_ok-parser.ensures.nodes c.in_ok-parser.ensures.view new c.in_ok-take_lines.ensures.taken in
+    let new = c.in_ok-parser.parser in
+    let parsed = all_parsed parser_nodes parser_view with_line t (nothing_parsed t) (lines c.args.text.now) c.in_ok-empty.empty c.in_ok-empty.ensures.nodes c.in_ok-empty.ensures.view new c.in_ok-parser.ensures.taken in
+    let same = same_context parser_nodes parser_view with_line t (nothing_parsed t) (lines c.args.text.now) c.in_ok-empty.empty c.in_ok-empty.ensures.nodes c.in_ok-empty.ensures.view new c.in_ok-parser.ensures.taken in
     subst (λ t. ParserInvariant t (parser_view new)) (sym same)
     (holds_after t (parser_view new) (lines c.args.text.now) parsed)
 
 -- the check of the whole text is what is left
-is_whole : (c : goal.After-finish) → samples_of_text c.args.topology.now c.args.text.now ≡ whole (parser_nodes c.take_lines.new.parser) (parser_view c.take_lines.new.parser)
+is_whole : (c : goal.After-finish) → samples_of_text c.args.topology.now c.args.text.now ≡ whole (parser_nodes c.in_ok-parser.parser) (parser_view c.in_ok-parser.parser)
 is_whole c =
     let t = c.args.topology.now in
     let text = c.args.text.now in
-    let new = c.take_lines.new.parser in
-    samples_good t text (parser_view new) (all_parsed parser_nodes parser_view with_line t (nothing_parsed t) (lines text) c.in_ok-parser.parser c.in_ok-parser.ensures.nodes c.in_ok-parser.ensures.view new c.in_ok-take_lines.ensures.taken)
-    ∙ ap (λ t. whole t (parser_view new)) (sym (same_context parser_nodes parser_view with_line t (nothing_parsed t) (lines text) c.in_ok-parser.parser c.in_ok-parser.ensures.nodes c.in_ok-parser.ensures.view new c.in_ok-take_lines.ensures.taken))
+    let new = c.in_ok-parser.parser in
+    samples_good t text (parser_view new) (all_parsed parser_nodes parser_view with_line t (nothing_parsed t) (lines text) c.in_ok-empty.empty c.in_ok-empty.ensures.nodes c.in_ok-empty.ensures.view new c.in_ok-parser.ensures.taken)
+    ∙ ap (λ t. whole t (parser_view new)) (sym (same_context parser_nodes parser_view with_line t (nothing_parsed t) (lines text) c.in_ok-empty.empty c.in_ok-empty.ensures.nodes c.in_ok-empty.ensures.view new c.in_ok-parser.ensures.taken))
 
 pub returns-clause-ok : goal.returns-clause-ok
 returns-clause-ok c = subst (IsValueOf c.finish.result) (sym (is_whole c)) c.finish.ensures.ok
@@ -47,7 +47,7 @@ returns-clause-ok c = subst (IsValueOf c.finish.result) (sym (is_whole c)) c.fin
 pub returns-clause-fits : goal.returns-clause-fits
 returns-clause-fits c =
     subst (λ t. IfOk c.finish.result (SamplesFit t))
-    (same_context parser_nodes parser_view with_line c.args.topology.now (nothing_parsed c.args.topology.now) (lines c.args.text.now) c.in_ok-parser.parser c.in_ok-parser.ensures.nodes c.in_ok-parser.ensures.view c.take_lines.new.parser c.in_ok-take_lines.ensures.taken)
+    (same_context parser_nodes parser_view with_line c.args.topology.now (nothing_parsed c.args.topology.now) (lines c.args.text.now) c.in_ok-empty.empty c.in_ok-empty.ensures.nodes c.in_ok-empty.ensures.view c.in_ok-parser.parser c.in_ok-parser.ensures.taken)
     c.finish.ensures.fits
 
 pub returns-clause-err : goal.returns-clause-err
@@ -61,8 +61,8 @@ returns-clause-written c =
 pub returns-clause-accepted : goal.returns-clause-accepted
 returns-clause-accepted c = acceptable c.args.topology.now c.invariant.ensures c.args.text.now
 
+pub returns-in_err-empty-clause-accepted : goal.returns-in_err-empty-clause-accepted
+returns-in_err-empty-clause-accepted c = acceptable c.args.topology.now c.invariant.ensures c.args.text.now
+
 pub returns-in_err-parser-clause-accepted : goal.returns-in_err-parser-clause-accepted
 returns-in_err-parser-clause-accepted c = acceptable c.args.topology.now c.invariant.ensures c.args.text.now
-
-pub returns-in_err-take_lines-clause-accepted : goal.returns-in_err-take_lines-clause-accepted
-returns-in_err-take_lines-clause-accepted c = acceptable c.args.topology.now c.invariant.ensures c.args.text.now
