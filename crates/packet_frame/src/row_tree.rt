@@ -49,7 +49,12 @@ impl<T: PrefixTree> RowTree<T> {
 
     /// Adds the ends of one more row, if it has any. Most rows have none, and take but the test.
     #[inline(always)]
-    pub fn grow(&mut self, alloc: Global, ends: &RankSet, frames: &mut PathBuilder) -> Result<(), AllocError>
+    pub fn grow(
+        &mut self,
+        alloc: Global,
+        ends: &RankSet,
+        frames: &mut PathBuilder,
+    ) -> Result<(), AllocError>
         requires path { 0 < length frames.old }
         requires covered { IsTrue (is_subset ends.now self.old.coverage) }
         requires room { count_below (grown self.old ends.now frames.old) ≤ 2048 }
