@@ -14,7 +14,7 @@ use Rattle.prefix_tree.specs.Joined.{Below, seen, if_some}
 use Rattle.prefix_tree.proofs.PairLemmas.{pair_from_passes}
 use Rattle.prefix_tree.proofs.TreeLemmas.{IsTreeOf-tree_of}
 use Rattle.packet_frame.specs.Frame.{Row}
-use Rattle.packet_frame.specs.Rows.{NamedRow, path_behind, rows_view}
+use Rattle.packet_frame.specs.FrameRows.{NamedRow, path_behind, rows_view}
 use Rattle.packet_frame.specs.Sent.{pairs_of_rows}
 use Rattle.packet_frame.specs.Sending.{MayBeRows}
 use Rattle.packet_frame.proofs.ReadTrees.{prefix_kept, has_path, ends_have_path, pair_of_rows}

@@ -9,7 +9,7 @@ use Rattle.prefix_tree.proofs.TreeLemmas.{coverage-tree_of}
 use Rattle.packet_frame.specs.declared.scan.Scan.{Scan}
 use Rattle.packet_frame.specs.Frame.{row_of}
 use Rattle.packet_frame.specs.Sent.{pairs_of_rows}
-use Rattle.packet_frame.specs.Rows.{grown, NamedRow, row_named, path_behind, rows_view, last_path, HasGrown}
+use Rattle.packet_frame.specs.FrameRows.{grown, NamedRow, row_named, path_behind, rows_view, last_path, HasGrown}
 use Rattle.packet_frame.specs.Scanning.{IsNamed}
 use Rattle.packet_frame.proofs.FewRows.{few_views}
 use Rattle.packet_frame.proofs.RowTrees.{grown_is}

@@ -9,7 +9,7 @@ use Rattle.prefix_tree.specs.Tree.{Tree, tree_of, added}
 use Rattle.prefix_tree.proofs.TreeLaws.{added-tree_of}
 use Rattle.packet_frame.specs.Frame.{Row}
 use Rattle.packet_frame.specs.Sent.{pairs_of_rows}
-use Rattle.packet_frame.specs.Rows.{grown, rows_onto}
+use Rattle.packet_frame.specs.FrameRows.{grown, rows_onto}
 use Rattle.packet_frame.proofs.FormLaws.{bool_case}
 
 no_pairs : (ends : Ranks) (p : Path) → is_empty ends ≡ true → pairs_at (in_order ends) p ≡ []

@@ -7,7 +7,7 @@ use Rattle.packet_frame.specs.declared.packet.Packet.{Packet}
 use Rattle.packet_frame.specs.declared.packet.Packet.TheVariants.{Up}
 use Rattle.packet_frame.specs.Fields.{Form, whole, ◌>>=◌, list_form}
 use Rattle.packet_frame.specs.Frame.{row_of, path_at, depth_form, name_length_form, name_form, ends_form, row_form, next_row, after_row, set_form, word_limit, ends_needed, ends_rule, ranks_at}
-use Rattle.packet_frame.specs.Rows.{grown, rows_onto}
+use Rattle.packet_frame.specs.FrameRows.{grown, rows_onto}
 use Rattle.packet_frame.specs.Scanning.{rows_left, after_ends}
 use Rattle.packet_frame.proofs.Binding.{bind_assoc, bind_same, first_and_rest}
 

@@ -18,7 +18,7 @@ use Rattle.call_path.specs.Path.{Path}
 use Rattle.packet_frame.specs.declared.scan.Scan.{Scan}
 use Rattle.prefix_tree.specs.Tree.{Tree}
 use Rattle.packet_frame.specs.declared.packet.Packet.{Packet}
-use Rattle.packet_frame.specs.Rows.{HasGrown}
+use Rattle.packet_frame.specs.FrameRows.{HasGrown}
 use Rattle.packet_frame.specs.declared.scan.Part.{Part}
 use Rattle.packet_frame.specs.declared.scan.Part.TheVariants as parts
 use Rattle.packet_frame.specs.Scanning.{words_left, word_rule, IsInPart, IsInSet, MayEnd, after_ends, after_set, set_then}

@@ -1,7 +1,7 @@
 pub mod Fields
 pub mod Frame
 pub mod Sent
-pub mod Rows
+pub mod FrameRows
 pub mod Scanning
 pub mod Reading
 pub mod Spelling

@@ -19,7 +19,7 @@ use Rattle.packet_frame.specs.declared.scan.Part.{Part}
 use Rattle.packet_frame.specs.declared.scan.Part.TheVariants as parts
 use Rattle.packet_frame.specs.declared.scan.Scan.{Scan}
 use Rattle.packet_frame.specs.Sent.{packet_map, tree_from}
-use Rattle.packet_frame.specs.Rows.{grown, rows_onto, HasGrown}
+use Rattle.packet_frame.specs.FrameRows.{grown, rows_onto, HasGrown}
 use Rattle.packet_frame.specs.Fields.{Form, whole, ◌>>=◌, Rules, list_form, after_field, is_short}
 use Rattle.packet_frame.specs.Frame.{Message, next_word, after_word, word_count_form, set_form, is_first, word_limit, no_rules, run_count_form, last_rank_form, next_run, after_run, ends_rule, ranks_at, ends_needed, ends_form, name_length_form, name_form, path_at, next_row, after_row, kind_form, stream_form, wave_form, row_count_form, content_form, packet_form, frame_form}
 

@@ -3,7 +3,7 @@
 ghost use Rattle.std.specs.Prelude.{◌≡◌, ◌≢◌, ◌<◌, ◌≤◌, [], length, OnOk, IsTrue};
 ghost use Rattle.rank_set.specs.Ranks.{none, is_subset};
 ghost use Rattle.prefix_tree.specs.Tree.{tree_of, added, count_below};
-ghost use Rattle.packet_frame.specs.Rows.{grown};
+ghost use Rattle.packet_frame.specs.FrameRows.{grown};
 
 use call_path::{CallPath, PathBuilder};
 use prefix_tree::{PrefixTree, TreeError};

@@ -1,7 +1,7 @@
 use Rattle.std.proofs.Common.{◌-◌, sym, subst}
 use Rattle.call_path.specs.Path.{Path}
 use Rattle.prefix_tree.specs.Tree.{Tree}
-use Rattle.packet_frame.specs.Rows.{HasGrown}
+use Rattle.packet_frame.specs.FrameRows.{HasGrown}
 use Rattle.packet_frame.proofs.Growing.{named_more, named_room, named_covered}
 use Rattle.packet_frame.proofs.scan.Scan.end_row.Goals as goal
 
