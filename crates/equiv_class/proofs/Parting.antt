@@ -1,5 +1,5 @@
--- The ranks of a set move on to new states, one after another.
-use Rattle.std.proofs.Common.{◌≡◌, ℕ, zero, suc, ◌<◌, ◌≤◌, ◌+◌, Bool, true, false, cond, ◌&&◌, eqb, ltb, List, [], ◌∷◌, ◌++◌, length, get_or, set, refl, sym, ap, ◌∙◌, subst, inl, inr, arith}
+-- The ranks of a set move on to new states, one stretch of neighbours after another.
+use Rattle.std.proofs.Common.{◌≡◌, ℕ, zero, suc, ◌<◌, ◌≤◌, Bool, true, false, cond, ◌&&◌, eqb, ltb, List, [], ◌∷◌, ◌++◌, length, get_or, set, refl, sym, ap, ◌∙◌, subst, inl, inr, arith}
 use Rattle.std.proofs.lemmas.Bool.{true≢false, and_parts, and_from, cases_eq, cases_lt, cases_Bool, eq-eqb, ne_eqb, lt-ltb, le-ltb, ltb-true}
 use Rattle.std.proofs.lemmas.List.{get_or-set_same, get_or-set_other, length-set}
 use Rattle.rank_set.specs.Ranks.{Ranks, has}
@@ -95,67 +95,73 @@ module _ (base k : ℕ) (next : List ℕ) (k_in : k < length next) (room : base 
     | inr ne ↦ next_elsewhere j ne
   ]
 
--- one rank moves on
-pub move_step : (m n : ℕ → Bool) (base r : ℕ) (old states next : List ℕ) → r < length states → m r ≡ false → n r ≡ true → ((q : ℕ) → (q ≡ r → ⊥) → n q ≡ m q)
-    → AreTables states next → HaveMoved m base old states next
-    → HaveMoved n base old (set states r (state_after base (get_or states r 0) next)) (with_next base (get_or states r 0) next)
-move_step m n base r old states next r_in still now others tables h =
-    let k = get_or states r 0 in
-    let k_in : k < length next = tables.states_within r in
-    let own : get_or (set states r (state_after base k next)) r 0 ≡ state_after base k next = get_or-set_same states r (state_after base k next) 0 r_in in
-    let other : (q : ℕ) → (q ≡ r → ⊥) → get_or (set states r (state_after base k next)) q 0 ≡ get_or states q 0 = λ q ne. get_or-set_other states r q (state_after base k next) 0 ne in
-    record {
-      room = omega (arith, h.room, longer base k next k_in h.room);
-      old_below = h.old_below;
-      distinct = λ i j from_base same. elim (cases_eq i k) [
-        | inl ei ↦ elim (cases_eq j k) [
-          | inl ej ↦ ei ∙ sym ej
-          | inr nj ↦ ei ∙ sym (to_alone base k next k_in h.room tables.next_within h.distinct j
-              (sym (next_elsewhere base k next k_in h.room j nj) ∙ sym same ∙ ap (λ x. get_or (with_next base k next) x 0) ei ∙ next_at base k next k_in h.room))
-        ]
-        | inr ni ↦ elim (cases_eq j k) [
-          | inl ej ↦ to_alone base k next k_in h.room tables.next_within h.distinct i
-              (sym (next_elsewhere base k next k_in h.room i ni) ∙ same ∙ ap (λ x. get_or (with_next base k next) x 0) ej ∙ next_at base k next k_in h.room) ∙ sym ej
-          | inr nj ↦ h.distinct i j (subst (λ x. base ≤ x) (next_elsewhere base k next k_in h.room i ni) from_base)
-              (sym (next_elsewhere base k next k_in h.room i ni) ∙ same ∙ next_elsewhere base k next k_in h.room j nj)
-        ]
-      ];
-      stayed = λ q e. elim (cases_eq q r) [
-        | inl eq ↦ absurd (true≢false (sym now ∙ sym (ap n eq) ∙ e))
-        | inr ne ↦ other q ne ∙ h.stayed q (sym (others q ne) ∙ e)
-      ];
-      new_state = λ q e. elim (cases_eq q r) [
-        | inl eq ↦ subst (λ x. base ≤ x) (sym (ap (λ x. get_or (set states r (state_after base k next)) x 0) eq ∙ own)) (to_from_base base k next k_in h.room)
-        | inr ne ↦ subst (λ x. base ≤ x) (sym (other q ne)) (h.new_state q (sym (others q ne) ∙ e))
-      ];
-      by_state = λ q e. elim (cases_eq q r) [
-        | inl eq ↦ ap (λ x. get_or (with_next base k next) (get_or old x 0) 0) eq ∙ ap (λ x. get_or (with_next base k next) x 0) (sym (h.stayed r still)) ∙ next_at base k next k_in h.room
-            ∙ sym (ap (λ x. get_or (set states r (state_after base k next)) x 0) eq ∙ own)
-        | inr ne ↦
-            let was : m q ≡ true = sym (others q ne) ∙ e in
-            let led : get_or next (get_or old q 0) 0 ≡ get_or states q 0 = h.by_state q was in
-            kept base k next k_in h.room (get_or old q 0) (subst (λ x. base ≤ x) (sym led) (h.new_state q was)) ∙ led ∙ sym (other q ne)
-      ];
-    }
+-- the ranks from a to before b, which are of one state, move on to the state after it
+module _ (base a b : ℕ) (states states' next : List ℕ) (some : a < b) (same : (q : ℕ) → a ≤ q → q < b → get_or states q 0 ≡ get_or states a 0)
+    (given : (q : ℕ) → a ≤ q → q < b → get_or states' q 0 ≡ state_after base (get_or states a 0) next) (others : (q : ℕ) → (a ≤ q → q < b → ⊥) → get_or states' q 0 ≡ get_or states q 0)
+    (tables : AreTables states next) where
+  abbrev own_state : ℕ
+  own_state = get_or states a 0
 
--- the tables stay tables
-pub tables_step : (base r : ℕ) (states next : List ℕ) → r < length states → base ≤ length next → AreTables states next
-    → AreTables (set states r (state_after base (get_or states r 0) next)) (with_next base (get_or states r 0) next)
-tables_step base r states next r_in room tables =
-    let k = get_or states r 0 in
-    let k_in : k < length next = tables.states_within r in
-    let more = longer base k next k_in room in
-    let good = to_within base k next k_in room tables.next_within in
-    record {
-      states_within = λ q. elim (cases_eq q r) [
-        | inl eq ↦ subst (λ x. x < length (with_next base k next)) (sym (ap (λ x. get_or (set states r (state_after base k next)) x 0) eq ∙ get_or-set_same states r (state_after base k next) 0 r_in)) good
-        | inr ne ↦ subst (λ x. x < length (with_next base k next)) (sym (get_or-set_other states r q (state_after base k next) 0 ne)) (omega (arith, more, tables.states_within q))
-      ];
-      next_within = λ j. elim (cases_eq j k) [
-        | inl e ↦ subst (λ x. x < length (with_next base k next)) (sym (ap (λ x. get_or (with_next base k next) x 0) e ∙ next_at base k next k_in room)) good
-        | inr ne ↦ subst (λ x. x < length (with_next base k next)) (sym (next_elsewhere base k next k_in room j ne)) (omega (arith, more, tables.next_within j))
-      ];
-    }
+  own_in : own_state < length next
+  own_in = tables.states_within a
+
+  -- a rank is one of them or not
+  by_rank : (P : Type 0) (q : ℕ) → (a ≤ q → q < b → P) → ((a ≤ q → q < b → ⊥) → P) → P
+  by_rank P q inside outside = elim (cases_lt q a) [
+    | inl lt ↦ outside (λ ge below. omega (arith, lt, ge))
+    | inr ge ↦ elim (cases_lt q b) [
+      | inl lt ↦ inside ge lt
+      | inr past ↦ outside (λ from below. omega (arith, past, below))
+    ]
+  ]
+
+  stretch_moved : (m n : ℕ → Bool) (old : List ℕ) → ((q : ℕ) → a ≤ q → q < b → m q ≡ false) → ((q : ℕ) → a ≤ q → q < b → n q ≡ true)
+      → ((q : ℕ) → (a ≤ q → q < b → ⊥) → n q ≡ m q) → HaveMoved m base old states next → HaveMoved n base old states' (with_next base own_state next)
+  stretch_moved m n old still now unmoved h =
+      record {
+        room = omega (arith, h.room, longer base own_state next own_in h.room);
+        old_below = h.old_below;
+        distinct = λ i j from_base same. elim (cases_eq i own_state) [
+          | inl ei ↦ elim (cases_eq j own_state) [
+            | inl ej ↦ ei ∙ sym ej
+            | inr nj ↦ ei ∙ sym (to_alone base own_state next own_in h.room tables.next_within h.distinct j
+                (sym (next_elsewhere base own_state next own_in h.room j nj) ∙ sym same ∙ ap (λ x. get_or (with_next base own_state next) x 0) ei ∙ next_at base own_state next own_in h.room))
+          ]
+          | inr ni ↦ elim (cases_eq j own_state) [
+            | inl ej ↦ to_alone base own_state next own_in h.room tables.next_within h.distinct i
+                (sym (next_elsewhere base own_state next own_in h.room i ni) ∙ same ∙ ap (λ x. get_or (with_next base own_state next) x 0) ej ∙ next_at base own_state next own_in h.room) ∙ sym ej
+            | inr nj ↦ h.distinct i j (subst (λ x. base ≤ x) (next_elsewhere base own_state next own_in h.room i ni) from_base)
+                (sym (next_elsewhere base own_state next own_in h.room i ni) ∙ same ∙ next_elsewhere base own_state next own_in h.room j nj)
+          ]
+        ];
+        stayed = λ q e. by_rank (get_or states' q 0 ≡ get_or old q 0) q
+            (λ ge lt. absurd (true≢false (sym (now q ge lt) ∙ e)))
+            (λ out. others q out ∙ h.stayed q (sym (unmoved q out) ∙ e));
+        new_state = λ q e. by_rank (base ≤ get_or states' q 0) q
+            (λ ge lt. subst (λ x. base ≤ x) (sym (given q ge lt)) (to_from_base base own_state next own_in h.room))
+            (λ out. subst (λ x. base ≤ x) (sym (others q out)) (h.new_state q (sym (unmoved q out) ∙ e)));
+        by_state = λ q e. by_rank (get_or (with_next base own_state next) (get_or old q 0) 0 ≡ get_or states' q 0) q
+            (λ ge lt. ap (λ x. get_or (with_next base own_state next) x 0) (sym (h.stayed q (still q ge lt)) ∙ same q ge lt) ∙ next_at base own_state next own_in h.room ∙ sym (given q ge lt))
+            (λ out.
+            let was : m q ≡ true = sym (unmoved q out) ∙ e in
+            let led : get_or next (get_or old q 0) 0 ≡ get_or states q 0 = h.by_state q was in
+            kept base own_state next own_in h.room (get_or old q 0) (subst (λ x. base ≤ x) (sym led) (h.new_state q was)) ∙ led ∙ sym (others q out));
+      }
+
+  -- the tables stay tables
+  stretch_tables : base ≤ length next → AreTables states' (with_next base own_state next)
+  stretch_tables room =
+      let more = longer base own_state next own_in room in
+      let good = to_within base own_state next own_in room tables.next_within in
+      record {
+        states_within = λ q. by_rank (get_or states' q 0 < length (with_next base own_state next)) q
+            (λ ge lt. subst (λ x. x < length (with_next base own_state next)) (sym (given q ge lt)) good)
+            (λ out. subst (λ x. x < length (with_next base own_state next)) (sym (others q out)) (omega (arith, more, tables.states_within q)));
+        next_within = λ j. elim (cases_eq j own_state) [
+          | inl e ↦ subst (λ x. x < length (with_next base own_state next)) (sym (ap (λ x. get_or (with_next base own_state next) x 0) e ∙ next_at base own_state next own_in room)) good
+          | inr ne ↦ subst (λ x. x < length (with_next base own_state next)) (sym (next_elsewhere base own_state next own_in room j ne)) (omega (arith, more, tables.next_within j))
+        ];
+      }
 
 -- before the first rank moves
 pub move_start : (E : Ranks) (states next : List ℕ) → AreTables states next → HaveMoved (member_below E 0) (length next) states states next
@@ -180,23 +186,6 @@ move_gap E from first last base old states next run h = moved_same (member_below
         | inl lt ↦ ap (λ b. b && ltb r first) (run.passed r ge lt) ∙ sym (ap (λ b. b && ltb r from) (run.passed r ge lt))
         | inr le ↦ ap (λ b. has E r && b) (le-ltb r first le ∙ sym (le-ltb r from ge))
       ]
-    ]
-
--- a member moves
-pub move_member : (E : Ranks) (base r : ℕ) (old states next : List ℕ) → r < length states → has E r ≡ true → AreTables states next → HaveMoved (member_below E r) base old states next
-    → HaveMoved (member_below E (r + 1)) base old (set states r (state_after base (get_or states r 0) next)) (with_next base (get_or states r 0) next)
-move_member E base r old states next r_in member tables h =
-    move_step (member_below E r) (member_below E (r + 1)) base r old states next r_in (still (has E r)) (and_from (has E r) (ltb r (r + 1)) member (lt-ltb r (r + 1) (omega arith)))
-    others tables h
-  where
-    still : (b : Bool) → (b && ltb r r) ≡ false
-    still true = le-ltb r r (omega arith)
-    still false = refl
-
-    others : (q : ℕ) → (q ≡ r → ⊥) → member_below E (r + 1) q ≡ member_below E r q
-    others q ne = elim (cases_lt q r) [
-      | inl lt ↦ ap (λ b. has E q && b) (lt-ltb q (r + 1) (omega (arith, lt)) ∙ sym (lt-ltb q r lt))
-      | inr ge ↦ ap (λ b. has E q && b) (le-ltb q (r + 1) (omega (arith, ge, ne)) ∙ sym (le-ltb q r ge))
     ]
 
 -- when all have moved
@@ -234,14 +223,43 @@ module _ (E : Ranks) (from base : ℕ) (old states next : List ℕ) (passed : (q
     ]
   ]
 
--- a member moves, in a loop
-pub member_step : (E : Ranks) (base r after : ℕ) (old states next next' : List ℕ) → r < length states → has E r ≡ true → after ≡ state_after base (get_or states r 0) next
-    → next' ≡ with_next base (get_or states r 0) next → AreTables states next → HaveMoved (member_below E r) base old states next
-    → AreTables (set states r after) next' × HaveMoved (member_below E (r + 1)) base old (set states r after) next'
-member_step E base r after old states next next' r_in member is_to is_next tables h =
-    subst (λ x. AreTables (set states r x) next' × HaveMoved (member_below E (r + 1)) base old (set states r x) next') (sym is_to)
-    (subst (λ n. AreTables (set states r (state_after base (get_or states r 0) next)) n × HaveMoved (member_below E (r + 1)) base old (set states r (state_after base (get_or states r 0) next)) n) (sym is_next)
-    (tables_step base r states next r_in h.room tables, move_member E base r old states next r_in member tables h))
+-- neighbouring members of one state move, in a loop
+pub members_step : (E : Ranks) (base a b after : ℕ) (old states states' next next' : List ℕ) → a < b → ((q : ℕ) → a ≤ q → q < b → has E q ≡ true)
+    → ((q : ℕ) → a ≤ q → q < b → get_or states q 0 ≡ get_or states a 0) → after ≡ state_after base (get_or states a 0) next → next' ≡ with_next base (get_or states a 0) next
+    → ((q : ℕ) → a ≤ q → q < b → get_or states' q 0 ≡ after) → ((q : ℕ) → q < a → get_or states' q 0 ≡ get_or states q 0) → ((q : ℕ) → b ≤ q → get_or states' q 0 ≡ get_or states q 0)
+    → AreTables states next → HaveMoved (member_below E a) base old states next → AreTables states' next' × HaveMoved (member_below E b) base old states' next'
+members_step E base a b after old states states' next next' some members same is_to is_next given below above tables h =
+    subst (λ n. AreTables states' n × HaveMoved (member_below E b) base old states' n) (sym is_next) (
+      stretch_tables base a b states states' next some same to_given others tables h.room,
+      stretch_moved base a b states states' next some same to_given others tables (member_below E a) (member_below E b) old still now unmoved h,
+    )
+  where
+    to_given : (q : ℕ) → a ≤ q → q < b → get_or states' q 0 ≡ state_after base (get_or states a 0) next
+    to_given q ge lt = given q ge lt ∙ is_to
+
+    others : (q : ℕ) → (a ≤ q → q < b → ⊥) → get_or states' q 0 ≡ get_or states q 0
+    others q out = elim (cases_lt q a) [
+      | inl lt ↦ below q lt
+      | inr ge ↦ elim (cases_lt q b) [
+        | inl lt ↦ absurd (out ge lt)
+        | inr past ↦ above q past
+      ]
+    ]
+
+    still : (q : ℕ) → a ≤ q → q < b → member_below E a q ≡ false
+    still q ge lt = ap (λ t. t && ltb q a) (members q ge lt) ∙ le-ltb q a ge
+
+    now : (q : ℕ) → a ≤ q → q < b → member_below E b q ≡ true
+    now q ge lt = and_from (has E q) (ltb q b) (members q ge lt) (lt-ltb q b lt)
+
+    unmoved : (q : ℕ) → (a ≤ q → q < b → ⊥) → member_below E b q ≡ member_below E a q
+    unmoved q out = elim (cases_lt q a) [
+      | inl lt ↦ ap (λ t. has E q && t) (lt-ltb q b (omega (arith, lt, some)) ∙ sym (lt-ltb q a lt))
+      | inr ge ↦ elim (cases_lt q b) [
+        | inl lt ↦ absurd (out ge lt)
+        | inr past ↦ ap (λ t. has E q && t) (le-ltb q b past ∙ sym (le-ltb q a ge))
+      ]
+    ]
 
 -- one set after another
 pub parting_step : (e : Path × Ranks) (rest es all : List (Path × Ranks)) (old new : List ℕ) → rest ≡ e ∷ es → ArePartedBy e.1 old new

@@ -3,13 +3,12 @@
 ghost use Rattle.std.specs.Prelude.{◌≡◌, ℕ, ◌<◌, ◌≤◌, ◌-◌, ◌+◌, true, length, get_or, set, replicate, nat_eq, IfOk, OnOk};
 ghost use Rattle.rank_set.specs.Ranks.{Ranks, none, has, those, union};
 ghost use Rattle.rank_set.specs.Runs.{ranks_between};
-ghost use Rattle.rank_set.specs.declared.TheConstants.{RANK_LIMIT};
 ghost use Rattle.call_path.specs.Path.{Path};
 ghost use Rattle.equiv_class.specs.SeenPaths.{entries_view, same_paths};
 ghost use Rattle.equiv_class.specs.States.{AreBlocks, HasEntries};
 
 use crate::SeenPath;
-use crate::states::{count_states, end_of_all, part, part_by_paths};
+use crate::states::{count_states, end_of_all, end_of_state, part, part_by_paths};
 use rank_set::RankSet;
 use std::alloc::{AllocError, Global};
 
@@ -71,24 +70,6 @@ fn ranks_by_state(
         }
     }
     Ok(sets)
-}
-
-// The first rank past the given ones, or the first of them whose state is not that of the first.
-fn end_of_state(states: &[u32], first: u32, last: u32) -> u32
-    requires not_empty { first ≤ last }
-    requires in_table { last < length states.now }
-    requires below_limit { last < RANK_LIMIT }
-    ensures passed { first < result }
-    ensures within { result ≤ last + 1 }
-    ensures same { (r : ℕ) → first ≤ r → r < result → get_or states.now r 0 ≡ get_or states.now first 0 }
-{
-    let state = states[first as usize];
-    for r in first + 1..last + 1 {
-        if states[r as usize] != state {
-            return r;
-        }
-    }
-    last + 1
 }
 
 // As many empty sets as there are states from `base` to before `end`.

@@ -1,7 +1,7 @@
 //! States of ranks: two ranks have the same state where they were in the same sets so far. The sets are noted one after
 //! another, and a set costs what it lists.
 
-ghost use Rattle.std.specs.Prelude.{◌≡◌, ℕ, ◌<◌, ◌≤◌, ◌-◌, true, length, get_or, set, nat_eq, All, IfOk, OnOk};
+ghost use Rattle.std.specs.Prelude.{◌≡◌, ℕ, ◌<◌, ◌≤◌, ◌-◌, ◌+◌, true, length, get_or, set, nat_eq, All, IsTrue, IfOk, OnOk};
 ghost use Rattle.rank_set.specs.Ranks.{has};
 ghost use Rattle.equiv_class.specs.SeenPaths.{entries_view};
 ghost use Rattle.equiv_class.specs.States.{AreTables, ArePartedBy, AreStates, HasEntries, state_after, with_next};
@@ -9,6 +9,9 @@ ghost use Rattle.equiv_class.specs.States.{AreTables, ArePartedBy, AreStates, Ha
 use crate::SeenPath;
 use rank_set::{RANK_LIMIT, RankSet};
 use std::alloc::AllocError;
+
+// States are compared by blocks of this many ranks, and then rank by rank.
+const BLOCK: usize = 16;
 
 // How many states there are.
 pub(crate) fn count_states(next: &[u32]) -> Result<u32, AllocError>
@@ -60,6 +63,51 @@ pub(crate) fn end_of_all(seen: &[SeenPath<'_>], covered: &RankSet) -> u32
     end
 }
 
+// Whether a block of ranks from the first one on is in the table, and all of it has the state.
+fn has_block(states: &[u32], first: usize, state: u32) -> bool
+    requires { first ≤ length states.now }
+    ensures within { IsTrue result → first + BLOCK ≤ length states.now }
+    ensures same { IsTrue result → (r : ℕ) → first ≤ r → r < first + BLOCK → get_or states.now r 0 ≡ state }
+{
+    let Some(block) = states[first..].first_chunk::<BLOCK>() else {
+        return false;
+    };
+    *block == [state; BLOCK]
+}
+
+// The first rank past the given ones, or the first of them whose state is not that of the first.
+pub(crate) fn end_of_state(states: &[u32], first: u32, last: u32) -> u32
+    requires not_empty { first ≤ last }
+    requires in_table { last < length states.now }
+    requires below_limit { last < RANK_LIMIT }
+    ensures passed { first < result }
+    ensures within { result ≤ last + 1 }
+    ensures same { (r : ℕ) → first ≤ r → r < result → get_or states.now r 0 ≡ get_or states.now first 0 }
+{
+    let state = states[first as usize];
+    let given = &states[..last as usize + 1];
+    let mut end = first as usize + 1;
+    while has_block(given, end, state) {
+        end += BLOCK;
+    }
+    while end < given.len() && given[end] == state {
+        end += 1;
+    }
+    end as u32
+}
+
+// Gives the ranks from the first one to before the end one state.
+fn set_states(states: &mut [u32], first: u32, end: u32, state: u32)
+    requires order { first ≤ end }
+    requires in_table { end ≤ length states.old }
+    ensures length { length states.new ≡ length states.old }
+    ensures given { (r : ℕ) → first ≤ r → r < end → get_or states.new r 0 ≡ state }
+    ensures below { (r : ℕ) → r < first → get_or states.new r 0 ≡ get_or states.old r 0 }
+    ensures above { (r : ℕ) → end ≤ r → get_or states.new r 0 ≡ get_or states.old r 0 }
+{
+    states[first as usize..end as usize].fill(state);
+}
+
 // Moves the ranks of a set on to new states, those of one state to one state.
 pub(crate) fn part(
     ranks: &RankSet,
@@ -75,10 +123,12 @@ pub(crate) fn part(
     let base = count_states(next.as_slice())?;
     let mut from = 0;
     while let Some(run) = ranks.next_run(from) {
-        from = run.last + 1;
-        for r in run.first..from {
-            let state = states[r as usize];
-            states[r as usize] = next_state(next, base, state)?;
+        from = run.first;
+        while from <= run.last {
+            let end = end_of_state(states, from, run.last);
+            let state = next_state(next, base, states[from as usize])?;
+            set_states(states, from, end, state);
+            from = end;
         }
     }
     Ok(())
