@@ -87,6 +87,9 @@ pub(crate) fn end_of_state(states: &[u32], first: u32, last: u32) -> u32
     let state = states[first as usize];
     let given = &states[..last as usize + 1];
     let mut end = first as usize + 1;
+    if end == given.len() || given[end] != state {
+        return end as u32;
+    }
     while has_block(given, end, state) {
         end += BLOCK;
     }
