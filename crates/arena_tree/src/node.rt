@@ -117,7 +117,7 @@ impl Node {
         ensures { IfOk result (λ node. node ≡ view_of (drop skip frames.now) (label.now, ends.now) first next) }
     {
         Ok(Node {
-            frames: frames.behind(skip)?,
+            frames: frames_behind(frames, skip)?,
             label: label.copy()?,
             ends: ends.copy()?,
             first,
@@ -160,6 +160,17 @@ impl Node {
     {
         self.next = to;
     }
+}
+
+/// The frames of a path behind the first `skip`. Most often these are all, which are copied as they stand.
+fn frames_behind(path: &CallPath, skip: usize) -> Result<CallPath, AllocError>
+    requires { skip < length path.now }
+    ensures { IfOk result (λ rest. rest ≡ drop skip path.now) }
+{
+    if skip == 0 {
+        return path.copy();
+    }
+    path.behind(skip)
 }
 
 /// Takes up more ranks in the words of a set, or is replaced by them where it can't. It allocates nothing.

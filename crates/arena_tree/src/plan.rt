@@ -40,27 +40,17 @@ impl Model for Plan {
 }
 
 impl Plan {
-    /// No steps, for a tree of `base` nodes.
-    pub(crate) fn new(alloc: Global, base: u32) -> Plan
-        ensures base { result.base ≡ base }
-        ensures steps { result.steps ≡ [] }
-    {
-        Plan {
-            steps: Vec::new(alloc),
-            base,
-            next: base,
-            rows: 0,
-        }
-    }
-
     /// No steps, and room for so many, for a tree of `base` nodes.
     pub(crate) fn with_capacity(alloc: Global, base: u32, steps: u32) -> Result<Plan, AllocError>
         ensures base { IfOk result (λ plan. plan.base ≡ base) }
         ensures steps { IfOk result (λ plan. plan.steps ≡ []) }
     {
-        let mut plan = Plan::new(alloc, base);
-        plan.steps.reserve(steps as usize)?;
-        Ok(plan)
+        Ok(Plan {
+            steps: Vec::with_capacity(alloc, steps as usize)?,
+            base,
+            next: base,
+            rows: 0,
+        })
     }
 
     /// How many nodes the steps add.

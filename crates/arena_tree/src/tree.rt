@@ -19,6 +19,9 @@ use rank_set::RankSet;
 use std::alloc::{AllocError, Global};
 use std::marker::Model;
 
+// For how many steps room is made before a path is added: most paths take no more.
+const STEPS_AT_ONCE: u32 = 3;
+
 /// A tree that has one node for each run of rows with the same ranks.
 ///
 /// A node has the frames of its rows, the ranks that pass them, and those whose path ends at the last of them. It is
@@ -84,7 +87,7 @@ impl PrefixTree for ArenaTree {
     }
 
     fn add(&mut self, ranks: &RankSet, path: &CallPath) -> Result<(), TreeError> {
-        let mut plan = Plan::new(self.alloc, self.nodes.len());
+        let mut plan = Plan::with_capacity(self.alloc, self.nodes.len(), STEPS_AT_ONCE)?;
         // For the proof: no more than `FRAME_LIMIT` frames.
         let _len = path.len();
         let mut into = Target {
