@@ -4,7 +4,7 @@
 //! end. A text that ends with a line feed has no line after it. Words are the longest runs of bytes other than spaces
 //! and tabs.
 
-ghost use Rattle.std.specs.Prelude.{◌≡◌, ◌<◌, ◌≤◌, ◌+◌, ◌^◌, is_some, length, min, MatchOption, IfSome, [], ◌∷◌, option_map};
+ghost use Rattle.std.specs.Prelude.{◌≡◌, ◌<◌, ◌≤◌, ◌+◌, ◌^◌, is_some, length, take, drop, min, MatchOption, IfSome, [], ◌∷◌, option_map};
 ghost use Rattle.std.specs.Char.{is_ascii_digit};
 ghost use Rattle.std.specs.List.{list_all};
 ghost use Rattle.std.specs.Str.{bytes_eq};
@@ -134,6 +134,8 @@ pub fn cut_word(line: &[u8]) -> Option<(&[u8], &[u8])>
     ensures words { IfSome result (λ cut. words line.now ≡ cut.0.now ∷ words cut.1.now) }
     ensures rest { IfSome result (λ cut. after_blanks (after_word line.now) ≡ after_blanks cut.1.now) }
     ensures length { IfSome result (λ cut. length cut.0.now + length cut.1.now + 1 ≡ length line.now) }
+    ensures front { IfSome result (λ cut. cut.0.now ≡ take (word_len line.now) line.now) }
+    ensures behind { IfSome result (λ cut. cut.1.now ≡ drop (word_len line.now + 1) line.now) }
     ensures exact { is_some result ≡ begins_with_word_and_blank line.now }
 {
     let (word, after) = line.split_at(word_len(line));

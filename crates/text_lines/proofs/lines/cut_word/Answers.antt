@@ -1,4 +1,4 @@
-use Rattle.std.proofs.Common.{◌≡◌, ◌∙◌, ◌∷◌, ◌<◌, ℕ, List, length, take, drop, sym, ap, nat_eq, false, arith}
+use Rattle.std.proofs.Common.{◌≡◌, ◌∙◌, ◌∷◌, ◌<◌, ℕ, List, length, take, drop, drop-drop, sym, ap, nat_eq, false, arith}
 use Rattle.std.proofs.lemmas.Bool.Decides.{nat_tests}
 use Rattle.text_lines.specs.Lines.{words, word_len}
 use Rattle.text_lines.proofs.Cuts.{word_cut, rest_cut}
@@ -35,3 +35,10 @@ returns-in-Some-clause-rest c =
     rest_cut line c.in-Some.field-0-0.now c.in-Some.rest.now
     (has_word line word after c.word_len.result c.word_len.ensures.value c.split_at.ensures.front_len c.split_at.ensures.back left)
     (is_cut line word after c.word_len.result c.word_len.ensures.value c.split_at.ensures.front_len c.split_at.ensures.back left c.in-Some.field-0-0.now c.in-Some.rest.now c.in-Some.ensures.cases.0)
+
+pub returns-in-Some-clause-behind : goal.returns-in-Some-clause-behind
+returns-in-Some-clause-behind c =
+    let line = c.args.line.now in
+    let left = sym c.is_empty.ensures ∙ c.if-not-is_empty.true in
+    let cut = is_cut line c.split_at.result.0.now c.split_at.result.1.now c.word_len.result c.word_len.ensures.value c.split_at.ensures.front_len c.split_at.ensures.back left c.in-Some.field-0-0.now c.in-Some.rest.now c.in-Some.ensures.cases.0 in
+    sym (ap (drop 1) cut) ∙ drop-drop 1 (word_len line) line
