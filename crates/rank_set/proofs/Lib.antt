@@ -13,3 +13,4 @@ pub mod Spanning
 pub mod WordLists
 pub mod OneWord
 pub mod RunLists
+pub mod RunTexts

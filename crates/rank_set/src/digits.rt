@@ -26,6 +26,7 @@ pub fn capped_value(digits: &[u8], limit: u32) -> u32
 
 /// The number that a text begins with, or the limit where it is more, and how many digits it has. Without a digit both
 /// are 0.
+#[inline]
 pub fn capped_number(text: &[u8], limit: u32) -> (u32, usize)
     requires { limit < 2 ^ 28 }
     ensures value { result.0 ≡ min limit (value_after 0 (take (digits_len text.now) text.now)) }

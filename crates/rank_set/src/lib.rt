@@ -142,7 +142,7 @@ impl RankSet {
     }
 
     /// The set of the ranks from `first` to `last`, which lie in one word. It allocates nothing.
-    pub(crate) fn in_one_word(alloc: Global, first: u32, last: u32) -> RankSet
+    pub fn in_one_word(alloc: Global, first: u32, last: u32) -> RankSet
         requires not_empty { first ≤ last }
         requires below_limit { last < RANK_LIMIT }
         requires one { first / 64 ≡ last / 64 }

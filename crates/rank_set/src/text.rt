@@ -1,15 +1,15 @@
 //! The text of a rank set, as `4:[0-2,7]`.
 
-ghost use Rattle.std.specs.Prelude.{◌≡◌, ◌≤◌, ◌+◌, ◌++◌, length, OnOk, OnErr};
+ghost use Rattle.std.specs.Prelude.{◌≡◌, ◌<◌, ◌≤◌, ◌+◌, ◌++◌, length, drop, OnOk, OnErr};
 ghost use Rattle.std.specs.Fmt.{decimal};
 ghost use Rattle.rank_set.specs.Ranks.{in_order};
 ghost use Rattle.rank_set.specs.Words.{ranks_in};
 ghost use Rattle.rank_set.specs.Runs.{runs_of};
 ghost use Rattle.rank_set.specs.Text.{run_text, runs_text, text_of, BeginsWith};
 
-use crate::WORD_LIMIT;
+use crate::{RANK_LIMIT, WORD_LIMIT};
 use crate::words::{next_run, ones};
-use itoa::Buffer;
+use itoa::{Buffer, write_digits};
 use std::alloc::AllocError;
 
 // Appends the number's decimal digits. On failure `out` is unchanged.
@@ -22,17 +22,34 @@ fn write_number(n: u32, out: &mut Vec<u8>) -> Result<(), AllocError>
     Ok(())
 }
 
-// Appends a run's text: a number, or `a-b` for two ranks or more.
+// The most bytes of a run's text: a rank has seven digits at most.
+const RUN_BYTES: usize = 15;
+
+// Appends a run's text: a number, or `a-b` for two ranks or more. It is written from its end.
 fn write_run(first: u32, last: u32, out: &mut Vec<u8>) -> Result<(), AllocError>
+    requires { (first ≤ last) × (last < RANK_LIMIT) }
     ensures ok { OnOk result (out.new.items ≡ out.old.items ++ run_text (first, last)) }
     ensures kept { BeginsWith out.new.items out.old.items }
 {
-    write_number(first, out)?;
-    if first != last {
-        out.push(b'-')?;
-        write_number(last, out)?;
-    }
+    let mut text = [0; RUN_BYTES];
+    let start = write_run_before(first, last, &mut text);
+    out.extend_from_slice(&text[start..])?;
     Ok(())
+}
+
+// Writes a run's text at the end of a buffer, and returns where it starts.
+#[inline(always)]
+fn write_run_before(first: u32, last: u32, text: &mut [u8; RUN_BYTES]) -> usize
+    requires { (first ≤ last) × (last < RANK_LIMIT) }
+    ensures within { result ≤ RUN_BYTES }
+    ensures text { drop result text.new ≡ run_text (first, last) }
+{
+    let start = write_digits(u64::from(last), text, RUN_BYTES);
+    if first == last {
+        return start;
+    }
+    text[start - 1] = b'-';
+    write_digits(u64::from(first), text, start - 1)
 }
 
 // Appends the longest runs of the words' ranks, parted by commas.

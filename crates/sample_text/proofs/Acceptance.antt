@@ -31,6 +31,7 @@ use Rattle.sample_text.specs.Steps.{if_holds, daemon_on, ranks_on, ranks_or_erro
 use Rattle.sample_text.specs.Whole.{nothing_parsed, lacks_rank, whole, samples_of_text}
 use Rattle.sample_text.proofs.InvariantLemmas.{holds_after, fits}
 use Rattle.sample_text.proofs.LineViews.{AddsRanks, AddsSample, Changes, changes}
+use Rattle.sample_text.proofs.Numbers.{ranks_good, time_good}
 use Rattle.sample_text.proofs.LineWords.{line_of_nothing, line_of_words, says_words}
 use Rattle.sample_text.proofs.Lines.{whole_good, samples_good}
 use Rattle.sample_text.proofs.Sets.{has-all_ranks, in_one, in_some, not_in_both, disjoint_from, empty_sets_empty, length-empty_sets}
@@ -82,14 +83,6 @@ stack_read line x utf8 comment is number =
 named_good : (t : Nodes) (number : ℕ) (name : List ℕ) (n : ℕ) → daemon_named name t ≡ Some n → daemon_on t number name ≡ Ok n
 unfolding daemon_on
 named_good t number name n e = ap (some_or (Bad number NotADaemon)) e
-
-ranks_good : (number : ℕ) (word : List ℕ) (ranks : Ranks) → ranks_text word ≡ Ok ranks → ranks_on number word ≡ Ok ranks
-unfolding ranks_on
-ranks_good number word ranks e = ap (ranks_or_error number) e
-
-time_good : (number : ℕ) (word : List ℕ) (time : ℕ) → number_in word ≡ Some time → time ≤ TIME_LIMIT → time_on number word ≡ Ok time
-unfolding time_on
-time_good number word time e low = ap (time_at number) e ∙ ap (λ b. if_holds b (Bad number BadTime) (Ok time)) (le-leb time TIME_LIMIT low)
 
 abbrev stack : List ℕ → Bool
 stack line = is_line_of (codes "stack") line

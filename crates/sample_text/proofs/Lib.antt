@@ -1,8 +1,10 @@
 pub mod LineWords
+pub mod Numbers
 pub mod UsualLines
 pub mod Sets
 pub mod Steps
 pub mod Texts
+pub mod Room
 pub mod SomeRank
 pub mod InvariantLemmas
 pub mod Lines

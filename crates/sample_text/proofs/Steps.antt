@@ -1,5 +1,5 @@
 -- One line more, by its error or the step that it is.
-use Rattle.std.proofs.Common.{◌≡◌, ℕ, ◌<◌, ◌≤◌, true, false, List, [], ◌∷◌, ◌++◌, length, Ok, Err, refl, ap, le-ltb, lt-ltb}
+use Rattle.std.proofs.Common.{◌≡◌, ◌∙◌, ℕ, ◌<◌, ◌≤◌, true, false, List, [], ◌∷◌, ◌++◌, length, Result, Ok, Err, refl, ap, le-ltb, lt-ltb}
 use Rattle.rank_set.specs.Ranks.{Ranks, is_subset}
 use Rattle.call_path.specs.Path.{Path}
 use Rattle.stat_plan.specs.Plans.{Sampled}
@@ -10,7 +10,7 @@ use Rattle.text_lines.specs.declared.text_error.TextError.TheVariants.{Bad, Over
 use Rattle.text_lines.specs.declared.text_error.Reason.TheVariants.{PlacedTwice, Unplaced}
 use Rattle.text_lines.specs.declared.text_error.Quantity.TheVariants.{Lines}
 use Rattle.sample_text.specs.Words.{LineView, read_line}
-use Rattle.sample_text.specs.Steps.{daemon_on, ranks_on, time_on, path_on, are_disjoint, add_at, sample, with_daemon, with_stack, with_line_view, with_line}
+use Rattle.sample_text.specs.Steps.{daemon_on, ranks_on, time_on, path_on, are_disjoint, add_at, sample, if_room, with_sample, with_daemon, with_stack, with_line_view, with_line}
 use Rattle.text_lines.specs.Parsing.{and_then}
 
 -- a line `daemon NAME RANKS`
@@ -33,6 +33,14 @@ module _ (t : Nodes) (s : Sampled) (number : ℕ) (name word : List ℕ) where
       unfolding with_daemon
       daemon_good disjoint = rw (named, read, disjoint, with_daemon) refl
 
+-- a line more
+module _ (s : Sampled) (number : ℕ) (next : Result Sampled TextError) where
+  pub no_room : 262144 ≤ length s.lines → if_room s number next ≡ Err (Over number Lines 262144)
+  no_room many = rw (le-ltb (length s.lines) 262144 many) refl
+
+  pub room : length s.lines < 262144 → if_room s number next ≡ next
+  room few = rw (lt-ltb (length s.lines) 262144 few) refl
+
 -- a line `stack TIME RANKS PATH`
 module _ (s : Sampled) (number : ℕ) (time_word word text : List ℕ) where
   pub stack_over : 262144 ≤ length s.lines → with_stack s number time_word word text ≡ Err (Over number Lines 262144)
@@ -49,19 +57,26 @@ module _ (s : Sampled) (number : ℕ) (time_word word text : List ℕ) where
       unfolding with_stack
       stack_bad_ranks e read = rw (lt-ltb (length s.lines) 262144 few, timed, read, with_stack) refl
 
-      module _ (ranks : Ranks) (read : ranks_on number word ≡ Ok ranks) where
-        pub stack_unplaced : is_subset ranks (all_ranks s.placed) ≡ false → with_stack s number time_word word text ≡ Err (Bad number Unplaced)
-        unfolding with_stack
-        stack_unplaced placed = rw (lt-ltb (length s.lines) 262144 few, timed, read, placed, with_stack) refl
+      pub stack_read : (ranks : Ranks) → ranks_on number word ≡ Ok ranks → with_stack s number time_word word text ≡ with_sample s number time ranks text
+      unfolding with_stack
+      stack_read ranks read = rw (lt-ltb (length s.lines) 262144 few, timed, read, with_stack) refl
 
-        module _ (placed : is_subset ranks (all_ranks s.placed) ≡ true) where
-          pub stack_bad_path : (e : TextError) → path_on number text ≡ Err e → with_stack s number time_word word text ≡ Err e
-          unfolding with_stack
-          stack_bad_path e walked = rw (lt-ltb (length s.lines) 262144 few, timed, read, placed, walked, with_stack) refl
+-- a sample of ranks
+module _ (s : Sampled) (number time : ℕ) (ranks : Ranks) (text : List ℕ) where
+  pub sample_unplaced : is_subset ranks (all_ranks s.placed) ≡ false → with_sample s number time ranks text ≡ Err (Bad number Unplaced)
+  sample_unplaced placed = rw placed refl
 
-          pub stack_good : (path : Path) → path_on number text ≡ Ok path → with_stack s number time_word word text ≡ Ok (record s { lines = s.lines ++ sample time ranks path ∷ [] })
-          unfolding with_stack
-          stack_good path walked = rw (lt-ltb (length s.lines) 262144 few, timed, read, placed, walked, with_stack) refl
+  module _ (placed : is_subset ranks (all_ranks s.placed) ≡ true) where
+    pub sample_bad_path : (e : TextError) → path_on number text ≡ Err e → with_sample s number time ranks text ≡ Err e
+    sample_bad_path e walked = rw (placed, walked) refl
+
+    pub sample_good : (path : Path) → path_on number text ≡ Ok path → with_sample s number time ranks text ≡ Ok (record s { lines = s.lines ++ sample time ranks path ∷ [] })
+    sample_good path walked = rw (placed, walked) refl
+
+-- a line `stack TIME RANKS PATH` that is taken
+pub stack_good : (s : Sampled) (number : ℕ) (time_word word text : List ℕ) → length s.lines < 262144 → (time : ℕ) → time_on number time_word ≡ Ok time → (ranks : Ranks) → ranks_on number word ≡ Ok ranks → is_subset ranks (all_ranks s.placed) ≡ true → (path : Path) → path_on number text ≡ Ok path → with_stack s number time_word word text ≡ Ok (record s { lines = s.lines ++ sample time ranks path ∷ [] })
+stack_good s number time_word word text few time timed ranks read placed path walked =
+    stack_read s number time_word word text few time timed ranks read ∙ sample_good s number time ranks text placed path walked
 
 -- a line, by what it says
 pub line_bad : (t : Nodes) (s : Sampled) (number : ℕ) (line : List ℕ) (e : TextError) → read_line number line ≡ Err e → with_line t s number line ≡ Err e

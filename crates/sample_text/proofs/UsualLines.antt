@@ -1,12 +1,21 @@
 -- A line in its usual form is read as its words.
-use Rattle.std.proofs.Common.{◌≡◌, ◌∙◌, ℕ, ◌<◌, true, List, ◌∷◌, ◌++◌, length, take, drop, Ok, refl, sym, ap, subst, codes}
+use Rattle.std.proofs.Common.{◌≡◌, ◌∙◌, ℕ, ◌<◌, ◌≤◌, true, List, ◌∷◌, ◌++◌, length, take, drop, Ok, Some, refl, sym, ap, subst, codes}
 use Rattle.std.specs.Str.{bytes_eq, IsUtf8}
 use Rattle.std.proofs.lemmas.List.{take-append-drop}
 use Rattle.std.proofs.lemmas.Slice.Eq.{bytes_eq-Decides}
-use Rattle.text_lines.specs.Lines.{words, word_len, after_blanks, after_word, is_comment}
+use Rattle.rank_set.specs.Ranks.{none, union}
+use Rattle.rank_set.specs.Runs.{ranks_between}
+use Rattle.rank_set.specs.declared.TheConstants.{RANK_LIMIT}
+use Rattle.stat_plan.specs.declared.samples.TheConstants.{TIME_LIMIT}
+use Rattle.text_lines.specs.Lines.{words, word_len, after_blanks, after_word, is_comment, number_in}
+use Rattle.text_lines.specs.Parsing.{and_then}
 use Rattle.text_lines.proofs.Cuts.{word_here, blanks_past}
 use Rattle.sample_text.specs.Words.{Stack, directive, read_line}
+use Rattle.sample_text.specs.LineViews.{SamplesOneRank}
+use Rattle.sample_text.specs.Steps.{ranks_on, if_room, with_sample, with_stack}
 use Rattle.sample_text.proofs.LineWords.{line_of_words, says_words}
+use Rattle.sample_text.proofs.Numbers.{one_rank, time_good, ranks_good}
+use Rattle.sample_text.proofs.Steps.{line_good}
 
 -- what is left after two words is decided by what is left after the blanks
 word_after : (one other : List ℕ) → after_blanks one ≡ after_blanks other → after_word one ≡ after_word other
@@ -40,3 +49,12 @@ module _ (line bytes first second third : List ℕ) (value : bytes ≡ line) (be
         line_of_words n line (says_words line (codes "stack") (words first) (ap is_comment whole) stack_first) utf8
         ∙ ap (directive n line) ws
         ∙ ap (λ p. Ok (Stack time ranks p)) (sym path_is)
+
+    module _ (t n : ℕ) (low : t ≤ TIME_LIMIT) (below : n < RANK_LIMIT) (time_is : number_in time ≡ Some t) (rank_is : number_in ranks ≡ Some n) where
+      -- a line of one rank is such a sample, whatever was parsed before it
+      pub one_rank_read : IsUtf8 line → 0 < length path → SamplesOneRank line t n path
+      unfolding with_stack
+      one_rank_read utf8 some nodes s number =
+          line_good nodes s number line (Stack time ranks path) (usual_read utf8 some number)
+          ∙ ap (λ r. if_room s number (and_then r (λ time. and_then (ranks_on number ranks) (λ set. with_sample s number time set path)))) (time_good number time t time_is low)
+          ∙ ap (λ r. if_room s number (and_then r (λ set. with_sample s number t set path))) (ranks_good number ranks (union none (ranks_between n n)) (one_rank ranks n rank_is below))

@@ -95,15 +95,25 @@ with_daemon t s line_number name word =
     if_holds (are_disjoint ranks (all_ranks s.placed)) (Bad line_number PlacedTwice)
     (Ok (record s { placed = add_at s.placed n ranks }))))
 
+-- a line more, where there may be one
+abbrev pub if_room : Sampled → ℕ → Result Sampled TextError → Result Sampled TextError
+if_room s line_number next =
+    if_holds (nat_lt (length s.lines) LINE_LIMIT) (Over line_number quantity.Lines LINE_LIMIT) next
+
+-- a sample of ranks at a time, in the path that PATH writes
+abbrev pub with_sample : Sampled → ℕ → ℕ → Ranks → List ℕ → Result Sampled TextError
+with_sample s line_number time ranks text =
+    if_holds (is_subset ranks (all_ranks s.placed)) (Bad line_number Unplaced)
+    (and_then (path_on line_number text) (λ path.
+    Ok (record s { lines = s.lines ++ sample time ranks path ∷ [] })))
+
 -- a line `stack TIME RANKS PATH`
 unfoldable pub with_stack : Sampled → ℕ → List ℕ → List ℕ → List ℕ → Result Sampled TextError
 with_stack s line_number time word text =
-    if_holds (nat_lt (length s.lines) LINE_LIMIT) (Over line_number quantity.Lines LINE_LIMIT)
+    if_room s line_number
     (and_then (time_on line_number time) (λ time.
     and_then (ranks_on line_number word) (λ ranks.
-    if_holds (is_subset ranks (all_ranks s.placed)) (Bad line_number Unplaced)
-    (and_then (path_on line_number text) (λ path.
-    Ok (record s { lines = s.lines ++ sample time ranks path ∷ [] }))))))
+    with_sample s line_number time ranks text)))
 
 -- what a line says
 abbrev pub with_line_view : Nodes → Sampled → ℕ → LineView → Result Sampled TextError

@@ -1,13 +1,14 @@
 //! What is parsed of a samples text so far.
 
-ghost use Rattle.std.specs.Prelude.{◌≡◌, ◌≢◌, ◌<◌, length, IfOk, IfErr, OnOk, Ok, Err};
-ghost use Rattle.rank_set.specs.Ranks.{none};
+ghost use Rattle.std.specs.Prelude.{◌≡◌, ◌≢◌, ◌<◌, not, nat_lt, length, IfOk, IfErr, OnOk, Ok, Err};
+ghost use Rattle.rank_set.specs.Ranks.{none, union};
+ghost use Rattle.rank_set.specs.Runs.{ranks_between};
 ghost use Rattle.text_lines.specs.Parsing.{IsValueOf, IsErrorOf};
 ghost use Rattle.sample_text.specs.Steps.{daemon_on, ranks_on, time_on, are_disjoint, add_at};
 ghost use Rattle.sample_text.specs.Whole.{empty_sets, lacks_rank};
 
 use crate::paths::Paths;
-use crate::words::{Line, read_line, read_other_line};
+use crate::words::{Line, OneRank, one_rank_line, read_line, read_other_line};
 use overlay_setup::Topology;
 use rank_set::{RANK_LIMIT, RankSet, RanksError, read_ranks};
 use stat_plan::{LINE_LIMIT, Samples, StackLine, TIME_LIMIT};
@@ -110,7 +111,7 @@ fn lacks_rank(topology: &Topology, placed: &[RankSet]) -> bool
 }
 
 impl<'t> Parser<'t> {
-    ghost use Rattle.sample_text.specs.Steps.{with_daemon, with_stack};
+    ghost use Rattle.sample_text.specs.Steps.{with_daemon, with_stack, with_sample, if_room};
     ghost use Rattle.sample_text.specs.Taking.{takes_line, refuses_line};
     ghost use Rattle.sample_text.specs.Whole.{nothing_parsed, whole};
     ghost use Rattle.sample_text.specs.Invariants.{ParserInvariant};
@@ -156,6 +157,39 @@ impl<'t> Parser<'t> {
         Ok(())
     }
 
+    // Whether there may be no line more.
+    fn is_full(&self) -> bool
+        ensures { result ≡ not (nat_lt (length self.now.lines.items) LINE_LIMIT) }
+    {
+        self.lines.len() >= LINE_LIMIT as usize
+    }
+
+    // A sample of ranks at a time, in the path that a text writes.
+    #[inline(always)]
+    fn sample(
+        &mut self,
+        line_number: u64,
+        time: u32,
+        ranks: RankSet,
+        text: &str,
+    ) -> Result<(), TextError>
+        requires ready { IsConsistent self.old }
+        requires room { length self.old.lines.items < LINE_LIMIT }
+        ensures ok { OnOk result (
+            with_sample (parser_view self.old) line_number time ranks text.now ≡ Ok (parser_view self.new)
+            ) }
+        ensures nodes { parser_nodes self.new ≡ parser_nodes self.old }
+        ensures consistent { OnOk result (IsConsistent self.new) }
+        ensures err { IsErrorOf result (with_sample (parser_view self.old) line_number time ranks text.now) }
+    {
+        if !ranks.is_subset(&self.all) {
+            return Err(TextError::bad(line_number, Reason::Unplaced));
+        }
+        let path = self.paths.number(line_number, text)?;
+        self.lines.push(StackLine { time, ranks, path })?;
+        Ok(())
+    }
+
     // A line `stack TIME RANKS PATH`.
     fn stack(
         &mut self,
@@ -172,17 +206,34 @@ impl<'t> Parser<'t> {
         ensures consistent { OnOk result (IsConsistent self.new) }
         ensures err { IsErrorOf result (with_stack (parser_view self.old) line_number time.now word.now text.now) }
     {
-        if self.lines.len() >= LINE_LIMIT as usize {
+        if self.is_full() {
             return Err(TextError::over(line_number, Quantity::Lines, LINE_LIMIT));
         }
         let time = time_on(line_number, time)?;
         let ranks = ranks_on(*self.placed.allocator(), line_number, word)?;
-        if !ranks.is_subset(&self.all) {
-            return Err(TextError::bad(line_number, Reason::Unplaced));
+        self.sample(line_number, time, ranks, text)
+    }
+
+    // A line `stack TIME RANKS PATH` that lists one rank.
+    fn one_rank(&mut self, line_number: u64, one: OneRank<'_>) -> Result<(), TextError>
+        requires ready { IsConsistent self.old }
+        requires below_limit { one.rank < RANK_LIMIT }
+        ensures ok { OnOk result (
+            if_room (parser_view self.old) line_number (with_sample (parser_view self.old) line_number one.entry.time
+            (union none (ranks_between one.entry.rank one.entry.rank)) one.entry.path.now) ≡ Ok (parser_view self.new)
+            ) }
+        ensures nodes { parser_nodes self.new ≡ parser_nodes self.old }
+        ensures consistent { OnOk result (IsConsistent self.new) }
+        ensures err { IsErrorOf result (
+            if_room (parser_view self.old) line_number (with_sample (parser_view self.old) line_number one.entry.time
+            (union none (ranks_between one.entry.rank one.entry.rank)) one.entry.path.now)
+            ) }
+    {
+        if self.is_full() {
+            return Err(TextError::over(line_number, Quantity::Lines, LINE_LIMIT));
         }
-        let path = self.paths.number(line_number, text)?;
-        self.lines.push(StackLine { time, ranks, path })?;
-        Ok(())
+        let ranks = RankSet::in_one_word(*self.placed.allocator(), one.rank, one.rank);
+        self.sample(line_number, one.time, ranks, one.path)
     }
 
     /// Takes the next line, which is UTF-8.
@@ -192,6 +243,9 @@ impl<'t> Parser<'t> {
         ensures ready { OnOk result (IsConsistent self.new) }
         ensures refused { IfErr result (λ e. refuses_line self.old line_number line.now e) }
     {
+        if let Some(one) = one_rank_line(line) {
+            return self.one_rank(line_number, one);
+        }
         match read_line(line_number, line)? {
             Line::Nothing => Ok(()),
             Line::Daemon { name, ranks } => self.daemon(line_number, name, ranks),

@@ -1,13 +1,17 @@
 //! The words of a line of samples: `daemon NAME RANKS` or `stack TIME RANKS PATH`. They are checked here, before any
 //! name, number or path in them.
 
-ghost use Rattle.std.specs.Prelude.{◌≡◌, ℕ, IfOk, IfErr, OnOk, IfSome, Ok, Err};
+ghost use Rattle.std.specs.Prelude.{◌≡◌, ◌<◌, ℕ, IfOk, IfErr, OnOk, IfSome, Ok, Err};
 ghost use Rattle.text_lines.specs.Lines.{words, after_word};
 ghost use Rattle.std.specs.Str.{IsUtf8};
 ghost use Rattle.sample_text.specs.Words.{Nothing, daemon_words, path_in, stack_words, directive, read_line};
-ghost use Rattle.sample_text.specs.LineViews.{line_view};
+ghost use Rattle.sample_text.specs.LineViews.{line_view, SamplesOneRank};
 
-use text_lines::{Reason, TextError, after_blanks, cut_word, is_word, next_word, says_nothing};
+use rank_set::RANK_LIMIT;
+use stat_plan::TIME_LIMIT;
+use text_lines::{
+    Reason, TextError, after_blanks, cut_number, cut_word, is_word, next_word, says_nothing,
+};
 
 /// What a line says.
 #[derive(Debug, Clone, Copy)]
@@ -104,6 +108,32 @@ fn usual_line(line: &str) -> Option<Line<'_>>
     }
     let path = path_in(line, text);
     Some(Line::Stack { time, ranks, path })
+}
+
+/// A sample of one rank.
+#[derive(Debug, Clone, Copy)]
+pub struct OneRank<'t> {
+    pub time: u32,
+    pub rank: u32,
+    /// PATH, as it is written.
+    pub path: &'t str,
+}
+
+/// A line of samples that lists one rank, in its usual form, read in one go: `stack`, TIME and the rank with one blank
+/// behind each, and PATH. None where the line has another form.
+pub fn one_rank_line(line: &str) -> Option<OneRank<'_>>
+    ensures sample { IfSome result (λ one. SamplesOneRank line.now one.time one.rank one.path.now) }
+    ensures below_limit { IfSome result (λ one. one.rank < RANK_LIMIT) }
+{
+    let rest = line.as_bytes().strip_prefix(b"stack ")?;
+    let (time, rest) = cut_number(rest, TIME_LIMIT + 1)?;
+    let (rank, rest) = cut_number(rest, RANK_LIMIT)?;
+    let text = after_blanks(rest);
+    if text.is_empty() {
+        return None;
+    }
+    let path = path_in(line, text);
+    Some(OneRank { time, rank, path })
 }
 
 /// What a line of UTF-8 says, or why it is not a line of samples.

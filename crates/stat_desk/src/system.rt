@@ -51,14 +51,17 @@ impl<'a, R: Files> FileDesk<'a, R> {
     }
 }
 
+// How many bytes are asked of a file at once.
+const PIECE: usize = 65_536;
+
 // All bytes that a file gives, if they are at most `max`. It takes at most one more from the file.
 fn read_up_to<F: Read>(alloc: Global, file: &mut F, max: u64) -> Result<Vec<u8>, DeskError>
     ensures { IfOk result (λ bytes. vec_len bytes ≤ max) }
 {
     let mut bytes = Vec::new(alloc);
-    let mut buffer = [0u8; 4096];
+    let mut buffer = [0u8; PIECE];
     while bytes.len() as u64 <= max {
-        let wanted = (max - bytes.len() as u64).saturating_add(1).min(4096) as usize;
+        let wanted = (max - bytes.len() as u64).saturating_add(1).min(PIECE as u64) as usize;
         let Ok(count) = file.read(&mut buffer[..wanted]) else {
             return Err(DeskError::Failed);
         };

@@ -1,8 +1,8 @@
 -- The lines of a text, the words of a line, and the numbers that words write.
-use Rattle.std.specs.Prelude.{ℕ, Bool, true, false, ◌&&◌, ◌||◌, not, nat_eq, nat_lt, cond, List, [], ◌∷◌, length, map, drop, Option, None, Some}
+use Rattle.std.specs.Prelude.{ℕ, Bool, true, false, ◌&&◌, ◌||◌, not, nat_eq, nat_lt, cond, List, [], ◌∷◌, length, map, take, drop, Option, None, Some}
 use Rattle.std.specs.Char.{is_ascii_digit}
 use Rattle.std.specs.List.{prefix_len, list_all}
-use Rattle.rank_set.specs.Digits.{value_after}
+use Rattle.rank_set.specs.Digits.{digits_len, value_after}
 
 -- a byte before the first of the pieces
 abbrev pub before_first : ℕ → List (List ℕ) → List (List ℕ)
@@ -62,6 +62,16 @@ after_word line = drop (word_len (after_blanks line)) (after_blanks line)
 -- whether a line begins with a word that a blank follows
 abbrev pub begins_with_word_and_blank : List ℕ → Bool
 begins_with_word_and_blank line = nat_lt 0 (word_len line) && nat_lt (word_len line) (length line)
+
+-- whether a text begins with a blank
+abbrev pub begins_with_blank : List ℕ → Bool
+begins_with_blank [] = false
+begins_with_blank (b ∷ rest) = is_blank b
+
+-- whether a line begins with a number below a limit that a blank follows
+abbrev pub begins_with_number_and_blank : ℕ → List ℕ → Bool
+begins_with_number_and_blank limit line =
+    begins_with_blank (drop (digits_len line) line) && nat_lt (value_after 0 (take (digits_len line) line)) limit && nat_lt 0 (digits_len line)
 
 -- whether there are no words
 abbrev pub are_none : List (List ℕ) → Bool

@@ -1,6 +1,6 @@
 -- Texts, their lines, words and numbers.
 use Rattle.std.specs.Prelude.{◌≡◌, refl, [], ◌∷◌, ◌++◌, codes, true, false, None, Some}
-use Rattle.text_lines.specs.Lines.{lines, pieces, words, begins_with_word_and_blank, number_in}
+use Rattle.text_lines.specs.Lines.{lines, pieces, words, begins_with_word_and_blank, begins_with_number_and_blank, number_in}
 
 -- no bytes are no line
 no_line : lines [] ≡ []
@@ -38,6 +38,26 @@ word_alone = refl
 -- a line that begins with a blank does not begin with a word
 blank_in_front : begins_with_word_and_blank (codes " stack 0") ≡ false
 blank_in_front = refl
+
+-- a number with zeros in front, and a tab behind
+number_in_front : begins_with_number_and_blank 13 (codes "0012" ++ 9 ∷ codes "7") ≡ true
+number_in_front = refl
+
+-- a number that is the limit
+number_at_limit : begins_with_number_and_blank 12 (codes "12 7") ≡ false
+number_at_limit = refl
+
+-- a number with another byte behind it
+range_in_front : begins_with_number_and_blank 13 (codes "0-7 a") ≡ false
+range_in_front = refl
+
+-- a number that ends the line
+number_alone : begins_with_number_and_blank 13 (codes "12") ≡ false
+number_alone = refl
+
+-- a blank, and no digit
+no_number : begins_with_number_and_blank 13 (codes " 12 7") ≡ false
+no_number = refl
 
 -- zeros in front mean nothing
 zeros : number_in (codes "0012") ≡ Some 12

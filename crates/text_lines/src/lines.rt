@@ -4,13 +4,13 @@
 //! end. A text that ends with a line feed has no line after it. Words are the longest runs of bytes other than spaces
 //! and tabs.
 
-ghost use Rattle.std.specs.Prelude.{◌≡◌, ◌<◌, ◌≤◌, ◌+◌, ◌^◌, is_some, length, take, drop, min, MatchOption, IfSome, [], ◌∷◌, option_map};
+ghost use Rattle.std.specs.Prelude.{◌≡◌, ◌<◌, ◌≤◌, ◌+◌, ◌^◌, is_some, length, take, drop, min, MatchOption, IfSome, Some, [], ◌∷◌, option_map};
 ghost use Rattle.std.specs.Char.{is_ascii_digit};
 ghost use Rattle.std.specs.List.{list_all};
 ghost use Rattle.std.specs.Str.{bytes_eq};
-ghost use Rattle.text_lines.specs.Lines.{is_blank, line_len, word_len, blanks_len, lines, words, without_return, after_blanks, after_word, begins_with_word_and_blank, number_in, says_nothing};
+ghost use Rattle.text_lines.specs.Lines.{is_blank, line_len, word_len, blanks_len, lines, words, without_return, after_blanks, after_word, begins_with_word_and_blank, begins_with_number_and_blank, number_in, says_nothing};
 
-use rank_set::digits::capped_value;
+use rank_set::digits::{capped_number, capped_value};
 
 fn is_blank(b: u8) -> bool
     ensures { result ≡ is_blank b }
@@ -141,6 +141,26 @@ pub fn cut_word(line: &[u8]) -> Option<(&[u8], &[u8])>
     let (word, after) = line.split_at(word_len(line));
     match after.split_first() {
         Some((_, rest)) if !word.is_empty() => Some((word, rest)),
+        _ => None,
+    }
+}
+
+/// The number below a limit that a line begins with as its first word, and what is left after the one blank behind it.
+/// It is none exactly if the line does not begin with digits that write such a number and that a blank follows.
+#[inline]
+pub fn cut_number(line: &[u8], limit: u32) -> Option<(u32, &[u8])>
+    requires { limit < 2 ^ 28 }
+    ensures words { IfSome result (λ cut. words line.now ≡ take (word_len line.now) line.now ∷ words cut.1.now) }
+    ensures number { IfSome result (λ cut. number_in (take (word_len line.now) line.now) ≡ Some cut.0) }
+    ensures below { IfSome result (λ cut. cut.0 < limit) }
+    ensures rest { IfSome result (λ cut. after_blanks (after_word line.now) ≡ after_blanks cut.1.now) }
+    ensures behind { IfSome result (λ cut. cut.1.now ≡ drop (word_len line.now + 1) line.now) }
+    ensures exact { is_some result ≡ begins_with_number_and_blank limit line.now }
+{
+    let (number, len) = capped_number(line, limit);
+    let (_, after) = line.split_at(len);
+    match after.split_first() {
+        Some((b, rest)) if is_blank(*b) && number < limit && len > 0 => Some((number, rest)),
         _ => None,
     }
 }

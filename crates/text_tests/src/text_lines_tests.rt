@@ -1,7 +1,7 @@
 //! The ends of lines, blanks and numbers, by texts from outside.
 
 use text_lines::{
-    after_blanks, cut_word, next_line, next_text_line, next_word, number_in, says_nothing,
+    after_blanks, cut_number, cut_word, next_line, next_text_line, next_word, number_in, says_nothing,
 };
 
 // A text, its first line, and what is left after it.
@@ -100,6 +100,32 @@ fn cuts_the_word_in_front(rt: HostRuntime) {
         );
         assert_eq!(rt;
             word.map(|parts| parts.1),
+            want.map(|parts| parts.1.as_bytes()),
+            "{line:?}"
+        );
+    }
+}
+
+// A line, the number below 1,000 that it begins with, and what is left after the blank behind it.
+const CUT_NUMBERS: [(&str, Option<(u32, &str)>); 9] = [
+    ("", None),
+    ("7", None),
+    (" 7 a", None),
+    ("7-8 a", None),
+    ("1000 a", None),
+    ("18446744073709551617 a", None),
+    ("999 ", Some((999, ""))),
+    ("0007\ta b", Some((7, "a b"))),
+    ("0  a", Some((0, " a"))),
+];
+
+#[test]
+fn cuts_the_number_in_front(rt: HostRuntime) {
+    for (line, want) in CUT_NUMBERS {
+        let number = cut_number(line.as_bytes(), 1_000);
+        assert_eq!(rt; number.map(|parts| parts.0), want.map(|parts| parts.0), "{line:?}");
+        assert_eq!(rt;
+            number.map(|parts| parts.1),
             want.map(|parts| parts.1.as_bytes()),
             "{line:?}"
         );
