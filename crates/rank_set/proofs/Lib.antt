@@ -14,3 +14,4 @@ pub mod WordLists
 pub mod OneWord
 pub mod RunLists
 pub mod RunTexts
+pub mod SameWords

@@ -228,6 +228,10 @@ pub(crate) fn add_words(
     if others.is_empty() {
         return Ok(());
     }
+    if spans(*offset, words.as_slice(), other_offset, others) {
+        or_within(words.as_mut_slice(), *offset, other_offset, others);
+        return Ok(());
+    }
     extend_to(
         offset,
         words,
@@ -364,12 +368,19 @@ pub(crate) fn all_are_in(offset: u32, words: &[u64], other_offset: u32, others: 
     requires { AreWords offset words.now }
     ensures { result ≡ is_subset (ranks_in offset words.now) (ranks_in other_offset others.now) }
 {
-    let common = common_words(offset, words, other_offset, others);
-    if common.len < words.len() {
+    if words.is_empty() {
+        return true;
+    }
+    // The first and the last word have ranks.
+    if offset < other_offset {
         return false;
     }
+    if offset as usize + words.len() > other_offset as usize + others.len() {
+        return false;
+    }
+    let at = (offset - other_offset) as usize;
     for (i, word) in words.iter().enumerate() {
-        if *word & !others[common.other_index + i] != 0 {
+        if *word & !others[at + i] != 0 {
             return false;
         }
     }
@@ -402,7 +413,20 @@ pub(crate) fn are_same(offset: u32, words: &[u64], other_offset: u32, others: &[
 fn are_equal(xs: &[u64], ys: &[u64]) -> bool
     ensures { (result ≡ true) ↔ (xs.now ≡ ys.now) }
 {
-    xs == ys
+    xs.len() == ys.len() && have_same_words(xs, ys)
+}
+
+// The same for so many words. It goes through all of them, since a loop that goes to its end compares several at once.
+fn have_same_words(xs: &[u64], ys: &[u64]) -> bool
+    requires { length xs.now ≡ length ys.now }
+    ensures { (result ≡ true) ↔ (xs.now ≡ ys.now) }
+{
+    let ys = &ys[..xs.len()];
+    let mut same = true;
+    for (i, word) in xs.iter().enumerate() {
+        same &= *word == ys[i];
+    }
+    same
 }
 
 // The least rank.
@@ -458,6 +482,7 @@ fn next_bit(offset: u32, words: &[u64], from: u32, gap: bool) -> Option<u32>
 }
 
 // The longest run of neighbours that begins with the least rank at or above `from`.
+#[inline]
 pub(crate) fn next_run(offset: u32, words: &[u64], from: u32) -> Option<Run>
     requires { offset + length words.now ≤ WORD_LIMIT }
     ensures none { IfNone result ((q : ℕ) → from ≤ q → has (ranks_in offset words.now) q ≡ false) }
