@@ -109,7 +109,7 @@ impl RankSet {
     {
         Ok(RankSet {
             offset: self.offset,
-            words: Words::from_slice(*self.words.allocator(), self.words.as_slice())?,
+            words: words::copy_of(*self.words.allocator(), self.words.as_slice())?,
         })
     }
 

@@ -13,6 +13,18 @@ use std::alloc::{AllocError, Global};
 /// The words of a set: a single one is stored in the set itself, without an allocation.
 pub(crate) type Words = SmallVec<u64, 1>;
 
+/// The same words once more. Most sets have one word at most, and are copied without a loop.
+#[inline]
+pub(crate) fn copy_of(alloc: Global, words: &[u64]) -> Result<Words, AllocError>
+    ensures { IfOk result (λ copy. copy.items ≡ words.now) }
+{
+    match words {
+        [] => Ok(Words::new(alloc)),
+        [word] => Ok(Words::from_buf(alloc, [*word])),
+        _ => Words::from_slice(alloc, words),
+    }
+}
+
 // Word k, or 0 outside the stored words.
 pub(crate) fn word_of(offset: u32, words: &[u64], k: u32) -> u64
     ensures { result ≡ word_at offset words.now k }
@@ -175,7 +187,7 @@ pub(crate) fn united(
         ≡ union (ranks_in offset words.now) (ranks_in other_offset others.now)) }
 {
     if others.is_empty() {
-        let all = Words::from_slice(alloc, words)?;
+        let all = copy_of(alloc, words)?;
         return Ok((offset, all));
     }
     let end = other_offset + others.len() as u32;

@@ -9,7 +9,7 @@ use Rattle.rank_set.proofs.words.united.Goals as goal
 
 pub returns-then-is_empty-clause-ranks : goal.returns-then-is_empty-clause-ranks
 returns-then-is_empty-clause-ranks c =
-    ap (ranks_in c.args.offset) c.in_ok-all.ensures.ok ∙ union_none (ranks_in c.args.offset c.args.words.now)
+    ap (ranks_in c.args.offset) c.in_ok-all.ensures ∙ union_none (ranks_in c.args.offset c.args.words.now)
     ∙ ap (union (ranks_in c.args.offset c.args.words.now)) (sym (no_ranks c.args.other_offset c.args.others.now (eqb-true _ _ (sym c.if-is_empty.ensures))))
 
 some_words : (n : ℕ) → eqb n 0 ≡ false → 0 < n
