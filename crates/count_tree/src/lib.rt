@@ -83,12 +83,16 @@ impl CountTree {
         self.sums[self.leaves + place as usize] as u32
     }
 
-    /// Sets the count of a place, which must be below the number of places. All other counts stay as they are.
+    /// Sets the count of a place, which must be below the number of places. All other counts stay as they are. A count
+    /// that is the same as before takes one step.
     pub fn set(&mut self, place: u32, count: u32)
         requires { place < length self.old }
         ensures { self.new ≡ slice_set self.old place count }
     {
         let mut node = self.leaves + place as usize;
+        if self.sums[node] == count as u64 {
+            return;
+        }
         self.sums[node] = count as u64;
         while node > 1 {
             node /= 2;

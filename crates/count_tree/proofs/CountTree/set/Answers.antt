@@ -12,7 +12,7 @@ overflow_add-index c =
     let p : ℕ = node.node / 2 in
     let some : 0 < p = omega (arith, c.loop-node-test.true) in
     let below : p < t.leaves = omega (arith, node.invariant.inside) in
-    let read = children_read p t.sums.items t.leaves t.places node.invariant.tree p c.index.result.now c.index-in-loop-node.result.now below c.index.ensures c.index-in-loop-node.ensures in
+    let read = children_read p t.sums.items t.leaves t.places node.invariant.tree p c.index-in-loop-node.result.now c.index-in-loop-node-2.result.now below c.index-in-loop-node.ensures c.index-in-loop-node-2.ensures in
     omega (arith, read, sum_fits p t.sums.items t.leaves t.places node.invariant.tree p some below)
 
 pub loop-node-init : goal.loop-node-init
@@ -34,7 +34,7 @@ loop-node-preserved c =
     let p : ℕ = node.node / 2 in
     let some : 0 < p = omega (arith, c.loop-node-test.true) in
     let below : p < t.leaves = omega (arith, node.invariant.inside) in
-    let read = children_read p t.sums.items t.leaves t.places node.invariant.tree p c.index.result.now c.index-in-loop-node.result.now below c.index.ensures c.index-in-loop-node.ensures in
+    let read = children_read p t.sums.items t.leaves t.places node.invariant.tree p c.index-in-loop-node.result.now c.index-in-loop-node-2.result.now below c.index-in-loop-node.ensures c.index-in-loop-node-2.ensures in
     record {
       some = some;
       inside = omega (arith, below);
