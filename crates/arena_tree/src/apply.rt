@@ -8,6 +8,7 @@ use crate::node::{Link, Node, Step};
 use call_path::CallPath;
 use node_arena::{Arena, Place};
 use rank_set::RankSet;
+use std::collections::VecDeque;
 
 // Gives the node at a place more marks, if there is one.
 fn mark(nodes: &mut Arena<Node>, at: Place, label: RankSet, ends: RankSet)
@@ -88,12 +89,14 @@ fn apply_one(first: &mut Place, nodes: &mut Arena<Node>, one: Step)
     }
 }
 
-/// Does steps one after another, for whose new nodes there is room.
-pub(crate) fn apply(first: &mut Place, nodes: &mut Arena<Node>, steps: Vec<Step>)
+/// Does steps one after another, for whose new nodes there is room. Returns the vector that they were in.
+pub(crate) fn apply(first: &mut Place, nodes: &mut Arena<Node>, steps: Vec<Step>) -> Vec<Step>
     requires { nodes_added steps.items ≤ nodes.old.spare }
     ensures { linked first.new nodes.new.items ≡ apply_steps (linked first.old nodes.old.items) steps.items }
 {
-    for one in steps {
+    let mut left = VecDeque::from_vec(steps);
+    while let Some(one) = left.pop_front() {
         apply_one(first, nodes, one);
     }
+    left.into_vec()
 }

@@ -40,6 +40,20 @@ impl Model for Plan {
 }
 
 impl Plan {
+    /// No steps, in the vector that is given, for a tree of `base` nodes.
+    pub(crate) fn in_room(mut steps: Vec<Step>, base: u32) -> Plan
+        ensures base { result.base ≡ base }
+        ensures steps { result.steps ≡ [] }
+    {
+        steps.clear();
+        Plan {
+            steps,
+            base,
+            next: base,
+            rows: 0,
+        }
+    }
+
     /// No steps, and room for so many, for a tree of `base` nodes.
     pub(crate) fn with_capacity(alloc: Global, base: u32, steps: u32) -> Result<Plan, AllocError>
         ensures base { IfOk result (λ plan. plan.base ≡ base) }

@@ -6,7 +6,7 @@ ghost use Rattle.arena_tree.specs.Cursors.{IsCursor};
 
 use crate::apply::apply;
 use crate::merge::{Run, plan_merge, plan_path};
-use crate::node::{Link, NO_PLACE, Node};
+use crate::node::{Link, NO_PLACE, Node, Step};
 use crate::plan::Plan;
 use crate::row::{find_row, run_row};
 use crate::target::Target;
@@ -18,9 +18,7 @@ use prefix_tree::{Cursor, PREFIX_LIMIT, PrefixTree, Row, TreeError};
 use rank_set::RankSet;
 use std::alloc::{AllocError, Global};
 use std::marker::Model;
-
-// For how many steps room is made before a path is added: most paths take no more.
-const STEPS_AT_ONCE: u32 = 3;
+use std::mem;
 
 /// A tree that has one node for each run of rows with the same ranks.
 ///
@@ -38,6 +36,8 @@ pub struct ArenaTree {
     rows: u32,
     // Where the frames of the path that was added last are, by level: paths that come in their order are found at once.
     trail: Vec<Hint>,
+    // Room for the steps of the next path that is added.
+    room: Vec<Step>,
     alloc: Global,
 }
 
@@ -77,6 +77,7 @@ impl PrefixTree for ArenaTree {
             first: NO_PLACE,
             rows: 0,
             trail: Vec::new(alloc),
+            room: Vec::new(alloc),
             alloc,
         }
     }
@@ -87,7 +88,8 @@ impl PrefixTree for ArenaTree {
     }
 
     fn add(&mut self, ranks: &RankSet, path: &CallPath) -> Result<(), TreeError> {
-        let mut plan = Plan::with_capacity(self.alloc, self.nodes.len(), STEPS_AT_ONCE)?;
+        let room = mem::replace(&mut self.room, Vec::new(self.alloc));
+        let mut plan = Plan::in_room(room, self.nodes.len());
         // For the proof: no more than `FRAME_LIMIT` frames.
         let _len = path.len();
         let mut into = Target {
@@ -116,7 +118,7 @@ impl PrefixTree for ArenaTree {
             return Err(error);
         }
         self.rows += plan.rows();
-        apply(&mut self.first, &mut self.nodes, plan.into_steps());
+        self.room = apply(&mut self.first, &mut self.nodes, plan.into_steps());
         Ok(())
     }
 
@@ -142,7 +144,7 @@ impl PrefixTree for ArenaTree {
         self.coverage.union_into(&other.coverage)?;
         self.trail.clear();
         self.rows += plan.rows();
-        apply(&mut self.first, &mut self.nodes, plan.into_steps());
+        let _room = apply(&mut self.first, &mut self.nodes, plan.into_steps());
         Ok(())
     }
 
@@ -154,6 +156,7 @@ impl PrefixTree for ArenaTree {
             first: self.first,
             rows: self.rows,
             trail: Vec::new(self.alloc),
+            room: Vec::new(self.alloc),
             alloc: self.alloc,
         })
     }

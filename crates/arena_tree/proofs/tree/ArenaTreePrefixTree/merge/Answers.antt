@@ -8,7 +8,7 @@ use Rattle.arena_tree.specs.Reading.{forest_at}
 use Rattle.arena_tree.specs.Trail.{IsLaterSibling, AreHints}
 use Rattle.arena_tree.proofs.Trees.{Makes, leads_first}
 use Rattle.arena_tree.proofs.Making.{room_first, merge_counted, merge_made, merge_has_rows}
-use Rattle.arena_tree.proofs.tree.ArenaTreePrefixTree.merge.Goals.{After-apply}
+use Rattle.arena_tree.proofs.tree.ArenaTreePrefixTree.merge.Goals.{After-drop-room}
 use Rattle.arena_tree.proofs.tree.ArenaTreePrefixTree.merge.Goals as goal
 
 pub plan_merge-requires-clause-target : goal.plan_merge-requires-clause-target
@@ -28,20 +28,20 @@ returns-in-Err-clause-full c e =
     let over = c.in-Err.ensures.full e in
     omega (arith, all, over)
 
-makes : (c : After-apply) → Makes c.union_into.new.self c.apply.new.nodes.items c.apply.new.first (merged c.args.self.now.tree c.args.other.now.tree)
+makes : (c : After-drop-room) → Makes c.union_into.new.self c.apply-room.new.nodes.items c.apply-room.new.first (merged c.args.self.now.tree c.args.other.now.tree)
 makes c =
     merge_made c.self.inside.coverage c.other.inside.coverage c.self.inside.nodes.items c.other.inside.nodes.items c.self.inside.first c.other.inside.first c.args.self.now.tree c.args.other.now.tree (tree_is c.self.view_is) (tree_is c.other.view_is) c.self.invariant.tree c.other.invariant.tree
     c.len.result c.self.inside.rows c.in_ok-plan.plan c.plan_merge.new.plan c.in_ok-plan.ensures.base c.in_ok-plan.ensures.steps c.len.ensures c.self.invariant.rows c.in_ok-plan_merge.ensures.steps
-    c.union_into.new.self c.make_room.new.nodes.items c.into_steps.result.items (linked c.apply.new.first c.apply.new.nodes.items) c.apply.ensures c.in_default.ensures.items c.into_steps.ensures c.in_default.ensures.fits c.in_ok-union_into.ensures.ok
+    c.union_into.new.self c.make_room.new.nodes.items c.into_steps.result.items (linked c.apply-room.new.first c.apply-room.new.nodes.items) c.apply-room.ensures c.in_default.ensures.items c.into_steps.ensures c.in_default.ensures.fits c.in_ok-union_into.ensures.ok
 
 pub invariant_of-self-2 : goal.invariant_of-self-2
 invariant_of-self-2 c = record {
   tree = (makes c).tree;
   rows = merge_has_rows c.self.inside.coverage c.other.inside.coverage c.self.inside.nodes.items c.other.inside.nodes.items c.self.inside.first c.other.inside.first c.args.self.now.tree c.args.other.now.tree (tree_is c.self.view_is) (tree_is c.other.view_is) c.self.invariant.tree c.other.invariant.tree
       c.len.result c.self.inside.rows c.in_ok-plan.plan c.plan_merge.new.plan c.in_ok-plan.ensures.base c.in_ok-plan.ensures.steps c.len.ensures c.self.invariant.rows c.in_ok-plan_merge.ensures.steps
-      c.union_into.new.self c.apply.new.nodes.items c.apply.new.first c.rows.result (makes c) c.rows.ensures;
+      c.union_into.new.self c.apply-room.new.nodes.items c.apply-room.new.first c.rows.result (makes c) c.rows.ensures;
   nobody = c.self.invariant.nobody;
-  hints = subst (AreHints (forest_at c.apply.new.nodes.items c.apply.new.first)) (sym c.clear.ensures.items) (All-nil (λ h. IsLaterSibling (forest_at c.apply.new.nodes.items c.apply.new.first) h.first h.later));
+  hints = subst (AreHints (forest_at c.apply-room.new.nodes.items c.apply-room.new.first)) (sym c.clear.ensures.items) (All-nil (λ h. IsLaterSibling (forest_at c.apply-room.new.nodes.items c.apply-room.new.first) h.first h.later));
 }
 
 pub returns-clause-ok : goal.returns-clause-ok
