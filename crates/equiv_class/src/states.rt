@@ -44,11 +44,7 @@ fn end_of(ranks: &RankSet) -> u32
     ensures above { (r : ℕ) → has ranks.now r ≡ true → r < result }
     ensures within_limit { result ≤ RANK_LIMIT }
 {
-    let mut from = 0;
-    while let Some(run) = ranks.next_run(from) {
-        from = run.last + 1;
-    }
-    from
+    64 * (ranks.word_offset() + ranks.words().len() as u32)
 }
 
 // A number above each covered rank, and each that was seen in a path.

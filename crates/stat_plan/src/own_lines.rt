@@ -26,11 +26,7 @@ fn end_of(ranks: &RankSet) -> u32
     ensures above { (q : ℕ) → Has q ranks.now → q < result }
     ensures within_limit { result ≤ RANK_LIMIT }
 {
-    let mut from = 0;
-    while let Some(run) = ranks.next_run(from) {
-        from = run.last + 1;
-    }
-    from
+    64 * (ranks.word_offset() + ranks.words().len() as u32)
 }
 
 // A number above each placed rank, at most the limit of ranks.
