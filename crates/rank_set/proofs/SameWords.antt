@@ -1,8 +1,8 @@
 -- Words that are compared one by one.
-use Rattle.std.proofs.Common.{◌≡◌, ◌∙◌, ℕ, ◌+◌, ◌<◌, ◌≤◌, Bool, true, false, nat_eq, List, length, take, get_or, refl, sym, ap, inl, inr, arith, eqb-true, eq-eqb}
+use Rattle.std.proofs.Common.{◌≡◌, ◌∙◌, ℕ, ◌+◌, ◌<◌, ◌≤◌, Bool, true, nat_eq, List, length, get_or, refl, sym, ap, inl, inr, arith, eqb-true, eq-eqb}
 use Rattle.std.specs.Prelude.{◌&&◌}
 use Rattle.std.proofs.lemmas.Bool.{cases_lt, and_parts}
-use Rattle.std.proofs.lemmas.List.{ext_get_or, take_all}
+use Rattle.std.proofs.lemmas.List.{ext_get_or}
 
 -- the first words are the same, as far as the test says
 pub record AreSame (same : Bool) (i : ℕ) (xs ys : List ℕ) : Type 0 where
@@ -20,7 +20,7 @@ one_more same i xs ys x y left right h = record {
         | inl below ↦ h.forth parts.0 j below
         | inr from ↦ let at : j ≡ i = omega (arith, lt, from) in ap (λ k. get_or xs k 0) at ∙ sym left ∙ eqb-true x y parts.1 ∙ right ∙ ap (λ k. get_or ys k 0) (sym at)
       ]
-  );
+      );
   back = λ e. (λ k. h.back e k && eq-eqb x y (left ∙ ap (λ zs. get_or zs i 0) e ∙ sym right) k);
 }
 

@@ -7,8 +7,8 @@ ghost use Rattle.rank_set.specs.Words.{ranks_in};
 ghost use Rattle.rank_set.specs.Runs.{runs_of};
 ghost use Rattle.rank_set.specs.Text.{run_text, runs_text, text_of, BeginsWith};
 
-use crate::{RANK_LIMIT, WORD_LIMIT};
 use crate::words::{next_run, ones};
+use crate::{RANK_LIMIT, WORD_LIMIT};
 use itoa::{Buffer, write_digits};
 use std::alloc::AllocError;
 

@@ -1,5 +1,5 @@
 -- A text whose lines are good is accepted, and an accepted text is acceptable.
-use Rattle.std.proofs.Common.{◌≡◌, ◌≢◌, ◌∙◌, ◌⊎◌, inl, inr, ◌<◌, ◌≤◌, ◌+◌, ℕ, suc, Bool, true, false, ◌||◌, ◌&&◌, cond, List, [], ◌∷◌, ◌++◌, length, length-append, filter, get_or, Option, Some, Result, Ok, refl, sym, ap, subst, arith, codes, le-leb, eqb-true}
+use Rattle.std.proofs.Common.{◌≡◌, ◌≢◌, ◌∙◌, ◌⊎◌, inl, inr, ◌<◌, ◌+◌, ℕ, suc, Bool, true, false, ◌||◌, ◌&&◌, cond, List, [], ◌∷◌, ◌++◌, length, length-append, filter, get_or, Option, Some, Result, Ok, refl, sym, ap, subst, arith, codes, eqb-true}
 use Rattle.std.specs.Str.{IsUtf8}
 use Rattle.std.proofs.lemmas.Bool.{true≢false}
 use Rattle.std.proofs.lemmas.List.{ext_get_or}
@@ -13,7 +13,7 @@ use Rattle.text_lines.specs.Directives.{is_line_of}
 use Rattle.text_lines.specs.Parsing.{and_then, parsed_lines, some_or}
 use Rattle.text_lines.specs.declared.text_error.TextError.{TextError}
 use Rattle.text_lines.specs.declared.text_error.TextError.TheVariants.{Bad}
-use Rattle.text_lines.specs.declared.text_error.Reason.TheVariants.{NotADaemon, BadTime}
+use Rattle.text_lines.specs.declared.text_error.Reason.TheVariants.{NotADaemon}
 use Rattle.text_lines.proofs.Cuts.{past_blanks, word_here}
 use Rattle.text_lines.proofs.Parsing.{parsed_none}
 use Rattle.text_lines.proofs.Errors.{then_inv, ok_inj}
@@ -23,11 +23,11 @@ use Rattle.stat_plan.specs.Plans.{Sampled, sampled}
 use Rattle.stat_plan.specs.Samples.{SampleLine, all_ranks}
 use Rattle.overlay_setup.specs.Topologies.{Nodes, IsTopology}
 use Rattle.overlay_setup.specs.Trees.{is_daemon}
-use Rattle.stat_plan.specs.declared.samples.TheConstants.{TIME_LIMIT, LINE_LIMIT}
+use Rattle.stat_plan.specs.declared.samples.TheConstants.{LINE_LIMIT}
 use Rattle.overlay_setup.proofs.DaemonNames.{found_by_name}
 use Rattle.sample_text.specs.Grammar.{IsDaemonLine, SomePlacesRank, IsPlacedBy, IsSampleOf, AreSamplesOf, IsWritten, IsGoodDaemonLine, IsGoodStackLine, IsGoodLine, IsAcceptable, stack_lines}
 use Rattle.sample_text.specs.Words.{LineView, Nothing, Daemon, Stack, path_in, directive, read_line}
-use Rattle.sample_text.specs.Steps.{if_holds, daemon_on, ranks_on, ranks_or_error, time_at, time_on, add_at, sample, with_line_view, with_line}
+use Rattle.sample_text.specs.Steps.{daemon_on, add_at, sample, with_line_view, with_line}
 use Rattle.sample_text.specs.Whole.{nothing_parsed, lacks_rank, whole, samples_of_text}
 use Rattle.sample_text.proofs.InvariantLemmas.{holds_after, fits}
 use Rattle.sample_text.proofs.LineViews.{AddsRanks, AddsSample, Changes, changes}

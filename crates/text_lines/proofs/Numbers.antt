@@ -1,12 +1,11 @@
 -- The number that a line begins with, where a blank follows it.
-use Rattle.std.proofs.Common.{rules, ◌≡◌, ◌∙◌, ℕ, suc, ◌+◌, ◌<◌, ◌≤◌, Bool, true, false, not, cond, nat_eq, List, [], ◌∷◌, length, take, drop, drop-cons, drop-drop, get_or, min, Option, Some, None, refl, sym, ap, subst, arith, ne_eqb}
+use Rattle.std.proofs.Common.{rules, ◌≡◌, ◌∙◌, ℕ, suc, ◌+◌, ◌<◌, Bool, true, false, not, cond, List, [], ◌∷◌, length, take, drop, drop-cons, drop-drop, get_or, min, Some, None, refl, sym, ap, arith, ne_eqb}
 use Rattle.std.specs.Char.{is_ascii_digit}
-use Rattle.std.specs.List.{prefix_len, list_all}
+use Rattle.std.specs.List.{list_all}
 use Rattle.std.specs.Prelude.{◌||◌}
-use Rattle.std.proofs.lemmas.Bool.{cases_Bool}
 use Rattle.std.proofs.lemmas.List.{length-drop}
 use Rattle.std.proofs.lemmas.List.Folds.{length-prefix_len}
-use Rattle.std.proofs.lemmas.List.Sums.{prefix_len_is, prefix_len_passes, prefix_len-le-length}
+use Rattle.std.proofs.lemmas.List.Sums.{prefix_len_is, prefix_len_passes}
 use Rattle.rank_set.specs.Digits.{digits_len, value_after}
 use Rattle.text_lines.specs.Lines.{is_blank, words, word_len, after_blanks, after_word, number_in}
 use Rattle.text_lines.proofs.Cuts.{word_cut, rest_cut}

@@ -14,7 +14,7 @@ mod text_error;
 
 pub use line_parser::{LineParser, read_lines};
 pub use lines::{
-    after_blanks, cut_number, cut_word, is_word, line_len, next_line, next_text_line, next_word, number_in,
-    says_nothing,
+    after_blanks, cut_number, cut_word, is_word, line_len, next_line, next_text_line, next_word,
+    number_in, says_nothing,
 };
 pub use text_error::{Quantity, Reason, TextError};

@@ -1,4 +1,4 @@
-use Rattle.std.proofs.Common.{◌∙◌, ◌≡◌, ◌+◌, ◌++◌, ◌-◌, ap, arith, length, drop, set}
+use Rattle.std.proofs.Common.{◌∙◌, ◌++◌, ◌-◌, ap, arith, length, drop, set}
 use Rattle.std.specs.Fmt.{decimal}
 use Rattle.std.proofs.lemmas.List.{length-set}
 use Rattle.rank_set.proofs.RunTexts.{few_digits, some_digit, inside, one_text, two_text}
@@ -18,8 +18,8 @@ pub write_digits-requires : goal.write_digits-requires
 write_digits-requires c = (
   omega (arith, few_digits c.args.last c.requires.1, ap (λ n. length (decimal n)) c.from.ensures, c.write_digits-start.ensures.start, few_digits c.args.first (omega (arith, c.requires)), ap (λ n. length (decimal n)) c.from-2.ensures),
   (let all = length-set c.write_digits-start.new.buf (c.write_digits-start.result - 1) 45 in
-  let in_text = inside c.args.first c.args.last c.args.text.now c.write_digits-start.new.buf c.write_digits-start.result c.told-text (c.write_digits-start.ensures.written ∙ ap (λ n. decimal n ++ drop 15 c.args.text.now) c.from.ensures) (some_digit c.args.last c.requires.1) in
-  omega (arith, all, in_text)),
+      let in_text = inside c.args.first c.args.last c.args.text.now c.write_digits-start.new.buf c.write_digits-start.result c.told-text (c.write_digits-start.ensures.written ∙ ap (λ n. decimal n ++ drop 15 c.args.text.now) c.from.ensures) (some_digit c.args.last c.requires.1) in
+      omega (arith, all, in_text)),
 )
 
 pub returns-then-first-last-clause-text : goal.returns-then-first-last-clause-text

@@ -1,7 +1,7 @@
-use Rattle.std.proofs.Common.{◌≡◌, ◌≢◌, ℕ, ◌<◌, ◌≤◌, ◌+◌, ◌-◌, ◌^◌, List, length, get_or, true, false, nat_eq, sym, ap, ◌∙◌, subst, inl, inr, arith, w64, eqb-true}
+use Rattle.std.proofs.Common.{◌≡◌, ◌≢◌, ℕ, ◌<◌, ◌≤◌, ◌+◌, ◌-◌, ◌^◌, List, length, get_or, false, nat_eq, sym, ap, ◌∙◌, subst, inl, inr, arith, w64, eqb-true}
 use Rattle.std.specs.Prelude.{bit_and}
 use Rattle.std.specs.Int.{bit_not}
-use Rattle.rank_set.specs.Words.{word_at, AreWords}
+use Rattle.rank_set.specs.Words.{word_at}
 use Rattle.rank_set.proofs.WordSets.{word_at-below, word_at-from, word_at-beyond, word_at-small, subset_words, not_subset_words}
 use Rattle.rank_set.proofs.Trimming.{first_word, last_word}
 use Rattle.rank_set.proofs.Changes.{and_all}

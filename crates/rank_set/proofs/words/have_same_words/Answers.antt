@@ -1,4 +1,4 @@
-use Rattle.std.proofs.Common.{◌∙◌, refl, ap, sym, get_or, length, take, arith}
+use Rattle.std.proofs.Common.{refl, ap, get_or, length, arith}
 use Rattle.std.proofs.lemmas.List.{take_all}
 use Rattle.rank_set.proofs.SameWords.{none_same, one_more, all_same}
 use Rattle.rank_set.proofs.words.have_same_words.Goals as goal

@@ -1,4 +1,4 @@
-use Rattle.std.proofs.Common.{◌∙◌, sym, ap, subst, take, arith}
+use Rattle.std.proofs.Common.{◌∙◌, sym, subst, take, arith}
 use Rattle.text_lines.specs.Lines.{word_len}
 use Rattle.sample_text.specs.LineViews.{SamplesOneRank}
 use Rattle.sample_text.proofs.LineWords.{some_left}

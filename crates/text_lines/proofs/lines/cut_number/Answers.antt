@@ -1,4 +1,4 @@
-use Rattle.std.proofs.Common.{◌≡◌, ◌∙◌, ◌∷◌, sym, ap, drop}
+use Rattle.std.proofs.Common.{◌≡◌, ◌∙◌, ◌∷◌, sym, drop}
 use Rattle.text_lines.proofs.Numbers.{number_words, number_is, number_rest, number_behind}
 use Rattle.text_lines.proofs.lines.cut_number.Goals.{Then-len-gt0}
 use Rattle.text_lines.proofs.lines.cut_number.Goals as goal

@@ -1,4 +1,4 @@
-use Rattle.std.proofs.Common.{◌≡◌, ◌≢◌, ◌∙◌, ◌<◌, ◌≤◌, ◌+◌, ◌++◌, ◌∷◌, [], length, length-append, sym, ap, subst, Ok, Err, arith}
+use Rattle.std.proofs.Common.{◌≡◌, ◌≢◌, ◌∙◌, ◌≤◌, ◌+◌, ◌++◌, ◌∷◌, [], length, length-append, sym, ap, subst, Ok, Err, arith}
 use Rattle.rank_set.specs.Ranks.{is_subset}
 use Rattle.stat_plan.specs.Plans.{sampled}
 use Rattle.stat_plan.specs.StackLines.{line_of, lines_of, PathIndicesInRange}

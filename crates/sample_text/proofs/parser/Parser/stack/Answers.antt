@@ -1,9 +1,5 @@
-use Rattle.std.proofs.Common.{◌≡◌, ◌≢◌, ◌∙◌, ◌<◌, ◌≤◌, Bool, true, false, not, nat_lt, ℕ, List, length, sym, ap, subst, Ok, Err, arith}
+use Rattle.std.proofs.Common.{◌≡◌, ◌≢◌, ◌∙◌, sym, ap, subst, Ok, Err}
 use Rattle.std.specs.Prelude.{OnOk}
-use Rattle.std.proofs.lemmas.Bool.Decides.{nat_tests}
-use Rattle.call_path.specs.Path.{Path}
-use Rattle.stat_plan.specs.StackLines.{lines_of}
-use Rattle.stat_plan.specs.declared.samples.StackLine.{StackLine}
 use Rattle.text_lines.specs.Parsing.{IsErrorOf}
 use Rattle.text_lines.specs.declared.text_error.TextError.TheVariants.{OutOfMemory}
 use Rattle.sample_text.specs.ParserViews.{parser_view}
