@@ -61,7 +61,9 @@ fn read_up_to<F: Read>(alloc: Global, file: &mut F, max: u64) -> Result<Vec<u8>,
     let mut bytes = Vec::new(alloc);
     let mut buffer = [0u8; PIECE];
     while bytes.len() as u64 <= max {
-        let wanted = (max - bytes.len() as u64).saturating_add(1).min(PIECE as u64) as usize;
+        let wanted = (max - bytes.len() as u64)
+            .saturating_add(1)
+            .min(PIECE as u64) as usize;
         let Ok(count) = file.read(&mut buffer[..wanted]) else {
             return Err(DeskError::Failed);
         };
