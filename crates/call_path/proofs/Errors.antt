@@ -1,13 +1,14 @@
 -- The frames of a text, and their first error.
-use Rattle.std.proofs.Common.{◌≡◌, ℕ, suc, ◌+◌, ◌<◌, ◌≤◌, Bool, true, false, not, cond, List, [], ◌∷◌, ◌++◌, length, drop, take, get_or, refl, sym, ap, ◌∙◌, arith}
+use Rattle.std.proofs.Common.{◌≡◌, ℕ, zero, suc, ◌+◌, ◌<◌, ◌≤◌, Bool, true, false, not, cond, List, [], ◌∷◌, ◌++◌, ◌-◌, length, drop, take, get_or, refl, sym, ap, ◌∙◌, arith}
 use Rattle.std.specs.Prelude.{Option, None, Some, All, IsTrue, nat_eq, nat_lt, nat_le, ◌&&◌, ◌==◌, position}
 use Rattle.std.specs.List.{slice_split, onto_first, list_all, position_or_len}
-use Rattle.std.proofs.lemmas.Bool.{ltb-false, leb-false, eqb-false, le-leb, lt-ltb, eq-eqb, ne_eqb, and_parts, and_from, or_parts, not_from_false, not-true}
+use Rattle.std.proofs.lemmas.Bool.{ltb-false, leb-false, eqb-false, le-leb, lt-ltb, and_parts, and_from, or_parts, not_from_false, not-true}
 use Rattle.std.proofs.lemmas.List.Elements.{All-nil, All-cons}
 use Rattle.std.proofs.lemmas.Option.{none-some}
 use Rattle.std.specs.Option.{option_or}
-use Rattle.std.proofs.lemmas.List.{append_assoc, drop_more}
+use Rattle.std.proofs.lemmas.List.{drop_all, drop_more}
 use Rattle.std.proofs.lemmas.List.Splits.{join_with_byte-slice_split}
+use Rattle.memchr.specs.Find.{is_byte, places, places_from}
 use Rattle.call_path.specs.declared.read.PathError.{PathError}
 use Rattle.call_path.specs.declared.read.PathError.TheVariants.{EmptyFrame, ControlByte, FrameTooLong, TooDeep}
 use Rattle.call_path.specs.Path.{Path, path_text}
@@ -160,7 +161,7 @@ frames_some text = let e = ap length (frames_first text) in omega (arith, e)
 -- where the frames of a text end: at each `;` on the way
 module _ (n b : ℕ) (rest : List ℕ) where
   -- a `;` is an end
-  pub ends_mark : nat_eq b 59 ≡ true → ends_from n (frames (b ∷ rest)) ≡ n ∷ ends_from (n + 1) (frames rest)
+  ends_mark : nat_eq b 59 ≡ true → ends_from n (frames (b ∷ rest)) ≡ n ∷ ends_from (n + 1) (frames rest)
   unfolding frames
   ends_mark e =
       let a : n + 0 ≡ n = omega arith in
@@ -173,26 +174,31 @@ module _ (n b : ℕ) (rest : List ℕ) where
       ap (λ h. ends_from n (onto_first b h)) is ∙ ap (λ k. k ∷ ends_from (suc k) gs) e ∙ ap (ends_from (n + 1)) (sym is)
 
   -- another byte is none
-  pub ends_other : nat_eq b 59 ≡ false → ends_from n (frames (b ∷ rest)) ≡ ends_from (n + 1) (frames rest)
+  ends_other : nat_eq b 59 ≡ false → ends_from n (frames (b ∷ rest)) ≡ ends_from (n + 1) (frames rest)
   unfolding frames
   ends_other e =
       ap (λ t. ends_from n (cond t ([] ∷ frames rest) (onto_first b (frames rest)))) e
       ∙ onto_ends (frames rest) (take (frame_len rest) rest) (frames_after (drop (frame_len rest) rest)) (frames_first rest)
 
 -- and at the end of the text
-pub ends_last : (n : ℕ) → ends_from n (frames []) ≡ n ∷ []
+ends_last : (n : ℕ) → ends_from n (frames []) ≡ n ∷ []
 unfolding frames
 ends_last n = let a : n + 0 ≡ n = omega arith in ap (λ k. k ∷ []) a
 
--- a step over a text: its `;` is an end
-module _ (done text : List ℕ) (i : ℕ) (lt : i < length text) where
-  from_byte : ends_from i (frames (drop i text)) ≡ ends_from i (frames (get_or text i 0 ∷ drop (i + 1) text))
-  from_byte = ap (λ t. ends_from i (frames t)) (drop_more text i 0 lt)
+-- so they end at the places of its `;`, and at the end of the text
+module _ (text : List ℕ) where
+  by_byte : (i n : ℕ) (t : Bool) → nat_eq (get_or text i 0) 59 ≡ t → i < length text
+      → ends_from (i + 1) (frames (drop (i + 1) text)) ≡ places_from (is_byte 59) text (i + 1) n ++ length text ∷ []
+      → ends_from i (frames (drop i text)) ≡ cond t (i ∷ places_from (is_byte 59) text (i + 1) n) (places_from (is_byte 59) text (i + 1) n) ++ length text ∷ []
+  by_byte i n true e lt later = ap (λ t. ends_from i (frames t)) (drop_more text i 0 lt) ∙ ends_mark i (get_or text i 0) (drop (i + 1) text) e ∙ ap (λ es. i ∷ es) later
+  by_byte i n false e lt later = ap (λ t. ends_from i (frames t)) (drop_more text i 0 lt) ∙ ends_other i (get_or text i 0) (drop (i + 1) text) e ∙ later
 
-  -- an end more
-  pub step_mark : get_or text i 0 ≡ 59 → (done ++ i ∷ []) ++ ends_from (i + 1) (frames (drop (i + 1) text)) ≡ done ++ ends_from i (frames (drop i text))
-  step_mark e = append_assoc done (i ∷ []) _ ∙ ap (λ es. done ++ es) (sym (from_byte ∙ ends_mark i (get_or text i 0) (drop (i + 1) text) (eq-eqb _ 59 e)))
+  ends_between : (i n : ℕ) → i + n ≡ length text → ends_from i (frames (drop i text)) ≡ places_from (is_byte 59) text i n ++ length text ∷ []
+  unfolding places_from
+  ends_between i zero e =
+      let at : i ≡ length text = omega arith in
+      ap (λ t. ends_from i (frames t)) (drop_all i text (omega arith)) ∙ ends_last i ∙ ap (λ k. k ∷ []) at
+  ends_between i (suc n) e = by_byte i n (nat_eq (get_or text i 0) 59) refl (omega arith) (ends_between (i + 1) n (omega arith))
 
-  -- and any other byte is not
-  pub step_other : (get_or text i 0 ≡ 59 → ⊥) → done ++ ends_from (i + 1) (frames (drop (i + 1) text)) ≡ done ++ ends_from i (frames (drop i text))
-  step_other ne = ap (λ es. done ++ es) (sym (from_byte ∙ ends_other i (get_or text i 0) (drop (i + 1) text) (ne_eqb _ 59 ne)))
+  pub ends_places : places (is_byte 59) text ++ length text ∷ [] ≡ ends_from 0 (frames text)
+  ends_places = sym (ends_between 0 (length text - 0) (omega arith))

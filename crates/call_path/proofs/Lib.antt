@@ -2,6 +2,7 @@ pub mod PathLemmas
 pub mod Texts
 pub mod Held
 pub mod Errors
+pub mod Bytes
 pub mod Orders
 pub mod Shared
 pub mod TextOrders

@@ -259,10 +259,8 @@ fn frame_ends(alloc: Global, text: &[u8]) -> Result<Vec<u32>, AllocError>
     ensures { IfOk result (λ ends. ends.items ≡ ends_from 0 (frames text.now)) }
 {
     let mut ends = Vec::new(alloc);
-    for (offset, byte) in text.iter().enumerate() {
-        if *byte == b';' {
-            ends.push(offset as u32)?;
-        }
+    for end in memchr::memchr_iter(b';', text) {
+        ends.push(end as u32)?;
     }
     ends.push(text.len() as u32)?;
     Ok(ends)

@@ -1,6 +1,7 @@
 //! The errors in the text of a call path.
 
-ghost use Rattle.std.specs.Prelude.{◌≡◌, ◌<◌, ◌≤◌, ◌+◌, ◌^◌, length, position, IfSome};
+ghost use Rattle.std.specs.Prelude.{◌≡◌, ◌<◌, ◌≤◌, ◌+◌, ◌^◌, true, false, length, position, IfSome};
+ghost use Rattle.std.specs.List.{list_any};
 ghost use Rattle.call_path.specs.Reading.{frames, first_error, frame_error, frame_len, is_control};
 
 use crate::{FRAME_BYTES, FRAME_LIMIT};
@@ -35,7 +36,18 @@ impl From<AllocError> for PathError {
 fn is_control(b: u8) -> bool
     ensures { result ≡ is_control b }
 {
-    b < 0x20 || b == 0x7f
+    (b < 0x20) | (b == 0x7f)
+}
+
+// Whether a text has a control byte. No byte ends the loop, so that many are tested at once.
+fn has_control(text: &[u8]) -> bool
+    ensures { result ≡ list_any is_control text.now }
+{
+    let mut any = false;
+    for b in text {
+        any |= is_control(*b);
+    }
+    any
 }
 
 // The index of the first control byte.
@@ -46,10 +58,12 @@ fn control_at(frame: &[u8]) -> Option<usize>
     frame.iter().position(|b| is_control(*b))
 }
 
-// The error of frame `i`, which begins at a offset of the text.
+// The error of frame `i`, which begins at a offset of the text. Where the frame is known to be clean, no control byte
+// is looked for.
 #[tactic(auto, unfolding(crate::specs::Reading::frame_error))]
-fn frame_error(i: usize, offset: usize, frame: &[u8]) -> Option<PathError>
-    requires { offset + length frame.now < 2 ^ 64 }
+fn frame_error(i: usize, offset: usize, frame: &[u8], clean: bool) -> Option<PathError>
+    requires within { offset + length frame.now < 2 ^ 64 }
+    requires clean { clean ≡ true → list_any is_control frame.now ≡ false }
     ensures { result ≡ frame_error i offset frame.now }
 {
     if i >= FRAME_LIMIT {
@@ -61,30 +75,34 @@ fn frame_error(i: usize, offset: usize, frame: &[u8]) -> Option<PathError>
     if frame.len() > FRAME_BYTES {
         return Some(PathError::FrameTooLong(i));
     }
+    if clean {
+        return None;
+    }
     match control_at(frame) {
         Some(n) => Some(PathError::ControlByte(offset + n)),
         None => None,
     }
 }
 
-// The number of bytes before the first `;`.
-fn frame_len(text: &[u8]) -> usize
+/// The number of bytes before the first `;`.
+pub fn frame_len(text: &[u8]) -> usize
     ensures value { result ≡ frame_len text.now }
     ensures within { result ≤ length text.now }
 {
-    text.iter().take_while(|b| **b != b';').count()
+    memchr::memchr(b';', text).unwrap_or(text.len())
 }
 
 /// The first error of a text.
 pub fn first_error(text: &[u8]) -> Option<PathError>
     ensures { result ≡ first_error 0 0 (frames text.now) }
 {
+    let clean = !has_control(text);
     let mut i = 0;
     let mut offset = 0;
     let mut rest = text;
     loop {
         let (frame, after) = rest.split_at(frame_len(rest));
-        if let Some(error) = frame_error(i, offset, frame) {
+        if let Some(error) = frame_error(i, offset, frame, clean) {
             return Some(error);
         }
         let Some((_, next)) = after.split_first() else {

@@ -1,28 +1,35 @@
-use Rattle.std.proofs.Common.{◌∙◌, ◌+◌, ◌≡◌, [], ◌∷◌, ◌++◌, ap, sym, arith, length, drop}
-use Rattle.std.proofs.lemmas.List.{drop_all}
-use Rattle.call_path.specs.Reading.{frames}
-use Rattle.call_path.specs.Cuts.{ends_from}
-use Rattle.call_path.proofs.Errors.{step_mark, step_other, ends_last}
-use Rattle.call_path.proofs.frame_text.frame_ends.Goals.{then-byte-eq59+in_ok-push, else-byte-eq59}
+use Rattle.std.proofs.Common.{◌<◌, ◌∙◌, ◌++◌, [], ◌∷◌, ap, sym, subst, arith, length}
+use Rattle.std.specs.Prelude.{All}
+use Rattle.std.proofs.lemmas.List.{append_assoc}
+use Rattle.std.proofs.lemmas.List.Elements.{All-head, All-tail}
+use Rattle.memchr.specs.Find.{is_byte}
+use Rattle.memchr.proofs.lemmas.CallerLemmas.{All-places}
+use Rattle.call_path.proofs.Errors.{ends_places}
 use Rattle.call_path.proofs.frame_text.frame_ends.Goals as goal
 
-pub loop-offset-preserved : goal.loop-offset-preserved
-loop-offset-preserved c = elim c.if-byte-eq59.branch [
-  | then-byte-eq59+in_ok-push w ↦
-      ap (λ v. v.items ++ ends_from (c.loop-offset.offset + 1) (frames (drop (c.loop-offset.offset + 1) c.args.text.now))) w.ends-is
-      ∙ ap (λ es. es ++ ends_from (c.loop-offset.offset + 1) (frames (drop (c.loop-offset.offset + 1) c.args.text.now))) w.in_ok-push.ensures.items
-      ∙ step_mark c.loop-offset.ends.items c.args.text.now c.loop-offset.offset c.loop-offset-test.true w.if-byte-eq59.true
-      ∙ c.loop-offset.invariant
-  | else-byte-eq59 w ↦
-      ap (λ v. v.items ++ ends_from (c.loop-offset.offset + 1) (frames (drop (c.loop-offset.offset + 1) c.args.text.now))) w.ends-is
-      ∙ step_other c.loop-offset.ends.items c.args.text.now c.loop-offset.offset c.loop-offset-test.true w.if-byte-eq59.false
-      ∙ c.loop-offset.invariant
-]
+pub loop-end-init : goal.loop-end-init
+loop-end-init c =
+    let left = c.into_iter-end-iterator.ensures.into_iter_gives ∙ c.memchr_iter-end-items.ensures.value in
+    record {
+      within = subst (All (λ end. end < length c.args.text.now)) (sym left) (λ k d lt. (All-places (is_byte 59) c.args.text.now k d lt).0);
+      ends = ap (λ es. es ++ (c.into_iter-end-iterator.result ++ length c.args.text.now ∷ [])) c.new-ends.ensures.items ∙ ap (λ es. es ++ length c.args.text.now ∷ []) left ∙ ends_places c.args.text.now;
+    }
+
+pub overflow_cast-end : goal.overflow_cast-end
+overflow_cast-end c = let h = All-head (λ end. end < length c.args.text.now) c.in-Some.end c.next.new.self (subst (All (λ end. end < length c.args.text.now)) c.in-Some.ensures.steps c.loop-end.invariant.within) in omega (arith, h, c.requires)
+
+pub loop-end-preserved : goal.loop-end-preserved
+loop-end-preserved c = record {
+  within = All-tail (λ end. end < length c.args.text.now) c.in-Some.end c.next.new.self (subst (All (λ end. end < length c.args.text.now)) c.in-Some.ensures.steps c.loop-end.invariant.within);
+  ends =
+      ap (λ es. es ++ (c.next.new.self ++ length c.args.text.now ∷ [])) c.in_ok-push.ensures.items
+      ∙ append_assoc c.loop-end.ends.items (c.in-Some.end ∷ []) (c.next.new.self ++ length c.args.text.now ∷ [])
+      ∙ ap (λ es. c.loop-end.ends.items ++ (es ++ length c.args.text.now ∷ [])) (sym c.in-Some.ensures.steps)
+      ∙ c.loop-end.invariant.ends;
+}
 
 pub returns : goal.returns
 returns c =
-    let at : length c.args.text.now ≡ c.loop-offset.offset = omega arith in
     c.in_ok-push-2.ensures.items
-    ∙ ap (λ es. c.loop-offset.ends.items ++ es)
-    ((λ k. at k ∷ []) ∙ sym (ap (λ t. ends_from c.loop-offset.offset (frames t)) (drop_all c.loop-offset.offset c.args.text.now (omega arith)) ∙ ends_last c.loop-offset.offset))
-    ∙ c.loop-offset.invariant
+    ∙ ap (λ es. c.loop-end.ends.items ++ (es ++ length c.args.text.now ∷ [])) (sym c.in-None.ensures.steps.0)
+    ∙ c.loop-end.invariant.ends
