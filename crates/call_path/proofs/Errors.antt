@@ -32,37 +32,24 @@ module _ (b : ℕ) (rest : List ℕ) (n : ℕ) (first : slice_split (λ b. b == 
   first_by true = refl
   first_by false = ap (onto_first b) first ∙ (let e : suc n ≡ 1 + n = omega arith in ap (λ k. take k (b ∷ rest) ∷ frames_after (drop k (b ∷ rest))) e)
 
-frames_first : (text : List ℕ) → frames text ≡ take (frame_len text) text ∷ frames_after (drop (frame_len text) text)
+pub frames_first : (text : List ℕ) → frames text ≡ take (frame_len text) text ∷ frames_after (drop (frame_len text) text)
 unfolding frames
 frames_first [] = refl
 frames_first (b ∷ rest) = first_by b rest (frame_len rest) (frames_first rest) (nat_eq b 59)
 
--- the first frame of what is left, as a reader cuts it
-module _ (i offset len : ℕ) (rest frame after : List ℕ) (is : len ≡ frame_len rest) (prefix : frame ≡ take len rest) (back : after ≡ drop len rest) where
-  first_frame : frames rest ≡ frame ∷ frames_after after
-  first_frame = frames_first rest ∙ ap (λ n. take n rest ∷ frames_after (drop n rest)) (sym is) ∙ (λ k. sym prefix k ∷ frames_after (sym back k))
-
-  -- its error is the first
-  pub frame_bad : (e : PathError) → frame_error i offset frame ≡ Some e → first_error i offset (frames rest) ≡ Some e
+-- the first error of frames, by that of the first of them
+module _ (i offset : ℕ) (frame : List ℕ) (rest : Path) where
+  pub first_bad : (e : PathError) → frame_error i offset frame ≡ Some e → first_error i offset (frame ∷ rest) ≡ Some e
   unfolding first_error
-  frame_bad e bad = ap (first_error i offset) first_frame ∙ rw (bad, first_error) refl
+  first_bad e bad = rw (bad, first_error) refl
 
-  -- without one, the first error is that of the frames after it
-  pub frame_good : frame_error i offset frame ≡ None → first_error i offset (frames rest) ≡ first_error (i + 1) (offset + (length frame + 1)) (frames_after after)
+  pub first_good : frame_error i offset frame ≡ None → first_error i offset (frame ∷ rest) ≡ first_error (suc i) (suc (offset + length frame)) rest
   unfolding first_error
-  frame_good good =
-      let e : suc i ≡ i + 1 = omega arith in
-      let f : suc (offset + length frame) ≡ offset + (length frame + 1) = omega arith in
-      ap (first_error i offset) first_frame ∙ rw (good, first_error) (λ k. first_error (e k) (f k) (frames_after after))
+  first_good good = rw (good, first_error) refl
 
-  -- and where no text is left there is none
-  pub frame_last : frame_error i offset frame ≡ None → length after ≡ 0 → first_error i offset (frames rest) ≡ None
+  pub last_good : frame_error i offset frame ≡ None → first_error i offset (frame ∷ []) ≡ None
   unfolding first_error
-  frame_last good none = frame_good good ∙ ended after none
-    where
-      ended : (t : List ℕ) → length t ≡ 0 → first_error (i + 1) (offset + (length frame + 1)) (frames_after t) ≡ None
-      ended [] e = refl
-      ended (b ∷ t) e = absurd (omega arith)
+  last_good good = rw (good, first_error) refl
 
 -- no byte is a `;`
 abbrev is_whole : List ℕ → Bool

@@ -2,7 +2,8 @@ pub mod PathLemmas
 pub mod Texts
 pub mod Held
 pub mod Errors
-pub mod Bytes
+pub mod ControlBytes
+pub mod Marks
 pub mod Orders
 pub mod Shared
 pub mod TextOrders

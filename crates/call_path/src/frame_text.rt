@@ -46,12 +46,12 @@ impl FrameText {
         }
     }
 
-    /// The frames of a text.
-    pub fn of(alloc: Global, text: &str) -> Result<FrameText, AllocError>
+    /// The frames of a text, with room for so many.
+    pub fn of(alloc: Global, text: &str, count: usize) -> Result<FrameText, AllocError>
         requires { AreGoodFrames (frames text.now) }
         ensures { IfOk result (λ all. all ≡ frames text.now) }
     {
-        let ends = frame_ends(alloc, text.as_bytes())?;
+        let ends = frame_ends(alloc, text.as_bytes(), count)?;
         let text = String::from_str(alloc, text)?;
         Ok(FrameText { text, ends })
     }
@@ -253,12 +253,12 @@ fn ends_behind(alloc: Global, ends: &[u32], depth: usize) -> Result<Vec<u32>, Al
         .collect(alloc)
 }
 
-// Where each frame of a text ends.
-fn frame_ends(alloc: Global, text: &[u8]) -> Result<Vec<u32>, AllocError>
+// Where each frame of a text ends, with room for so many frames.
+fn frame_ends(alloc: Global, text: &[u8], count: usize) -> Result<Vec<u32>, AllocError>
     requires { length text.now < 2 ^ 32 }
     ensures { IfOk result (λ ends. ends.items ≡ ends_from 0 (frames text.now)) }
 {
-    let mut ends = Vec::new(alloc);
+    let mut ends = Vec::with_capacity(alloc, count)?;
     for end in memchr::memchr_iter(b';', text) {
         ends.push(end as u32)?;
     }

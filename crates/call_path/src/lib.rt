@@ -52,10 +52,11 @@ impl CallPath {
         ensures ok { IfOk result (λ path. path_of text.now ≡ Ok path) }
         ensures err { IfErr result (λ e. e ≢ OutOfMemory → path_of text.now ≡ Err e) }
     {
-        if let Some(error) = read::first_error(text.as_bytes()) {
-            return Err(error);
-        }
-        let frames = FrameText::of(alloc, text)?;
+        let count = match read::frame_count(text.as_bytes()) {
+            Ok(count) => count,
+            Err(error) => return Err(error),
+        };
+        let frames = FrameText::of(alloc, text, count)?;
         Ok(CallPath { frames })
     }
 

@@ -1,8 +1,8 @@
 //! The errors in the text of a call path.
 
-ghost use Rattle.std.specs.Prelude.{◌≡◌, ◌<◌, ◌≤◌, ◌+◌, ◌^◌, true, false, length, position, IfSome};
+ghost use Rattle.std.specs.Prelude.{◌≡◌, ◌<◌, ◌≤◌, ◌+◌, ◌^◌, true, false, length, position, IfSome, IfNone, IfOk, IfErr, OnOk, None, Some};
 ghost use Rattle.std.specs.List.{list_any};
-ghost use Rattle.call_path.specs.Reading.{frames, first_error, frame_error, frame_len, is_control};
+ghost use Rattle.call_path.specs.Reading.{frames, first_error, frame_error, is_control};
 
 use crate::{FRAME_BYTES, FRAME_LIMIT};
 use std::alloc::AllocError;
@@ -64,7 +64,8 @@ fn control_at(frame: &[u8]) -> Option<usize>
 fn frame_error(i: usize, offset: usize, frame: &[u8], clean: bool) -> Option<PathError>
     requires within { offset + length frame.now < 2 ^ 64 }
     requires clean { clean ≡ true → list_any is_control frame.now ≡ false }
-    ensures { result ≡ frame_error i offset frame.now }
+    ensures error { result ≡ frame_error i offset frame.now }
+    ensures within_limit { IfNone result (i < FRAME_LIMIT) }
 {
     if i >= FRAME_LIMIT {
         return Some(PathError::TooDeep);
@@ -84,32 +85,24 @@ fn frame_error(i: usize, offset: usize, frame: &[u8], clean: bool) -> Option<Pat
     }
 }
 
-/// The number of bytes before the first `;`.
-pub fn frame_len(text: &[u8]) -> usize
-    ensures value { result ≡ frame_len text.now }
-    ensures within { result ≤ length text.now }
-{
-    memchr::memchr(b';', text).unwrap_or(text.len())
-}
-
-/// The first error of a text.
-pub fn first_error(text: &[u8]) -> Option<PathError>
-    ensures { result ≡ first_error 0 0 (frames text.now) }
+/// The number of frames of a text, or its first error.
+pub fn frame_count(text: &[u8]) -> Result<usize, PathError>
+    ensures count { IfOk result (λ count. count ≡ length (frames text.now)) }
+    ensures ok { OnOk result (first_error 0 0 (frames text.now) ≡ None) }
+    ensures err { IfErr result (λ e. first_error 0 0 (frames text.now) ≡ Some e) }
 {
     let clean = !has_control(text);
     let mut i = 0;
-    let mut offset = 0;
-    let mut rest = text;
-    loop {
-        let (frame, after) = rest.split_at(frame_len(rest));
-        if let Some(error) = frame_error(i, offset, frame, clean) {
-            return Some(error);
+    let mut start = 0;
+    for end in memchr::memchr_iter(b';', text) {
+        if let Some(error) = frame_error(i, start, &text[start..end], clean) {
+            return Err(error);
         }
-        let Some((_, next)) = after.split_first() else {
-            return None;
-        };
         i += 1;
-        offset += frame.len() + 1;
-        rest = next;
+        start = end + 1;
+    }
+    match frame_error(i, start, &text[start..], clean) {
+        Some(error) => Err(error),
+        None => Ok(i + 1),
     }
 }

@@ -12,7 +12,7 @@ loop-end-init c =
     let left = c.into_iter-end-iterator.ensures.into_iter_gives ∙ c.memchr_iter-end-items.ensures.value in
     record {
       within = subst (All (λ end. end < length c.args.text.now)) (sym left) (λ k d lt. (All-places (is_byte 59) c.args.text.now k d lt).0);
-      ends = ap (λ es. es ++ (c.into_iter-end-iterator.result ++ length c.args.text.now ∷ [])) c.new-ends.ensures.items ∙ ap (λ es. es ++ length c.args.text.now ∷ []) left ∙ ends_places c.args.text.now;
+      ends = ap (λ es. es ++ (c.into_iter-end-iterator.result ++ length c.args.text.now ∷ [])) c.in_ok-ends.ensures.items ∙ ap (λ es. es ++ length c.args.text.now ∷ []) left ∙ ends_places c.args.text.now;
     }
 
 pub overflow_cast-end : goal.overflow_cast-end
