@@ -1,6 +1,6 @@
 -- A path that is held as its text and its ends: what is read off it, and what makes one.
 use Rattle.std.proofs.Common.{◌≡◌, ℕ, zero, suc, ◌+◌, ◌-◌, ◌<◌, ◌≤◌, ◌^◌, Bool, true, false, List, [], ◌∷◌, ◌++◌, length, map, take, drop, get_or, refl, sym, ap, subst, ◌∙◌, arith}
-use Rattle.std.proofs.lemmas.List.{append_assoc, length-append, length-take, length-drop, get_or-take, get_or_at, get_or_read}
+use Rattle.std.proofs.lemmas.List.{append_assoc, length-append, length-take, length-drop, get_or-take, get_or_at}
 use Rattle.std.proofs.lemmas.List.Elements.{All-take, All-drop, All-push}
 use Rattle.std.proofs.lemmas.Bool.{ne_eqb}
 use Rattle.std.proofs.lemmas.Str.{IsCharBoundary-after_ascii, IsCharBoundary-before_ascii, IsCharBoundary-end, IsCharBoundary-start}
@@ -102,12 +102,11 @@ cuts_shown self text ends view h = subst (λ p. AreCuts p text ends) view h
 
 module _ (self : Path) (text ends : List ℕ) (view : cut_from 0 ends text ≡ self) (h : AreCuts (cut_from 0 ends text) text ends) where
   -- where a frame stands, by the numbers that a reader finds
-  pub stands_read : (i : ℕ) → i < length self → (shown bytes : List ℕ) (start end : ℕ) → shown ≡ ends → start ≡ start_in shown i → end ≡ get_or ends i end → bytes ≡ text → StandsAt bytes (get_or self i []) start end
+  pub stands_read : (i : ℕ) → i < length self → (shown bytes : List ℕ) (start end : ℕ) → shown ≡ ends → start ≡ start_in shown i → end ≡ get_or shown i 0 → bytes ≡ text → StandsAt bytes (get_or self i []) start end
   stands_read i lt shown bytes start end is from to same =
       let held = cuts_shown self text ends view h in
-      let inside : i < length ends = omega (arith, lt, ap length held.places, length-ends 0 self) in
       let s : start ≡ start_in ends i = from ∙ ap (λ es. start_in es i) is in
-      let e : end ≡ get_or ends i 0 = get_or_read ends i end inside to 0 in
+      let e : end ≡ get_or ends i 0 = to ∙ ap (λ es. get_or es i 0) is in
       subst (λ t. StandsAt t (get_or self i []) start end) (sym same)
       (subst (λ a. StandsAt text (get_or self i []) a end) (sym s)
       (subst (λ b. StandsAt text (get_or self i []) (start_in ends i) b) (sym e) (stands self text ends held i lt)))

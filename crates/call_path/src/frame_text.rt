@@ -10,16 +10,20 @@ ghost use Rattle.call_path.specs.Functions.{func};
 use crate::FRAME_LIMIT;
 use crate::function_name::function_of;
 use crate::text_order::{first_difference, rank_at};
+use smallvec::SmallVec;
 use std::alloc::{AllocError, Global};
 use std::cmp::Ordering;
 use std::marker::Model;
+
+// Where each frame ends in a text: those of few frames are stored in place, without an allocation.
+type Ends = SmallVec<u32, 4>;
 
 /// 0 to 128 good frames, joined by `;`.
 #[derive(Drop)]
 pub struct FrameText {
     text: String,
     // Where each frame ends in the text.
-    ends: Vec<u32>,
+    ends: Ends,
 }
 
 impl Model for FrameText {
@@ -42,7 +46,7 @@ impl FrameText {
     {
         FrameText {
             text: String::new(alloc),
-            ends: Vec::new(alloc),
+            ends: Ends::new(alloc),
         }
     }
 
@@ -71,8 +75,9 @@ impl FrameText {
         ensures frame { slice_get self.now i ≡ Some result.now }
         ensures good { IsTrue (is_good_frame result.now) }
     {
-        let start = start_in(&self.ends, i);
-        let end = self.ends[i] as usize;
+        let ends = self.ends.as_slice();
+        let start = start_in(ends, i);
+        let end = ends[i] as usize;
         &self.text.as_str()[start..end]
     }
 
@@ -115,7 +120,7 @@ impl FrameText {
         ensures text { result.now ≡ path_text (take depth self.now) }
         ensures good { AreGoodFrames (take depth self.now) }
     {
-        &self.text.as_str()[..end_in(&self.ends, depth)]
+        &self.text.as_str()[..end_in(self.ends.as_slice(), depth)]
     }
 
     // The text of the frames from `from` on, among the first `depth`.
@@ -125,7 +130,7 @@ impl FrameText {
         ensures text { result.now ≡ path_text (drop from (take depth self.now)) }
         ensures good { AreGoodFrames (drop from (take depth self.now)) }
     {
-        &self.prefix_text(depth)[start_in(&self.ends, from)..]
+        &self.prefix_text(depth)[start_in(self.ends.as_slice(), from)..]
     }
 
     /// How many of the first frames are the frames of `other` from `from` on.
@@ -155,7 +160,7 @@ impl FrameText {
         ensures { IfOk result (λ first. first ≡ take depth self.now) }
     {
         let text = String::from_str(*self.ends.allocator(), self.prefix_text(depth))?;
-        let ends = Vec::from_slice(*self.ends.allocator(), &self.ends[..depth])?;
+        let ends = Ends::from_slice(*self.ends.allocator(), &self.ends.as_slice()[..depth])?;
         Ok(FrameText { text, ends })
     }
 
@@ -166,7 +171,7 @@ impl FrameText {
     {
         let alloc = *self.ends.allocator();
         let text = String::from_str(alloc, self.part_text(depth, self.len()))?;
-        let ends = ends_behind(alloc, &self.ends, depth)?;
+        let ends = ends_behind(alloc, self.ends.as_slice(), depth)?;
         Ok(FrameText { text, ends })
     }
 
@@ -196,7 +201,7 @@ impl FrameText {
         ensures { self.new ≡ take depth self.old }
     {
         if depth < self.ends.as_slice().len() {
-            self.text.truncate(end_in(&self.ends, depth));
+            self.text.truncate(end_in(self.ends.as_slice(), depth));
             self.ends.truncate(depth);
         }
     }
@@ -242,23 +247,24 @@ fn end_in(ends: &[u32], depth: usize) -> usize
 }
 
 // Where the frames behind the first `depth` end, counted from where the first of them begins.
-fn ends_behind(alloc: Global, ends: &[u32], depth: usize) -> Result<Vec<u32>, AllocError>
+fn ends_behind(alloc: Global, ends: &[u32], depth: usize) -> Result<Ends, AllocError>
     requires { depth ≤ length ends.now }
     ensures { IfOk result (λ rest. rest.items ≡ map (λ end. end - start_in ends.now depth) (drop depth ends.now)) }
 {
     let start = start_in(ends, depth);
-    ends[depth..]
-        .iter()
-        .map(|end| (*end as usize).saturating_sub(start) as u32)
-        .collect(alloc)
+    let mut rest = Ends::with_capacity(alloc, ends.len() - depth)?;
+    for end in &ends[depth..] {
+        rest.push_reserved((*end as usize).saturating_sub(start) as u32);
+    }
+    Ok(rest)
 }
 
 // Where each frame of a text ends, with room for so many frames.
-fn frame_ends(alloc: Global, text: &[u8], count: usize) -> Result<Vec<u32>, AllocError>
+fn frame_ends(alloc: Global, text: &[u8], count: usize) -> Result<Ends, AllocError>
     requires { length text.now < 2 ^ 32 }
     ensures { IfOk result (λ ends. ends.items ≡ ends_from 0 (frames text.now)) }
 {
-    let mut ends = Vec::with_capacity(alloc, count)?;
+    let mut ends = Ends::with_capacity(alloc, count)?;
     for end in memchr::memchr_iter(b';', text) {
         ends.push(end as u32)?;
     }

@@ -22,7 +22,7 @@ pub loop-end-preserved : goal.loop-end-preserved
 loop-end-preserved c = record {
   within = All-tail (λ end. end < length c.args.text.now) c.in-Some.end c.next.new.self (subst (All (λ end. end < length c.args.text.now)) c.in-Some.ensures.steps c.loop-end.invariant.within);
   ends =
-      ap (λ es. es ++ (c.next.new.self ++ length c.args.text.now ∷ [])) c.in_ok-push.ensures.items
+      ap (λ es. es ++ (c.next.new.self ++ length c.args.text.now ∷ [])) c.in_ok-push.ensures.ok
       ∙ append_assoc c.loop-end.ends.items (c.in-Some.end ∷ []) (c.next.new.self ++ length c.args.text.now ∷ [])
       ∙ ap (λ es. c.loop-end.ends.items ++ (es ++ length c.args.text.now ∷ [])) (sym c.in-Some.ensures.steps)
       ∙ c.loop-end.invariant.ends;
@@ -30,6 +30,6 @@ loop-end-preserved c = record {
 
 pub returns : goal.returns
 returns c =
-    c.in_ok-push-2.ensures.items
+    c.in_ok-push-2.ensures.ok
     ∙ ap (λ es. c.loop-end.ends.items ++ (es ++ length c.args.text.now ∷ [])) (sym c.in-None.ensures.steps.0)
     ∙ c.loop-end.invariant.ends

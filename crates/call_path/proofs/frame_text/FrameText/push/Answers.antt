@@ -6,7 +6,7 @@ use Rattle.call_path.proofs.frame_text.FrameText.push.Goals as goal
 
 pub overflow_cast-as_str : goal.overflow_cast-as_str
 overflow_cast-as_str c =
-    let ends_stay = c.as_slice.ensures.value ∙ c.in_ok-reserve.ensures.items in
+    let ends_stay = c.as_slice.ensures ∙ c.in_ok-reserve.ensures.items in
     let is : string_bytes c.push_str.new.self ≡ longer (length c.self.inside.ends.items == 0) (string_bytes c.self.inside.text) c.args.frame.now =
     c.in_ok-push_str.ensures.bytes
     ∙ elim c.if-not-is_empty.branch [
@@ -24,7 +24,7 @@ overflow_cast-as_str c =
 
 pub invariant_of-self-2 : goal.invariant_of-self-2
 invariant_of-self-2 c =
-    let ends_stay = c.as_slice.ensures.value ∙ c.in_ok-reserve.ensures.items in
+    let ends_stay = c.as_slice.ensures ∙ c.in_ok-reserve.ensures.items in
     let is : string_bytes c.push_str.new.self ≡ longer (length c.self.inside.ends.items == 0) (string_bytes c.self.inside.text) c.args.frame.now =
     c.in_ok-push_str.ensures.bytes
     ∙ elim c.if-not-is_empty.branch [
@@ -41,7 +41,7 @@ invariant_of-self-2 c =
 
 pub returns-clause-ok : goal.returns-clause-ok
 returns-clause-ok c =
-    let ends_stay = c.as_slice.ensures.value ∙ c.in_ok-reserve.ensures.items in
+    let ends_stay = c.as_slice.ensures ∙ c.in_ok-reserve.ensures.items in
     let is : string_bytes c.push_str.new.self ≡ longer (length c.self.inside.ends.items == 0) (string_bytes c.self.inside.text) c.args.frame.now =
     c.in_ok-push_str.ensures.bytes
     ∙ elim c.if-not-is_empty.branch [
