@@ -1,6 +1,5 @@
 -- Parts of sets of ranks, and the paths that a loop has still to go over.
-use Rattle.std.proofs.Common.{◌≡◌, ℕ, suc, ◌+◌, ◌<◌, ◌≤◌, Bool, true, false, not, ◌&&◌, List, [], ◌∷◌, length, drop, get_or, drop-cons, refl, sym, ap, ◌∙◌, arith}
-use Rattle.std.proofs.lemmas.List.{drop_all}
+use Rattle.std.proofs.Common.{◌≡◌, ℕ, suc, ◌+◌, ◌<◌, Bool, true, false, not, ◌&&◌, List, [], ◌∷◌, length, drop, get_or, drop-cons, refl, sym, ap, ◌∙◌, arith}
 use Rattle.std.proofs.lemmas.Bool.{and_from}
 use Rattle.rank_set.specs.Ranks.{Ranks, has, those, has-those, same_ranks}
 use Rattle.call_path.specs.Path.{Path}
@@ -39,7 +38,3 @@ pub next_path : (seen : List SeenPath) (i : ℕ) (x : SeenPath) → i < length s
 next_path seen i x lt is =
     let n : suc i ≡ i + 1 = omega arith in
     ap entries_view (drop-cons seen i x lt) ∙ ap (λ y. entry_of y ∷ entries_view (drop (suc i) seen)) (sym is) ∙ ap (λ k. entry_of x ∷ entries_view (drop k seen)) n
-
--- and in the end none
-pub no_path : (seen : List SeenPath) (i : ℕ) → length seen ≤ i → entries_view (drop i seen) ≡ []
-no_path seen i le = ap entries_view (drop_all i seen le)

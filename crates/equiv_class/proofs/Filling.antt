@@ -186,8 +186,8 @@ tables_start n states next is_states is_next = record {
   next_within = λ k. omega (arith, ap (λ xs. get_or xs k 0) is_next ∙ zeros 1 k, ap length is_next);
 }
 
-pub same_start : (n : ℕ) (states : List ℕ) → states ≡ replicate n 0 → (r s : ℕ) → eqb (get_or states r 0) (get_or states s 0) ≡ true
-same_start n states is r s = eq-eqb (get_or states r 0) (get_or states s 0) (ap (λ xs. get_or xs r 0) is ∙ zeros n r ∙ sym (ap (λ xs. get_or xs s 0) is ∙ zeros n s))
+pub zero_start : (n : ℕ) (states : List ℕ) → states ≡ replicate n 0 → (r : ℕ) → get_or states r 0 ≡ 0
+zero_start n states is r = ap (λ xs. get_or xs r 0) is ∙ zeros n r
 
 -- the blocks of the ranks that are left after one block was taken
 pub blocks_left : (es : List (Path × Ranks)) (left left' : Ranks) (states : List ℕ) (base : ℕ) (sets : List Ranks) (r : ℕ) → left' ≡ those (λ s. not (same_paths r s es)) left

@@ -9,3 +9,4 @@ pub mod Cuts
 pub mod Partition
 pub mod Parting
 pub mod Filling
+pub mod LedPaths

@@ -7,7 +7,7 @@ use Rattle.rank_set.specs.Runs.{IsRun}
 use Rattle.equiv_class.specs.Classes.{same_answer}
 use Rattle.call_path.specs.Path.{Path}
 use Rattle.equiv_class.specs.SeenPaths.{same_paths}
-use Rattle.equiv_class.specs.States.{AreStates, AreTables, ArePartedBy, state_after, with_next}
+use Rattle.equiv_class.specs.States.{AreTables, ArePartedBy, state_after, with_next}
 
 -- a member below an end
 abbrev pub member_below : Ranks → ℕ → ℕ → Bool
@@ -261,6 +261,10 @@ members_step E base a b after old states states' next next' some members same is
       ]
     ]
 
+-- before the first set
+pub parting_start : (all : List (Path × Ranks)) (states : List ℕ) → ((r : ℕ) → get_or states r 0 ≡ 0) → (r s : ℕ) → (eqb (get_or states r 0) (get_or states s 0) && same_paths r s all) ≡ same_paths r s all
+parting_start all states start r s = ap (λ b. b && same_paths r s all) (eq-eqb (get_or states r 0) (get_or states s 0) (start r ∙ sym (start s)))
+
 -- one set after another
 pub parting_step : (e : Path × Ranks) (rest es all : List (Path × Ranks)) (old new : List ℕ) → rest ≡ e ∷ es → ArePartedBy e.1 old new
     → ((r s : ℕ) → (eqb (get_or old r 0) (get_or old s 0) && same_paths r s rest) ≡ same_paths r s all)
@@ -274,12 +278,3 @@ parting_step e rest es all old new first is so_far r s =
     turn true false c = refl
     turn false true c = refl
     turn false false c = refl
-
-pub parting_end : (rest all : List (Path × Ranks)) (states : List ℕ) → rest ≡ [] → ((r s : ℕ) → (eqb (get_or states r 0) (get_or states s 0) && same_paths r s rest) ≡ same_paths r s all)
-    → AreStates states all
-parting_end rest all states none_left so_far r s =
-    sym (ap (λ xs. eqb (get_or states r 0) (get_or states s 0) && same_paths r s xs) none_left ∙ logic (eqb (get_or states r 0) (get_or states s 0))) ∙ so_far r s
-  where
-    logic : (b : Bool) → (b && true) ≡ b
-    logic true = refl
-    logic false = refl

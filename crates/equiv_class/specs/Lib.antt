@@ -3,3 +3,4 @@ pub mod ClassList
 pub mod SeenPaths
 pub mod States
 pub mod Rows
+pub mod Origins

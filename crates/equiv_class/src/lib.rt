@@ -2,7 +2,7 @@
 //! rank of each.
 #![tactic(auto)]
 
-ghost use Rattle.std.specs.Prelude.{◌≡◌, ◌||◌, ℕ, true, false, not, [], IsTrue, IfOk, OnOk};
+ghost use Rattle.std.specs.Prelude.{◌≡◌, ◌||◌, ◌++◌, ◌<◌, ℕ, true, false, not, [], IsTrue, IfOk, OnOk, length, get_or};
 ghost use Rattle.rank_set.specs.Ranks.{Ranks, has, none, those};
 ghost use Rattle.std.specs.List.{list_any};
 ghost use Rattle.std.specs.List.Sorted.{IsStrictlySortedBy};
@@ -12,12 +12,14 @@ ghost use Rattle.prefix_tree.specs.Tree.{tree_of, pairs_of};
 ghost use Rattle.equiv_class.specs.Classes.{HaveOwnPaths, equivalent, classes_of, classes_with, paths_of};
 ghost use Rattle.equiv_class.specs.ClassList.{class_view, class_views};
 ghost use Rattle.equiv_class.specs.SeenPaths.{Lists, entries_view, same_paths, seen_in, paths_to};
+ghost use Rattle.equiv_class.specs.Origins.{LeadToStates, origin_of, path_at, paths_before};
 ghost use Rattle.equiv_class.specs.States.{AreBlocks};
 
 use call_path::{CallPath, PathBuilder};
 use prefix_tree::PrefixTree;
 use rank_blocks::{Blocks, block_of, find_blocks};
 use rank_set::RankSet;
+use states::Origin;
 use std::alloc::{AllocError, Global};
 
 mod rank_blocks;
@@ -109,8 +111,9 @@ fn take_classes(
     blocks: &Blocks,
     left: &mut RankSet,
 ) -> Result<Vec<Class>, AllocError>
-    requires { AreBlocks (entries_view seen.now) left.old
+    requires blocks { AreBlocks (entries_view seen.now) left.old
         blocks.now.states.items blocks.now.base blocks.now.sets.items }
+    requires paths { LeadToStates (entries_view seen.now) blocks.now.states.items blocks.now.origins.items }
     ensures { IfOk result
         (λ all. (P : Pairs) → Lists P (entries_view seen.now) → class_views all.items ≡ classes_of P left.old) }
 {
@@ -132,27 +135,49 @@ fn take_class(
 ) -> Result<Class, AllocError>
     requires blocks { AreBlocks (entries_view seen.now) left.old
         blocks.now.states.items blocks.now.base blocks.now.sets.items }
+    requires paths { LeadToStates (entries_view seen.now) blocks.now.states.items blocks.now.origins.items }
     requires member { IsTrue (has left.old r) }
     ensures class { IfOk result
         (λ class. class_view class
         ≡ (those (λ s. same_paths r s (entries_view seen.now)) left.old, paths_to r (entries_view seen.now))) }
     ensures left { OnOk result (left.new ≡ those (λ s. not (same_paths r s (entries_view seen.now))) left.old) }
 {
-    let paths = rank_paths(alloc, seen, r)?;
+    let state = blocks.states[r as usize];
+    let paths = state_paths(alloc, seen, blocks.origins.as_slice(), state)?;
     let ranks = block_of(blocks, r)?;
     left.subtract(&ranks);
     Ok(Class { ranks, paths })
 }
 
-// The paths of a rank.
-fn rank_paths(alloc: Global, seen: &[SeenPath<'_>], r: u32) -> Result<Vec<CallPath>, AllocError>
-    ensures { IfOk result (λ paths. paths.items ≡ paths_to r (entries_view seen.now)) }
+// The paths that led to a state, found from the last one back.
+fn state_paths(
+    alloc: Global,
+    seen: &[SeenPath<'_>],
+    origins: &[Origin],
+    state: u32,
+) -> Result<Vec<CallPath>, AllocError>
+    requires known { state < length origins.now }
+    requires backward { (k : ℕ) → 0 < k → (origin_of origins.now k).from < k }
+    ensures { IfOk result (λ paths. paths.items ≡ paths_before (entries_view seen.now) origins.now state) }
 {
     let mut paths = Vec::new(alloc);
-    for path in seen {
-        if path.ranks.contains(r) {
-            paths.push(path.path.copy()?)?;
-        }
+    let mut at = state;
+    while at > 0 {
+        let origin = origins[at as usize];
+        add_path(&mut paths, seen, origin.path)?;
+        at = origin.from;
     }
+    paths.as_mut_slice().reverse();
     Ok(paths)
+}
+
+// Appends the path that has a number, if one has it.
+fn add_path(paths: &mut Vec<CallPath>, seen: &[SeenPath<'_>], number: u32) -> Result<(), AllocError>
+    ensures { OnOk result (paths.new.items ≡ paths.old.items ++ path_at (entries_view seen.now) number) }
+{
+    let k = number as usize;
+    if k < seen.len() {
+        paths.push(seen[k].path.copy()?)?;
+    }
+    Ok(())
 }

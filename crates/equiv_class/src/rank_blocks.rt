@@ -5,10 +5,13 @@ ghost use Rattle.rank_set.specs.Ranks.{Ranks, none, has, those, union};
 ghost use Rattle.rank_set.specs.Runs.{ranks_between};
 ghost use Rattle.call_path.specs.Path.{Path};
 ghost use Rattle.equiv_class.specs.SeenPaths.{entries_view, same_paths};
+ghost use Rattle.equiv_class.specs.Origins.{LeadToStates};
 ghost use Rattle.equiv_class.specs.States.{AreBlocks, HasEntries};
 
 use crate::SeenPath;
-use crate::states::{count_states, end_of_all, end_of_state, part, part_by_paths};
+use crate::states::{
+    Origin, count_paths, count_states, end_of_all, end_of_state, part, part_by_paths,
+};
 use rank_set::RankSet;
 use std::alloc::{AllocError, Global};
 
@@ -17,6 +20,8 @@ use std::alloc::{AllocError, Global};
 pub(crate) struct Blocks {
     // The state of each rank.
     pub(crate) states: Vec<u32>,
+    // The origin of each state.
+    pub(crate) origins: Vec<Origin>,
     // The least state of a covered rank.
     pub(crate) base: u32,
     // The ranks of each state from the least on.
@@ -29,17 +34,37 @@ pub(crate) fn find_blocks(
     seen: &[SeenPath<'_>],
     covered: &RankSet,
 ) -> Result<Blocks, AllocError>
-    ensures { IfOk result
+    ensures blocks { IfOk result
         (λ blocks. AreBlocks (entries_view seen.now) covered.now blocks.states.items blocks.base blocks.sets.items) }
+    ensures paths { IfOk result
+        (λ blocks. LeadToStates (entries_view seen.now) blocks.states.items blocks.origins.items) }
 {
+    let count = count_paths(seen)?;
     let mut states = vec![in alloc; 0; end_of_all(seen, covered) as usize]?;
     let mut next = vec![in alloc; 0; 1]?;
-    part_by_paths(seen, states.as_mut_slice(), &mut next)?;
+    let start = Origin {
+        from: 0,
+        path: count,
+    };
+    let mut origins = vec![in alloc; start; 1]?;
+    part_by_paths(seen, count, states.as_mut_slice(), &mut next, &mut origins)?;
     let base = count_states(next.as_slice())?;
-    part(covered, states.as_mut_slice(), &mut next)?;
+    // No path has the number `count`, so this step adds none.
+    part(
+        covered,
+        count,
+        states.as_mut_slice(),
+        &mut next,
+        &mut origins,
+    )?;
     let end = count_states(next.as_slice())?;
     let sets = ranks_by_state(alloc, covered, states.as_slice(), base, end)?;
-    Ok(Blocks { states, base, sets })
+    Ok(Blocks {
+        states,
+        origins,
+        base,
+        sets,
+    })
 }
 
 // The covered ranks of each state from `base` to before `end`.

@@ -1,9 +1,11 @@
 //! States of ranks: two ranks have the same state where they were in the same sets so far. The sets are noted one after
-//! another, and a set costs what it lists.
+//! another, and a set costs what it lists. Each state but the first notes the state that it comes from, and the path
+//! that led on from it: so the paths of a rank are found from its state back.
 
 ghost use Rattle.std.specs.Prelude.{◌≡◌, ℕ, ◌<◌, ◌≤◌, ◌-◌, ◌+◌, true, length, get_or, set, nat_eq, All, IsTrue, IfOk, OnOk};
 ghost use Rattle.rank_set.specs.Ranks.{has};
 ghost use Rattle.equiv_class.specs.SeenPaths.{entries_view};
+ghost use Rattle.equiv_class.specs.Origins.{AreOrigins, HaveOrigins, LeadToStates, with_origin};
 ghost use Rattle.equiv_class.specs.States.{AreTables, ArePartedBy, AreStates, HasEntries, state_after, with_next};
 
 use crate::SeenPath;
@@ -12,6 +14,15 @@ use std::alloc::AllocError;
 
 // States are compared by blocks of this many ranks, and then rank by rank.
 const BLOCK: usize = 16;
+
+/// Where a state comes from.
+#[derive(Clone, Copy)]
+pub(crate) struct Origin {
+    // The state before it.
+    pub(crate) from: u32,
+    // The number of the path that led on from it. Where no path did, no path has the number.
+    pub(crate) path: u32,
+}
 
 // How many states there are.
 pub(crate) fn count_states(next: &[u32]) -> Result<u32, AllocError>
@@ -23,11 +34,29 @@ pub(crate) fn count_states(next: &[u32]) -> Result<u32, AllocError>
     }
 }
 
-// The state after this one: a new one where the table has none from `base` on.
-fn next_state(next: &mut Vec<u32>, base: u32, state: u32) -> Result<u32, AllocError>
+// How many paths were seen. Their numbers are below this one.
+pub(crate) fn count_paths(seen: &[SeenPath<'_>]) -> Result<u32, AllocError>
+    ensures { IfOk result (λ count. count ≡ length seen.now) }
+{
+    match u32::try_from(seen.len()) {
+        Ok(count) => Ok(count),
+        Err(_) => Err(AllocError),
+    }
+}
+
+// The state after this one along a path: a new one where the table has none from `base` on.
+fn next_state(
+    next: &mut Vec<u32>,
+    origins: &mut Vec<Origin>,
+    base: u32,
+    state: u32,
+    path: u32,
+) -> Result<u32, AllocError>
     requires { state < length next.old.items }
     ensures state { IfOk result (λ after. after ≡ state_after base state next.old.items) }
     ensures next { OnOk result (next.new.items ≡ with_next base state next.old.items) }
+    ensures origins { OnOk result
+        (origins.new.items ≡ with_origin base state path next.old.items origins.old.items) }
 {
     let known = next[state as usize];
     if known >= base {
@@ -36,6 +65,7 @@ fn next_state(next: &mut Vec<u32>, base: u32, state: u32) -> Result<u32, AllocEr
     let made = count_states(next.as_slice())?;
     next[state as usize] = made;
     next.push(0)?;
+    origins.push(Origin { from: state, path })?;
     Ok(made)
 }
 
@@ -107,17 +137,23 @@ fn set_states(states: &mut [u32], first: u32, end: u32, state: u32)
     states[first as usize..end as usize].fill(state);
 }
 
-// Moves the ranks of a set on to new states, those of one state to one state.
+// Moves the ranks of a set on to new states along a path, those of one state to one state.
 pub(crate) fn part(
     ranks: &RankSet,
+    path: u32,
     states: &mut [u32],
     next: &mut Vec<u32>,
+    origins: &mut Vec<Origin>,
 ) -> Result<(), AllocError>
     requires tables { AreTables states.old next.old.items }
+    requires origins { AreOrigins next.old.items origins.old.items }
     requires entries { HasEntries states.old ranks.now }
     ensures tables { OnOk result (AreTables states.new next.new.items) }
+    ensures origins { OnOk result (AreOrigins next.new.items origins.new.items) }
     ensures parted { OnOk result (ArePartedBy ranks.now states.old states.new) }
     ensures moved { OnOk result ((r : ℕ) → has ranks.now r ≡ true → length next.old.items ≤ get_or states.new r 0) }
+    ensures noted { OnOk result
+        (HaveOrigins ranks.now path states.old origins.old.items states.new origins.new.items) }
 {
     let base = count_states(next.as_slice())?;
     let mut from = 0;
@@ -125,7 +161,7 @@ pub(crate) fn part(
         from = run.first;
         while from <= run.last {
             let end = end_of_state(states, from, run.last);
-            let state = next_state(next, base, states[from as usize])?;
+            let state = next_state(next, origins, base, states[from as usize], path)?;
             set_states(states, from, end, state);
             from = end;
         }
@@ -133,20 +169,26 @@ pub(crate) fn part(
     Ok(())
 }
 
-// Parts the ranks by the paths that they were seen in.
+// Parts the ranks by the paths that they were seen in, of which there are `count`.
 pub(crate) fn part_by_paths(
     seen: &[SeenPath<'_>],
+    count: u32,
     states: &mut [u32],
     next: &mut Vec<u32>,
+    origins: &mut Vec<Origin>,
 ) -> Result<(), AllocError>
+    requires count { count ≡ length seen.now }
     requires tables { AreTables states.old next.old.items }
+    requires origins { AreOrigins next.old.items origins.old.items }
     requires entries { All (λ path. HasEntries states.old path.ranks.now) seen.now }
-    requires same { (r s : ℕ) → nat_eq (get_or states.old r 0) (get_or states.old s 0) ≡ true }
+    requires start { (r : ℕ) → get_or states.old r 0 ≡ 0 }
     ensures tables { OnOk result (AreTables states.new next.new.items) }
+    ensures origins { OnOk result (AreOrigins next.new.items origins.new.items) }
     ensures states { OnOk result (AreStates states.new (entries_view seen.now)) }
+    ensures paths { OnOk result (LeadToStates (entries_view seen.now) states.new origins.new.items) }
 {
-    for path in seen {
-        part(path.ranks, states, next)?;
+    for i in 0..count {
+        part(seen[i as usize].ranks, i, states, next, origins)?;
     }
     Ok(())
 }
