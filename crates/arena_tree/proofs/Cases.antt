@@ -1,6 +1,7 @@
 -- Changes of nodes that hold a forest of runs.
-use Rattle.std.proofs.Common.{◌≡◌, ◌≢◌, ℕ, suc, ◌+◌, ◌<◌, ◌≤◌, List, [], ◌∷◌, ◌++◌, length, refl, sym, ap, ◌∙◌, arith, inl, inr, append-nil}
+use Rattle.std.proofs.Common.{◌≡◌, ◌≢◌, ℕ, suc, ◌+◌, ◌<◌, ◌≤◌, List, [], ◌∷◌, ◌++◌, length, take, refl, sym, ap, ◌∙◌, arith, inl, inr, append-nil}
 use Rattle.std.specs.Prelude.{slice_get, Some}
+use Rattle.std.proofs.Math.Seq.{take-append_seam}
 use Rattle.std.proofs.lemmas.List.{length-append}
 use Rattle.std.proofs.lemmas.Bool.{cases_lt}
 use Rattle.std.proofs.lemmas.Option.{slice_get_within}
@@ -117,6 +118,12 @@ module _ (l : Link) (n : ℕ) (g : List ℕ) (gs : Path) (w : Marks) (k c' t' : 
       size = let one = b1.size in let two = b2.size in omega (arith, one, two);
     }
 
+-- the first frame of a run and those that it has in common
+first_frames : (f : List ℕ) (fs common mine : Path) → fs ≡ common ++ mine → take (length common + 1) (f ∷ fs) ≡ f ∷ common
+first_frames f fs common mine is =
+    let long : length common + 1 ≡ suc (length common) = omega arith in
+    ap (λ n. take n (f ∷ fs)) long ∙ ap (λ p. f ∷ take (length common) p) is ∙ ap (λ p. f ∷ p) (take-append_seam common mine)
+
 -- a node with other marks, which may be cut; what stands below it then
 pub record Opened (h h1 : LinkedNodes) (n a : ℕ) (f : List ℕ) (common : Path) (v : Marks) (kb b s : RunForest) (m : ℕ) : Type 0 where
   pub len : length h1.nodes ≡ m + n
@@ -138,7 +145,7 @@ module _ (n a : ℕ) (f : List ℕ) (fs common : Path) (w m : Marks) (b s : RunF
       let z : count_place y b ≡ count_place a b = ap (λ u. count_place u b) e in
       omega (arith, some, here, o, z)
 
-  pub node_shared : (mine : Path) → fs ≡ common ++ mine → Opened h (apply_step h (shared_step a f mine common w m b)) n a f common (united_marks (row_marks mine m) w) (rest_over n mine m b) b s (cut_count mine)
+  pub node_shared : (mine : Path) → fs ≡ common ++ mine → Opened h (apply_step h (shared_step a mine common w m b)) n a f common (united_marks (row_marks mine m) w) (rest_over n mine m b) b s (cut_count mine)
   node_shared [] is =
       let up : NodeView → NodeView = with_more_marks (more_for m.0 w.0) (more_for m.1 w.1) in
       record {
@@ -153,14 +160,14 @@ module _ (n a : ℕ) (f : List ℕ) (fs common : Path) (w m : Marks) (b s : RunF
       }
   node_shared (g ∷ gs) is =
       let v : Marks = united_marks (row_marks (g ∷ gs) m) w in
-      let up : NodeView → NodeView = with_frames (f ∷ common) v.0 v.1 (length h.nodes) in
+      let up : NodeView → NodeView = with_frames (length common) v.0 v.1 (length h.nodes) in
       let low : NodeView = record { frames = g ∷ gs; label = m.0; ends = m.1; first = first_place b; next = 4294967295 } in
       let long : length (with_change a up h.nodes) ≡ n = length-with_change h.nodes a up ∙ len in
       let same : (y : ℕ) → y < n → y ≢ a → slice_get (with_change a up h.nodes ++ low ∷ []) y ≡ slice_get h.nodes y = (λ y lt ne. before_end (with_change a up h.nodes) y low (omega (arith, lt, long)) ∙ change_other h.nodes a y up ne) in
       record {
         len = let e = length-append (with_change a up h.nodes) (low ∷ []) in omega (arith, e, long);
         here = before_end (with_change a up h.nodes) a low (omega (arith, in_all, len, long)) ∙ change_same h.nodes a up (node_view f fs m b s) nodes_hold.0
-            ∙ (λ i. Some (record { frames = f ∷ common; label = v.0; ends = v.1; first = len i; next = first_place s }));
+            ∙ (λ i. Some (record { frames = first_frames f fs common (g ∷ gs) is i; label = v.0; ends = v.1; first = len i; next = first_place s }));
         kept = same;
         nodes_hold = (at_end (with_change a up h.nodes) n low long, nodes_still_hold h.nodes (with_change a up h.nodes ++ low ∷ []) b (λ y some. same y (below_all h.nodes b n y len nodes_hold.1 some) (other y some)) nodes_hold.1, tt);
         places = λ y. omega arith;

@@ -75,18 +75,18 @@ by_three l k h Greater t1 t2 t3 m1 m2 m3 s1 s2 s3 a b c = c
 
 -- the steps of a node that begins with the same frame, of those below it, and of its later siblings
 met : (l : Link) (n a : ℕ) (f : List ℕ) (fs gs : Path) (m w : Marks) (b c s s' : RunForest) (ms : ℕ) (later : List Step) (h : LinkedNodes)
-    → Premises (FirstOf a) (cut_count (split_frames fs gs).own + n) (rest_over n (split_frames fs gs).own m b) (apply_step h (shared_step a f (split_frames fs gs).own (split_frames fs gs).common (added_marks (split_frames fs gs) w) m b))
+    → Premises (FirstOf a) (cut_count (split_frames fs gs).own + n) (rest_over n (split_frames fs gs).own m b) (apply_step h (shared_step a (split_frames fs gs).own (split_frames fs gs).common (added_marks (split_frames fs gs) w) m b))
     (Becomes (FirstOf a) (rest_over n (split_frames fs gs).own m b) (merge_sides (cut_count (split_frames fs gs).own + n) n (split_frames fs gs).own m b (split_frames fs gs).other w c) (new_nodes (split_frames fs gs).own b (split_frames fs gs).other c)
-    (apply_step h (shared_step a f (split_frames fs gs).own (split_frames fs gs).common (added_marks (split_frames fs gs) w) m b))
-    (apply_steps (apply_step h (shared_step a f (split_frames fs gs).own (split_frames fs gs).common (added_marks (split_frames fs gs) w) m b)) (side_steps (FirstOf a) (cut_count (split_frames fs gs).own + n) n (split_frames fs gs).own m b (split_frames fs gs).other w c)))
+    (apply_step h (shared_step a (split_frames fs gs).own (split_frames fs gs).common (added_marks (split_frames fs gs) w) m b))
+    (apply_steps (apply_step h (shared_step a (split_frames fs gs).own (split_frames fs gs).common (added_marks (split_frames fs gs) w) m b)) (side_steps (FirstOf a) (cut_count (split_frames fs gs).own + n) n (split_frames fs gs).own m b (split_frames fs gs).other w c)))
     → ((h2 : LinkedNodes) → Premises (NextOf a) (cut_count (split_frames fs gs).own + n + new_nodes (split_frames fs gs).own b (split_frames fs gs).other c) s h2 (Becomes (NextOf a) s s' ms h2 (apply_steps h2 later)))
     → length h.nodes ≡ n → AreNodesOf h.nodes (run_node a f fs m b s) → HasDistinctPlaces (run_node a f fs m b s) → LeadsTo l h a
     → Becomes l (run_node a f fs m b s) (run_node a f (split_frames fs gs).common (shared_marks (split_frames fs gs) m w) (merge_sides (cut_count (split_frames fs gs).own + n) n (split_frames fs gs).own m b (split_frames fs gs).other w c) s')
     (cut_count (split_frames fs gs).own + new_nodes (split_frames fs gs).own b (split_frames fs gs).other c + ms) h
-    (apply_steps h (shared_step a f (split_frames fs gs).own (split_frames fs gs).common (added_marks (split_frames fs gs) w) m b ∷ side_steps (FirstOf a) (cut_count (split_frames fs gs).own + n) n (split_frames fs gs).own m b (split_frames fs gs).other w c ++ later))
+    (apply_steps h (shared_step a (split_frames fs gs).own (split_frames fs gs).common (added_marks (split_frames fs gs) w) m b ∷ side_steps (FirstOf a) (cut_count (split_frames fs gs).own + n) n (split_frames fs gs).own m b (split_frames fs gs).other w c ++ later))
 met l n a f fs gs m w b c s s' ms later h ih_b ih_s len nodes_hold no_common to =
     let z : FrameSplit = split_frames fs gs in
-    let h1 : LinkedNodes = apply_step h (shared_step a f z.own z.common (added_marks z w) m b) in
+    let h1 : LinkedNodes = apply_step h (shared_step a z.own z.common (added_marks z w) m b) in
     let below : List Step = side_steps (FirstOf a) (cut_count z.own + n) n z.own m b z.other w c in
     let h2 : LinkedNodes = apply_steps h1 below in
     subst (Becomes l (run_node a f fs m b s) (run_node a f z.common (shared_marks z m w) (merge_sides (cut_count z.own + n) n z.own m b z.other w c) s') (cut_count z.own + new_nodes z.own b z.other c + ms) h)
@@ -105,7 +105,7 @@ sides_merged l n p [] m0 (run_node a f fs m b s) [] w0 (run_node x g gs w c t) h
     let h1 : LinkedNodes = apply_step h (New l (new_view g gs w a)) in
     let h2 : LinkedNodes = apply_steps h1 (copy_steps (FirstOf n) (suc n) c) in
     let z : FrameSplit = split_frames fs gs in
-    let g1 : LinkedNodes = apply_step h (shared_step a f z.own z.common (added_marks z w) m b) in
+    let g1 : LinkedNodes = apply_step h (shared_step a z.own z.common (added_marks z w) m b) in
     by_three l (run_node a f fs m b s) h (frame_cmp g f) _ _ _ _ _ _ _ _ _
     (subst (Becomes l (run_node a f fs m b s) (run_node n g gs w (renumbered (suc n) c) (merge_sides (suc n + count_nodes c) 0 [] (none, none) (run_node a f fs m b s) [] (none, none) t)) (suc (count_nodes c + new_nodes [] (run_node a f fs m b s) [] t)) h)
     (sym (apply_steps-append h1 (copy_steps (FirstOf n) (suc n) c) (side_steps (NextOf n) (suc n + count_nodes c) 0 [] (none, none) (run_node a f fs m b s) [] (none, none) t)))
@@ -121,7 +121,7 @@ sides_merged l n p [] m0 (run_node a f fs m b s) [] w0 (run_node x g gs w c t) h
     (sides_merged (NextOf a) n 0 [] (none, none) s [] (none, none) (run_node x g gs w c t) h tt))
 sides_merged l n p [] m0 (run_node a f fs m b s) (g ∷ gs) w c h parting len nodes_hold no_common off to =
     let z : FrameSplit = split_frames fs gs in
-    let g1 : LinkedNodes = apply_step h (shared_step a f z.own z.common (added_marks z w) m b) in
+    let g1 : LinkedNodes = apply_step h (shared_step a z.own z.common (added_marks z w) m b) in
     let below : List Step = side_steps (FirstOf a) (cut_count z.own + n) n z.own m b z.other w c in
     let no_more : cut_count z.own + new_nodes z.own b z.other c + 0 ≡ cut_count z.own + new_nodes z.own b z.other c = omega arith in
     by_three l (run_node a f fs m b s) h (frame_cmp g f) _ _ _ _ _ _ _ _ _
@@ -139,7 +139,7 @@ sides_merged l n p (f ∷ fs) m b [] w0 (run_node x g gs w c t) h parting len no
     let h1 : LinkedNodes = apply_step h (New l (new_view g gs w p)) in
     let h2 : LinkedNodes = apply_steps h1 (copy_steps (FirstOf n) (suc n) c) in
     let z : FrameSplit = split_frames fs gs in
-    let g1 : LinkedNodes = apply_step h (shared_step p f z.own z.common (added_marks z w) m b) in
+    let g1 : LinkedNodes = apply_step h (shared_step p z.own z.common (added_marks z w) m b) in
     by_three l (run_node p f fs m b no_runs) h (frame_cmp g f) _ _ _ _ _ _ _ _ _
     (subst (Becomes l (run_node p f fs m b no_runs) (run_node n g gs w (renumbered (suc n) c) (merge_sides (suc n + count_nodes c) p (f ∷ fs) m b [] (none, none) t)) (suc (count_nodes c + new_nodes (f ∷ fs) b [] t)) h)
     (sym (apply_steps-append h1 (copy_steps (FirstOf n) (suc n) c) (side_steps (NextOf n) (suc n + count_nodes c) p (f ∷ fs) m b [] (none, none) t)))

@@ -1,8 +1,8 @@
 -- The step of a node that begins with the frames that are looked for.
-use Rattle.std.proofs.Common.{◌≡◌, ℕ, zero, suc, ◌+◌, ◌<◌, ◌≤◌, List, [], ◌∷◌, ◌++◌, length, drop, take, refl, sym, ap, ◌∙◌, subst, arith}
+use Rattle.std.proofs.Common.{◌≡◌, ℕ, zero, suc, ◌+◌, ◌-◌, ◌<◌, ◌≤◌, List, [], ◌∷◌, ◌++◌, length, drop, take, refl, sym, ap, ◌∙◌, subst, arith}
 use Rattle.std.specs.Prelude.{slice_get, Some}
 use Rattle.std.specs.declared.cmp.Ordering.TheVariants.{Equal}
-use Rattle.std.proofs.lemmas.List.{length-drop}
+use Rattle.std.proofs.lemmas.List.{length-drop, length-take-le}
 use Rattle.std.proofs.lemmas.Option.{same_Some}
 use Rattle.rank_set.specs.Ranks.{Ranks, union, union-none}
 use Rattle.call_path.specs.Path.{Path}
@@ -45,10 +45,10 @@ pub below_old : (into : Target) (lower : Path) (kept place first : ℕ) → lowe
 below_old into lower kept place first is = ap (λ p. target_below into p kept place first) (sym is)
 
 -- where some are
-pub step_cut : (a : ℕ) (upper lower : Path) (m w : Marks) (first : ℕ) → 0 < length lower
-    → Cut a upper (union m.0 w.0) w.1 (view_of lower m first 4294967295) ≡ step_at a upper lower w m first
-step_cut a upper [] m w first lt = absurd (omega (arith, lt))
-step_cut a upper (g ∷ gs) m w first lt = ap (λ e. Cut a upper (union m.0 w.0) e (view_of (g ∷ gs) m first 4294967295)) (sym (union-none w.1))
+pub step_cut : (a more : ℕ) (lower : Path) (m w : Marks) (first : ℕ) → 0 < length lower
+    → Cut a more (union m.0 w.0) w.1 (view_of lower m first 4294967295) ≡ step_at a more lower w m first
+step_cut a more [] m w first lt = absurd (omega (arith, lt))
+step_cut a more (g ∷ gs) m w first lt = ap (λ e. Cut a more (union m.0 w.0) e (view_of (g ∷ gs) m first 4294967295)) (sym (union-none w.1))
 
 pub below_cut : (into : Target) (lower : Path) (kept place first : ℕ) → 0 < length lower
     → record { link = FirstOf into.place; node = into.node; skip = kept; place = place } ≡ target_below into lower kept place first
@@ -56,21 +56,21 @@ below_cut into [] kept place first lt = absurd (omega (arith, lt))
 below_cut into (g ∷ gs) kept place first lt = refl
 
 -- the step, by what it is of
-pub step_shared : (a : ℕ) (f : List ℕ) (own common : Path) (w m : Marks) (b : RunForest) → shared_step a f own common w m b ≡ step_at a (f ∷ common) own w m (first_place b)
-step_shared a f [] common w m b = refl
-step_shared a f (g ∷ gs) common w m b = refl
+pub step_shared : (a : ℕ) (own common : Path) (w m : Marks) (b : RunForest) → shared_step a own common w m b ≡ step_at a (length common) own w m (first_place b)
+step_shared a [] common w m b = refl
+step_shared a (g ∷ gs) common w m b = refl
 
-nodes_at : (a : ℕ) (upper own : Path) (w m : Marks) (first : ℕ) → nodes_added_by (step_at a upper own w m first) ≡ cut_count own
-nodes_at a upper [] w m first = refl
-nodes_at a upper (g ∷ gs) w m first = refl
+nodes_at : (a more : ℕ) (own : Path) (w m : Marks) (first : ℕ) → nodes_added_by (step_at a more own w m first) ≡ cut_count own
+nodes_at a more [] w m first = refl
+nodes_at a more (g ∷ gs) w m first = refl
 
 few_cuts : (own : Path) → cut_count own ≤ 1
 few_cuts [] = omega arith
 few_cuts (g ∷ gs) = omega arith
 
-rows_at : (a : ℕ) (upper own : Path) (w m : Marks) (first : ℕ) → rows_added_by (step_at a upper own w m first) ≡ 0
-rows_at a upper [] w m first = refl
-rows_at a upper (g ∷ gs) w m first = refl
+rows_at : (a more : ℕ) (own : Path) (w m : Marks) (first : ℕ) → rows_added_by (step_at a more own w m first) ≡ 0
+rows_at a more [] w m first = refl
+rows_at a more (g ∷ gs) w m first = refl
 
 -- the target below
 link_below : (into : Target) (own : Path) (kept place first : ℕ) → (target_below into own kept place first).link ≡ FirstOf into.place
@@ -102,14 +102,14 @@ leads_below cs into c (g ∷ gs) kept place is lt there to few =
 -- the steps of a node that begins with the same frame, where the parts of both runs are known
 parts_known : (l : Link) (n a x : ℕ) (f g : List ℕ) (fs gs : Path) (m w : Marks) (b s c t : RunForest) (z : FrameSplit) → split_frames fs gs ≡ z → frame_cmp g f ≡ Equal
     → merge_steps l n (run_node a f fs m b s) (run_node x g gs w c t)
-    ≡ shared_step a f z.own z.common (added_marks z w) m b ∷ merge_steps (FirstOf a) (n + cut_count z.own) (rest_over n z.own m b) (rest_over 0 z.other w c)
+    ≡ shared_step a z.own z.common (added_marks z w) m b ∷ merge_steps (FirstOf a) (n + cut_count z.own) (rest_over n z.own m b) (rest_over 0 z.other w c)
     ++ merge_steps (NextOf a) (n + cut_count z.own + new_nodes [] (rest_over n z.own m b) [] (rest_over 0 z.other w c)) s t
 parts_known l n a x f g fs gs m w b s c t z is e =
     subst (λ (z : FrameSplit). merge_steps l n (run_node a f fs m b s) (run_node x g gs w c t)
-    ≡ shared_step a f z.own z.common (added_marks z w) m b ∷ merge_steps (FirstOf a) (n + cut_count z.own) (rest_over n z.own m b) (rest_over 0 z.other w c)
+    ≡ shared_step a z.own z.common (added_marks z w) m b ∷ merge_steps (FirstOf a) (n + cut_count z.own) (rest_over n z.own m b) (rest_over 0 z.other w c)
     ++ merge_steps (NextOf a) (n + cut_count z.own + new_nodes [] (rest_over n z.own m b) [] (rest_over 0 z.other w c)) s t) is
     (steps_same l n a x f g fs gs m w b s c t e
-    ∙ (λ i. shared_step a f (split_frames fs gs).own (split_frames fs gs).common (added_marks (split_frames fs gs) w) m b
+    ∙ (λ i. shared_step a (split_frames fs gs).own (split_frames fs gs).common (added_marks (split_frames fs gs) w) m b
     ∷ merge_steps (FirstOf a) (turned i) (rest_over n (split_frames fs gs).own m b) (rest_over 0 (split_frames fs gs).other w c)
     ++ merge_steps (NextOf a) (turned i + counted i) s t))
   where
@@ -123,8 +123,9 @@ parts_known l n a x f g fs gs m w b s c t z is e =
 module _ (cs : List NodeView) (into after below : Target) (c : NodeView) (to : IsTarget cs into) (there : slice_get cs into.node ≡ Some c)
     (p : Path) (skip n0 : ℕ) (begins : BeginsAt cs into p skip)
     (is_split : split_frames (drop (into.skip + 1) c.frames) (drop (skip + 1) p) ≡ split_parts (take n0 (drop (into.skip + 1) c.frames)) (drop (into.skip + 1 + n0) c.frames) (drop (skip + 1 + n0) p))
+    (within : into.skip + 1 + n0 ≤ length c.frames)
     (label ends more : Ranks) (more_is : more ≡ row_ends (drop (skip + (1 + n0)) p) ends) (old new : PlanView)
-    (planned : new ≡ plan_with old (step_at into.place (take (1 + n0) (drop into.skip c.frames)) (drop (into.skip + (1 + n0)) c.frames)
+    (planned : new ≡ plan_with old (step_at into.place (1 + n0 - 1) (drop (into.skip + (1 + n0)) c.frames)
     (label, more) (c.label, c.ends) c.first ∷ []))
     (below_is : below ≡ target_below into (drop (into.skip + (1 + n0)) c.frames) (into.skip + (1 + n0)) (next_place old) c.first)
     (after_is : IsAfter into c.next after) where
@@ -150,7 +151,7 @@ module _ (cs : List NodeView) (into after below : Target) (c : NodeView) (to : I
   w = (label, more)
 
   abbrev step : Step
-  step = step_at into.place (take (1 + n0) (drop into.skip c.frames)) own w m c.first
+  step = step_at into.place (1 + n0 - 1) own w m c.first
 
   f_at : (f : List ℕ) × (slice_get c.frames into.skip ≡ Some f)
   f_at = some_at c.frames into.skip (target_frame cs into.node into.place into.skip c to there)
@@ -179,15 +180,15 @@ module _ (cs : List NodeView) (into after below : Target) (c : NodeView) (to : I
   parts : split_frames (drop (into.skip + 1) c.frames) (drop (skip + 1) p) ≡ split_parts common own other
   parts = is_split ∙ (λ i. split_parts common (drop (kept_same i) c.frames) (drop (other_same i) p))
 
-  upper_is : f ∷ common ≡ take (1 + n0) (drop into.skip c.frames)
-  upper_is =
-      let more : suc n0 ≡ 1 + n0 = omega arith in
-      ap (λ j. take j (f ∷ drop (into.skip + 1) c.frames)) more ∙ ap (take (1 + n0)) (sym (drop_at c.frames into.skip f f_at.1))
+  common_long : length common ≡ 1 + n0 - 1
+  common_long =
+      let long = length-drop (into.skip + 1) c.frames in
+      length-take-le n0 (drop (into.skip + 1) c.frames) (omega (arith, long, within)) ∙ omega arith
 
-  step_is : shared_step into.place f own common (added_marks (split_parts common own other) (label, ends)) m b ≡ step
+  step_is : shared_step into.place own common (added_marks (split_parts common own other) (label, ends)) m b ≡ step
   step_is =
-      step_shared into.place f own common (added_marks (split_parts common own other) (label, ends)) m b
-      ∙ (λ i. step_at into.place (upper_is i) own (label, sym more_is i) m (it.first.begins i))
+      step_shared into.place own common (added_marks (split_parts common own other) (label, ends)) m b
+      ∙ (λ i. step_at into.place (common_long i) own (label, sym more_is i) m (it.first.begins i))
 
   positive : 0 < k
   positive = omega arith
@@ -196,7 +197,7 @@ module _ (cs : List NodeView) (into after below : Target) (c : NodeView) (to : I
   below_forest = sym (ap (target_forest cs) below_is ∙ forest_below cs into c own k (next_place old) refl positive there)
 
   added : cut_count own ≡ nodes_added_by step
-  added = sym (nodes_at into.place (take (1 + n0) (drop into.skip c.frames)) own w m c.first)
+  added = sym (nodes_at into.place (1 + n0 - 1) own w m c.first)
 
   link_is : FirstOf into.place ≡ below.link
   link_is = sym (ap (λ (t : Target). t.link) below_is ∙ link_below into own k (next_place old) c.first)
@@ -217,7 +218,7 @@ module _ (cs : List NodeView) (into after below : Target) (c : NodeView) (to : I
     rest_leads = after_target cs into after c.next after_is it.next;
     below_leads = subst (IsTarget cs) (sym below_is) (leads_below cs into c own k (next_place old) refl positive there it.first (target_few cs into.node into.place into.skip to));
     places = let few = few_cuts own in omega (arith, few, added);
-    rows = rows_at into.place (take (1 + n0) (drop into.skip c.frames)) own w m c.first;
+    rows = rows_at into.place (1 + n0 - 1) own w m c.first;
     steps_split = same;
   }
 

@@ -32,13 +32,13 @@ rows_by Less s1 s2 s3 m1 m2 m3 a b c = a
 rows_by Equal s1 s2 s3 m1 m2 m3 a b c = b
 rows_by Greater s1 s2 s3 m1 m2 m3 a b c = c
 
-pub nodes_added-shared : (a : ℕ) (f : List ℕ) (own common : Path) (v m : Marks) (b : RunForest) → nodes_added_by (shared_step a f own common v m b) ≡ cut_count own
-nodes_added-shared a f [] common v m b = refl
-nodes_added-shared a f (g ∷ gs) common v m b = refl
+pub nodes_added-shared : (a : ℕ) (own common : Path) (v m : Marks) (b : RunForest) → nodes_added_by (shared_step a own common v m b) ≡ cut_count own
+nodes_added-shared a [] common v m b = refl
+nodes_added-shared a (g ∷ gs) common v m b = refl
 
-pub rows_added-shared : (a : ℕ) (f : List ℕ) (own common : Path) (v m : Marks) (b : RunForest) → rows_added_by (shared_step a f own common v m b) ≡ 0
-rows_added-shared a f [] common v m b = refl
-rows_added-shared a f (g ∷ gs) common v m b = refl
+pub rows_added-shared : (a : ℕ) (own common : Path) (v m : Marks) (b : RunForest) → rows_added_by (shared_step a own common v m b) ≡ 0
+rows_added-shared a [] common v m b = refl
+rows_added-shared a (g ∷ gs) common v m b = refl
 
 nodes_added-copy : (l : Link) (n : ℕ) (c : RunForest) → nodes_added (copy_steps l n c) ≡ count_nodes c
 nodes_added-copy l n no_runs = refl
@@ -69,7 +69,7 @@ nodes_added-steps l n p [] m0 (run_node a f fs m b s) [] w0 (run_node x g gs w c
     let two = nodes_added-steps (NextOf n) (suc n + count_nodes c) 0 [] (none, none) (run_node a f fs m b s) [] (none, none) t in
     omega (arith, e, one, two))
     (let e = nodes_added-append (side_steps (FirstOf a) (cut_count z.own + n) n z.own m b z.other w c) (side_steps (NextOf a) (cut_count z.own + n + new_nodes z.own b z.other c) 0 [] (none, none) s [] (none, none) t) in
-    let one = nodes_added-shared a f z.own z.common (added_marks z w) m b in
+    let one = nodes_added-shared a z.own z.common (added_marks z w) m b in
     let two = nodes_added-steps (FirstOf a) (cut_count z.own + n) n z.own m b z.other w c in
     let three = nodes_added-steps (NextOf a) (cut_count z.own + n + new_nodes z.own b z.other c) 0 [] (none, none) s [] (none, none) t in
     omega (arith, e, one, two, three))
@@ -78,7 +78,7 @@ nodes_added-steps l n p [] m0 (run_node a f fs m b s) (g ∷ gs) w c =
     let z : FrameSplit = split_frames fs gs in
     nodes_by (frame_cmp g f) _ _ _ _ _ _
     (let one = nodes_added-copy (FirstOf n) (suc n) c in omega (arith, one))
-    (let one = nodes_added-shared a f z.own z.common (added_marks z w) m b in
+    (let one = nodes_added-shared a z.own z.common (added_marks z w) m b in
     let two = nodes_added-steps (FirstOf a) (cut_count z.own + n) n z.own m b z.other w c in
     omega (arith, one, two))
     (nodes_added-steps (NextOf a) n 0 [] (none, none) s (g ∷ gs) w c)
@@ -91,7 +91,7 @@ nodes_added-steps l n p (f ∷ fs) m b [] w0 (run_node x g gs w c t) =
     let two = nodes_added-steps (NextOf n) (suc n + count_nodes c) p (f ∷ fs) m b [] (none, none) t in
     omega (arith, e, one, two))
     (let e = nodes_added-append (side_steps (FirstOf p) (cut_count z.own + n) n z.own m b z.other w c) (copy_steps (NextOf p) (cut_count z.own + n + new_nodes z.own b z.other c) t) in
-    let one = nodes_added-shared p f z.own z.common (added_marks z w) m b in
+    let one = nodes_added-shared p z.own z.common (added_marks z w) m b in
     let two = nodes_added-steps (FirstOf p) (cut_count z.own + n) n z.own m b z.other w c in
     let three = nodes_added-copy (NextOf p) (cut_count z.own + n + new_nodes z.own b z.other c) t in
     omega (arith, e, one, two, three))
@@ -115,7 +115,7 @@ rows_added-steps l n p [] m0 (run_node a f fs m b s) [] w0 (run_node x g gs w c 
     let two = rows_added-steps (NextOf n) (suc n + count_nodes c) 0 [] (none, none) (run_node a f fs m b s) [] (none, none) t in
     omega (arith, e, one, two))
     (let e = rows_added-append (side_steps (FirstOf a) (cut_count z.own + n) n z.own m b z.other w c) (side_steps (NextOf a) (cut_count z.own + n + new_nodes z.own b z.other c) 0 [] (none, none) s [] (none, none) t) in
-    let one = rows_added-shared a f z.own z.common (added_marks z w) m b in
+    let one = rows_added-shared a z.own z.common (added_marks z w) m b in
     let two = rows_added-steps (FirstOf a) (cut_count z.own + n) n z.own m b z.other w c in
     let three = rows_added-steps (NextOf a) (cut_count z.own + n + new_nodes z.own b z.other c) 0 [] (none, none) s [] (none, none) t in
     omega (arith, e, one, two, three))
@@ -124,7 +124,7 @@ rows_added-steps l n p [] m0 (run_node a f fs m b s) (g ∷ gs) w c =
     let z : FrameSplit = split_frames fs gs in
     rows_by (frame_cmp g f) _ _ _ _ _ _
     (let one = rows_added-copy (FirstOf n) (suc n) c in omega (arith, one))
-    (let one = rows_added-shared a f z.own z.common (added_marks z w) m b in
+    (let one = rows_added-shared a z.own z.common (added_marks z w) m b in
     let two = rows_added-steps (FirstOf a) (cut_count z.own + n) n z.own m b z.other w c in
     omega (arith, one, two))
     (rows_added-steps (NextOf a) n 0 [] (none, none) s (g ∷ gs) w c)
@@ -137,7 +137,7 @@ rows_added-steps l n p (f ∷ fs) m b [] w0 (run_node x g gs w c t) =
     let two = rows_added-steps (NextOf n) (suc n + count_nodes c) p (f ∷ fs) m b [] (none, none) t in
     omega (arith, e, one, two))
     (let e = rows_added-append (side_steps (FirstOf p) (cut_count z.own + n) n z.own m b z.other w c) (copy_steps (NextOf p) (cut_count z.own + n + new_nodes z.own b z.other c) t) in
-    let one = rows_added-shared p f z.own z.common (added_marks z w) m b in
+    let one = rows_added-shared p z.own z.common (added_marks z w) m b in
     let two = rows_added-steps (FirstOf p) (cut_count z.own + n) n z.own m b z.other w c in
     let three = rows_added-copy (NextOf p) (cut_count z.own + n + new_nodes z.own b z.other c) t in
     omega (arith, e, one, two, three))

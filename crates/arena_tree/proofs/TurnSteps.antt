@@ -40,8 +40,8 @@ steps_of_the_same_frame l n p y [] m0 (run_node a f fs m b s) (g ∷ gs) w c off
     let z : FrameSplit = split_frames fs gs in
     by_three (frame_cmp g f) _ _ _ _ _ _
     (one_more (New l (new_view g gs w a)) (copy_steps (FirstOf n) (suc n) c))
-    (λ e. one_more (shared_step a f z.own z.common (added_marks z w) m b) (side_steps (FirstOf a) (cut_count z.own + n) n z.own m b z.other w c)
-    ∙ ap (λ ss. shared_step a f z.own z.common (added_marks z w) m b ∷ side_steps (FirstOf a) (cut_count z.own + n) n z.own m b z.other w c ++ ss) (sym (side_steps-none (NextOf a) (cut_count z.own + n + new_nodes z.own b z.other c) s)))
+    (λ e. one_more (shared_step a z.own z.common (added_marks z w) m b) (side_steps (FirstOf a) (cut_count z.own + n) n z.own m b z.other w c)
+    ∙ ap (λ ss. shared_step a z.own z.common (added_marks z w) m b ∷ side_steps (FirstOf a) (cut_count z.own + n) n z.own m b z.other w c ++ ss) (sym (side_steps-none (NextOf a) (cut_count z.own + n + new_nodes z.own b z.other c) s)))
     (steps_of_the_same_frame (NextOf a) n 0 y [] (none, none) s (g ∷ gs) w c tt)
 steps_of_the_same_frame l n p y (f ∷ fs) m b [] w0 no_runs off = refl
 steps_of_the_same_frame l n p y (f ∷ fs) m b [] w0 (run_node x g gs w c t) off =
@@ -68,11 +68,11 @@ module _ (l : Link) (n a x : ℕ) (f g : List ℕ) (fs gs : Path) (m w : Marks) 
   z = split_frames fs gs
 
   pub steps_same : frame_cmp g f ≡ Equal → merge_steps l n (run_node a f fs m b s) (run_node x g gs w c t)
-      ≡ shared_step a f z.own z.common (added_marks z w) m b ∷ merge_steps (FirstOf a) (cut_count z.own + n) (rest_over n z.own m b) (rest_over 0 z.other w c) ++ merge_steps (NextOf a) (cut_count z.own + n + new_nodes z.own b z.other c) s t
-  steps_same e = whole e ∙ ap (λ ss. shared_step a f z.own z.common (added_marks z w) m b ∷ ss ++ merge_steps (NextOf a) (cut_count z.own + n + new_nodes z.own b z.other c) s t) (steps_of_the_same_frame (FirstOf a) (cut_count z.own + n) n 0 z.own m b z.other w c (parted fs gs))
+      ≡ shared_step a z.own z.common (added_marks z w) m b ∷ merge_steps (FirstOf a) (cut_count z.own + n) (rest_over n z.own m b) (rest_over 0 z.other w c) ++ merge_steps (NextOf a) (cut_count z.own + n + new_nodes z.own b z.other c) s t
+  steps_same e = whole e ∙ ap (λ ss. shared_step a z.own z.common (added_marks z w) m b ∷ ss ++ merge_steps (NextOf a) (cut_count z.own + n + new_nodes z.own b z.other c) s t) (steps_of_the_same_frame (FirstOf a) (cut_count z.own + n) n 0 z.own m b z.other w c (parted fs gs))
     where
       whole : frame_cmp g f ≡ Equal → merge_steps l n (run_node a f fs m b s) (run_node x g gs w c t)
-          ≡ shared_step a f z.own z.common (added_marks z w) m b ∷ side_steps (FirstOf a) (cut_count z.own + n) n z.own m b z.other w c ++ merge_steps (NextOf a) (cut_count z.own + n + new_nodes z.own b z.other c) s t
+          ≡ shared_step a z.own z.common (added_marks z w) m b ∷ side_steps (FirstOf a) (cut_count z.own + n) n z.own m b z.other w c ++ merge_steps (NextOf a) (cut_count z.own + n + new_nodes z.own b z.other c) s t
       whole e = rw e refl
 
 -- so it is of how many nodes are new

@@ -35,10 +35,10 @@ pub record HasRoom (p : PlanView) (k : ℕ) : Type 0 where
   pub places : next_place p + k ≤ 8192
   pub rows : rows_added p.steps + k ≤ 8192
 
--- the step of a node that keeps its upper frames and gets the marks w besides, where its lower ones, if it has any, go to a new node with the old marks
-abbrev pub step_at : ℕ → Path → Path → Marks → Marks → ℕ → Step
-step_at a upper [] w m first = Old a (more_for m.0 w.0) (more_for m.1 w.1)
-step_at a upper (g ∷ gs) w m first = Cut a upper (united_marks (row_marks (g ∷ gs) m) w).0 (united_marks (row_marks (g ∷ gs) m) w).1 (view_of (g ∷ gs) m first no_place)
+-- the step of a node that keeps its first frame and so many more and gets the marks w besides, where its lower frames, if it has any, go to a new node with the old marks
+abbrev pub step_at : ℕ → ℕ → Path → Marks → Marks → ℕ → Step
+step_at a more [] w m first = Old a (more_for m.0 w.0) (more_for m.1 w.1)
+step_at a more (g ∷ gs) w m first = Cut a more (united_marks (row_marks (g ∷ gs) m) w).0 (united_marks (row_marks (g ∷ gs) m) w).1 (view_of (g ∷ gs) m first no_place)
 
 -- the target below a node then
 abbrev pub target_below : Target → Path → ℕ → ℕ → ℕ → Target

@@ -1,6 +1,6 @@
 -- The steps of a merge, and what they make of the nodes.
 -- No clause of a public call cites this file: it says how a change is planned and done.
-use Rattle.std.specs.Prelude.{◌≡◌, ℕ, zero, suc, ◌+◌, ◌<◌, cond, nat_eq, length, List, [], ◌∷◌, ◌++◌, slice_get}
+use Rattle.std.specs.Prelude.{◌≡◌, ℕ, zero, suc, ◌+◌, ◌<◌, cond, nat_eq, length, List, [], ◌∷◌, ◌++◌, slice_get, take}
 use Rattle.rank_set.specs.Ranks.{Ranks, none, union}
 use Rattle.rank_set.specs.Words.{spans}
 use Rattle.call_path.specs.Path.{Path}
@@ -34,14 +34,14 @@ with_more s more = cond (spans s more) (union s more) more
 abbrev pub with_more_marks : Ranks → Ranks → NodeView → NodeView
 with_more_marks l e c = record { frames = c.frames; label = with_more c.label l; ends = with_more c.ends e; first = c.first; next = c.next }
 
--- a node with fewer frames, with other marks, above the node at a place
-abbrev pub with_frames : Path → Ranks → Ranks → ℕ → NodeView → NodeView
-with_frames fs l e n c = record { frames = fs; label = l; ends = e; first = n; next = c.next }
+-- a node with its first frame and so many more, with other marks, above the node at a place
+abbrev pub with_frames : ℕ → Ranks → Ranks → ℕ → NodeView → NodeView
+with_frames more l e n c = record { frames = take (more + 1) c.frames; label = l; ends = e; first = n; next = c.next }
 
 -- what a step makes of the nodes: more marks at a place; a node cut in two, whose lower part is a node more; or a node more that a link leads to
 abbrev pub apply_step : LinkedNodes → Step → LinkedNodes
 apply_step h (Old a l e) = record { first = h.first; nodes = with_change a (with_more_marks l e) h.nodes }
-apply_step h (Cut a fs l e x) = record { first = h.first; nodes = with_change a (with_frames fs l e (length h.nodes)) h.nodes ++ x ∷ [] }
+apply_step h (Cut a more l e x) = record { first = h.first; nodes = with_change a (with_frames more l e (length h.nodes)) h.nodes ++ x ∷ [] }
 apply_step h (New k x) = record { first = first_after k (length h.nodes) h.first; nodes = relink k (length h.nodes) h.nodes ++ x ∷ [] }
 
 -- what steps make of them
@@ -52,7 +52,7 @@ apply_steps h (s ∷ ss) = apply_steps (apply_step h s) ss
 -- how many nodes a step adds
 abbrev pub nodes_added_by : Step → ℕ
 nodes_added_by (Old a l e) = 0
-nodes_added_by (Cut a fs l e x) = 1
+nodes_added_by (Cut a more l e x) = 1
 nodes_added_by (New k x) = 1
 
 -- how many nodes steps add
@@ -63,7 +63,7 @@ nodes_added (s ∷ ss) = nodes_added_by s + nodes_added ss
 -- how many rows a step adds
 abbrev pub rows_added_by : Step → ℕ
 rows_added_by (Old a l e) = 0
-rows_added_by (Cut a fs l e x) = 0
+rows_added_by (Cut a more l e x) = 0
 rows_added_by (New k x) = length x.frames
 
 -- how many rows steps add
@@ -71,10 +71,10 @@ abbrev pub rows_added : List Step → ℕ
 rows_added [] = 0
 rows_added (s ∷ ss) = rows_added_by s + rows_added ss
 
--- the step of a node that gets the marks w besides, which is cut where frames of its own are left
-abbrev pub shared_step : ℕ → List ℕ → Path → Path → Marks → Marks → RunForest → Step
-shared_step a f [] common w m b = Old a (more_for m.0 w.0) (more_for m.1 w.1)
-shared_step a f (g ∷ gs) common w m b = Cut a (f ∷ common) (united_marks (row_marks (g ∷ gs) m) w).0 (united_marks (row_marks (g ∷ gs) m) w).1 (record { frames = g ∷ gs; label = m.0; ends = m.1; first = first_place b; next = no_place })
+-- the step of a node that gets the marks w besides, which is cut where frames of its own are left behind its first and the common ones
+abbrev pub shared_step : ℕ → Path → Path → Marks → Marks → RunForest → Step
+shared_step a [] common w m b = Old a (more_for m.0 w.0) (more_for m.1 w.1)
+shared_step a (g ∷ gs) common w m b = Cut a (length common) (united_marks (row_marks (g ∷ gs) m) w).0 (united_marks (row_marks (g ∷ gs) m) w).1 (record { frames = g ∷ gs; label = m.0; ends = m.1; first = first_place b; next = no_place })
 
 -- what stands below a node then
 abbrev pub rest_over : ℕ → Path → Marks → RunForest → RunForest
@@ -94,21 +94,21 @@ side_steps l n p [] m0 (run_node a f fs m b s) [] w no_runs = []
 side_steps l n p [] m0 (run_node a f fs m b s) [] w0 (run_node x g gs w c t) =
     by_order (frame_cmp g f)
     (New l (new_view g gs w a) ∷ copy_steps (FirstOf n) (suc n) c ++ side_steps (NextOf n) (suc n + count_nodes c) 0 [] (none, none) (run_node a f fs m b s) [] (none, none) t)
-    (shared_step a f (split_frames fs gs).own (split_frames fs gs).common (added_marks (split_frames fs gs) w) m b ∷
+    (shared_step a (split_frames fs gs).own (split_frames fs gs).common (added_marks (split_frames fs gs) w) m b ∷
     side_steps (FirstOf a) (cut_count (split_frames fs gs).own + n) n (split_frames fs gs).own m b (split_frames fs gs).other w c
     ++ side_steps (NextOf a) (cut_count (split_frames fs gs).own + n + new_nodes (split_frames fs gs).own b (split_frames fs gs).other c) 0 [] (none, none) s [] (none, none) t)
     (side_steps (NextOf a) n 0 [] (none, none) s [] (none, none) (run_node x g gs w c t))
 side_steps l n p [] m0 (run_node a f fs m b s) (g ∷ gs) w c =
     by_order (frame_cmp g f)
     (New l (new_view g gs w a) ∷ copy_steps (FirstOf n) (suc n) c)
-    (shared_step a f (split_frames fs gs).own (split_frames fs gs).common (added_marks (split_frames fs gs) w) m b ∷
+    (shared_step a (split_frames fs gs).own (split_frames fs gs).common (added_marks (split_frames fs gs) w) m b ∷
     side_steps (FirstOf a) (cut_count (split_frames fs gs).own + n) n (split_frames fs gs).own m b (split_frames fs gs).other w c)
     (side_steps (NextOf a) n 0 [] (none, none) s (g ∷ gs) w c)
 side_steps l n p (f ∷ fs) m b [] w0 no_runs = []
 side_steps l n p (f ∷ fs) m b [] w0 (run_node x g gs w c t) =
     by_order (frame_cmp g f)
     (New l (new_view g gs w p) ∷ copy_steps (FirstOf n) (suc n) c ++ side_steps (NextOf n) (suc n + count_nodes c) p (f ∷ fs) m b [] (none, none) t)
-    (shared_step p f (split_frames fs gs).own (split_frames fs gs).common (added_marks (split_frames fs gs) w) m b ∷
+    (shared_step p (split_frames fs gs).own (split_frames fs gs).common (added_marks (split_frames fs gs) w) m b ∷
     side_steps (FirstOf p) (cut_count (split_frames fs gs).own + n) n (split_frames fs gs).own m b (split_frames fs gs).other w c
     ++ copy_steps (NextOf p) (cut_count (split_frames fs gs).own + n + new_nodes (split_frames fs gs).own b (split_frames fs gs).other c) t)
     (copy_steps (NextOf p) n (run_node x g gs w c t))

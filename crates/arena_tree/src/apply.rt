@@ -5,7 +5,6 @@ ghost use Rattle.arena_tree.specs.Links.{with_change, with_first, with_next, rel
 ghost use Rattle.arena_tree.specs.Steps.{with_more_marks, with_frames, apply_step, apply_steps, nodes_added, nodes_added_by};
 
 use crate::node::{Link, Node, Step};
-use call_path::CallPath;
 use node_arena::{Arena, Place};
 use rank_set::RankSet;
 use std::collections::VecDeque;
@@ -20,20 +19,13 @@ fn mark(nodes: &mut Arena<Node>, at: Place, label: RankSet, ends: RankSet)
     }
 }
 
-// Leaves the node at a place fewer frames, if there is one, above the node at another.
-fn cut(
-    nodes: &mut Arena<Node>,
-    at: Place,
-    frames: CallPath,
-    label: RankSet,
-    ends: RankSet,
-    below: Place,
-)
-    ensures items { nodes.new.items ≡ with_change at (with_frames frames label ends below) nodes.old.items }
+// Leaves the node at a place its first frame and so many more, if there is one, above the node at another.
+fn cut(nodes: &mut Arena<Node>, at: Place, more: u32, label: RankSet, ends: RankSet, below: Place)
+    ensures items { nodes.new.items ≡ with_change at (with_frames more label ends below) nodes.old.items }
     ensures spare { nodes.new.spare ≡ nodes.old.spare }
 {
     if at < nodes.len() {
-        nodes.get_mut(at).set_frames(frames, label, ends, below);
+        nodes.get_mut(at).keep_frames(more, label, ends, below);
     }
 }
 
@@ -76,9 +68,9 @@ fn apply_one(first: &mut Place, nodes: &mut Arena<Node>, one: Step)
 {
     match one {
         Step::Old(at, label, ends) => mark(nodes, at, label, ends),
-        Step::Cut(at, frames, label, ends, node) => {
+        Step::Cut(at, more, label, ends, node) => {
             let place = nodes.len();
-            cut(nodes, at, frames, label, ends, place);
+            cut(nodes, at, more, label, ends, place);
             nodes.put(node);
         }
         Step::New(link, node) => {

@@ -50,8 +50,8 @@ pub(crate) enum Link {
 pub(crate) enum Step {
     /// The node at a place gets these marks.
     Old(Place, RankSet, RankSet),
-    /// The node at a place keeps these frames, gets these marks, and stands above a node more.
-    Cut(Place, CallPath, RankSet, RankSet, Node),
+    /// The node at a place keeps its first frame and so many more, gets these marks, and stands above a node more.
+    Cut(Place, u32, RankSet, RankSet, Node),
     /// A node more, to which the link leads.
     New(Link, Node),
 }
@@ -133,17 +133,11 @@ impl Node {
         put_more(&mut self.ends, ends);
     }
 
-    /// Keeps these frames, above the node at a place.
-    pub(crate) fn set_frames(
-        &mut self,
-        frames: CallPath,
-        label: RankSet,
-        ends: RankSet,
-        below: Place,
-    )
-        ensures { self.new ≡ with_frames frames label ends below self.old }
+    /// Keeps its first frame and so many more, above the node at a place. It allocates nothing.
+    pub(crate) fn keep_frames(&mut self, more: u32, label: RankSet, ends: RankSet, below: Place)
+        ensures { self.new ≡ with_frames more label ends below self.old }
     {
-        drop(mem::replace(&mut self.frames, frames));
+        self.frames.cut(more as usize + 1);
         drop(mem::replace(&mut self.label, label));
         drop(mem::replace(&mut self.ends, ends));
         self.first = below;

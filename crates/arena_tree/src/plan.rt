@@ -1,6 +1,6 @@
 //! The steps of a change, planned before anything is changed.
 
-ghost use Rattle.std.specs.Prelude.{◌≡◌, ◌≢◌, ◌+◌, ◌<◌, ◌≤◌, [], ◌∷◌, IfOk, OnOk, length, drop, take};
+ghost use Rattle.std.specs.Prelude.{◌≡◌, ◌≢◌, ◌+◌, ◌-◌, ◌<◌, ◌≤◌, [], ◌∷◌, IfOk, OnOk, length, drop};
 ghost use Rattle.rank_set.specs.Ranks.{none, union};
 ghost use Rattle.arena_tree.specs.declared.node.Step.TheVariants.{Old, Cut, New};
 ghost use Rattle.arena_tree.specs.NodeViews.{view_behind};
@@ -9,7 +9,6 @@ ghost use Rattle.arena_tree.specs.Plans.{plan_with, next_place, HasRoom, step_at
 
 use crate::node::{Link, NO_PLACE, Node, Step};
 use crate::target::Target;
-use call_path::CallPath;
 use node_arena::Place;
 use rank_set::RankSet;
 use std::alloc::{AllocError, Global};
@@ -121,8 +120,8 @@ impl Plan {
         requires room { HasRoom self.old 1 }
         requires not_empty { 0 < shared }
         requires within { into.skip + shared ≤ length node.now.frames }
-        ensures plan { OnOk result (self.new ≡ plan_with self.old (step_at into.place
-            (take shared (drop into.skip node.now.frames)) (drop (into.skip + shared) node.now.frames)
+        ensures plan { OnOk result (self.new ≡ plan_with self.old (step_at into.place (shared - 1)
+            (drop (into.skip + shared) node.now.frames)
             (label.now, ends.now) (node.now.label, node.now.ends) node.now.first ∷ [])) }
         ensures below { IfOk result (λ below. below ≡ target_below into (drop (into.skip + shared) node.now.frames)
             (into.skip + shared) (next_place self.old) node.now.first) }
@@ -178,37 +177,22 @@ impl Plan {
         requires not_empty { 0 < shared }
         requires within { into.skip + shared < length node.now.frames }
         ensures place { IfOk result (λ place. place ≡ next_place self.old) }
-        ensures plan { OnOk result (self.new ≡ plan_with self.old (Cut into.place
-            (take shared (drop into.skip node.now.frames)) (union node.now.label label.now) ends.now
+        ensures plan { OnOk result (self.new ≡ plan_with self.old (Cut into.place (shared - 1)
+            (union node.now.label label.now) ends.now
             (view_behind (into.skip + shared) node.now.first NO_PLACE node.now) ∷ [])) }
     {
         let place = self.next;
         // For the proof: no more than `FRAME_LIMIT` frames.
         let _len = node.frames().len();
-        let upper = kept_frames(node.frames(), into.skip, shared)?;
+        let more = (shared - 1) as u32;
         let lower = node.behind(into.skip + shared, node.first(), NO_PLACE)?;
         let label = node.label().united(label)?;
         let ends = ends.copy()?;
         self.steps
-            .push(Step::Cut(into.place, upper, label, ends, lower))?;
+            .push(Step::Cut(into.place, more, label, ends, lower))?;
         self.next = place + 1;
         Ok(place)
     }
-}
-
-/// The `shared` frames of a path behind the first `skip`.
-fn kept_frames(path: &CallPath, skip: usize, shared: usize) -> Result<CallPath, AllocError>
-    requires not_empty { 0 < shared }
-    requires within { skip + shared ≤ length path.now }
-    ensures { IfOk result (λ kept. kept ≡ take shared (drop skip path.now)) }
-{
-    // Most often they are the first, and no others are copied.
-    if skip == 0 {
-        return path.prefix(shared);
-    }
-    let mut kept = path.behind(skip)?;
-    kept.cut(shared);
-    Ok(kept)
 }
 
 /// What a step has for a set that gets the ranks of another: a copy of the other, which is small where the set is wide,
