@@ -1,7 +1,8 @@
 //! The ends of lines, blanks and numbers, by texts from outside.
 
 use text_lines::{
-    after_blanks, cut_number, cut_word, next_line, next_text_line, next_word, number_in, says_nothing,
+    after_blanks, cut_number, cut_word, next_line, next_text_line, next_word, number_in,
+    says_nothing,
 };
 
 // A text, its first line, and what is left after it.
@@ -123,7 +124,11 @@ const CUT_NUMBERS: [(&str, Option<(u32, &str)>); 9] = [
 fn cuts_the_number_in_front(rt: HostRuntime) {
     for (line, want) in CUT_NUMBERS {
         let number = cut_number(line.as_bytes(), 1_000);
-        assert_eq!(rt; number.map(|parts| parts.0), want.map(|parts| parts.0), "{line:?}");
+        assert_eq!(rt;
+            number.map(|parts| parts.0),
+            want.map(|parts| parts.0),
+            "{line:?}"
+        );
         assert_eq!(rt;
             number.map(|parts| parts.1),
             want.map(|parts| parts.1.as_bytes()),
