@@ -1,9 +1,9 @@
 //! The real desk and sinks. No contract says what the system contains; they count each of its errors.
-ghost use Rattle.std.specs.Prelude.{◌≡◌, ◌<◌, ◌≤◌, ◌^◌, [], length, map, None, IfOk, IfSome, vec_len, option_map, string_bytes};
+ghost use Rattle.std.specs.Prelude.{◌≡◌, ◌<◌, ◌≤◌, ◌+◌, ◌^◌, [], length, map, None, IfOk, IfSome, OnOk, vec_len, option_map, string_bytes};
 ghost use Rattle.stat_desk.specs.Desk.{CountsAt, FailedAt};
 
 use crate::{Desk, DeskError, Sink, SinkError};
-use std::alloc::Global;
+use std::alloc::{AllocError, Global};
 use std::fs;
 use std::io::{Read, Write};
 use std::rt::Files;
@@ -52,25 +52,41 @@ impl<'a, R: Files> FileDesk<'a, R> {
 }
 
 // How many bytes are asked of a file at once.
-const PIECE: usize = 65_536;
+const ASKED: usize = 16_384;
+
+// How many bytes are copied at once.
+const COPIED: usize = 2_048;
+
+// Appends a piece of a file. Short copies are done by vectors, and long ones are not.
+fn append(bytes: &mut Vec<u8>, piece: &[u8]) -> Result<(), AllocError>
+    ensures { OnOk result (vec_len bytes.new ≡ vec_len bytes.old + length piece.now) }
+{
+    let mut rest = piece;
+    while !rest.is_empty() {
+        let (front, behind) = rest.split_at(rest.len().min(COPIED));
+        bytes.extend_from_slice(front)?;
+        rest = behind;
+    }
+    Ok(())
+}
 
 // All bytes that a file gives, if they are at most `max`. It takes at most one more from the file.
 fn read_up_to<F: Read>(alloc: Global, file: &mut F, max: u64) -> Result<Vec<u8>, DeskError>
     ensures { IfOk result (λ bytes. vec_len bytes ≤ max) }
 {
     let mut bytes = Vec::new(alloc);
-    let mut buffer = [0u8; PIECE];
+    let mut buffer = [0u8; ASKED];
     while bytes.len() as u64 <= max {
         let wanted = (max - bytes.len() as u64)
             .saturating_add(1)
-            .min(PIECE as u64) as usize;
+            .min(ASKED as u64) as usize;
         let Ok(count) = file.read(&mut buffer[..wanted]) else {
             return Err(DeskError::Failed);
         };
         if count == 0 {
             return Ok(bytes);
         }
-        if bytes.extend_from_slice(&buffer[..count]).is_err() {
+        if append(&mut bytes, &buffer[..count]).is_err() {
             return Err(DeskError::OutOfMemory);
         }
     }

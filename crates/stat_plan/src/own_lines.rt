@@ -41,7 +41,7 @@ fn end_of_all(placed: &[RankSet]) -> u32
 }
 
 // Notes the node of some ranks.
-fn assign(rank_to_node: &mut [u32], ranks: &RankSet, node: u32)
+fn assign(rank_to_node: &mut [u16], ranks: &RankSet, node: u16)
     requires { (r : ℕ) → Has r ranks.now → r < length rank_to_node.old }
     ensures length { length rank_to_node.new ≡ length rank_to_node.old }
     ensures ranks { (r : ℕ) → Has r ranks.now → slice_index_or rank_to_node.new r 0 ≡ node }
@@ -59,13 +59,13 @@ fn assign(rank_to_node: &mut [u32], ranks: &RankSet, node: u32)
 
 // Notes the node of each placed rank. Nodes past the last that a number stands for are as if there were no memory for
 // them.
-fn assign_all(rank_to_node: &mut [u32], placed: &[RankSet]) -> Result<(), AllocError>
+fn assign_all(rank_to_node: &mut [u16], placed: &[RankSet]) -> Result<(), AllocError>
     requires within { (n r : ℕ) → Has r (slice_index_or placed.now n none) → r < length rank_to_node.old }
     requires once { ArePlacedOnce placed.now }
     ensures { OnOk result (AreRankNodes placed.now rank_to_node.new) }
 {
     for (n, ranks) in placed.iter().enumerate() {
-        match u32::try_from(n) {
+        match u16::try_from(n) {
             Ok(node) => assign(rank_to_node, ranks, node),
             Err(_) => return Err(AllocError),
         }
@@ -73,8 +73,9 @@ fn assign_all(rank_to_node: &mut [u32], placed: &[RankSet]) -> Result<(), AllocE
     Ok(())
 }
 
-// The node of each placed rank, by rank. The entries of other ranks mean nothing.
-fn rank_to_node_of(alloc: Global, placed: &[RankSet]) -> Result<Vec<u32>, AllocError>
+// The node of each placed rank, by rank. The entries of other ranks mean nothing. There may be a million of them, so they
+// are as short as node numbers allow.
+fn rank_to_node_of(alloc: Global, placed: &[RankSet]) -> Result<Vec<u16>, AllocError>
     requires once { ArePlacedOnce placed.now }
     ensures { IfOk result (λ rank_to_node. AreRankNodes placed.now rank_to_node.items) }
 {
@@ -157,7 +158,7 @@ fn give_run(
 // Gives each row its part of a line. It goes by runs, of the line and of the nodes.
 fn share_line(
     rows: &mut [Vec<StackLine>],
-    rank_to_node: &[u32],
+    rank_to_node: &[u16],
     placed: &[RankSet],
     line: &StackLine,
 ) -> Result<(), AllocError>
@@ -182,7 +183,7 @@ fn share_line(
 }
 
 // The node that has all of some ranks, if one has.
-fn only_node(rank_to_node: &[u32], placed: &[RankSet], ranks: &RankSet) -> Option<usize>
+fn only_node(rank_to_node: &[u16], placed: &[RankSet], ranks: &RankSet) -> Option<usize>
     requires rank_to_node { AreRankNodes placed.now rank_to_node.now }
     requires placed { IsSubset ranks.now (all_ranks placed.now) }
     ensures inside { IfSome result (λ n. n < length placed.now) }
@@ -243,7 +244,7 @@ impl SpreadLines {
 fn share_lines(
     alloc: Global,
     rows: &mut [Vec<StackLine>],
-    rank_to_node: &[u32],
+    rank_to_node: &[u16],
     placed: &[RankSet],
     lines: &[StackLine],
 ) -> Result<(), AllocError>

@@ -27,12 +27,13 @@ pub const LINE_LIMIT: u32 = 262_144;
 /// One line of samples: at a time, each of some ranks was seen in a path.
 #[derive(Drop)]
 pub struct StackLine {
+    // The two numbers stand together, since each between other fields would take up eight bytes.
     /// The number of the sample time: 0 to `TIME_LIMIT`.
     pub time: u32,
-    /// The ranks, at least one.
-    pub ranks: RankSet,
     /// The number of the path among the paths of the samples.
     pub path: u32,
+    /// The ranks, at least one.
+    pub ranks: RankSet,
 }
 
 /// Lines of samples, with the numbers of their paths.
