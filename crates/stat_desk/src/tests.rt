@@ -99,7 +99,7 @@ fn memory_sink_stalls(rt: HostRuntime) -> Result<(), AllocError> {
 fn file_desk_reads_real_files(rt: HostRuntime) -> Result<(), AllocError> {
     let alloc = rt.alloc();
     let mut long = Vec::new(alloc);
-    for number in 0..10_000u32 {
+    for number in 0..40_000u32 {
         long.push((number % 251) as u8)?;
     }
     assert!(rt; fs::write(&rt, "short", "four").is_ok());
@@ -113,8 +113,8 @@ fn file_desk_reads_real_files(rt: HostRuntime) -> Result<(), AllocError> {
         ("empty", 0, Ok(b"")),
         ("short", 0, Err(DeskError::TooLong)),
         ("absent", 4, Err(DeskError::Failed)),
-        ("long", 10_000, Ok(long.as_slice())),
-        ("long", 9_999, Err(DeskError::TooLong)),
+        ("long", 40_000, Ok(long.as_slice())),
+        ("long", 39_999, Err(DeskError::TooLong)),
     ];
     for (name, max, want) in reads {
         match (desk.read(name, max), want) {
