@@ -1,5 +1,5 @@
 -- The ranks of a set go to the sets of their states, one after another.
-use Rattle.std.proofs.Common.{◌≡◌, ℕ, zero, suc, ◌++◌, ◌<◌, ◌≤◌, ◌-◌, ◌+◌, Bool, true, false, ◌&&◌, ◌||◌, eqb, ltb, List, [], ◌∷◌, length, get_or, set, replicate, not, refl, sym, ap, ◌∙◌, inl, inr, arith}
+use Rattle.std.proofs.Common.{◌≡◌, ℕ, zero, suc, ◌++◌, ◌<◌, ◌≤◌, ◌-◌, Bool, true, false, ◌&&◌, ◌||◌, eqb, ltb, List, [], ◌∷◌, length, get_or, set, replicate, not, refl, sym, ap, ◌∙◌, inl, inr, arith}
 use Rattle.std.proofs.lemmas.Bool.{true≢false, and_parts, and_from, cases_eq, cases_lt, eq-eqb, ne_eqb, eqb-true, lt-ltb, le-ltb, ltb-true}
 use Rattle.std.proofs.lemmas.List.{get_or-set_same, get_or-set_other, length-set, get_or-replicate}
 use Rattle.call_path.specs.Path.{Path}
@@ -8,7 +8,7 @@ use Rattle.rank_set.specs.Runs.{IsRun, ranks_between}
 use Rattle.rank_set.proofs.RunSets.{between_in, between_low, between_high}
 use Rattle.equiv_class.specs.Classes.{same_answer}
 use Rattle.equiv_class.specs.SeenPaths.{same_paths}
-use Rattle.equiv_class.specs.States.{AreBlocks, AreStates, AreTables, ArePartedBy}
+use Rattle.equiv_class.specs.States.{AreBlocks, AreStates, AreTables}
 use Rattle.equiv_class.proofs.Cuts.{those-on}
 
 -- a rank is of the state, and below an end
@@ -16,9 +16,9 @@ abbrev pub of_state_below : List ℕ → ℕ → ℕ → ℕ → Bool
 of_state_below states k q s = eqb (get_or states s 0) k && ltb s q
 
 -- each set has the ranks of its state below an end
-pub record AreFilled (E : Ranks) (states : List ℕ) (base n q : ℕ) (sets : List Ranks) : Type 0 where
+pub record AreFilled (E : Ranks) (states : List ℕ) (n q : ℕ) (sets : List Ranks) : Type 0 where
   pub long : length sets ≡ n
-  pub filled : (k : ℕ) → k < n → get_or sets k none ≡ those (of_state_below states (base + k) q) E
+  pub filled : (k : ℕ) → k < n → get_or sets k none ≡ those (of_state_below states k q) E
 
 length-replicate : (n : ℕ) → length (replicate n none) ≡ n
 length-replicate zero = refl
@@ -29,20 +29,20 @@ and_false true true = refl
 and_false true false = refl
 and_false false b = refl
 
-pub fill_start : (E : Ranks) (states : List ℕ) (base n : ℕ) (sets : List Ranks) → sets ≡ replicate n none → AreFilled E states base n 0 sets
-fill_start E states base n sets is = record {
+pub fill_start : (E : Ranks) (states : List ℕ) (n : ℕ) (sets : List Ranks) → sets ≡ replicate n none → AreFilled E states n 0 sets
+fill_start E states n sets is = record {
   long = ap length is ∙ length-replicate n;
   filled = λ k lt. ap (λ xs. get_or xs k none) is ∙ get_or-replicate n k none none lt
-      ∙ same_ranks _ _ (λ s. has-none s ∙ sym (has-those (of_state_below states (base + k) 0) E s ∙ ap (λ b. has E s && (eqb (get_or states s 0) (base + k) && b)) (le-ltb s 0 (omega arith))
-      ∙ and_false (has E s) (eqb (get_or states s 0) (base + k))));
+      ∙ same_ranks _ _ (λ s. has-none s ∙ sym (has-those (of_state_below states k 0) E s ∙ ap (λ b. has E s && (eqb (get_or states s 0) k && b)) (le-ltb s 0 (omega arith))
+      ∙ and_false (has E s) (eqb (get_or states s 0) k)));
 }
 
 -- where no member lies between, nothing changes
-pub fill_gap : (E : Ranks) (states : List ℕ) (base n from first last : ℕ) (sets : List Ranks) → IsRun E from first last → AreFilled E states base n from sets
-    → AreFilled E states base n first sets
-fill_gap E states base n from first last sets run h = record {
+pub fill_gap : (E : Ranks) (states : List ℕ) (n from first last : ℕ) (sets : List Ranks) → IsRun E from first last → AreFilled E states n from sets
+    → AreFilled E states n first sets
+fill_gap E states n from first last sets run h = record {
   long = h.long;
-  filled = λ k lt. h.filled k lt ∙ those-on E (of_state_below states (base + k) from) (of_state_below states (base + k) first) (λ s member. ap (λ b. eqb (get_or states s 0) (base + k) && b) (same s member));
+  filled = λ k lt. h.filled k lt ∙ those-on E (of_state_below states k from) (of_state_below states k first) (λ s member. ap (λ b. eqb (get_or states s 0) k && b) (same s member));
 }
   where
     same : (s : ℕ) → has E s ≡ true → ltb s from ≡ ltb s first
@@ -55,7 +55,7 @@ fill_gap E states base n from first last sets run h = record {
     ]
 
 -- the ranks from r to before e, which are of one state
-module _ (E : Ranks) (states : List ℕ) (base r e : ℕ) (some : r < e) (members : (q : ℕ) → r ≤ q → q < e → has E q ≡ true) (same : (q : ℕ) → r ≤ q → q < e → get_or states q 0 ≡ get_or states r 0) (from_base : base ≤ get_or states r 0) where
+module _ (E : Ranks) (states : List ℕ) (r e : ℕ) (some : r < e) (members : (q : ℕ) → r ≤ q → q < e → has E q ≡ true) (same : (q : ℕ) → r ≤ q → q < e → get_or states q 0 ≡ get_or states r 0) where
   or_false : (b : Bool) → (b || false) ≡ b
   or_false true = refl
   or_false false = refl
@@ -114,32 +114,28 @@ module _ (E : Ranks) (states : List ℕ) (base r e : ℕ) (some : r < e) (member
         ]
       ]
 
-  pub fill_step : (n : ℕ) (sets sets' : List Ranks) → get_or states r 0 - base < n → sets' ≡ set sets (get_or states r 0 - base) (union (get_or sets (get_or states r 0 - base) none) (ranks_between r (e - 1)))
-      → AreFilled E states base n r sets → AreFilled E states base n e sets'
+  pub fill_step : (n : ℕ) (sets sets' : List Ranks) → get_or states r 0 < n → sets' ≡ set sets (get_or states r 0) (union (get_or sets (get_or states r 0) none) (ranks_between r (e - 1)))
+      → AreFilled E states n r sets → AreFilled E states n e sets'
   fill_step n sets sets' own_in is h =
-      let own : ℕ = get_or states r 0 - base in
-      let back : base + own ≡ get_or states r 0 = omega (arith, from_base) in
+      let own : ℕ = get_or states r 0 in
       let own_lt : own < length sets = omega (arith, own_in, h.long) in
       record {
         long = ap length is ∙ length-set sets own (union (get_or sets own none) (ranks_between r (e - 1))) ∙ h.long;
         filled = λ k lt. elim (cases_eq k own) [
           | inl is_own ↦ (λ i. get_or (is i) (is_own i) none) ∙ get_or-set_same sets own (union (get_or sets own none) (ranks_between r (e - 1))) none own_lt
-              ∙ ap (λ S. union S (ranks_between r (e - 1))) (h.filled own own_in ∙ ap (λ x. those (of_state_below states x r) E) back) ∙ own_set
-              ∙ ap (λ x. those (of_state_below states x e) E) (sym back ∙ ap (λ x. base + x) (sym is_own))
+              ∙ ap (λ S. union S (ranks_between r (e - 1))) (h.filled own own_in) ∙ own_set ∙ ap (λ x. those (of_state_below states x e) E) (sym is_own)
           | inr ne ↦ ap (λ xs. get_or xs k none) is ∙ get_or-set_other sets own k (union (get_or sets own none) (ranks_between r (e - 1))) none ne ∙ h.filled k lt
-              ∙ other_set (base + k) (λ is_state. ne (omega (arith, is_state)))
+              ∙ other_set k ne
         ];
       }
 
 -- when all are in their sets
-pub fill_end : (E : Ranks) (states : List ℕ) (base n q : ℕ) (sets : List Ranks) → AreFilled E states base n q sets → ((r : ℕ) → q ≤ r → has E r ≡ false)
-    → ((r : ℕ) → has E r ≡ true → base ≤ get_or states r 0) → ((r : ℕ) → has E r ≡ true → get_or states r 0 - base < n)
-    → (r : ℕ) → has E r ≡ true → get_or sets (get_or states r 0 - base) none ≡ those (λ s. eqb (get_or states r 0) (get_or states s 0)) E
-fill_end E states base n q sets h passed from_base within r member =
-    let own : ℕ = get_or states r 0 - base in
-    let back : base + own ≡ get_or states r 0 = omega (arith, from_base r member) in
-    h.filled own (within r member) ∙ ap (λ x. those (of_state_below states x q) E) back
-    ∙ those-on E (of_state_below states (get_or states r 0) q) (λ s. eqb (get_or states r 0) (get_or states s 0)) each
+pub fill_end : (E : Ranks) (states : List ℕ) (n q : ℕ) (sets : List Ranks) → AreFilled E states n q sets → ((r : ℕ) → q ≤ r → has E r ≡ false)
+    → ((r : ℕ) → get_or states r 0 < n)
+    → (r : ℕ) → has E r ≡ true → get_or sets (get_or states r 0) none ≡ those (λ s. eqb (get_or states r 0) (get_or states s 0)) E
+fill_end E states n q sets h passed within r member =
+    let own : ℕ = get_or states r 0 in
+    h.filled own (within r) ∙ those-on E (of_state_below states own q) (λ s. eqb own (get_or states s 0)) each
   where
     turned : (a b : ℕ) → eqb a b ≡ eqb b a
     turned a b = elim (cases_eq a b) [ inl e ↦ eq-eqb a b e ∙ sym (eq-eqb b a (sym e)) | inr ne ↦ ne_eqb a b ne ∙ sym (ne_eqb b a (λ e. ne (sym e))) ]
@@ -154,20 +150,15 @@ fill_end E states base n q sets h passed from_base within r member =
       | inr ge ↦ absurd (true≢false (sym in_E ∙ passed s ge))
     ]
 
--- blocks by states of the paths, parted once more by the covered ranks
-pub blocks_from_states : (es : List (Path × Ranks)) (C : Ranks) (old states next : List ℕ) (base : ℕ) (sets : List Ranks) → 0 < base → AreStates old es → ArePartedBy C old states
-    → AreTables states next → ((r : ℕ) → has C r ≡ true → base ≤ get_or states r 0) → length sets ≡ length next - base
-    → ((r : ℕ) → has C r ≡ true → get_or sets (get_or states r 0 - base) none ≡ those (λ s. eqb (get_or states r 0) (get_or states s 0)) C)
-    → AreBlocks es C states base sets
-blocks_from_states es C old states next base sets some olds parted tables from_base long filled = record {
-  in_table = λ r member. elim (cases_lt r (length states)) [
-    | inl lt ↦ lt
-    | inr ge ↦ absurd (omega (arith, some, from_base r member, Rattle.std.proofs.lemmas.List.get_or_past states r 0 ge))
-  ];
-  from_base = from_base;
-  in_sets = λ r member. let a = from_base r member in let b = tables.states_within r in omega (arith, a, b, long);
-  same = λ r member. filled r member ∙ those-on C (λ s. eqb (get_or states r 0) (get_or states s 0)) (λ s. same_paths r s es)
-      (λ s in_C. parted r s ∙ ap (λ b. b && eqb (get_or old r 0) (get_or old s 0)) (λ i. same_answer (member i) (in_C i)) ∙ olds r s);
+-- blocks by states
+pub blocks_from_states : (es : List (Path × Ranks)) (C : Ranks) (states next : List ℕ) (sets : List Ranks) → AreStates states es
+    → AreTables states next → ((r : ℕ) → has C r ≡ true → r < length states) → length sets ≡ length next
+    → ((r : ℕ) → has C r ≡ true → get_or sets (get_or states r 0) none ≡ those (λ s. eqb (get_or states r 0) (get_or states s 0)) C)
+    → AreBlocks es C states sets
+blocks_from_states es C states next sets same tables inside long filled = record {
+  in_table = inside;
+  in_sets = λ r member. omega (arith, tables.states_within r, long);
+  same = λ r member. filled r member ∙ those-on C (λ s. eqb (get_or states r 0) (get_or states s 0)) (λ s. same_paths r s es) (λ s in_C. same r s);
 }
 
 zeros : (n r : ℕ) → get_or {A = ℕ} (replicate n 0) r 0 ≡ 0
@@ -175,26 +166,18 @@ zeros zero r = refl
 zeros (suc n) zero = refl
 zeros (suc n) (suc r) = zeros n r
 
-pub long_zeros : (n : ℕ) → length {A = ℕ} (replicate n 0) ≡ n
-long_zeros zero = refl
-long_zeros (suc n) = ap suc (long_zeros n)
-
 -- at first all ranks have the one state 0
-pub tables_start : (n : ℕ) (states next : List ℕ) → states ≡ replicate n 0 → next ≡ 0 ∷ [] → AreTables states next
-tables_start n states next is_states is_next = record {
-  states_within = λ r. omega (arith, ap (λ xs. get_or xs r 0) is_states ∙ zeros n r, ap length is_next);
+pub tables_start : (states next : List ℕ) → ((r : ℕ) → get_or states r 0 ≡ 0) → next ≡ 0 ∷ [] → AreTables states next
+tables_start states next start is_next = record {
+  states_within = λ r. omega (arith, start r, ap length is_next);
   next_within = λ k. omega (arith, ap (λ xs. get_or xs k 0) is_next ∙ zeros 1 k, ap length is_next);
 }
 
-pub zero_start : (n : ℕ) (states : List ℕ) → states ≡ replicate n 0 → (r : ℕ) → get_or states r 0 ≡ 0
-zero_start n states is r = ap (λ xs. get_or xs r 0) is ∙ zeros n r
-
 -- the blocks of the ranks that are left after one block was taken
-pub blocks_left : (es : List (Path × Ranks)) (left left' : Ranks) (states : List ℕ) (base : ℕ) (sets : List Ranks) (r : ℕ) → left' ≡ those (λ s. not (same_paths r s es)) left
-    → AreBlocks es left states base sets → AreBlocks es left' states base sets
-blocks_left es left left' states base sets r is h = record {
+pub blocks_left : (es : List (Path × Ranks)) (left left' : Ranks) (states : List ℕ) (sets : List Ranks) (r : ℕ) → left' ≡ those (λ s. not (same_paths r s es)) left
+    → AreBlocks es left states sets → AreBlocks es left' states sets
+blocks_left es left left' states sets r is h = record {
   in_table = λ s there. h.in_table s (was s there);
-  from_base = λ s there. h.from_base s (was s there);
   in_sets = λ s there. h.in_sets s (was s there);
   same = λ s there. h.same s (was s there) ∙ same_ranks _ _ (λ q. has-those (λ x. same_paths s x es) left q ∙ each s q (others s there) ∙ sym (has-those (λ x. same_paths s x es) left' q ∙ ap (λ b. b && same_paths s q es) (members q)));
 }

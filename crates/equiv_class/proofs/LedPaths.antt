@@ -2,13 +2,13 @@
 use Rattle.std.proofs.Common.{◌≡◌, ℕ, zero, suc, ◌<◌, ◌≤◌, Bool, true, false, cond, eqb, List, [], ◌∷◌, ◌++◌, length, get_or, set, map, drop, take, refl, sym, ap, ◌∙◌, subst, inl, inr, arith, append_assoc, reverse}
 use Rattle.std.specs.List.{filter}
 use Rattle.std.proofs.lemmas.Bool.{cases_eq, cases_lt, cases_Bool, ne_eqb, lt-ltb, le-ltb}
-use Rattle.std.proofs.lemmas.List.{append-nil, get_or_append_left, get_or_past, length-append, length-set, reverse-append}
+use Rattle.std.proofs.lemmas.List.{get_or_append_left, get_or_past, length-append, length-set, reverse-append}
 use Rattle.std.proofs.Math.Seq.{get_or-append_seam}
 use Rattle.rank_set.specs.Ranks.{Ranks, has}
 use Rattle.call_path.specs.Path.{Path}
 use Rattle.equiv_class.specs.SeenPaths.{entries_view, entry_of, paths_to}
 use Rattle.equiv_class.specs.States.{AreTables, with_next}
-use Rattle.equiv_class.specs.Origins.{AreOrigins, HaveOrigins, LeadToStates, last_paths, origin, origin_of, path_at, paths_before, with_origin}
+use Rattle.equiv_class.specs.Origins.{AreOrigins, HaveOrigins, last_paths, origin, origin_of, path_at, paths_before, with_origin}
 use Rattle.equiv_class.specs.declared.SeenPath.{SeenPath}
 use Rattle.equiv_class.specs.declared.states.Origin.{Origin}
 use Rattle.equiv_class.proofs.Parting.{next_at, next_elsewhere}
@@ -181,25 +181,14 @@ module _ (es : List (Path × Ranks)) (E : Ranks) (path : ℕ) (old states next n
         | inr other ↦ ap (λ qs. qs ++ paths_to r later) (led_still r (ap (λ (S : Ranks). has S r) (sym is) ∙ other)) ∙ sym (ap (λ qs. ps ++ qs) (split false other)) ∙ so_far r
       ]
 
-  -- along no path
-  pub led_nowhere : path_at es path ≡ [] → AreTables states next' → LeadToStates es old earlier → LeadToStates es states origins
-  led_nowhere nowhere tables' led = record {
-    within = λ r. omega (arith, tables'.states_within r, all.one_each);
-    backward = all.backward;
-    paths = λ r. elim (cases_Bool (has E r)) [
-      | inl member ↦ led_on r member ∙ ap (λ qs. paths_before es earlier (get_or old r 0) ++ qs) nowhere ∙ append-nil (paths_before es earlier (get_or old r 0)) ∙ led.paths r
-      | inr other ↦ led_still r other ∙ led.paths r
-    ];
-  }
-
 -- before the first path there is the one state 0
-pub origins_start : (count : ℕ) (next : List ℕ) (origins : List Origin) → next ≡ 0 ∷ [] → origins ≡ origin 0 count ∷ [] → AreOrigins next origins
-origins_start count next origins is_next is_origins = record {
+pub origins_start : (next : List ℕ) (origins : List Origin) → next ≡ 0 ∷ [] → origins ≡ origin 0 0 ∷ [] → AreOrigins next origins
+origins_start next origins is_next is_origins = record {
   one_each = ap length is_origins ∙ sym (ap length is_next);
   backward = λ k some. subst (λ (os : List Origin). (origin_of os k).from < k) (sym is_origins) (from_zero k some);
 }
   where
-    from_zero : (k : ℕ) → 0 < k → (origin_of (origin 0 count ∷ []) k).from < k
+    from_zero : (k : ℕ) → 0 < k → (origin_of (origin 0 0 ∷ []) k).from < k
     from_zero zero some = some
     from_zero (suc k) some = some
 
@@ -212,9 +201,3 @@ pub path_here : (seen : List SeenPath) (i : ℕ) (x : SeenPath) → i < length s
 path_here [] i x lt is = absurd (omega (arith, lt))
 path_here (y ∷ seen) zero x lt is = ap (λ (z : SeenPath). (entry_of z).0 ∷ []) (sym is)
 path_here (y ∷ seen) (suc i) x lt is = path_here seen i x (omega (arith, lt)) is
-
-pub path_nowhere : (seen : List SeenPath) (i : ℕ) → length seen ≤ i → path_at (entries_view seen) i ≡ []
-path_nowhere [] zero le = refl
-path_nowhere [] (suc i) le = refl
-path_nowhere (y ∷ seen) zero le = absurd (omega (arith, le))
-path_nowhere (y ∷ seen) (suc i) le = path_nowhere seen i (omega (arith, le))

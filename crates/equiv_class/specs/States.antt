@@ -1,5 +1,5 @@
 -- States of ranks: two ranks have the same state where they were in the same sets so far. No public clause cites these definitions.
-use Rattle.std.specs.Prelude.{◌≡◌, ℕ, nat_eq, nat_lt, ◌-◌, ◌≤◌, ◌<◌, true, cond, ◌&&◌, List, [], ◌∷◌, ◌++◌, length, get_or, set}
+use Rattle.std.specs.Prelude.{◌≡◌, ℕ, nat_eq, nat_lt, ◌<◌, true, cond, ◌&&◌, List, [], ◌∷◌, ◌++◌, length, get_or, set}
 use Rattle.rank_set.specs.Ranks.{Ranks, none, has, those}
 use Rattle.call_path.specs.Path.{Path}
 use Rattle.equiv_class.specs.Classes.{same_answer}
@@ -31,9 +31,8 @@ ArePartedBy ranks old new =
 abbrev pub AreStates : List ℕ → List (Path × Ranks) → Type 0
 AreStates states es = (r s : ℕ) → nat_eq (get_or states r 0) (get_or states s 0) ≡ same_paths r s es
 
--- for each rank that is left, the block of its state has the ranks that are left and were seen in the same paths
-pub record AreBlocks (es : List (Path × Ranks)) (left : Ranks) (states : List ℕ) (base : ℕ) (sets : List Ranks) : Type 0 where
+-- for each rank that is left, the set of its state has the ranks that are left and were seen in the same paths
+pub record AreBlocks (es : List (Path × Ranks)) (left : Ranks) (states : List ℕ) (sets : List Ranks) : Type 0 where
   pub in_table : (r : ℕ) → has left r ≡ true → r < length states
-  pub from_base : (r : ℕ) → has left r ≡ true → base ≤ get_or states r 0
-  pub in_sets : (r : ℕ) → has left r ≡ true → get_or states r 0 - base < length sets
-  pub same : (r : ℕ) → has left r ≡ true → get_or sets (get_or states r 0 - base) none ≡ those (λ s. same_paths r s es) left
+  pub in_sets : (r : ℕ) → has left r ≡ true → get_or states r 0 < length sets
+  pub same : (r : ℕ) → has left r ≡ true → get_or sets (get_or states r 0) none ≡ those (λ s. same_paths r s es) left

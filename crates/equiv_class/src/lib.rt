@@ -17,7 +17,7 @@ ghost use Rattle.equiv_class.specs.States.{AreBlocks};
 
 use call_path::{CallPath, PathBuilder};
 use prefix_tree::PrefixTree;
-use rank_blocks::{Blocks, block_of, find_blocks};
+use rank_blocks::{Blocks, find_blocks};
 use rank_set::RankSet;
 use states::Origin;
 use std::alloc::{AllocError, Global};
@@ -111,9 +111,8 @@ fn take_classes(
     blocks: &Blocks,
     left: &mut RankSet,
 ) -> Result<Vec<Class>, AllocError>
-    requires blocks { AreBlocks (entries_view seen.now) left.old
-        blocks.now.states.items blocks.now.base blocks.now.sets.items }
-    requires paths { LeadToStates (entries_view seen.now) blocks.now.states.items blocks.now.origins.items }
+    requires blocks { AreBlocks (entries_view seen.now) left.old blocks.now.states blocks.now.sets.items }
+    requires paths { LeadToStates (entries_view seen.now) blocks.now.states blocks.now.origins.items }
     ensures { IfOk result
         (λ all. (P : Pairs) → Lists P (entries_view seen.now) → class_views all.items ≡ classes_of P left.old) }
 {
@@ -133,18 +132,17 @@ fn take_class(
     r: u32,
     left: &mut RankSet,
 ) -> Result<Class, AllocError>
-    requires blocks { AreBlocks (entries_view seen.now) left.old
-        blocks.now.states.items blocks.now.base blocks.now.sets.items }
-    requires paths { LeadToStates (entries_view seen.now) blocks.now.states.items blocks.now.origins.items }
+    requires blocks { AreBlocks (entries_view seen.now) left.old blocks.now.states blocks.now.sets.items }
+    requires paths { LeadToStates (entries_view seen.now) blocks.now.states blocks.now.origins.items }
     requires member { IsTrue (has left.old r) }
     ensures class { IfOk result
         (λ class. class_view class
         ≡ (those (λ s. same_paths r s (entries_view seen.now)) left.old, paths_to r (entries_view seen.now))) }
     ensures left { OnOk result (left.new ≡ those (λ s. not (same_paths r s (entries_view seen.now))) left.old) }
 {
-    let state = blocks.states[r as usize];
+    let state = blocks.states.number(r);
     let paths = state_paths(alloc, seen, blocks.origins.as_slice(), state)?;
-    let ranks = block_of(blocks, r)?;
+    let ranks = blocks.sets[state as usize].copy()?;
     left.subtract(&ranks);
     Ok(Class { ranks, paths })
 }

@@ -10,17 +10,15 @@ ghost use Rattle.equiv_class.specs.States.{AreTables, ArePartedBy, AreStates, Ha
 
 use crate::SeenPath;
 use rank_set::{RANK_LIMIT, RankSet};
+use rank_table::RankTable;
 use std::alloc::AllocError;
-
-// States are compared by blocks of this many ranks, and then rank by rank.
-const BLOCK: usize = 16;
 
 /// Where a state comes from.
 #[derive(Clone, Copy)]
 pub(crate) struct Origin {
     // The state before it.
     pub(crate) from: u32,
-    // The number of the path that led on from it. Where no path did, no path has the number.
+    // The number of the path that led on from it.
     pub(crate) path: u32,
 }
 
@@ -89,65 +87,18 @@ pub(crate) fn end_of_all(seen: &[SeenPath<'_>], covered: &RankSet) -> u32
     end
 }
 
-// Whether a block of ranks from the first one on is in the table, and all of it has the state.
-fn has_block(states: &[u32], first: usize, state: u32) -> bool
-    requires { first ≤ length states.now }
-    ensures within { IsTrue result → first + BLOCK ≤ length states.now }
-    ensures same { IsTrue result → (r : ℕ) → first ≤ r → r < first + BLOCK → get_or states.now r 0 ≡ state }
-{
-    let Some(block) = states[first..].first_chunk::<BLOCK>() else {
-        return false;
-    };
-    *block == [state; BLOCK]
-}
-
-// The first rank past the given ones, or the first of them whose state is not that of the first.
-pub(crate) fn end_of_state(states: &[u32], first: u32, last: u32) -> u32
-    requires not_empty { first ≤ last }
-    requires in_table { last < length states.now }
-    requires below_limit { last < RANK_LIMIT }
-    ensures passed { first < result }
-    ensures within { result ≤ last + 1 }
-    ensures same { (r : ℕ) → first ≤ r → r < result → get_or states.now r 0 ≡ get_or states.now first 0 }
-{
-    let state = states[first as usize];
-    let given = &states[..last as usize + 1];
-    let mut end = first as usize + 1;
-    if end == given.len() || given[end] != state {
-        return end as u32;
-    }
-    while has_block(given, end, state) {
-        end += BLOCK;
-    }
-    while end < given.len() && given[end] == state {
-        end += 1;
-    }
-    end as u32
-}
-
-// Gives the ranks from the first one to before the end one state.
-fn set_states(states: &mut [u32], first: u32, end: u32, state: u32)
-    requires order { first ≤ end }
-    requires in_table { end ≤ length states.old }
-    ensures length { length states.new ≡ length states.old }
-    ensures given { (r : ℕ) → first ≤ r → r < end → get_or states.new r 0 ≡ state }
-    ensures below { (r : ℕ) → r < first → get_or states.new r 0 ≡ get_or states.old r 0 }
-    ensures above { (r : ℕ) → end ≤ r → get_or states.new r 0 ≡ get_or states.old r 0 }
-{
-    states[first as usize..end as usize].fill(state);
-}
-
 // Moves the ranks of a set on to new states along a path, those of one state to one state.
-pub(crate) fn part(
+fn part(
     ranks: &RankSet,
     path: u32,
-    states: &mut [u32],
+    states: &mut RankTable,
     next: &mut Vec<u32>,
     origins: &mut Vec<Origin>,
 ) -> Result<(), AllocError>
     requires tables { AreTables states.old next.old.items }
     requires origins { AreOrigins next.old.items origins.old.items }
     requires entries { HasEntries states.old ranks.now }
+    ensures length { OnOk result (length states.new ≡ length states.old) }
     ensures tables { OnOk result (AreTables states.new next.new.items) }
     ensures origins { OnOk result (AreOrigins next.new.items origins.new.items) }
     ensures parted { OnOk result (ArePartedBy ranks.now states.old states.new) }
@@ -160,10 +111,10 @@ pub(crate) fn part(
     while let Some(run) = ranks.next_run(from) {
         from = run.first;
         while from <= run.last {
-            let end = end_of_state(states, from, run.last);
-            let state = next_state(next, origins, base, states[from as usize], path)?;
-            set_states(states, from, end, state);
-            from = end;
+            let own = states.run_at(from, run.last + 1);
+            let state = next_state(next, origins, base, own.number, path)?;
+            states.set_run(from, own.end, state)?;
+            from = own.end;
         }
     }
     Ok(())
@@ -173,7 +124,7 @@ pub(crate) fn part(
 pub(crate) fn part_by_paths(
     seen: &[SeenPath<'_>],
     count: u32,
-    states: &mut [u32],
+    states: &mut RankTable,
     next: &mut Vec<u32>,
     origins: &mut Vec<Origin>,
 ) -> Result<(), AllocError>
@@ -182,6 +133,7 @@ pub(crate) fn part_by_paths(
     requires origins { AreOrigins next.old.items origins.old.items }
     requires entries { All (λ path. HasEntries states.old path.ranks.now) seen.now }
     requires start { (r : ℕ) → get_or states.old r 0 ≡ 0 }
+    ensures length { OnOk result (length states.new ≡ length states.old) }
     ensures tables { OnOk result (AreTables states.new next.new.items) }
     ensures origins { OnOk result (AreOrigins next.new.items origins.new.items) }
     ensures states { OnOk result (AreStates states.new (entries_view seen.now)) }

@@ -72,6 +72,13 @@ impl RankTable {
         Ok(RankTable { words, end })
     }
 
+    /// How many ranks the table has: those below its end.
+    pub fn len(&self) -> u32
+        ensures { result ≡ length self.now }
+    {
+        self.end
+    }
+
     /// The number of a rank, which must be below the table's end.
     pub fn number(&self, rank: u32) -> u32
         requires { rank < length self.now }

@@ -27,3 +27,5 @@ mod prefix_tree_tests;
 mod rank_places_tests;
 #[cfg(test)]
 mod rank_set_tests;
+#[cfg(test)]
+mod rank_table_tests;

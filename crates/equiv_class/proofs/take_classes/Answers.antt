@@ -37,7 +37,7 @@ classes_step P es all new k left left' start r lists is_new is_k is_left least s
 
 pub loop-r-preserved : goal.loop-r-preserved
 loop-r-preserved c = record {
-  blocks = blocks_left (entries_view c.args.seen.now) c.loop-r.left c.take_class.new.left _ _ _ c.in-Some.r c.in_ok-class.ensures.left c.loop-r.invariant.blocks;
+  blocks = blocks_left (entries_view c.args.seen.now) c.loop-r.left c.take_class.new.left _ _ c.in-Some.r c.in_ok-class.ensures.left c.loop-r.invariant.blocks;
   classes = λ P lists. classes_step P (entries_view c.args.seen.now) c.loop-r.all.items c.push.new.self.items c.in_ok-class.class c.loop-r.left c.take_class.new.left c.args.left.now c.in-Some.r lists
       c.in_ok-push.ensures.items c.in_ok-class.ensures.class c.in_ok-class.ensures.left c.in-Some.ensures.least (c.loop-r.invariant.classes P lists);
 }

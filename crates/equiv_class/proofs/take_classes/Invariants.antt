@@ -9,7 +9,7 @@ use Rattle.equiv_class.proofs.take_classes.Given as goal
 
 abbrev pub invariant-loop-r : goal.invariant-loop-r
 invariant-loop-r l = record {
-  blocks : AreBlocks (entries_view l.seen) l.left l.blocks.states.items l.blocks.base l.blocks.sets.items;
+  blocks : AreBlocks (entries_view l.seen) l.left l.blocks.states l.blocks.sets.items;
   classes : (P : Pairs) → Lists P (entries_view l.seen) → class_views l.all.items ++ classes_of P l.left ≡ classes_of P l.fn.left;
 }
 

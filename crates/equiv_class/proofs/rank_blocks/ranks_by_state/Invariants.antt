@@ -7,7 +7,7 @@ abbrev pub invariant-loop-from : goal.invariant-loop-from
 invariant-loop-from l = record {
   begins : l.run.first ≤ l.from;
   within : l.from ≤ l.run.last + 1;
-  filled : AreFilled l.covered l.states l.base (l.end - l.base) l.from l.sets.items;
+  filled : AreFilled l.covered l.states l.end l.from l.sets.items;
 }
 
 abbrev pub decreases-loop-from : goal.decreases-loop-from
@@ -16,7 +16,7 @@ decreases-loop-from l = l.run.last + 1 - l.from
 abbrev pub invariant-loop-run : goal.invariant-loop-run
 invariant-loop-run l = record {
   within : l.from ≤ RANK_LIMIT;
-  filled : AreFilled l.covered l.states l.base (l.end - l.base) l.from l.sets.items;
+  filled : AreFilled l.covered l.states l.end l.from l.sets.items;
 }
 
 abbrev pub decreases-loop-run : goal.decreases-loop-run

@@ -25,7 +25,7 @@ loop-i-preserved c =
     let inside : i < length seen = omega (arith, c.loop-i-test.true, c.requires.count) in
     let first = next_path seen i path inside is in
     record {
-      long = c.part.auto.states ∙ h.long;
+      long = c.in_ok-part.ensures.length ∙ h.long;
       tables = c.in_ok-part.ensures.tables;
       origins = c.in_ok-part.ensures.origins;
       same = parting_step (entry_of path) _ _ _ c.loop-i.states c.part.new.states first c.in_ok-part.ensures.parted h.same;

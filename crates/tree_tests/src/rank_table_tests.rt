@@ -1,0 +1,88 @@
+// Tables against a plain list of numbers: runs within a word, over its ends, of whole words, and over numbers of others.
+use rank_table::{NumberRun, RankTable};
+use std::process::Abort;
+use std::test::Fail;
+
+// More than four words, and the last is not whole.
+const END: u32 = 300;
+
+// The runs that get a number, in order: their first ranks, the ranks behind them, and the numbers.
+const RUNS: [(u32, u32, u32); 12] = [
+    (10, 20, 1),
+    (60, 70, 2),
+    (64, 128, 3),
+    (0, 300, 4),
+    (63, 64, 5),
+    (64, 65, 6),
+    (100, 260, 7),
+    (128, 192, 4),
+    (299, 300, 8),
+    (256, 300, 9),
+    (150, 150, 1),
+    (0, 256, 0),
+];
+
+// The run that a rank begins, by the plain list.
+fn plain_run(numbers: &[u32; END as usize], first: u32) -> NumberRun {
+    let mut end = first as usize + 1;
+    while end < numbers.len() && numbers.get(end) == numbers.get(first as usize) {
+        end = end.wrapping_add(1);
+    }
+    NumberRun {
+        number: numbers.get(first as usize).copied().unwrap_or(0),
+        end: end as u32,
+    }
+}
+
+// Compares each number of a table, and the run that each rank begins.
+fn assert_numbers(rt: &impl Abort, table: &RankTable, numbers: &[u32; END as usize]) {
+    assert_eq!(rt; table.len(), END);
+    for rank in 0..END {
+        assert_eq!(rt; table.number(rank), numbers[rank as usize]);
+        assert!(rt; table.run_at(rank, END) == plain_run(numbers, rank));
+    }
+}
+
+#[test]
+fn holds_what_a_plain_list_holds(rt: HostRuntime) -> Result<(), Fail> {
+    let mut table = RankTable::new(rt.alloc(), END)?;
+    let mut numbers = [0; END as usize];
+    assert_numbers(&rt, &table, &numbers);
+    for (first, end, number) in &RUNS {
+        assert!(rt; first <= end && *end <= table.len() && *end <= END);
+        table.set_run(*first, *end, *number)?;
+        for rank in *first..*end {
+            numbers[rank as usize] = *number;
+        }
+        assert_numbers(&rt, &table, &numbers);
+    }
+    Ok(())
+}
+
+#[test]
+fn ends_a_run_where_it_is_told(rt: HostRuntime) -> Result<(), Fail> {
+    let mut table = RankTable::new(rt.alloc(), 200)?;
+    table.set_run(10, 150, 7)?;
+    assert!(rt;
+        table.run_at(20, 180)
+            == NumberRun {
+                number: 7,
+                end: 150
+            }
+    );
+    assert!(rt;
+        table.run_at(20, 100)
+            == NumberRun {
+                number: 7,
+                end: 100
+            }
+    );
+    assert!(rt;
+        table.run_at(150, 180)
+            == NumberRun {
+                number: 0,
+                end: 180
+            }
+    );
+    Ok(())
+}
