@@ -28,10 +28,10 @@ pub rank_node_of : (placed : List Ranks) (r : ℕ) → has (all_ranks placed) r 
 rank_node_of placed r there = elim (in_some none placed r there) [ (inl first) ↦ absurd (true≢false (sym first ∙ has-none r)) | (inr home) ↦ home ]
 
 -- the node that stands at a rank is its node
-pub rank_node_is : (placed : List Ranks) (rank_to_node : List ℕ) (r : ℕ) → AreRankNodes placed rank_to_node → has (all_ranks placed) r ≡ true → IsRankNode placed r (get_or rank_to_node r 0)
-rank_node_is placed rank_to_node r are there =
+pub rank_node_is : (placed : List Ranks) (rank_to_node : List ℕ) (r node : ℕ) → AreRankNodes placed rank_to_node → has (all_ranks placed) r ≡ true → node ≡ get_or rank_to_node r 0 → IsRankNode placed r node
+rank_node_is placed rank_to_node r node are there is =
     let home = rank_node_of placed r there in
-    subst (IsRankNode placed r) (sym (are.each home.0 r home.1.holds).1) home.1
+    subst (IsRankNode placed r) (sym (is ∙ (are.each home.0 r home.1.holds).1)) home.1
 
 -- the nodes of one set more
 pub rank_nodes_more : (placed : List Ranks) (old new : List ℕ) (k : ℕ) (own : Ranks) → ArePlacedOnce placed → own ≡ get_or placed k own → k < length placed

@@ -1,5 +1,5 @@
 -- Tables by node number.
-use Rattle.std.specs.Prelude.{ℕ, ◌≡◌, ◌<◌, cond, List, [], map, slice_get, slice_index_or, Vec, length, Option, Some}
+use Rattle.std.specs.Prelude.{ℕ, ◌≡◌, ◌<◌, cond, List, [], map, get_or, slice_get, slice_index_or, Vec, length, Option, Some}
 use Rattle.rank_set.specs.Ranks.{Ranks, none, union, Has}
 use Rattle.overlay_setup.specs.NodeSets.{member, up_to}
 use Rattle.stat_plan.specs.Plans.{Plan, nodes, ranks_on, those_within}
@@ -38,4 +38,4 @@ pub record GainRanks (old new : List Ranks) (at : List ℕ) (more : Ranks) : Typ
 
 -- each placed rank has its node's number
 pub record AreRankNodes (placed : List Ranks) (rank_to_node : List ℕ) : Type 0 where
-  pub each : (n r : ℕ) → Has r (slice_index_or placed n none) → (r < length rank_to_node) × (slice_index_or rank_to_node r 0 ≡ n)
+  pub each : (n r : ℕ) → Has r (slice_index_or placed n none) → (r < length rank_to_node) × (get_or rank_to_node r 0 ≡ n)

@@ -5,7 +5,7 @@
 //! nodes. Those of one path and time are first united, and then each of the nodes gets its part: one line at most,
 //! however many the text has.
 
-ghost use Rattle.std.specs.Prelude.{◌≡◌, ◌≢◌, ◌<◌, ◌≤◌, ◌&&◌, ℕ, false, nat_eq, IfOk, IfSome, OnOk, [], length, map, slice_index_or};
+ghost use Rattle.std.specs.Prelude.{◌≡◌, ◌≢◌, ◌<◌, ◌≤◌, ◌&&◌, ℕ, false, nat_eq, IfOk, IfSome, OnOk, [], length, map, get_or, slice_index_or};
 ghost use Rattle.std.specs.List.Sorted.{IsPermutation};
 ghost use Rattle.rank_set.specs.declared.TheConstants.{RANK_LIMIT};
 ghost use Rattle.rank_set.specs.Ranks.{Ranks, none, has, Has, IsSubset, union};
@@ -19,6 +19,7 @@ ghost use Rattle.stat_plan.specs.Tables.{AreRankNodes, rows_view};
 use crate::samples::StackLine;
 use indexmap::IndexSet;
 use rank_set::{RANK_LIMIT, RankSet};
+use rank_table::RankTable;
 use std::alloc::{AllocError, Global};
 
 // A number above each of some ranks, at most the limit of ranks.
@@ -41,60 +42,45 @@ fn end_of_all(placed: &[RankSet]) -> u32
 }
 
 // Notes the node of some ranks.
-fn assign(rank_to_node: &mut [u16], ranks: &RankSet, node: u16)
+fn assign(rank_to_node: &mut RankTable, ranks: &RankSet, node: u32) -> Result<(), AllocError>
     requires { (r : ℕ) → Has r ranks.now → r < length rank_to_node.old }
     ensures length { length rank_to_node.new ≡ length rank_to_node.old }
-    ensures ranks { (r : ℕ) → Has r ranks.now → slice_index_or rank_to_node.new r 0 ≡ node }
+    ensures ranks { OnOk result ((r : ℕ) → Has r ranks.now → get_or rank_to_node.new r 0 ≡ node) }
     ensures others { (r : ℕ) → has ranks.now r ≡ false
-        → slice_index_or rank_to_node.new r 0 ≡ slice_index_or rank_to_node.old r 0 }
+        → get_or rank_to_node.new r 0 ≡ get_or rank_to_node.old r 0 }
 {
     let mut from = 0;
     while let Some(run) = ranks.next_run(from) {
         from = run.last + 1;
-        for r in run.first..from {
-            rank_to_node[r as usize] = node;
-        }
+        rank_to_node.set_run(run.first, from, node)?;
     }
+    Ok(())
 }
 
 // Notes the node of each placed rank. Nodes past the last that a number stands for are as if there were no memory for
 // them.
-fn assign_all(rank_to_node: &mut [u16], placed: &[RankSet]) -> Result<(), AllocError>
+fn assign_all(rank_to_node: &mut RankTable, placed: &[RankSet]) -> Result<(), AllocError>
     requires within { (n r : ℕ) → Has r (slice_index_or placed.now n none) → r < length rank_to_node.old }
     requires once { ArePlacedOnce placed.now }
     ensures { OnOk result (AreRankNodes placed.now rank_to_node.new) }
 {
     for (n, ranks) in placed.iter().enumerate() {
-        match u16::try_from(n) {
-            Ok(node) => assign(rank_to_node, ranks, node),
+        match u32::try_from(n) {
+            Ok(node) => assign(rank_to_node, ranks, node)?,
             Err(_) => return Err(AllocError),
         }
     }
     Ok(())
 }
 
-// The node of each placed rank, by rank. The entries of other ranks mean nothing. There may be a million of them, so they
-// are as short as node numbers allow.
-fn rank_to_node_of(alloc: Global, placed: &[RankSet]) -> Result<Vec<u16>, AllocError>
+// The node of each placed rank, by rank. The entries of other ranks mean nothing.
+fn rank_to_node_of(alloc: Global, placed: &[RankSet]) -> Result<RankTable, AllocError>
     requires once { ArePlacedOnce placed.now }
-    ensures { IfOk result (λ rank_to_node. AreRankNodes placed.now rank_to_node.items) }
+    ensures { IfOk result (λ rank_to_node. AreRankNodes placed.now rank_to_node) }
 {
-    let mut rank_to_node = vec![in alloc; 0; end_of_all(placed) as usize]?;
+    let mut rank_to_node = RankTable::new(alloc, end_of_all(placed))?;
     assign_all(&mut rank_to_node, placed)?;
     Ok(rank_to_node)
-}
-
-// The last rank of the run of neighbours that a rank is in.
-fn last_of_run(ranks: &RankSet, r: u32) -> u32
-    requires { Has r ranks.now }
-    ensures not_before { r ≤ result }
-    ensures within { (q : ℕ) → r ≤ q → q ≤ result → Has q ranks.now }
-    ensures below_limit { result < RANK_LIMIT }
-{
-    match ranks.next_run(r) {
-        Some(run) => run.last,
-        None => unreachable!(),
-    }
 }
 
 // Adds the ranks from the first to the last.
@@ -155,10 +141,11 @@ fn give_run(
     Ok(())
 }
 
-// Gives each row its part of a line. It goes by runs, of the line and of the nodes.
+// Gives each row its part of a line. It goes by runs, of the line and of the table. All ranks of a line are placed, so
+// what a run of the table has of a run of the line is one node's.
 fn share_line(
     rows: &mut [Vec<StackLine>],
-    rank_to_node: &[u16],
+    rank_to_node: &RankTable,
     placed: &[RankSet],
     line: &StackLine,
 ) -> Result<(), AllocError>
@@ -173,24 +160,23 @@ fn share_line(
     while let Some(run) = line.ranks.next_run(from) {
         from = run.first;
         while from <= run.last {
-            let node = rank_to_node[from as usize] as usize;
-            let last = last_of_run(&placed[node], from).min(run.last);
-            give_run(&mut rows[node], line, from, last)?;
-            from = last + 1;
+            let part = rank_to_node.run_at(from, run.last + 1);
+            give_run(&mut rows[part.number as usize], line, from, part.end - 1)?;
+            from = part.end;
         }
     }
     Ok(())
 }
 
 // The node that has all of some ranks, if one has.
-fn only_node(rank_to_node: &[u16], placed: &[RankSet], ranks: &RankSet) -> Option<usize>
+fn only_node(rank_to_node: &RankTable, placed: &[RankSet], ranks: &RankSet) -> Option<usize>
     requires rank_to_node { AreRankNodes placed.now rank_to_node.now }
     requires placed { IsSubset ranks.now (all_ranks placed.now) }
     ensures inside { IfSome result (λ n. n < length placed.now) }
     ensures subset { IfSome result (λ n. IsSubset ranks.now (ranks_at placed.now n)) }
 {
     let first = ranks.first()?;
-    let node = rank_to_node[first as usize] as usize;
+    let node = rank_to_node.number(first) as usize;
     if ranks.is_subset(&placed[node]) {
         Some(node)
     } else {
@@ -244,7 +230,7 @@ impl SpreadLines {
 fn share_lines(
     alloc: Global,
     rows: &mut [Vec<StackLine>],
-    rank_to_node: &[u16],
+    rank_to_node: &RankTable,
     placed: &[RankSet],
     lines: &[StackLine],
 ) -> Result<(), AllocError>
@@ -317,7 +303,7 @@ pub fn own_lines(
 {
     let rank_to_node = rank_to_node_of(alloc, placed)?;
     let mut rows = empty_rows(alloc, placed.len())?;
-    share_lines(alloc, &mut rows, rank_to_node.as_slice(), placed, lines)?;
+    share_lines(alloc, &mut rows, &rank_to_node, placed, lines)?;
     sort_rows(&mut rows, places)?;
     Ok(rows)
 }

@@ -13,7 +13,7 @@ pub loop-n-preserved : goal.loop-n-preserved
 loop-n-preserved c = record {
   all = c.assign.ensures.length ∙ c.loop-n.invariant.all;
   each = rank_nodes_more c.args.placed.now c.loop-n.rank_to_node c.assign.new.rank_to_node c.loop-n.n c.index-placed-n.result c.requires.once c.index-placed-n.is c.loop-n-test.true c.loop-n.invariant.each
-      (λ r there. c.assign.ensures.ranks r there ∙ c.in-Ok.ensures.1)
+      (λ r there. c.in_ok-assign-in-Ok.ensures.ranks r there ∙ c.in-Ok.ensures.1)
       c.assign.ensures.others;
 }
 
