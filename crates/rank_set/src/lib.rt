@@ -165,10 +165,16 @@ impl RankSet {
     }
 
     /// Adds the ranks of the other set. On failure the set is unchanged.
+    #[inline(always)]
     pub fn union_into(&mut self, other: &RankSet) -> Result<(), AllocError>
         ensures ok { OnOk result (self.new ≡ union self.old other.now) }
         ensures err { OnErr result (self.new ≡ self.old) }
     {
+        // Most often one word of ranks joins words that reach it.
+        if other.words.len() == 1 && self.spans(other) {
+            self.unite_within(other);
+            return Ok(());
+        }
         words::add_words(
             &mut self.offset,
             &mut self.words,

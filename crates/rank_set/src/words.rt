@@ -223,6 +223,7 @@ pub(crate) fn or_within(words: &mut [u64], offset: u32, other_offset: u32, other
 }
 
 // Adds the ranks of the other words. On failure the words are unchanged.
+#[inline(never)]
 pub(crate) fn add_words(
     offset: &mut u32,
     words: &mut Words,

@@ -61,8 +61,37 @@ impl Paths {
         }
     }
 
+    // The same of a text that is not that of the last call.
+    #[inline(never)]
+    fn number_of_other(&mut self, line_number: u64, text: &str) -> Result<u32, TextError>
+        requires holds { HoldsPaths self.old }
+        requires within_limit { length self.old.paths.items < LINE_LIMIT }
+        ensures ok { IfOk result (λ n. path_on line_number text.now ≡ Ok (path_at self.new n)) }
+        ensures within { IfOk result (λ n. n < length self.new.paths.items) }
+        ensures holds { OnOk result (HoldsPaths self.new) }
+        ensures old_paths { OnOk result (
+            (n : ℕ) → n < length self.old.paths.items → path_at self.new n ≡ path_at self.old n
+            ) }
+        ensures none_lost { OnOk result (length self.old.paths.items ≤ length self.new.paths.items) }
+        ensures at_most_one_new { OnOk result (length self.new.paths.items ≤ length self.old.paths.items + 1) }
+        ensures err { IsErrorOf result (path_on line_number text.now) }
+    {
+        if let Some(number) = self.texts.get_index_of(text) {
+            self.last = number as u32;
+            return Ok(self.last);
+        }
+        let number = self.paths.len() as u32;
+        let alloc = *self.paths.allocator();
+        let path = path_on(alloc, line_number, text)?;
+        self.paths.push(path)?;
+        let _ = self.texts.insert_full(String::from_str(alloc, text)?)?;
+        self.last = number;
+        Ok(number)
+    }
+
     /// The number of the path that a text on a line writes. A text that was here before has the number that it had,
     /// and is not read again. The text of the last call is not looked for either.
+    #[inline(always)]
     pub fn number(&mut self, line_number: u64, text: &str) -> Result<u32, TextError>
         requires holds { HoldsPaths self.old }
         requires within_limit { length self.old.paths.items < LINE_LIMIT }
@@ -79,17 +108,7 @@ impl Paths {
         if self.is_last(text) {
             return Ok(self.last);
         }
-        if let Some(number) = self.texts.get_index_of(text) {
-            self.last = number as u32;
-            return Ok(self.last);
-        }
-        let number = self.paths.len() as u32;
-        let alloc = *self.paths.allocator();
-        let path = path_on(alloc, line_number, text)?;
-        self.paths.push(path)?;
-        let _ = self.texts.insert_full(String::from_str(alloc, text)?)?;
-        self.last = number;
-        Ok(number)
+        self.number_of_other(line_number, text)
     }
 
     /// The paths by number.

@@ -54,18 +54,29 @@ impl<'a, R: Files> FileDesk<'a, R> {
 // How many bytes are asked of a file at once.
 const ASKED: usize = 16_384;
 
-// How many bytes are copied at once.
-const COPIED: usize = 2_048;
+// How many bytes are filled at once: short pieces are filled by vectors, and long ones are not.
+const FILLED: usize = 2_048;
 
-// Appends a piece of a file. Short copies are done by vectors, and long ones are not.
-fn append(bytes: &mut Vec<u8>, piece: &[u8]) -> Result<(), AllocError>
-    ensures { OnOk result (vec_len bytes.new ≡ vec_len bytes.old + length piece.now) }
+// How many bytes are asked of the file: as many as there is memory for, or a whole piece where there is none left.
+fn room_of(bytes: &Vec<u8>) -> usize
+    ensures some { 0 < result }
 {
-    let mut rest = piece;
-    while !rest.is_empty() {
-        let (front, behind) = rest.split_at(rest.len().min(COPIED));
-        bytes.extend_from_slice(front)?;
-        rest = behind;
+    match bytes.capacity().saturating_sub(bytes.len()) {
+        0 => ASKED,
+        room => room.min(ASKED),
+    }
+}
+
+// Makes room for so many bytes behind those that were read.
+fn make_room(bytes: &mut Vec<u8>, count: usize) -> Result<(), AllocError>
+    ensures { OnOk result (vec_len bytes.new ≡ vec_len bytes.old + count) }
+{
+    bytes.reserve(count)?;
+    let mut left = count;
+    while left > 0 {
+        let piece = left.min(FILLED);
+        bytes.extend_from_slice(&[0; FILLED][..piece])?;
+        left -= piece;
     }
     Ok(())
 }
@@ -75,19 +86,21 @@ fn read_up_to<F: Read>(alloc: Global, file: &mut F, max: u64) -> Result<Vec<u8>,
     ensures { IfOk result (λ bytes. vec_len bytes ≤ max) }
 {
     let mut bytes = Vec::new(alloc);
-    let mut buffer = [0u8; ASKED];
-    while bytes.len() as u64 <= max {
-        let wanted = (max - bytes.len() as u64)
+    let mut filled = 0;
+    while filled as u64 <= max {
+        let wanted = (max - filled as u64)
             .saturating_add(1)
-            .min(ASKED as u64) as usize;
-        let Ok(count) = file.read(&mut buffer[..wanted]) else {
+            .min(room_of(&bytes) as u64) as usize;
+        if make_room(&mut bytes, wanted).is_err() {
+            return Err(DeskError::OutOfMemory);
+        }
+        let Ok(count) = file.read(&mut bytes[filled..]) else {
             return Err(DeskError::Failed);
         };
+        filled += count;
+        bytes.truncate(filled);
         if count == 0 {
             return Ok(bytes);
-        }
-        if append(&mut bytes, &buffer[..count]).is_err() {
-            return Err(DeskError::OutOfMemory);
         }
     }
     Err(DeskError::TooLong)

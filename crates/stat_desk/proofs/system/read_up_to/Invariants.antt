@@ -1,5 +1,8 @@
-use Rattle.std.proofs.Common.{vec_len, ◌-◌, ◌+◌}
+use Rattle.std.proofs.Common.{◌≡◌, ◌+◌, ◌-◌, vec_len}
 use Rattle.stat_desk.proofs.system.read_up_to.Given as goal
 
-abbrev pub decreases-loop-buffer : goal.decreases-loop-buffer
-decreases-loop-buffer g l = l.max + 1 - vec_len l.bytes
+abbrev pub invariant-loop-filled : goal.invariant-loop-filled
+invariant-loop-filled g l = vec_len l.bytes ≡ l.filled
+
+abbrev pub decreases-loop-filled : goal.decreases-loop-filled
+decreases-loop-filled g l = l.max + 1 - l.filled
