@@ -65,8 +65,9 @@ impl RankTable {
         ensures length { IfOk result (λ table. length table ≡ end) }
         ensures zero { IfOk result (λ table. (r : ℕ) → get_or table r 0 ≡ 0) }
     {
-        let mut words = Vec::new(alloc);
-        for _ in 0..end.div_ceil(WORD) {
+        let count = end.div_ceil(WORD);
+        let mut words = Vec::with_capacity(alloc, count as usize)?;
+        for _ in 0..count {
             words.push(WordNumbers::Same(0))?;
         }
         Ok(RankTable { words, end })
