@@ -44,6 +44,9 @@ pub fn direct_text<T: PrefixTree>(
     text_with_faults(alloc, plan, &[], releases, &[])
 }
 
+// For how many bytes of a report room is made before the first of them.
+const ROOM: usize = 98_304;
+
 // The report of some releases, with a line for each of these faults.
 fn text_with_faults<T: PrefixTree>(
     alloc: Global,
@@ -58,7 +61,7 @@ fn text_with_faults<T: PrefixTree>(
         (λ text. IsReport plan.now faults.now (releases_view T.tree releases.now) lost.now text.items) }
 {
     let ordered = in_order(alloc, releases)?;
-    let mut text = Vec::new(alloc);
+    let mut text = Vec::with_capacity(alloc, ROOM)?;
     write_releases(plan, &ordered, &mut text)?;
     write_faults(plan, faults, lost, &mut text)?;
     text.extend_from_slice(b"end\n")?;

@@ -98,6 +98,7 @@ impl<T: PrefixTree> Scan<T> {
         self.path.frame(above).as_bytes().cmp(name) == Ordering::Less
     }
 
+    #[inline(always)]
     #[tactic(auto, unfolding(crate::specs::Frame::name_form, crate::specs::Frame::ends_form))]
     pub fn take_name(&mut self, field: &[u8]) -> Result<(), FieldError>
         requires ready { IsReady fields.Name self.old }
@@ -181,7 +182,7 @@ fn all_plain_ascii(bytes: &[u8]) -> bool
     all
 }
 
-// The same of 8 to 15 bytes: the first 8 and the last 8, since single bytes take longer.
+// The same of 8 to 16 bytes: the first 8 and the last 8, since single bytes take longer.
 fn two_plain_blocks(field: &[u8]) -> bool
     requires at_least { 8 ≤ length field.now }
     requires at_most { length field.now ≤ 16 }

@@ -215,6 +215,7 @@ impl<'t> Parser<'t> {
     }
 
     // A line `stack TIME RANKS PATH` that lists one rank.
+    #[inline(always)]
     fn one_rank(&mut self, line_number: u64, one: OneRank<'_>) -> Result<(), TextError>
         requires ready { IsConsistent self.old }
         requires below_limit { one.rank < RANK_LIMIT }
@@ -236,7 +237,23 @@ impl<'t> Parser<'t> {
         self.sample(line_number, one.time, ranks, one.path)
     }
 
+    // Takes the next line, which is UTF-8 and of any kind.
+    #[inline(never)]
+    fn take_any_text(&mut self, line_number: u64, line: &str) -> Result<(), TextError>
+        requires { IsConsistent self.old }
+        ensures taken { OnOk result (takes_line self.old line_number line.now self.new) }
+        ensures ready { OnOk result (IsConsistent self.new) }
+        ensures refused { IfErr result (λ e. refuses_line self.old line_number line.now e) }
+    {
+        match read_line(line_number, line)? {
+            Line::Nothing => Ok(()),
+            Line::Daemon { name, ranks } => self.daemon(line_number, name, ranks),
+            Line::Stack { time, ranks, path } => self.stack(line_number, time, ranks, path),
+        }
+    }
+
     /// Takes the next line, which is UTF-8.
+    #[inline(always)]
     pub fn take_text(&mut self, line_number: u64, line: &str) -> Result<(), TextError>
         requires { IsConsistent self.old }
         ensures taken { OnOk result (takes_line self.old line_number line.now self.new) }
@@ -246,11 +263,7 @@ impl<'t> Parser<'t> {
         if let Some(one) = one_rank_line(line) {
             return self.one_rank(line_number, one);
         }
-        match read_line(line_number, line)? {
-            Line::Nothing => Ok(()),
-            Line::Daemon { name, ranks } => self.daemon(line_number, name, ranks),
-            Line::Stack { time, ranks, path } => self.stack(line_number, time, ranks, path),
-        }
+        self.take_any_text(line_number, line)
     }
 
     // Takes the next line, whose bytes may be any.
