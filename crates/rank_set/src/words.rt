@@ -38,13 +38,23 @@ pub(crate) fn word_of(offset: u32, words: &[u64], k: u32) -> u64
     }
 }
 
+// How many words of 0 are appended at once.
+const ZEROS: usize = 16;
+
 // Appends words of 0 up to a length. On failure the words are unchanged.
 fn pad(words: &mut Words, len: usize) -> Result<(), AllocError>
     requires { length words.old.items ≤ len }
     ensures ok { OnOk result (words.new.items ≡ words.old.items ++ replicate (len - length words.old.items) 0) }
     ensures err { OnErr result (words.new.items ≡ words.old.items) }
 {
-    words.resize(len, 0)
+    words.reserve(len - words.len())?;
+    while words.len() < len {
+        let count = (len - words.len()).min(ZEROS);
+        let Ok(()) = words.extend_from_slice(&[0; ZEROS][..count]) else {
+            unreachable!()
+        };
+    }
+    Ok(())
 }
 
 // The words from one index up to another, with zeros where no words are stored.
