@@ -13,3 +13,4 @@ pub mod SeenPaths
 pub mod WavePrefixes
 pub mod Rooted
 pub mod KinLemmas
+pub mod FaultLemmas

@@ -1,5 +1,5 @@
 -- Looking things up.
-use Rattle.std.proofs.Common.{◌≡◌, ◌≢◌, ℕ, zero, suc, ◌+◌, ◌<◌, ◌≤◌, Bool, true, false, cond, unwrap_or, ◌||◌, ◌==◌, List, [], ◌∷◌, ◌++◌, length, get_or, take, drop, map, Option, Some, None, refl, sym, ap, subst, ◌∙◌, arith, inl, inr}
+use Rattle.std.proofs.Common.{◌≡◌, ◌≢◌, ℕ, zero, suc, ◌+◌, ◌<◌, Bool, true, false, cond, unwrap_or, ◌||◌, ◌==◌, List, [], ◌∷◌, ◌++◌, length, get_or, take, drop, map, Option, Some, None, refl, sym, ap, subst, ◌∙◌, arith, inl, inr}
 use Rattle.std.specs.Prelude.{find, slice_get, nat_le, not, IfNone, IfSome, is_some}
 use Rattle.std.proofs.Common.{◌⊎◌}
 use Rattle.std.specs.List.{list_any, AllByRecursion}
@@ -7,7 +7,7 @@ use Rattle.std.specs.Ordering.{nat_cmp, eq_by_cmp, is_eq}
 use Rattle.std.specs.Cmp.{nat_cmp_total, tied_itself}
 use Rattle.std.proofs.lemmas.Cmp.{nat_eq_equiv}
 use Rattle.std.proofs.lemmas.Bool.{true≢false, cases_lt, leb-true, false_from_ne_true, or_cases, or_left, or_right}
-use Rattle.std.proofs.lemmas.List.{drop_all, take_more, length-append, get_or_append_left, get_or-append-add}
+use Rattle.std.proofs.lemmas.List.{take_more, length-append, get_or_append_left, get_or-append-add}
 use Rattle.std.proofs.lemmas.Option.{none-some, slice_get-get_or, slice_get_within, get_or_from_slice_get}
 use Rattle.rank_set.specs.Ranks.{Ranks, none, has, Has, in_order, union, has-union, has-none, has-in_order}
 use Rattle.rank_set.proofs.SomeMember.{some_member}
@@ -45,14 +45,6 @@ member-contains n (m ∷ ms) = λ i. nat_eq_equiv.symm m n i || member-contains 
 -- what is found at a place where the test passes
 pub find-here : {X : Type 0} (test : X → Bool) (xs : List X) (i : ℕ) (d : X) → i < length xs → find test (drop i xs) ≡ find test xs → test (get_or xs i d) ≡ true → find test xs ≡ Some (get_or xs i d)
 find-here test xs i d lt so_far passes = sym so_far ∙ find-from test xs i d lt ∙ ap (λ b. cond b (Some (get_or xs i d)) (find test (drop (i + 1) xs))) passes
-
--- the search goes on past a place where the test does not pass
-pub find-past : {X : Type 0} (test : X → Bool) (xs : List X) (i : ℕ) (d : X) → i < length xs → find test (drop i xs) ≡ find test xs → test (get_or xs i d) ≡ false → find test (drop (i + 1) xs) ≡ find test xs
-find-past test xs i d lt so_far fails = sym (find-from test xs i d lt ∙ ap (λ b. cond b (Some (get_or xs i d)) (find test (drop (i + 1) xs))) fails) ∙ so_far
-
--- nothing is found past the end
-pub find-none : {X : Type 0} (test : X → Bool) (xs : List X) (i : ℕ) → length xs ≤ i → find test (drop i xs) ≡ find test xs → find test xs ≡ None
-find-none test xs i past so_far = sym so_far ∙ ap (find test) (drop_all i xs past)
 
 in_ranks : (C : Ranks) (Ds : List Ranks) (r : ℕ) → Has r (ranks_with C Ds) → (Has r C) ⊎ ((D : Ranks) × (In D Ds × Has r D))
 in_ranks C [] r there = inl there

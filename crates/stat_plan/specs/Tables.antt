@@ -1,10 +1,11 @@
 -- Tables by node number.
-use Rattle.std.specs.Prelude.{ℕ, ◌≡◌, ◌<◌, cond, List, [], map, get_or, slice_get, slice_index_or, Vec, length, Option, Some}
+use Rattle.std.specs.Prelude.{ℕ, ◌≡◌, ◌<◌, cond, List, [], map, get_or, slice_get, slice_index_or, Vec, length, Option, Some, None}
 use Rattle.rank_set.specs.Ranks.{Ranks, none, union, Has}
 use Rattle.overlay_setup.specs.NodeSets.{member, up_to}
-use Rattle.stat_plan.specs.Plans.{Plan, nodes, ranks_on, those_within}
+use Rattle.stat_plan.specs.Plans.{Plan, nodes, fault, ranks_on, those_within}
 use Rattle.overlay_setup.specs.Scripts.{Stream}
 use Rattle.overlay_setup.specs.Trees.{climb}
+use Rattle.overlay_setup.specs.declared.script.Fault.{Fault}
 
 -- the rows of a table
 abbrev pub rows_view : {X A : Type 0} → List (Vec X A) → List (List X)
@@ -24,10 +25,16 @@ pub record AreAllExpected (p : Plan) (streams : List Stream) (tables : List (Lis
   pub paired : length tables ≡ length streams
   pub each : (i : ℕ) (x : Stream) → slice_get streams i ≡ Some x → AreExpected p x.daemons (slice_index_or tables i [])
 
--- the tables of a plan: each node's ancestors, and what it expects
-pub record AreTables (p : Plan) (ancestors : List (List ℕ)) (expected : List (List Ranks)) : Type 0 where
+-- by node number, each node's fault, if it is to be lost
+pub record AreFaults (p : Plan) (table : List (Option Fault)) : Type 0 where
+  pub paired : length table ≡ nodes p
+  pub each : (n : ℕ) → slice_index_or table n None ≡ fault p n
+
+-- the tables of a plan: each node's ancestors, what it expects, and its fault
+pub record AreTables (p : Plan) (ancestors : List (List ℕ)) (expected : List (List Ranks)) (faults : List (Option Fault)) : Type 0 where
   pub above : ancestors ≡ ancestors_table p.parents
   pub ranks : AreAllExpected p p.streams expected
+  pub losses : AreFaults p faults
 
 -- ---- how the tables are filled: what single loops do. No clause of a public call cites what follows.
 

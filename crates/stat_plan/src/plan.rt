@@ -12,7 +12,7 @@ ghost use Rattle.stat_plan.specs.PathOrder.{IsOrderOf};
 ghost use Rattle.stat_plan.specs.Plans.{ancestors, expected, fault, front, is_under, nodes, plan_of, ranks, serves, stream_of};
 ghost use Rattle.stat_plan.specs.Shown.{IsStreamOf, lines_view};
 ghost use Rattle.stat_plan.specs.StackLines.{PathIndicesInRange};
-ghost use Rattle.stat_plan.specs.Tables.{AreAllExpected, ancestors_table, rows_view};
+ghost use Rattle.stat_plan.specs.Tables.{AreAllExpected, AreFaults, ancestors_table, rows_view};
 ghost use Rattle.overlay_setup.specs.Trees.{is_daemon};
 
 use crate::ancestors::ancestors_table;
@@ -35,6 +35,8 @@ pub struct Plan {
     ancestors: Vec<Vec<u32>>,
     // By index of the stream, then by node number.
     expected: Vec<Vec<RankSet>>,
+    // By node number.
+    faults: Vec<Option<Fault>>,
 }
 
 impl Model for Plan {
@@ -51,7 +53,7 @@ impl Model for Plan {
     ghost view = { λ a. a.job };
 
     ghost invariant = { λ a.
-        IsPlan a.job × AreTables a.job (rows_view a.ancestors.items) (rows_view a.expected.items) };
+        IsPlan a.job × AreTables a.job (rows_view a.ancestors.items) (rows_view a.expected.items) a.faults.items };
 }
 
 // By index of the stream, the ranks that each node expects of it.
@@ -69,6 +71,18 @@ fn expected_tables(
         tables.push(expected_sets(alloc, job, above, stream.daemons())?)?;
     }
     Ok(tables)
+}
+
+// By node number, the fault of each node that is to be lost.
+fn fault_table(alloc: Global, job: &Job) -> Result<Vec<Option<Fault>>, AllocError>
+    ensures { IfOk result (λ table. AreFaults job.now table.items) }
+{
+    job.invariant();
+    let mut table = vec![in alloc; None; job.topology().nodes() as usize]?;
+    for f in job.faults() {
+        table[f.node as usize] = Some(*f);
+    }
+    Ok(table)
 }
 
 // A row of a table of numbers.
@@ -116,10 +130,12 @@ impl Plan {
         }
         let ancestors = ancestors_table(alloc, job.topology())?;
         let expected = expected_tables(alloc, &job, &ancestors)?;
+        let faults = fault_table(alloc, &job)?;
         Ok(Plan {
             job,
             ancestors,
             expected,
+            faults,
         })
     }
 
@@ -257,13 +273,10 @@ impl Plan {
     pub fn fault(&self, n: u32) -> Option<Fault>
         ensures { result ≡ fault self.now n }
     {
-        let faults = self.job.faults();
-        for f in faults {
-            if f.node == n {
-                return Some(*f);
-            }
+        match self.faults.get(n as usize) {
+            Some(fault) => *fault,
+            None => None,
         }
-        None
     }
 
     /// The lines of a node alone, in the order of their paths: they list the node's ranks, at the times and in the

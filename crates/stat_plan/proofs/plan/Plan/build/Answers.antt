@@ -8,4 +8,4 @@ expected_tables-requires c = ap rows_view c.deref.ensures.value ∙ c.in_ok-ance
 
 pub invariant_of-result : goal.invariant_of-result
 invariant_of-result c =
-    (plan_from c.new-job.result c.invariant.ensures c.in-Ok.ensures.ok, record { above = c.in_ok-ancestors.ensures ∙ ap ancestors_table c.topology.ensures.parents; ranks = c.in_ok-expected.ensures })
+    (plan_from c.new-job.result c.invariant.ensures c.in-Ok.ensures.ok, record { above = c.in_ok-ancestors.ensures ∙ ap ancestors_table c.topology.ensures.parents; ranks = c.in_ok-expected.ensures; losses = c.in_ok-faults.ensures })
