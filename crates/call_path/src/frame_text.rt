@@ -16,7 +16,7 @@ use std::cmp::Ordering;
 use std::marker::Model;
 
 // Where each frame ends in a text: those of few frames are stored in place, without an allocation.
-type Ends = SmallVec<u32, 12>;
+type Ends = SmallVec<u32, 4>;
 
 /// 0 to 128 good frames, joined by `;`.
 #[derive(Drop)]
@@ -207,7 +207,6 @@ impl FrameText {
     }
 
     /// Appends a frame.
-    #[inline(always)]
     pub fn push(&mut self, frame: &str) -> Result<(), AllocError>
         requires below_limit { length self.old < FRAME_LIMIT }
         requires good { IsTrue (is_good_frame frame.now) }

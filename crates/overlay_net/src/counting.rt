@@ -62,7 +62,6 @@ fn free_sender_count<T: PrefixTree>(places: &[Place<T>], inbox: &Inbox<Frame>, l
 }
 
 /// How many events of a node may be claimed.
-#[inline(always)]
 fn event_count<T: PrefixTree>(
     plan: &Plan,
     alive: &[bool],

@@ -87,6 +87,7 @@ impl<T: PrefixTree> Scan<T> {
     }
 
     // Whether the name comes after the sibling before it.
+    #[inline(always)]
     fn is_in_order(&self, name: &[u8]) -> bool
         requires { 1 ≤ self.now.depth }
         ensures { result ≡ is_after (slice_get self.now.path (self.now.depth - 1)) name.now }
@@ -194,6 +195,7 @@ fn two_plain_blocks(field: &[u8]) -> bool
 }
 
 // It tests blocks of 16 bytes, and the last 16 in place of those that are left, since single bytes take longer.
+#[inline(always)]
 fn are_plain_ascii(field: &[u8]) -> bool
     ensures { result ≡ list_all is_plain_ascii field.now }
 {
@@ -230,6 +232,7 @@ fn any_name_of(field: &[u8]) -> Option<&str>
 }
 
 // The same, and faster where it is ASCII, as most names are.
+#[inline(always)]
 fn name_of(field: &[u8]) -> Option<&str>
     ensures some { IfSome result (λ name. name.now ≡ field.now) }
     ensures good { IfSome result (λ name. is_name field.now ≡ true) }
