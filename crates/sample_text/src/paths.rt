@@ -50,6 +50,7 @@ impl Paths {
     }
 
     // Whether a text is that of the path whose number was given last.
+    #[inline(always)]
     fn is_last(&self, text: &str) -> bool
         requires { HoldsPaths self.now }
         ensures { result ≡ true →
