@@ -121,7 +121,6 @@ pub struct OneRank<'t> {
 
 /// A line of samples that lists one rank, in its usual form, read in one go: `stack`, TIME and the rank with one blank
 /// behind each, and PATH. None where the line has another form.
-#[inline(always)]
 pub fn one_rank_line(line: &str) -> Option<OneRank<'_>>
     ensures sample { IfSome result (λ one. SamplesOneRank line.now one.time one.rank one.path.now) }
     ensures below_limit { IfSome result (λ one. one.rank < RANK_LIMIT) }
