@@ -24,14 +24,13 @@ const RUNS: [(u32, u32, u32); 12] = [
 
 // The run that a rank begins, by the plain list.
 fn plain_run(numbers: &[u32; END as usize], first: u32) -> NumberRun {
-    let mut end = first as usize + 1;
-    while end < numbers.len() && numbers.get(end) == numbers.get(first as usize) {
-        end = end.wrapping_add(1);
+    let number = numbers.get(first as usize).copied().unwrap_or(0);
+    for rank in first..END {
+        if numbers.get(rank as usize).copied() != Some(number) {
+            return NumberRun { number, end: rank };
+        }
     }
-    NumberRun {
-        number: numbers.get(first as usize).copied().unwrap_or(0),
-        end: end as u32,
-    }
+    NumberRun { number, end: END }
 }
 
 // Compares each number of a table, and the run that each rank begins.
