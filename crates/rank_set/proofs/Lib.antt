@@ -1,4 +1,5 @@
 pub mod Ordered
+pub mod Parts
 pub mod SomeMember
 pub mod WordSets
 pub mod Members

@@ -5,7 +5,7 @@
 #![tactic(auto)]
 
 ghost use Rattle.std.specs.Prelude.{◌≡◌, ℕ, ◌<◌, ◌≤◌, ◌/◌, ◌↔◌, true, false, OnOk, OnErr, IfOk, IfSome, IfNone, Some, slice_get, not, map, ◌++◌, [], ◌∷◌};
-ghost use Rattle.rank_set.specs.Ranks.{none, has, with_rank, union, those, in_order, is_subset, size, Has};
+ghost use Rattle.rank_set.specs.Ranks.{none, has, with_rank, union, those, in_order, is_empty, is_subset, size, Has};
 ghost use Rattle.rank_set.specs.Runs.{ranks_between, IsRun, runs_of};
 ghost use Rattle.rank_set.specs.Words.{ranks_in, AreWords, offset_of, spans};
 ghost use Rattle.rank_set.specs.WordLists.{words_of};
@@ -287,6 +287,13 @@ impl RankSet {
             other.offset,
             other.words.as_slice(),
         )
+    }
+
+    /// Whether the set has no ranks.
+    pub fn is_empty(&self) -> bool
+        ensures { result ≡ is_empty self.now }
+    {
+        words::has_none(self.offset, self.words.as_slice())
     }
 
     /// The number of ranks in the set.

@@ -1,7 +1,7 @@
 //! Rank sets as words of 64 bits: functions over the index of the first word among all words, and the words.
 
 ghost use Rattle.std.specs.Prelude.{◌≡◌, ℕ, ◌<◌, ◌≤◌, ◌+◌, ◌-◌, ◌*◌, ◌/◌, ◌↔◌, ◌++◌, true, false, OnOk, OnErr, IfOk, IfSome, IfNone, Some, slice_get, not, length, get_or, replicate, bit_or};
-ghost use Rattle.rank_set.specs.Ranks.{none, has, those, union, in_order, is_subset, size};
+ghost use Rattle.rank_set.specs.Ranks.{none, has, those, union, in_order, is_empty, is_subset, size};
 ghost use Rattle.rank_set.specs.Runs.{ranks_between, IsRun};
 ghost use Rattle.rank_set.specs.Words.{word_at, bit_in, ranks_in, AreWords, ExtendsTo, IsNext, offset_of, run_word, spans, IsOverlap};
 ghost use Rattle.rank_set.specs.WordLists.{words_of};
@@ -38,7 +38,7 @@ pub(crate) fn word_of(offset: u32, words: &[u64], k: u32) -> u64
     }
 }
 
-// How many words of 0 are appended at once.
+// How many words of 0 are appended at once, where so many are wanted.
 const ZEROS: usize = 16;
 
 // Appends words of 0 up to a length. On failure the words are unchanged.
@@ -48,11 +48,13 @@ fn pad(words: &mut Words, len: usize) -> Result<(), AllocError>
     ensures err { OnErr result (words.new.items ≡ words.old.items) }
 {
     words.reserve(len - words.len())?;
-    while words.len() < len {
-        let count = (len - words.len()).min(ZEROS);
-        let Ok(()) = words.extend_from_slice(&[0; ZEROS][..count]) else {
+    while len - words.len() >= ZEROS {
+        let Ok(()) = words.extend_from_slice(&[0; ZEROS]) else {
             unreachable!()
         };
+    }
+    while words.len() < len {
+        words.push_reserved(0);
     }
     Ok(())
 }
@@ -137,8 +139,17 @@ fn or_words(words: &mut [u64], offset: u32, other_offset: u32, others: &[u64])
         → get_or words.new j 0 ≡ bit_or (get_or words.old j 0) (word_at other_offset others.now (offset + j)) }
 {
     let at = (other_offset - offset) as usize;
+    or_each(&mut words[at..at + others.len()], others);
+}
+
+// Sets in each word the bits of the other word at its place. There are as many others, so that several are done at once.
+#[inline(always)]
+fn or_each(words: &mut [u64], others: &[u64])
+    requires { length words.old ≡ length others.now }
+    ensures { (j : ℕ) → get_or words.new j 0 ≡ bit_or (get_or words.old j 0) (get_or others.now j 0) }
+{
     for (i, word) in others.iter().enumerate() {
-        words[at + i] |= *word;
+        words[i] |= *word;
     }
 }
 
@@ -249,6 +260,11 @@ pub(crate) fn add_words(
     ensures err { OnErr result (ranks_in offset.new words.new.items ≡ ranks_in offset.old words.old.items) }
 {
     if others.is_empty() {
+        return Ok(());
+    }
+    if words.is_empty() {
+        *words = copy_of(*words.allocator(), others)?;
+        *offset = other_offset;
         return Ok(());
     }
     if spans(*offset, words.as_slice(), other_offset, others) {
@@ -410,6 +426,14 @@ pub(crate) fn all_are_in(offset: u32, words: &[u64], other_offset: u32, others: 
     true
 }
 
+// Whether there are no ranks: trimmed words that stand for none are none.
+pub(crate) fn has_none(offset: u32, words: &[u64]) -> bool
+    requires { AreWords offset words.now }
+    ensures { result ≡ is_empty (ranks_in offset words.now) }
+{
+    words.is_empty()
+}
+
 // How many bits are 1.
 pub(crate) fn ones(words: &[u64]) -> u32
     requires { length words.now ≤ WORD_LIMIT }
@@ -439,17 +463,18 @@ fn are_equal(xs: &[u64], ys: &[u64]) -> bool
     xs.len() == ys.len() && have_same_words(xs, ys)
 }
 
-// The same for so many words. It goes through all of them, since a loop that goes to its end compares several at once.
+// The same for so many words. It gathers the bits that differ in all of them, since a loop that goes to its end compares
+// several at once.
 fn have_same_words(xs: &[u64], ys: &[u64]) -> bool
     requires { length xs.now ≡ length ys.now }
     ensures { (result ≡ true) ↔ (xs.now ≡ ys.now) }
 {
     let ys = &ys[..xs.len()];
-    let mut same = true;
+    let mut differing = 0;
     for (i, word) in xs.iter().enumerate() {
-        same &= *word == ys[i];
+        differing |= *word ^ ys[i];
     }
-    same
+    differing == 0
 }
 
 // The least rank.

@@ -1,7 +1,7 @@
 use Rattle.std.proofs.Common.{◌≡◌, ℕ, ◌<◌, ◌+◌, length, false, eqb, inl, inr, sym, ap, ◌∙◌, subst, arith}
 use Rattle.std.proofs.lemmas.Bool.{eqb-true, eqb-false, cases_lt}
 use Rattle.smallvec.proofs.SmallVecLemmas.{items-with_items}
-use Rattle.rank_set.specs.Ranks.{union}
+use Rattle.rank_set.specs.Ranks.{union, union-none}
 use Rattle.rank_set.specs.Words.{word_at, ranks_in, AreWords}
 use Rattle.rank_set.proofs.WordSets.{word_at-below, union_none, no_ranks, ranks_in-union}
 use Rattle.rank_set.proofs.Trimming.{HasBits, covered_bits, first_word, last_word}
@@ -10,6 +10,12 @@ use Rattle.rank_set.proofs.words.add_words.Goals as goal
 pub returns-then-is_empty-clause-ok : goal.returns-then-is_empty-clause-ok
 returns-then-is_empty-clause-ok c =
     union_none (ranks_in c.args.offset.now c.args.words.now.items) ∙ ap (union (ranks_in c.args.offset.now c.args.words.now.items)) (sym (no_ranks c.args.other_offset c.args.others.now (eqb-true _ _ (sym c.if-is_empty.ensures))))
+
+pub returns-then-is_empty-2-clause-ok : goal.returns-then-is_empty-2-clause-ok
+returns-then-is_empty-2-clause-ok c =
+    let others = ranks_in c.args.other_offset c.args.others.now in
+    ap (ranks_in c.args.other_offset) c.in_ok-words.ensures ∙ sym (union-none others)
+    ∙ ap (λ ranks. union ranks others) (sym (no_ranks c.args.offset.now c.args.words.now.items (eqb-true _ _ (sym c.if-is_empty-2.ensures))))
 
 some_words : (n : ℕ) → eqb n 0 ≡ false → 0 < n
 some_words n e = elim (cases_lt 0 n) [ inl lt ↦ lt | inr none ↦ absurd (eqb-false n 0 e (omega arith)) ]
