@@ -10,9 +10,9 @@ use Rattle.std.specs.Bool.{IsTrue}
 use Rattle.std.specs.List.{list_all}
 use Rattle.std.specs.Char.{is_ascii_digit}
 use Rattle.std.proofs.lemmas.Bool.{and_parts, and_from, eqb-true, ne_eqb, lt-ltb, le-leb, leb-true, le-ltb, lt-leb, cases_order, true≢false}
-use Rattle.std.proofs.lemmas.List.{take-append-drop, take_more, drop_more, length-map, map-append, length-drop, length-take-le}
+use Rattle.std.proofs.lemmas.List.{take-append-drop, take_more, drop_more, length-append, length-map, map-append, length-drop, length-take-le, get_or_append_left, get_or-append-add}
 use Rattle.std.proofs.lemmas.List.Folds.{list_all-append}
-use Rattle.call_path.specs.Path.{Path, is_prefix}
+use Rattle.call_path.specs.Path.{Path, is_prefix, path_text}
 use Rattle.call_path.specs.Good.{is_plain, is_good_frame, AreGoodFrames, IsGoodPath}
 use Rattle.call_path.specs.Functions.{is_line, HasLine, without_line, func}
 
@@ -146,6 +146,32 @@ module _ (frame : List ℕ) (start : ℕ) (within : start ≤ length frame) (dig
   no_line_found (inl lt) = stays_from (λ le. absurd (omega arith))
   no_line_found (inr (inl number)) = stays_from (λ le. no_number number)
   no_line_found (inr (inr other)) = stays_from (λ le. no_mark other)
+
+-- no byte of a text is an `@`
+abbrev pub HasNoMark : List ℕ → Type 0
+HasNoMark text = (k : ℕ) → k < length text → get_or text k 0 ≢ 64
+
+-- such a text stays
+unmarked_text : (text : List ℕ) → HasNoMark text → without_line text ≡ text
+unmarked_text [] none = refl
+unmarked_text (b ∷ text) none =
+    ap (λ t. cond (t && is_line text) [] (b ∷ without_line text)) (ne_eqb b 64 (none 0 (omega arith)))
+    ∙ ap (λ t. b ∷ t) (unmarked_text text (λ k lt. none (suc k) (omega (arith, lt))))
+
+unmarked_frame : (frame : List ℕ) → HasNoMark frame → func frame ≡ frame
+unmarked_frame [] none = refl
+unmarked_frame (b ∷ text) none = ap (λ t. b ∷ t) (unmarked_text text (λ k lt. none (suc k) (omega (arith, lt))))
+
+-- and so do the frames of a path with such a text
+pub unmarked_path : (p : Path) → HasNoMark (path_text p) → map func p ≡ p
+unmarked_path [] none = refl
+unmarked_path (f ∷ []) none = ap (λ g. g ∷ []) (unmarked_frame f none)
+unmarked_path (f ∷ g ∷ p) none =
+    let rest : List ℕ = path_text (g ∷ p) in
+    let long = length-append f (59 ∷ rest) in
+    let first : func f ≡ f = unmarked_frame f (λ k lt e. none k (omega (arith, lt, long)) (get_or_append_left f (59 ∷ rest) 0 k lt ∙ e)) in
+    let later : map func (g ∷ p) ≡ g ∷ p = unmarked_path (g ∷ p) (λ k lt e. none (length f + suc k) (omega (arith, lt, long)) (get_or-append-add f (59 ∷ rest) (suc k) 0 ∙ e)) in
+    (λ i. first i ∷ later i)
 
 -- what passes of a text passes of the text without its line
 all_without : (test : ℕ → Bool) (text : List ℕ) → list_all test text ≡ true → list_all test (without_line text) ≡ true
