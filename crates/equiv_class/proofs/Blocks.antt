@@ -11,7 +11,7 @@ use Rattle.call_path.specs.Path.{Path}
 use Rattle.call_path.specs.Pairs.{Pairs}
 use Rattle.equiv_class.specs.Classes.{equivalent, is_least, paths_of, classes_of}
 use Rattle.equiv_class.proofs.Equivalent.{equivalent-from_paths, paths-from_equivalent}
-use Rattle.equiv_class.proofs.Ordered.{first_below, filter_on, filter_twice, in_order-those, kept_in, map_on}
+use Rattle.equiv_class.proofs.Ordered.{any_by_member, first_below, filter_on, filter_twice, in_order-those, kept_in, map_on}
 
 -- each rank is equivalent to itself
 pub equivalent_itself : (P : Pairs) (r : ℕ) → equivalent P r r ≡ true
@@ -43,14 +43,7 @@ module _ (P : Pairs) (C : Ranks) (r : ℕ) (rest : List ℕ) (is : in_order C �
       ]
 
   member_any : (D : Ranks) (t : ℕ → Bool) (q : ℕ) → has D q ≡ true → t q ≡ true → list_any t (in_order D) ≡ true
-  member_any D t q in_D passes = find (in_order D) (sym (has-in_order D q) ∙ in_D)
-    where
-      find : (xs : List ℕ) → list_any (eq_by_cmp nat_cmp q) xs ≡ true → list_any t xs ≡ true
-      find [] e = absurd (true≢false (sym e))
-      find (x ∷ xs) e = elim (Rattle.std.proofs.lemmas.Bool.or_cases (eq_by_cmp nat_cmp q x) (list_any (eq_by_cmp nat_cmp q) xs) e) [
-        | inl here ↦ ap (λ y. t y || list_any t xs) (sym (eqb-true q x (sym (unsigned_tied q x) ∙ here))) ∙ ap (λ b. b || list_any t xs) passes
-        | inr later ↦ or_right (t x) (list_any t xs) (find xs later)
-      ]
+  member_any D t q in_D passes = any_by_member t q (in_order D) (sym (has-in_order D q) ∙ in_D) passes
 
   in_list : (q : ℕ) → has C q ≡ true → (eq_by_cmp nat_cmp q r || list_any (eq_by_cmp nat_cmp q) rest) ≡ true
   in_list q there = ap (list_any (eq_by_cmp nat_cmp q)) (sym is) ∙ sym (has-in_order C q) ∙ there
@@ -139,10 +132,6 @@ first_of (x ∷ xs) r e = (xs, ap (λ (o : Option ℕ). unwrap_or o x ∷ xs) e)
 -- the same, from the least rank
 pub next_class : (P : Pairs) (C : Ranks) (r : ℕ) → slice_get (in_order C) 0 ≡ Some r → classes_of P C ≡ (those (equivalent P r) C, paths_of P r) ∷ classes_of P (those (λ s. not (equivalent P r s)) C)
 next_class P C r e = let parts = first_of (in_order C) r e in classes_step P C r parts.0 parts.1
-
--- the first rank is a member
-pub has_first : (C : Ranks) (r : ℕ) → slice_get (in_order C) 0 ≡ Some r → has C r ≡ true
-has_first C r e = let parts = first_of (in_order C) r e in has_head [] C r parts.0 parts.1
 
 -- fewer ranks are left without the first
 pub fewer_without : (t : ℕ → Bool) (C : Ranks) (r : ℕ) → slice_get (in_order C) 0 ≡ Some r → t r ≡ true → size (those (λ s. not (t s)) C) < size C

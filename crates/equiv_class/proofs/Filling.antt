@@ -1,14 +1,12 @@
 -- The ranks of a set go to the sets of their states, one after another.
-use Rattle.std.proofs.Common.{◌≡◌, ℕ, zero, suc, ◌++◌, ◌<◌, ◌≤◌, ◌-◌, Bool, true, false, ◌&&◌, ◌||◌, eqb, ltb, List, [], ◌∷◌, length, get_or, set, replicate, not, refl, sym, ap, ◌∙◌, inl, inr, arith}
-use Rattle.std.proofs.lemmas.Bool.{true≢false, and_parts, and_from, cases_eq, cases_lt, eq-eqb, ne_eqb, eqb-true, lt-ltb, le-ltb, ltb-true}
+use Rattle.std.proofs.Common.{◌≡◌, ℕ, zero, suc, ◌++◌, ◌<◌, ◌≤◌, ◌-◌, Bool, true, false, ◌&&◌, ◌||◌, eqb, ltb, List, [], ◌∷◌, length, get_or, set, replicate, refl, sym, ap, ◌∙◌, inl, inr, arith}
+use Rattle.std.proofs.lemmas.Bool.{true≢false, and_from, cases_eq, cases_lt, eq-eqb, ne_eqb, lt-ltb, le-ltb}
+use Rattle.std.proofs.Math.Bool.{or-false, or-true}
 use Rattle.std.proofs.lemmas.List.{get_or-set_same, get_or-set_other, length-set, get_or-replicate}
-use Rattle.call_path.specs.Path.{Path}
 use Rattle.rank_set.specs.Ranks.{Ranks, none, has, those, union, has-none, has-those, has-union, same_ranks}
 use Rattle.rank_set.specs.Runs.{IsRun, ranks_between}
 use Rattle.rank_set.proofs.RunSets.{between_in, between_low, between_high}
-use Rattle.equiv_class.specs.Classes.{same_answer}
-use Rattle.equiv_class.specs.SeenPaths.{same_paths}
-use Rattle.equiv_class.specs.States.{AreBlocks, AreStates, AreTables}
+use Rattle.equiv_class.specs.States.{AreTables}
 use Rattle.equiv_class.proofs.Cuts.{those-on}
 
 -- a rank is of the state, and below an end
@@ -37,33 +35,27 @@ fill_start E states n sets is = record {
       ∙ and_false (has E s) (eqb (get_or states s 0) k)));
 }
 
--- where no member lies between, nothing changes
+-- where no member lies between, a member is below both ends or below none
+pub same_side : (E : Ranks) (from first last : ℕ) → IsRun E from first last → (s : ℕ) → has E s ≡ true → ltb s from ≡ ltb s first
+same_side E from first last run s member = elim (cases_lt s from) [
+  | inl lt ↦ lt-ltb s from lt ∙ sym (lt-ltb s first (omega (arith, lt, run.start)))
+  | inr ge ↦ elim (cases_lt s first) [
+    | inl lt ↦ absurd (true≢false (sym member ∙ run.passed s ge lt))
+    | inr le ↦ le-ltb s from ge ∙ sym (le-ltb s first le)
+  ]
+]
+
+-- and nothing changes
 pub fill_gap : (E : Ranks) (states : List ℕ) (n from first last : ℕ) (sets : List Ranks) → IsRun E from first last → AreFilled E states n from sets
     → AreFilled E states n first sets
 fill_gap E states n from first last sets run h = record {
   long = h.long;
-  filled = λ k lt. h.filled k lt ∙ those-on E (of_state_below states k from) (of_state_below states k first) (λ s member. ap (λ b. eqb (get_or states s 0) k && b) (same s member));
+  filled = λ k lt. h.filled k lt
+      ∙ those-on E (of_state_below states k from) (of_state_below states k first) (λ s member. ap (λ b. eqb (get_or states s 0) k && b) (same_side E from first last run s member));
 }
-  where
-    same : (s : ℕ) → has E s ≡ true → ltb s from ≡ ltb s first
-    same s member = elim (cases_lt s from) [
-      | inl lt ↦ lt-ltb s from lt ∙ sym (lt-ltb s first (omega (arith, lt, run.start)))
-      | inr ge ↦ elim (cases_lt s first) [
-        | inl lt ↦ absurd (true≢false (sym member ∙ run.passed s ge lt))
-        | inr le ↦ le-ltb s from ge ∙ sym (le-ltb s first le)
-      ]
-    ]
 
 -- the ranks from r to before e, which are of one state
 module _ (E : Ranks) (states : List ℕ) (r e : ℕ) (some : r < e) (members : (q : ℕ) → r ≤ q → q < e → has E q ≡ true) (same : (q : ℕ) → r ≤ q → q < e → get_or states q 0 ≡ get_or states r 0) where
-  or_false : (b : Bool) → (b || false) ≡ b
-  or_false true = refl
-  or_false false = refl
-
-  or_true : (b : Bool) → (b || true) ≡ true
-  or_true true = refl
-  or_true false = refl
-
   -- outside of these ranks the ends make no difference
   outside : (k q : ℕ) → (r ≤ q → q < e → ⊥) → of_state_below states k r q ≡ of_state_below states k e q
   outside k q out = ap (λ b. eqb (get_or states q 0) k && b) (elim (cases_lt q r) [
@@ -83,7 +75,7 @@ module _ (E : Ranks) (states : List ℕ) (r e : ℕ) (some : r < e) (members : (
       missed : (q : ℕ) → (r ≤ q → q < e → ⊥) → has (ranks_between r (e - 1)) q ≡ false → ((has E q && of_state_below states (get_or states r 0) r q) || has (ranks_between r (e - 1)) q) ≡ (has E q && of_state_below states (get_or states r 0) e q)
       missed q out none_here =
           ap (λ b. (has E q && of_state_below states (get_or states r 0) r q) || b) none_here
-          ∙ or_false (has E q && of_state_below states (get_or states r 0) r q)
+          ∙ or-false (has E q && of_state_below states (get_or states r 0) r q)
           ∙ ap (λ b. has E q && b) (outside (get_or states r 0) q out)
 
       each : (q : ℕ) → ((has E q && of_state_below states (get_or states r 0) r q) || has (ranks_between r (e - 1)) q) ≡ (has E q && of_state_below states (get_or states r 0) e q)
@@ -92,7 +84,7 @@ module _ (E : Ranks) (states : List ℕ) (r e : ℕ) (some : r < e) (members : (
         | inr ge ↦ elim (cases_lt q e) [
           | inl lt ↦
               ap (λ b. (has E q && of_state_below states (get_or states r 0) r q) || b) (between_in r (e - 1) q ge (omega (arith, lt)))
-              ∙ or_true (has E q && of_state_below states (get_or states r 0) r q)
+              ∙ or-true (has E q && of_state_below states (get_or states r 0) r q)
               ∙ sym (and_from (has E q) (of_state_below states (get_or states r 0) e q) (members q ge lt)
               (and_from (eqb (get_or states q 0) (get_or states r 0)) (ltb q e) (eq-eqb _ _ (same q ge lt)) (lt-ltb q e lt)))
           | inr past ↦ missed q (λ _ lt. omega (arith, lt, past)) (between_high r (e - 1) q (omega (arith, past, some)))
@@ -129,6 +121,10 @@ module _ (E : Ranks) (states : List ℕ) (r e : ℕ) (some : r < e) (members : (
         ];
       }
 
+-- whether two numbers are equal does not depend on their order
+pub turned : (a b : ℕ) → eqb a b ≡ eqb b a
+turned a b = elim (cases_eq a b) [ inl e ↦ eq-eqb a b e ∙ sym (eq-eqb b a (sym e)) | inr ne ↦ ne_eqb a b ne ∙ sym (ne_eqb b a (λ e. ne (sym e))) ]
+
 -- when all are in their sets
 pub fill_end : (E : Ranks) (states : List ℕ) (n q : ℕ) (sets : List Ranks) → AreFilled E states n q sets → ((r : ℕ) → q ≤ r → has E r ≡ false)
     → ((r : ℕ) → get_or states r 0 < n)
@@ -137,9 +133,6 @@ fill_end E states n q sets h passed within r member =
     let own : ℕ = get_or states r 0 in
     h.filled own (within r) ∙ those-on E (of_state_below states own q) (λ s. eqb own (get_or states s 0)) each
   where
-    turned : (a b : ℕ) → eqb a b ≡ eqb b a
-    turned a b = elim (cases_eq a b) [ inl e ↦ eq-eqb a b e ∙ sym (eq-eqb b a (sym e)) | inr ne ↦ ne_eqb a b ne ∙ sym (ne_eqb b a (λ e. ne (sym e))) ]
-
     and_true : (b : Bool) → (b && true) ≡ b
     and_true true = refl
     and_true false = refl
@@ -149,17 +142,6 @@ fill_end E states n q sets h passed within r member =
       | inl lt ↦ ap (λ b. eqb (get_or states s 0) (get_or states r 0) && b) (lt-ltb s q lt) ∙ and_true (eqb (get_or states s 0) (get_or states r 0)) ∙ turned (get_or states s 0) (get_or states r 0)
       | inr ge ↦ absurd (true≢false (sym in_E ∙ passed s ge))
     ]
-
--- blocks by states
-pub blocks_from_states : (es : List (Path × Ranks)) (C : Ranks) (states next : List ℕ) (sets : List Ranks) → AreStates states es
-    → AreTables states next → ((r : ℕ) → has C r ≡ true → r < length states) → length sets ≡ length next
-    → ((r : ℕ) → has C r ≡ true → get_or sets (get_or states r 0) none ≡ those (λ s. eqb (get_or states r 0) (get_or states s 0)) C)
-    → AreBlocks es C states sets
-blocks_from_states es C states next sets same tables inside long filled = record {
-  in_table = inside;
-  in_sets = λ r member. omega (arith, tables.states_within r, long);
-  same = λ r member. filled r member ∙ those-on C (λ s. eqb (get_or states r 0) (get_or states s 0)) (λ s. same_paths r s es) (λ s in_C. same r s);
-}
 
 zeros : (n r : ℕ) → get_or {A = ℕ} (replicate n 0) r 0 ≡ 0
 zeros zero r = refl
@@ -172,46 +154,6 @@ tables_start states next start is_next = record {
   states_within = λ r. omega (arith, start r, ap length is_next);
   next_within = λ k. omega (arith, ap (λ xs. get_or xs k 0) is_next ∙ zeros 1 k, ap length is_next);
 }
-
--- the blocks of the ranks that are left after one block was taken
-pub blocks_left : (es : List (Path × Ranks)) (left left' : Ranks) (states : List ℕ) (sets : List Ranks) (r : ℕ) → left' ≡ those (λ s. not (same_paths r s es)) left
-    → AreBlocks es left states sets → AreBlocks es left' states sets
-blocks_left es left left' states sets r is h = record {
-  in_table = λ s there. h.in_table s (was s there);
-  in_sets = λ s there. h.in_sets s (was s there);
-  same = λ s there. h.same s (was s there) ∙ same_ranks _ _ (λ q. has-those (λ x. same_paths s x es) left q ∙ each s q (others s there) ∙ sym (has-those (λ x. same_paths s x es) left' q ∙ ap (λ b. b && same_paths s q es) (members q)));
-}
-  where
-    members : (q : ℕ) → has left' q ≡ (has left q && not (same_paths r q es))
-    members q = ap (λ (S : Ranks). has S q) is ∙ has-those (λ s. not (same_paths r s es)) left q
-
-    was : (s : ℕ) → has left' s ≡ true → has left s ≡ true
-    was s there = (and_parts (has left s) (not (same_paths r s es)) (sym (members s) ∙ there)).0
-
-    others : (s : ℕ) → has left' s ≡ true → same_paths r s es ≡ false
-    others s there = Rattle.std.proofs.lemmas.Bool.not-true (same_paths r s es) ((and_parts (has left s) (not (same_paths r s es)) (sym (members s) ∙ there)).1)
-
-    logic : (a b c : Bool) → (c ≡ true → b ≡ false) → (a && c) ≡ ((a && not b) && c)
-    logic true true true h = absurd (true≢false (h refl))
-    logic true true false h = refl
-    logic true false c h = refl
-    logic false b c h = refl
-
-    -- what is the same as s, which is not as r is, is not as r is
-    each : (s q : ℕ) → same_paths r s es ≡ false → (has left q && same_paths s q es) ≡ ((has left q && not (same_paths r q es)) && same_paths s q es)
-    each s q other = logic (has left q) (same_paths r q es) (same_paths s q es) (λ same. sym (chain r s q es same) ∙ other)
-      where
-        trade : (a b c : Bool) → same_answer b c ≡ true → same_answer a b ≡ same_answer a c
-        trade a true true e = refl
-        trade a false false e = refl
-        trade a true false e = absurd (true≢false (sym e))
-        trade a false true e = absurd (true≢false (sym e))
-
-        chain : (r s q : ℕ) (es : List (Path × Ranks)) → same_paths s q es ≡ true → same_paths r s es ≡ same_paths r q es
-        chain r s q [] e = refl
-        chain r s q (x ∷ es) e =
-            let parts = and_parts (same_answer (has x.1 s) (has x.1 q)) (same_paths s q es) e in
-            (λ i. trade (has x.1 r) (has x.1 s) (has x.1 q) parts.0 i && chain r s q es parts.1 i)
 
 -- one empty set more
 pub one_more : (n : ℕ) → replicate n none ++ none ∷ [] ≡ replicate (suc n) none

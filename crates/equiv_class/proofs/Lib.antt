@@ -10,3 +10,5 @@ pub mod Partition
 pub mod Parting
 pub mod Filling
 pub mod LedPaths
+pub mod StateOrder
+pub mod StateClasses

@@ -19,20 +19,33 @@ pub in_order-those : (t : ℕ → Bool) (s : Ranks) → in_order (those t s) ≡
 unfolding those
 in_order-those t s = refl
 
+-- a member of a list whose members are all above a rank
+pub above_all : (x y : ℕ) (ys : List ℕ) → list_all (λ z. nat_lt x z) ys ≡ true → list_any (eq_by_cmp nat_cmp y) ys ≡ true → x < y
+above_all x y [] a e = absurd (true≢false (sym e))
+above_all x y (z ∷ ys) a e =
+    let parts = and_parts (nat_lt x z) (list_all (λ w. nat_lt x w) ys) a in
+    elim (or_cases (eq_by_cmp nat_cmp y z) (list_any (eq_by_cmp nat_cmp y) ys) e) [
+      | inl same ↦ subst (λ w. x < w) (sym (same_number y z same)) (ltb-true x z parts.0)
+      | inr later ↦ above_all x y ys parts.1 later
+    ]
+
+-- the members of a set are in strictly increasing order
+pub increasing_members : (s : Ranks) → is_strictly_increasing (in_order s) ≡ true
+increasing_members s = from_T _ s.increasing
+
 -- a later member is above the first
 pub first_below : (s : Ranks) (x : ℕ) (xs : List ℕ) → in_order s ≡ x ∷ xs → (y : ℕ) → list_any (eq_by_cmp nat_cmp y) xs ≡ true → x < y
 first_below s x xs is y one =
-    let up : is_strictly_increasing (x ∷ xs) ≡ true = subst (λ zs. is_strictly_increasing zs ≡ true) is (from_T _ s.increasing) in
-    member xs (and_parts (list_all (λ z. nat_lt x z) xs) (is_strictly_increasing xs) up).0 one
-  where
-    member : (ys : List ℕ) → list_all (λ z. nat_lt x z) ys ≡ true → list_any (eq_by_cmp nat_cmp y) ys ≡ true → x < y
-    member [] a e = absurd (true≢false (sym e))
-    member (z ∷ ys) a e =
-        let parts = and_parts (nat_lt x z) (list_all (λ w. nat_lt x w) ys) a in
-        elim (or_cases (eq_by_cmp nat_cmp y z) (list_any (eq_by_cmp nat_cmp y) ys) e) [
-          | inl same ↦ subst (λ w. x < w) (sym (same_number y z same)) (ltb-true x z parts.0)
-          | inr later ↦ member ys parts.1 later
-        ]
+    let up : is_strictly_increasing (x ∷ xs) ≡ true = subst (λ zs. is_strictly_increasing zs ≡ true) is (increasing_members s) in
+    above_all x y xs (and_parts (list_all (λ z. nat_lt x z) xs) (is_strictly_increasing xs) up).0 one
+
+-- some member passes a test where a given one does
+pub any_by_member : (t : ℕ → Bool) (q : ℕ) (xs : List ℕ) → list_any (eq_by_cmp nat_cmp q) xs ≡ true → t q ≡ true → list_any t xs ≡ true
+any_by_member t q [] e passes = absurd (true≢false (sym e))
+any_by_member t q (x ∷ xs) e passes = elim (or_cases (eq_by_cmp nat_cmp q x) (list_any (eq_by_cmp nat_cmp q) xs) e) [
+  | inl here ↦ ap (λ y. t y || list_any t xs) (sym (same_number q x here)) ∙ ap (λ b. b || list_any t xs) passes
+  | inr later ↦ or_right (t x) (list_any t xs) (any_by_member t q xs later passes)
+]
 
 -- tests that agree at each member keep the same members
 pub filter_on : (p q : ℕ → Bool) (xs : List ℕ) → ((x : ℕ) → list_any (eq_by_cmp nat_cmp x) xs ≡ true → p x ≡ q x) → filter p xs ≡ filter q xs

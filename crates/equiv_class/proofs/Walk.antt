@@ -3,7 +3,6 @@ use Rattle.std.proofs.Common.{◌≡◌, ℕ, zero, suc, ◌+◌, ◌-◌, ◌==
 use Rattle.std.specs.List.{filter, slice_get}
 use Rattle.std.specs.Option.{IfSome}
 use Rattle.std.specs.FinMap as finmap
-use Rattle.std.proofs.lemmas.Bool.{eq-eqb, ne_eqb}
 use Rattle.rank_set.specs.Ranks.{Ranks, none, size}
 use Rattle.call_path.specs.Path.{Path}
 use Rattle.prefix_tree.specs.Tree.{Tree, Marks, IsTree, frame_of, rows_of}
@@ -52,17 +51,6 @@ frames_step t tree i row before after le lt h some so_far is =
     let own : after ≡ e.0 = is ∙ (λ k. take (shown.depth k - 1) (so_far k) ++ shown.frame k ∷ []) ∙ ap (λ p. p ++ frame_of e.0 ∷ []) (sym walk) ∙ parent_frame e.0 (omega (arith, shown.depth, some)) in
     let n : suc (i - 1) ≡ (i + 1) - 1 = omega arith in
     (own ∙ ap (λ k. (get_or (root ∷ es) k d).0) n, own)
-
-not_zero : (n : ℕ) → 0 < n → (n == 0) ≡ false
-not_zero n lt = ne_eqb n 0 (λ e. absurd (omega (arith, lt, e)))
-
--- whether a row has ends, by their number
-pub has_ends-count : (n : ℕ) → 0 < n → not (n == 0) ≡ true
-has_ends-count n lt = ap not (not_zero n lt)
-
--- and where there is none
-pub no_ends-count : (n : ℕ) → n ≤ 0 → not (n == 0) ≡ false
-no_ends-count n le = ap not (eq-eqb n 0 (omega (arith, le)))
 
 -- one row's step for the paths in which ranks were seen
 seen_step : (t : Tree) (i : ℕ) (row : Row) (path : Path) (before after : List (Path × Ranks)) → 1 ≤ i → i < length (rows_of t) → IfSome (slice_get (rows_of t) i) (Shows row)

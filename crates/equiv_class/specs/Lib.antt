@@ -4,3 +4,4 @@ pub mod SeenPaths
 pub mod States
 pub mod Rows
 pub mod Origins
+pub mod StateBlocks

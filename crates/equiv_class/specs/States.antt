@@ -1,6 +1,7 @@
 -- States of ranks: two ranks have the same state where they were in the same sets so far. No public clause cites these definitions.
-use Rattle.std.specs.Prelude.{◌≡◌, ℕ, nat_eq, nat_lt, ◌<◌, true, cond, ◌&&◌, List, [], ◌∷◌, ◌++◌, length, get_or, set}
-use Rattle.rank_set.specs.Ranks.{Ranks, none, has, those}
+use Rattle.std.specs.Prelude.{◌≡◌, ℕ, nat_eq, nat_lt, ◌<◌, Bool, true, not, cond, ◌&&◌, List, [], ◌∷◌, ◌++◌, length, get_or, set, map}
+use Rattle.std.specs.List.{list_any, filter}
+use Rattle.rank_set.specs.Ranks.{Ranks, has, in_order, is_empty}
 use Rattle.call_path.specs.Path.{Path}
 use Rattle.equiv_class.specs.Classes.{same_answer}
 use Rattle.equiv_class.specs.SeenPaths.{same_paths}
@@ -31,8 +32,14 @@ ArePartedBy ranks old new =
 abbrev pub AreStates : List ℕ → List (Path × Ranks) → Type 0
 AreStates states es = (r s : ℕ) → nat_eq (get_or states r 0) (get_or states s 0) ≡ same_paths r s es
 
--- for each rank that is left, the set of its state has the ranks that are left and were seen in the same paths
-pub record AreBlocks (es : List (Path × Ranks)) (left : Ranks) (states : List ℕ) (sets : List Ranks) : Type 0 where
-  pub in_table : (r : ℕ) → has left r ≡ true → r < length states
-  pub in_sets : (r : ℕ) → has left r ≡ true → get_or states r 0 < length sets
-  pub same : (r : ℕ) → has left r ≡ true → get_or sets (get_or states r 0) none ≡ those (λ s. same_paths r s es) left
+-- no lesser rank of C has the state of r
+abbrev pub is_first : List ℕ → Ranks → ℕ → Bool
+is_first states C r = not (list_any (λ s. nat_eq (get_or states s 0) (get_or states r 0) && nat_lt s r) (in_order C))
+
+-- the states of the ranks of C, by their least ranks
+abbrev pub states_in_order : List ℕ → Ranks → List ℕ
+states_in_order states C = map (λ r. get_or states r 0) (filter (is_first states C) (in_order C))
+
+-- a list of states, with one more where its set is empty
+abbrev pub with_state : Ranks → ℕ → List ℕ → List ℕ
+with_state ranks k ks = cond (is_empty ranks) (ks ++ k ∷ []) ks

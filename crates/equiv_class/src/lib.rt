@@ -2,8 +2,8 @@
 //! rank of each.
 #![tactic(auto)]
 
-ghost use Rattle.std.specs.Prelude.{◌≡◌, ◌||◌, ◌++◌, ◌<◌, ℕ, true, false, not, [], IsTrue, IfOk, OnOk, length, get_or};
-ghost use Rattle.rank_set.specs.Ranks.{Ranks, has, none, those};
+ghost use Rattle.std.specs.Prelude.{◌≡◌, ◌++◌, ◌<◌, ℕ, true, false, [], IfOk, OnOk, length};
+ghost use Rattle.rank_set.specs.Ranks.{Ranks, has};
 ghost use Rattle.std.specs.List.{list_any};
 ghost use Rattle.std.specs.List.Sorted.{IsStrictlySortedBy};
 ghost use Rattle.call_path.specs.Path.{Path, is_path, path_cmp};
@@ -11,9 +11,9 @@ ghost use Rattle.call_path.specs.Pairs.{HasNoEmptyPath, Pairs, is_pair};
 ghost use Rattle.prefix_tree.specs.Tree.{tree_of, pairs_of};
 ghost use Rattle.equiv_class.specs.Classes.{HaveOwnPaths, equivalent, classes_of, classes_with, paths_of};
 ghost use Rattle.equiv_class.specs.ClassList.{class_view, class_views};
-ghost use Rattle.equiv_class.specs.SeenPaths.{Lists, entries_view, same_paths, seen_in, paths_to};
-ghost use Rattle.equiv_class.specs.Origins.{LeadToStates, origin_of, path_at, paths_before};
-ghost use Rattle.equiv_class.specs.States.{AreBlocks};
+ghost use Rattle.equiv_class.specs.SeenPaths.{entries_view, seen_in};
+ghost use Rattle.equiv_class.specs.Origins.{origin_of, path_at, paths_before};
+ghost use Rattle.equiv_class.specs.StateBlocks.{HasStates, block_at, blocks_view};
 
 use call_path::{CallPath, PathBuilder};
 use prefix_tree::PrefixTree;
@@ -74,9 +74,8 @@ pub fn classes<T: PrefixTree>(alloc: Global, tree: &T) -> Result<Vec<Class>, All
 {
     let mut frames = PathBuilder::new(alloc);
     let seen = seen_paths(alloc, tree, &mut frames)?;
-    let mut left = tree.row(0).label.copy()?;
-    let blocks = find_blocks(alloc, &seen, &left)?;
-    take_classes(alloc, &seen, &blocks, &mut left)
+    let found = find_blocks(alloc, &seen, tree.row(0).label)?;
+    take_classes(alloc, &seen, &found)
 }
 
 // The paths in which ranks were seen, in order, found with an empty path.
@@ -93,7 +92,7 @@ fn seen_paths<'a, T: PrefixTree>(
     while let Some(row) = tree.next_row(&mut at) {
         frames.cut(row.depth - 1);
         frames.push(row.frame)?;
-        if row.ends.count() > 0 {
+        if !row.ends.is_empty() {
             let path = frames.path()?;
             seen.push(SeenPath {
                 path,
@@ -104,46 +103,37 @@ fn seen_paths<'a, T: PrefixTree>(
     Ok(seen)
 }
 
-// Takes the classes of the ranks that are left, the class of the least one first.
+// The classes of the blocks, in the order of their states.
 fn take_classes(
     alloc: Global,
     seen: &[SeenPath<'_>],
     blocks: &Blocks,
-    left: &mut RankSet,
 ) -> Result<Vec<Class>, AllocError>
-    requires blocks { AreBlocks (entries_view seen.now) left.old blocks.now.states blocks.now.sets.items }
-    requires paths { LeadToStates (entries_view seen.now) blocks.now.states blocks.now.origins.items }
-    ensures { IfOk result
-        (λ all. (P : Pairs) → Lists P (entries_view seen.now) → class_views all.items ≡ classes_of P left.old) }
+    requires { HasStates blocks.now }
+    ensures { IfOk result (λ all. class_views all.items ≡ blocks_view (entries_view seen.now) blocks.now) }
 {
     let mut all = Vec::new(alloc);
-    while let Some(r) = left.first() {
-        let class = take_class(alloc, seen, blocks, r, left)?;
+    for state in blocks.order.as_slice() {
+        let class = class_of_state(alloc, seen, blocks, *state)?;
         all.push(class)?;
     }
     Ok(all)
 }
 
-// Takes the class of a rank out of the ranks that are left.
-fn take_class(
+// The class of the ranks of a state.
+fn class_of_state(
     alloc: Global,
     seen: &[SeenPath<'_>],
     blocks: &Blocks,
-    r: u32,
-    left: &mut RankSet,
+    state: u32,
 ) -> Result<Class, AllocError>
-    requires blocks { AreBlocks (entries_view seen.now) left.old blocks.now.states blocks.now.sets.items }
-    requires paths { LeadToStates (entries_view seen.now) blocks.now.states blocks.now.origins.items }
-    requires member { IsTrue (has left.old r) }
-    ensures class { IfOk result
-        (λ class. class_view class
-        ≡ (those (λ s. same_paths r s (entries_view seen.now)) left.old, paths_to r (entries_view seen.now))) }
-    ensures left { OnOk result (left.new ≡ those (λ s. not (same_paths r s (entries_view seen.now))) left.old) }
+    requires in_sets { state < length blocks.now.sets.items }
+    requires in_origins { state < length blocks.now.origins.items }
+    requires backward { (k : ℕ) → 0 < k → (origin_of blocks.now.origins.items k).from < k }
+    ensures { IfOk result (λ class. class_view class ≡ block_at (entries_view seen.now) blocks.now state) }
 {
-    let state = blocks.states.number(r);
     let paths = state_paths(alloc, seen, blocks.origins.as_slice(), state)?;
     let ranks = blocks.sets[state as usize].copy()?;
-    left.subtract(&ranks);
     Ok(Class { ranks, paths })
 }
 

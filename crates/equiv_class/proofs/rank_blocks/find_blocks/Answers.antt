@@ -1,5 +1,9 @@
+use Rattle.std.proofs.Common.{length, ap, arith}
+use Rattle.equiv_class.specs.SeenPaths.{entries_view}
+use Rattle.equiv_class.specs.declared.rank_blocks.Blocks.{Blocks}
 use Rattle.equiv_class.proofs.Filling.{tables_start}
 use Rattle.equiv_class.proofs.LedPaths.{origins_start}
+use Rattle.equiv_class.proofs.StateClasses.{classes_by_states, has_states}
 use Rattle.equiv_class.proofs.rank_blocks.find_blocks.Goals as goal
 
 pub part_by_paths-requires-clause-tables : goal.part_by_paths-requires-clause-tables
@@ -10,3 +14,15 @@ pub part_by_paths-requires-clause-origins : goal.part_by_paths-requires-clause-o
 part_by_paths-requires-clause-origins c =
     origins_start c.in_ok-next.next.items c.in_ok-origins.origins.items (c.in_ok-next.ensures.items_if_clones_equal (λ y same. same))
     (c.in_ok-origins.ensures.items_if_clones_equal (λ y same. same))
+
+pub returns-clause-states : goal.returns-clause-states
+returns-clause-states c =
+    let parted = c.in_ok-part_by_paths.ensures in
+    has_states (entries_view c.args.seen.now) c.args.covered.now c.part_by_paths.new.states _ parted.paths
+    (λ r. omega (arith, parted.tables.states_within r, c.in_ok-end.ensures, ap length c.as_slice.ensures.value, c.in_ok-sets.ensures.length)) c.in_ok-sets.ensures.order
+
+pub returns-clause-classes : goal.returns-clause-classes
+returns-clause-classes c P lists =
+    let blocks : Blocks = record { origins = c.part_by_paths.new.origins; sets = c.in_ok-sets.sets; order = c.ranks_by_state.new.order } in
+    classes_by_states P (entries_view c.args.seen.now) c.args.covered.now c.part_by_paths.new.states blocks c.in_ok-part_by_paths.ensures.states c.in_ok-part_by_paths.ensures.paths
+    c.in_ok-sets.ensures.sets c.in_ok-sets.ensures.order lists

@@ -1,6 +1,7 @@
-use Rattle.std.proofs.Common.{◌≤◌, ◌+◌, ◌-◌}
+use Rattle.std.proofs.Common.{◌≡◌, ◌≤◌, ◌+◌, ◌-◌}
 use Rattle.rank_set.specs.declared.TheConstants.{RANK_LIMIT}
 use Rattle.equiv_class.proofs.Filling.{AreFilled}
+use Rattle.equiv_class.proofs.StateOrder.{order_below}
 use Rattle.equiv_class.proofs.rank_blocks.ranks_by_state.Given as goal
 
 abbrev pub invariant-loop-from : goal.invariant-loop-from
@@ -8,6 +9,7 @@ invariant-loop-from l = record {
   begins : l.run.first ≤ l.from;
   within : l.from ≤ l.run.last + 1;
   filled : AreFilled l.covered l.states l.end l.from l.sets.items;
+  ordered : l.order.items ≡ order_below l.states l.covered l.from;
 }
 
 abbrev pub decreases-loop-from : goal.decreases-loop-from
@@ -17,6 +19,7 @@ abbrev pub invariant-loop-run : goal.invariant-loop-run
 invariant-loop-run l = record {
   within : l.from ≤ RANK_LIMIT;
   filled : AreFilled l.covered l.states l.end l.from l.sets.items;
+  ordered : l.order.items ≡ order_below l.states l.covered l.from;
 }
 
 abbrev pub decreases-loop-run : goal.decreases-loop-run
