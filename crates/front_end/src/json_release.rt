@@ -90,7 +90,7 @@ fn write_daemon(
         (value_tokens (missing_data plan.now covered.now lost.now daemon))) }
 {
     let missing = plan.ranks(daemon).difference(covered)?;
-    if missing.count() == 0 {
+    if missing.is_empty() {
         return Ok(());
     }
     let ranks = ranks_text(alloc, &missing)?;

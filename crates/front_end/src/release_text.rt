@@ -115,7 +115,7 @@ fn write_missing_line(
     ensures { OnOk result (out.new.items ≡ out.old.items ++ missing_line plan.now covered.now lost.now daemon) }
 {
     let missing = plan.ranks(daemon).difference(covered)?;
-    if missing.count() == 0 {
+    if missing.is_empty() {
         return Ok(());
     }
     out.extend_from_slice(missing_text(lost.contains(&daemon)))?;

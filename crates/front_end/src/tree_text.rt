@@ -86,7 +86,7 @@ fn write_ends(row: &Row<'_>, label_text: &[u8], out: &mut Vec<u8>) -> Result<(),
     requires { label_text.now ≡ text_of row.now.label.now }
     ensures { OnOk result (out.new.items ≡ out.old.items ++ ends_text row.now.ends.now) }
 {
-    if row.ends.count() == 0 {
+    if row.ends.is_empty() {
         out.push(b'-')?;
     } else if row.ends.equals(row.label) {
         out.extend_from_slice(label_text)?;

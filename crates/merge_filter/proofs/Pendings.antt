@@ -1,7 +1,8 @@
 -- What is still to be added to a tree.
 use Rattle.std.proofs.Common.{◌≡◌, ◌≢◌, ℕ, ◌<◌, Bool, true, false, ◌&&◌, ◌||◌, List, [], ◌++◌, get_or, refl, sym, ap, subst, ◌∙◌, arith}
+use Rattle.std.proofs.lemmas.Bool.{true≢false}
 use Rattle.std.proofs.lemmas.List.{append-nil}
-use Rattle.rank_set.specs.Ranks.{Ranks, none, has, size, size-none, in_order, is_subset, subset_from, union, has-union, none_from_size}
+use Rattle.rank_set.specs.Ranks.{Ranks, none, has, size, in_order, is_empty, is_subset, subset_from, union, has-union, none_from_size}
 use Rattle.call_path.specs.Path.{Path, is_path}
 use Rattle.call_path.specs.Pairs.{Pairs, pairs_at, is_pair}
 use Rattle.prefix_tree.specs.Tree.{Tree, tree_of, added, count_below}
@@ -14,8 +15,8 @@ use Rattle.merge_filter.specs.declared.own_tree.Pending.{Pending}
 use Rattle.merge_filter.proofs.Standing.{covers}
 
 -- ranks that are some
-pub some_ranks : (s : Ranks) (n : ℕ) → n ≡ size s → (n ≡ 0 → ⊥) → s ≢ none
-some_ranks s n is other same = other (is ∙ ap size same ∙ size-none)
+pub some_ranks : (s : Ranks) → is_empty s ≡ false → s ≢ none
+some_ranks s some same = true≢false (sym (ap is_empty same) ∙ some)
 
 -- nothing is still to be added
 pub nothing_pending : (P : Pairs) (paths : List Path) (x : Pending) → size x.ranks ≡ 0 → with_pending P paths x ≡ P

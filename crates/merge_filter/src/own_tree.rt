@@ -34,7 +34,7 @@ fn add_pending<T: PrefixTree>(
         ((P : Pairs) (C : Ranks) → T.tree tree.old ≡ tree_of P C
         → T.tree tree.new ≡ tree_of (with_pending P paths.now pending.now) C) }
 {
-    if pending.ranks.count() == 0 {
+    if pending.ranks.is_empty() {
         return Ok(());
     }
     let path = &paths[pending.path as usize];

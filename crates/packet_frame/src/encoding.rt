@@ -146,7 +146,7 @@ fn put_ends(ends: &RankSet, places: &CoverPlaces, out: &mut Vec<u8>) -> Result<(
     requires { is_subset ends.now places.now ≡ true }
     ensures { OnOk result (out.new.items ≡ out.old.items ++ set_bytes (to_places places.now ends.now)) }
 {
-    if ends.count() == 0 {
+    if ends.is_empty() {
         return out.extend_from_slice(&[0; 4]);
     }
     put_set(&places.to_places(ends)?, out)

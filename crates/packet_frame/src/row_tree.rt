@@ -61,7 +61,7 @@ impl<T: PrefixTree> RowTree<T> {
         ensures tree { OnOk result (self.new ≡ grown self.old ends.now frames.old) }
         ensures path { frames.new ≡ frames.old }
     {
-        if ends.count() == 0 {
+        if ends.is_empty() {
             return Ok(());
         }
         let path = mem::replace(frames, PathBuilder::new(alloc)).into_path();

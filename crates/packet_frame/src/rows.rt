@@ -145,7 +145,7 @@ impl<T: PrefixTree> Scan<T> {
         ensures err { IfErr result (λ e. e ≡ FieldError.OutOfMemory) }
         ensures ready { OnOk result (IsReady self.new.field self.new) }
     {
-        self.ended = ends.count() != 0;
+        self.ended = !ends.is_empty();
         self.tree.grow(alloc, &ends, &mut self.path)?;
         self.rows_left -= 1;
         self.next_row();

@@ -1,8 +1,7 @@
 -- The check of the whole text.
-use Rattle.std.proofs.Common.{◌≡◌, ◌∙◌, ℕ, suc, ◌+◌, ◌<◌, ◌≤◌, Bool, true, false, ◌&&◌, ◌||◌, not, nat_eq, eq-eqb, List, length, drop, drop-cons, get_or, Option, Ok, Err, refl, sym, ap, subst, arith}
-use Rattle.std.proofs.lemmas.Bool.Decides.{nat_tests}
+use Rattle.std.proofs.Common.{◌≡◌, ◌∙◌, ℕ, suc, ◌+◌, ◌<◌, ◌≤◌, Bool, true, false, ◌&&◌, ◌||◌, not, List, length, drop, drop-cons, get_or, Option, Ok, Err, refl, sym, ap, arith}
 use Rattle.std.proofs.lemmas.List.{drop_all}
-use Rattle.rank_set.specs.Ranks.{Ranks, size, is_empty}
+use Rattle.rank_set.specs.Ranks.{Ranks, is_empty}
 use Rattle.stat_plan.specs.Plans.{Sampled}
 use Rattle.overlay_setup.specs.Topologies.{Nodes}
 use Rattle.overlay_setup.specs.Trees.{is_daemon}
@@ -39,17 +38,6 @@ module _ (parents : List (Option ℕ)) (sets : List Ranks) (n : ℕ) where
     -- a node that has a rank
     pub has_rank : is_empty (get_or sets n d) ≡ false → lacks_rank parents (n + 1) (drop (n + 1) sets) ≡ lacks_rank parents n (drop n sets)
     has_rank some = later (ap (λ b. is_daemon parents n && b) some ∙ and_false (is_daemon parents n))
-
--- a set that is not empty
-pub not_empty : (set other : Ranks) (count : ℕ) → count ≡ size set → (count ≡ 0 → ⊥) → set ≡ other → is_empty other ≡ false
-not_empty set other count is some same = subst (λ s. is_empty s ≡ false) same (zero_not (size set) (λ e. some (is ∙ e)))
-  where
-    zero_not : (n : ℕ) → (n ≡ 0 → ⊥) → nat_eq n 0 ≡ false
-    zero_not n ne = grind (arith, nat_tests)
-
--- an empty set
-pub empty : (set other : Ranks) (count : ℕ) → count ≡ size set → count ≡ 0 → set ≡ other → is_empty other ≡ true
-empty set other count is none same = subst (λ s. is_empty s ≡ true) same (eq-eqb (size set) 0 (sym is ∙ none))
 
 -- the check of the whole text
 pub whole_bad : (t : Nodes) (s : Sampled) → lacks_rank t.parents 0 s.placed ≡ true → whole t s ≡ Err (Bad 0 DaemonWithoutRank)

@@ -85,7 +85,7 @@ fn are_disjoint(ranks: &RankSet, others: &RankSet) -> Result<bool, AllocError>
 {
     let mut common = ranks.copy()?;
     common.intersect_with(others);
-    Ok(common.count() == 0)
+    Ok(common.is_empty())
 }
 
 // Gives more ranks to one of the sets.
@@ -103,7 +103,7 @@ fn lacks_rank(topology: &Topology, placed: &[RankSet]) -> bool
     ensures { result ≡ lacks_rank topology.now.parents 0 placed.now }
 {
     for n in 0..topology.nodes() {
-        if topology.is_daemon(n) && placed[n as usize].count() == 0 {
+        if topology.is_daemon(n) && placed[n as usize].is_empty() {
             return true;
         }
     }

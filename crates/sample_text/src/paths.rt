@@ -62,7 +62,7 @@ impl Paths {
         }
     }
 
-    // The same of a text that is not that of the last call.
+    // The number of a path's text that is not the text of the call before.
     #[inline(never)]
     fn number_of_other(&mut self, line_number: u64, text: &str) -> Result<u32, TextError>
         requires holds { HoldsPaths self.old }

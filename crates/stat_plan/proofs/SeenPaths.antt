@@ -1,26 +1,26 @@
 -- Which paths the lines of a wave list a rank in.
-use Rattle.std.proofs.Common.{◌≡◌, ℕ, ◌+◌, ◌<◌, Bool, true, false, cond, ◌&&◌, ◌||◌, nat_eq, nat_lt, List, [], ◌∷◌, ◌++◌, filter, get_or, set, length, map, take, refl, sym, ap, subst, ◌∙◌, arith, eqb-true, inl, inr}
+use Rattle.std.proofs.Common.{◌≡◌, ℕ, suc, ◌+◌, ◌<◌, Bool, true, false, cond, not, ◌&&◌, ◌||◌, nat_eq, List, [], ◌∷◌, ◌++◌, filter, get_or, set, length, map, take, refl, sym, ap, subst, ◌∙◌, arith, eqb-true, inl, inr}
 use Rattle.std.specs.List.{list_any}
-use Rattle.std.proofs.lemmas.Bool.{cases_Bool, eqb-false}
+use Rattle.std.proofs.lemmas.Bool.{cases_Bool, eqb-false, ne_eqb}
 use Rattle.std.proofs.lemmas.List.{get_or-replicate, get_or-set_other, get_or-set_same, length-replicate, length-set, take_more}
 use Rattle.std.proofs.lemmas.List.Folds.{list_any-append}
-use Rattle.rank_set.specs.Ranks.{Ranks, has, in_order, size, those}
+use Rattle.rank_set.specs.Ranks.{Ranks, has, in_order, is_empty, those}
 use Rattle.rank_set.proofs.Ordered.{in_order-those}
 use Rattle.stat_plan.specs.PathOrder.{AreSeen, share_rank}
 use Rattle.stat_plan.specs.Samples.{is_in_wave}
 use Rattle.stat_plan.specs.declared.samples.StackLine.{StackLine}
 
-some_pass : (test : ℕ → Bool) (xs : List ℕ) → nat_lt 0 (length (filter test xs)) ≡ list_any test xs
+some_pass : (test : ℕ → Bool) (xs : List ℕ) → not (nat_eq (length (filter test xs)) 0) ≡ list_any test xs
 some_pass test [] = refl
 some_pass test (x ∷ xs) = by (test x) (some_pass test xs)
   where
-    by : (b : Bool) → nat_lt 0 (length (filter test xs)) ≡ list_any test xs → nat_lt 0 (length (cond b (x ∷ filter test xs) (filter test xs))) ≡ (b || list_any test xs)
-    by true rest = Rattle.std.proofs.Common.lt-ltb 0 (Rattle.std.proofs.Common.suc (length (filter test xs))) (omega arith)
+    by : (b : Bool) → not (nat_eq (length (filter test xs)) 0) ≡ list_any test xs → not (nat_eq (length (cond b (x ∷ filter test xs) (filter test xs))) 0) ≡ (b || list_any test xs)
+    by true rest = ap not (ne_eqb (suc (length (filter test xs))) 0 (λ e. absurd (omega (arith, e))))
     by false rest = rest
 
 -- sets have a rank in common where some are left of the one
-pub shared_from_size : (s t common : Ranks) → common ≡ those (has t) s → nat_lt 0 (size common) ≡ share_rank s t
-shared_from_size s t common is = ap (λ (c : Ranks). nat_lt 0 (length (in_order c))) is ∙ ap (λ rs. nat_lt 0 (length rs)) (in_order-those (has t) s) ∙ some_pass (has t) (in_order s)
+pub shared_unless_empty : (s t common : Ranks) → common ≡ those (has t) s → not (is_empty common) ≡ share_rank s t
+shared_unless_empty s t common is = ap (λ c. not (is_empty c)) is ∙ ap (λ rs. not (nat_eq (length rs) 0)) (in_order-those (has t) s) ∙ some_pass (has t) (in_order s)
 
 -- whether a line at a time of the wave lists a rank
 abbrev pub lists_rank : ℕ → ℕ → Ranks → StackLine → Bool

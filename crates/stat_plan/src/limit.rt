@@ -97,7 +97,7 @@ fn lists_rank(line: &StackLine, samples: u8, wave: u8, ranks: &RankSet) -> Resul
     }
     let mut common = line.ranks.copy()?;
     common.intersect_with(ranks);
-    Ok(common.count() > 0)
+    Ok(!common.is_empty())
 }
 
 // Whether the samples of a wave of a stream have at most 2,048 distinct prefixes. The stream has these ranks, and sees
