@@ -1,18 +1,19 @@
 -- The daemons of a stream, and their ranks.
-use Rattle.std.proofs.Common.{◌≡◌, ℕ, ◌<◌, inl, inr, Bool, true, false, ◌==◌, cond, List, [], ◌∷◌, map, Option, Some, None, refl, sym, ap, subst, ◌∙◌, eq-eqb}
+use Rattle.std.proofs.Common.{◌≡◌, ℕ, ◌<◌, inl, inr, Bool, true, false, ◌==◌, cond, List, [], ◌∷◌, map, filter, length, Option, Some, None, refl, sym, ap, subst, ◌∙◌, eq-eqb, arith}
 use Rattle.std.specs.Prelude.{find, IsSome}
 use Rattle.std.specs.List.{AllByRecursion}
-use Rattle.std.proofs.lemmas.Bool.{or_left, or_right}
+use Rattle.std.proofs.lemmas.Bool.{true≢false, or_left, or_right}
 use Rattle.rank_set.specs.Ranks.{Ranks, none, has, Has, IsSubset, union, has-union}
 use Rattle.stat_plan.specs.Invariants.{IsPlan}
-use Rattle.overlay_setup.specs.Scripts.{IsDaemon, Stream}
-use Rattle.overlay_setup.specs.NodeSets.{In, up_to}
+use Rattle.overlay_setup.specs.Scripts.{IsDaemon, IsStream, Stream}
+use Rattle.overlay_setup.specs.NodeSets.{In, member, up_to}
 use Rattle.stat_plan.specs.Samples.{ranks_with}
-use Rattle.stat_plan.specs.Plans.{Plan, daemons, grain, nodes, nodes_of, ranks, sample_count, ranks_on, stream_of, stream_ranks, waves_of}
+use Rattle.stat_plan.specs.Plans.{Plan, ancestors, daemons, expected, front, grain, is_under, is_within, nodes, nodes_of, ranks, sample_count, ranks_on, stream_of, stream_ranks, those_within, waves_of}
 use Rattle.overlay_setup.specs.declared.script.Grain.{Grain}
 use Rattle.overlay_setup.specs.declared.script.Grain.TheVariants.{Line}
 use Rattle.stat_plan.proofs.FirstOver.{all_in, found_in}
-use Rattle.stat_plan.proofs.InLists.{in_append, in_from_map, in_map}
+use Rattle.stat_plan.proofs.InLists.{in_append, in_from_map, in_map, in_member}
+use Rattle.stat_plan.proofs.Rooted.{rooted, under_front}
 use Rattle.merge_filter.specs.Contributions.{HasWave}
 
 found : (xs : List Stream) (s w : ℕ) → In (s, w) (waves_of xs) → IsSome (find (λ x. x.number == s) xs)
@@ -76,3 +77,32 @@ daemon_lies p s d there r one = comes none (map (ranks p) (daemons p s)) (ranks 
 pub all_daemons : (p : Plan) (s : ℕ) → ranks_on p (daemons p s) ≡ stream_ranks p s
 unfolding stream_ranks
 all_daemons p s = refl
+
+-- each daemon of a stream is the front end or below it
+within_front : (p : Plan) (s d : ℕ) → IsPlan p → In d (daemons p s) → is_within p d (front p) ≡ true
+unfolding is_within is_under
+within_front p s d plan there = elim (under_front p (length (ancestors p d)) d (rooted p plan.topology.tree) (omega arith) (daemon_is_node p s d plan there)) [
+  | (inl same) ↦ or_left (d == front p) (member (front p) (ancestors p d)) (eq-eqb d (front p) same)
+  | (inr under) ↦ or_right (d == front p) (member (front p) (ancestors p d)) (in_member (front p) (ancestors p d) under)
+]
+
+filter_all : (test : ℕ → Bool) (xs : List ℕ) → ((x : ℕ) → In x xs → test x ≡ true) → filter test xs ≡ xs
+filter_all test [] all = refl
+filter_all test (x ∷ xs) all = ap (λ b. cond b (x ∷ filter test xs) (filter test xs)) (all x (inl refl)) ∙ ap (λ ys. x ∷ ys) (filter_all test xs (λ y there. all y (inr there)))
+
+-- the front end expects all ranks of a stream
+pub all_expected : (p : Plan) (s w : ℕ) → IsPlan p → HasWave p s w → (n : ℕ) (ranks : Ranks) → n ≡ front p → ranks ≡ expected p n s → ranks ≡ stream_ranks p s
+unfolding expected stream_ranks
+all_expected p s w plan wave n ranks at is =
+    is
+    ∙ ap (λ m. ranks_on p (those_within p m (daemons p s))) at
+    ∙ ap (ranks_on p) (filter_all (λ d. is_within p d (front p)) (daemons p s) (λ d there. within_front p s d plan there))
+
+-- a wave's stream has sample times
+pub samples_some : (p : Plan) (s w : ℕ) → IsPlan p → HasWave p s w → 0 < sample_count p s
+unfolding sample_count stream_of
+samples_some p s w plan wave = by (find (λ x. x.number == s) p.streams) refl (found p.streams s w wave)
+  where
+    by : (o : Option Stream) → find (λ x. x.number == s) p.streams ≡ o → IsSome o → 0 < (elim o as (λ _. ℕ) [ None ↦ 0 | (Some x) ↦ x.samples ])
+    by None is some = absurd (true≢false (sym some))
+    by (Some x) is some = (all_in IsStream p.streams x plan.script.streams (found_in (λ x. x.number == s) p.streams x is)).has_samples

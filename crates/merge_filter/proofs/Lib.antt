@@ -1,7 +1,7 @@
-pub mod Halves
 pub mod WaveSamples
 pub mod Prefixes
 pub mod Standing
 pub mod Daemons
 pub mod Pendings
 pub mod Takings
+pub mod WaveTrees

@@ -9,10 +9,12 @@ use Rattle.call_path.specs.Path.{Path, is_path}
 use Rattle.call_path.specs.Pairs.{pairs_at, is_pair, HasNoEmptyPath, is_below}
 use Rattle.call_path.proofs.PathLemmas.{is_path-exact, is_path-itself}
 use Rattle.prefix_tree.specs.Joined.{AreSamePairs}
+use Rattle.prefix_tree.specs.Tree.{tree_of}
+use Rattle.prefix_tree.proofs.TreeLaws.{tree_of-same_pairs}
 use Rattle.prefix_tree.proofs.PairLemmas.{is_pair-append, any-pairs_of_set}
 use Rattle.stat_plan.specs.Invariants.{IsPlan, IsSampleLine}
 use Rattle.overlay_setup.specs.NodeSets.{In}
-use Rattle.stat_plan.specs.OwnLines.{AreOwnLines, is_listed}
+use Rattle.stat_plan.specs.OwnLines.{AreWaveLines, is_seen}
 use Rattle.stat_plan.specs.Plans.{Plan, grain, sample_count, samples, stream_ranks}
 use Rattle.stat_plan.specs.Samples.{SampleLine, is_in_wave, path_by, samples_of, seen_by, wave_lines}
 use Rattle.stat_plan.specs.StackLines.{PathIndicesInRange, line_of, lines_of}
@@ -53,27 +55,27 @@ pub record ListsRank (lines : List SampleLine) (k w : ℕ) (g : Grain) (r : ℕ)
   pub rank : Has r line.ranks
   pub path : is_path q (path_by g line.path) ≡ true
 
-from_listed : (lines : List SampleLine) (r time : ℕ) (p : Path) → is_listed lines r time p ≡ true → (line : SampleLine) × (In line lines × (Has r line.ranks × ((line.time ≡ time) × (line.path ≡ p))))
-from_listed lines r time p e =
-    let found = in_from_any (λ (line : SampleLine). has line.ranks r && (nat_eq line.time time && is_path p line.path)) lines e in
-    let parts = and_parts (has found.0.ranks r) (nat_eq found.0.time time && is_path p found.0.path) found.1.1 in
-    let same = and_parts (nat_eq found.0.time time) (is_path p found.0.path) parts.1 in
-    (found.0, (found.1.0, (parts.0, (eqb-true found.0.time time same.0, sym (is_path-exact p found.0.path same.1)))))
+from_seen : (k w : ℕ) (lines : List SampleLine) (r : ℕ) (p : Path) → is_seen k w lines r p ≡ true → (line : SampleLine) × (In line lines × (Has r line.ranks × ((is_in_wave k w line.time ≡ true) × (line.path ≡ p))))
+from_seen k w lines r p e =
+    let found = in_from_any (λ (line : SampleLine). has line.ranks r && (is_in_wave k w line.time && is_path p line.path)) lines e in
+    let parts = and_parts (has found.0.ranks r) (is_in_wave k w found.0.time && is_path p found.0.path) found.1.1 in
+    let same = and_parts (is_in_wave k w found.0.time) (is_path p found.0.path) parts.1 in
+    (found.0, (found.1.0, (parts.0, (same.0, sym (is_path-exact p found.0.path same.1)))))
 
-to_listed : (lines : List SampleLine) (line : SampleLine) (r : ℕ) → In line lines → Has r line.ranks → is_listed lines r line.time line.path ≡ true
-to_listed lines line r there rank =
-    any_from_in (λ (other : SampleLine). has other.ranks r && (nat_eq other.time line.time && is_path line.path other.path)) line lines there
-    (and_from (has line.ranks r) (nat_eq line.time line.time && is_path line.path line.path) rank
-    (and_from (nat_eq line.time line.time) (is_path line.path line.path) (eq-eqb line.time line.time refl) (is_path-itself line.path)))
+to_seen : (k w : ℕ) (lines : List SampleLine) (line : SampleLine) (r : ℕ) → In line lines → Has r line.ranks → is_in_wave k w line.time ≡ true → is_seen k w lines r line.path ≡ true
+to_seen k w lines line r there rank time =
+    any_from_in (λ (other : SampleLine). has other.ranks r && (is_in_wave k w other.time && is_path line.path other.path)) line lines there
+    (and_from (has line.ranks r) (is_in_wave k w line.time && is_path line.path line.path) rank
+    (and_from (is_in_wave k w line.time) (is_path line.path line.path) time (is_path-itself line.path)))
 
--- lines that list as much
-moved : (ls bs : List SampleLine) (k w : ℕ) (g : Grain) (r : ℕ) (q : Path) → ((time : ℕ) (p : Path) → is_listed ls r time p ≡ is_listed bs r time p) → ListsRank ls k w g r q → ListsRank bs k w g r q
+-- lines that list as much in the wave
+moved : (ls bs : List SampleLine) (k w : ℕ) (g : Grain) (r : ℕ) (q : Path) → ((p : Path) → is_seen k w ls r p ≡ is_seen k w bs r p) → ListsRank ls k w g r q → ListsRank bs k w g r q
 moved ls bs k w g r q same l =
-    let found = from_listed bs r l.line.time l.line.path (sym (same l.line.time l.line.path) ∙ to_listed ls l.line r l.there l.rank) in
+    let found = from_seen k w bs r l.line.path (sym (same l.line.path) ∙ to_seen k w ls l.line r l.there l.rank l.time) in
     record {
       line = found.0;
       there = found.1.0;
-      time = ap (is_in_wave k w) found.1.1.1.0 ∙ l.time;
+      time = found.1.1.1.0;
       rank = found.1.1.0;
       path = ap (λ p. is_path q (path_by g p)) found.1.1.1.1 ∙ l.path;
     }
@@ -141,15 +143,15 @@ where_true true a b same = same refl
 where_true false a b same = refl
 
 -- lines that list of some ranks of the stream what the plan's lines list put the same pairs as the samples of the wave
-pub same_samples : (p : Plan) (s w : ℕ) (own : Ranks) (lines : List SampleLine) → IsSubset own (stream_ranks p s) → ((r time : ℕ) (q : Path) → Has r own → is_listed lines r time q ≡ is_listed p.lines r time q)
+pub same_samples : (p : Plan) (s w : ℕ) (own : Ranks) (lines : List SampleLine) → IsSubset own (stream_ranks p s) → ((r : ℕ) (q : Path) → Has r own → is_seen (sample_count p s) w lines r q ≡ is_seen (sample_count p s) w p.lines r q)
     → AreSamePairs (samples_of (wave_lines (sample_count p s) w (map (by_grain (grain p s)) lines))) (samples p s w) own
 unfolding samples
 same_samples p s w own lines lies same q r =
     let k = sample_count p s in
     let g = grain p s in
     ap (λ b. is_below q && b) (where_true (has own r) _ _ (λ in_own. both_ways _ _
-    (λ there. stream_to p.lines k w g r q (stream_ranks p s) (lies r in_own) (moved lines p.lines k w g r q (λ time p. same r time p in_own) (own_from lines k w g r q there)))
-    (λ there. own_to lines k w g r q (moved p.lines lines k w g r q (λ time p. sym (same r time p in_own)) (stream_from p.lines k w g r q (stream_ranks p s) there)))))
+    (λ there. stream_to p.lines k w g r q (stream_ranks p s) (lies r in_own) (moved lines p.lines k w g r q (λ p. same r p in_own) (own_from lines k w g r q there)))
+    (λ there. own_to lines k w g r q (moved p.lines lines k w g r q (λ p. sym (same r p in_own)) (stream_from p.lines k w g r q (stream_ranks p s) there)))))
 
 length_by : (g : Grain) (p : Path) → length (path_by g p) ≡ length p
 length_by Line p = refl
@@ -164,7 +166,17 @@ samples_have_paths p plan s w r q there =
     subst (λ (p : Path). 0 < length p) (sym (is_path-exact q (path_by (grain p s) listed.line.path) listed.path))
     (subst (λ n. 0 < n) (sym (length_by (grain p s) listed.line.path)) good.path.some)
 
--- a node's own lines list its ranks alone
-pub own_lines_lie : (own : Ranks) (all : List SampleLine) (paths : List Path) (lines : List StackLine) → AreOwnLines own all (lines_of paths lines) → AllByRecursion (λ line. IsSubset line.ranks own) lines
-own_lines_lie own all paths lines are = all_from (λ (line : StackLine). IsSubset line.ranks own) lines (λ line there r rank.
-    (and_parts (has own r) (is_listed all r line.time (get_or paths line.path [])) (sym (are.each r line.time (get_or paths line.path [])) ∙ to_listed (lines_of paths lines) (line_of paths line) r (in_map (line_of paths) line lines there) rank)).0)
+-- lines of a wave list the ranks alone that they have the samples of
+pub wave_lines_lie : (k w : ℕ) (own : Ranks) (all : List SampleLine) (paths : List Path) (lines : List StackLine) → AreWaveLines k w own all (lines_of paths lines) → AllByRecursion (λ line. IsSubset line.ranks own) lines
+wave_lines_lie k w own all paths lines are = all_from (λ (line : StackLine). IsSubset line.ranks own) lines (λ line there.
+    all_in (λ (line : SampleLine). IsSubset line.ranks own) (lines_of paths lines) (line_of paths line) are.within (in_map (line_of paths) line lines there))
+
+-- their tree is that of the wave's samples over these ranks
+pub wave_tree_is : (p : Plan) (s w k : ℕ) (g : Grain) (paths by : List Path) (lines : List StackLine) (own : Ranks) → IsSubset own (stream_ranks p s) → k ≡ sample_count p s → g ≡ grain p s
+    → AreWaveLines k w own p.lines (lines_of paths lines) → PathIndicesInRange paths lines → by ≡ map (path_by g) paths
+    → tree_of (samples_of (wave_lines k w (lines_of by lines))) own ≡ tree_of (samples p s w) own
+wave_tree_is p s w k g paths by lines own lies count sees are in_range by_is =
+    (λ i. tree_of (samples_of (wave_lines (count i) w (lines_of ((by_is ∙ ap (λ g. map (path_by g) paths) sees) i) lines))) own)
+    ∙ ap (λ ls. tree_of (samples_of (wave_lines (sample_count p s) w ls)) own) (lines_by_grain (grain p s) paths lines in_range)
+    ∙ tree_of-same_pairs _ _ own (same_samples p s w own (lines_of paths lines) lies
+    (λ r q in_own. let here = subst (λ k. AreWaveLines k w own p.lines (lines_of paths lines)) count are in here.each r q ∙ ap (λ b. b && is_seen (sample_count p s) w p.lines r q) in_own))

@@ -5,14 +5,14 @@
 //! number of times: the result is a partial merge that covers the ranks of all.
 #![tactic(auto)]
 
-ghost use Rattle.std.specs.Prelude.{◌≡◌, ◌≤◌, ℕ, IfOk, IsSome, OnOk, OnErr};
+ghost use Rattle.std.specs.Prelude.{◌≡◌, ◌≤◌, IfOk, IsSome, OnOk, OnErr};
 ghost use Rattle.rank_set.specs.Ranks.{Ranks, none, union};
 ghost use Rattle.call_path.specs.Pairs.{Pairs};
 ghost use Rattle.prefix_tree.specs.Pairs.{IsWithin};
 ghost use Rattle.prefix_tree.specs.Tree.{count_below, tree_of};
 ghost use Rattle.stat_plan.specs.Samples.{prefix_count};
 ghost use Rattle.overlay_setup.specs.NodeSets.{In};
-ghost use Rattle.stat_plan.specs.Plans.{Plan, daemons, grain, ranks, ranks_on, sample_count, stream_of, stream_ranks};
+ghost use Rattle.stat_plan.specs.Plans.{Plan, daemons, grain, ranks, sample_count, stream_of, stream_ranks};
 ghost use Rattle.merge_filter.specs.Contributions.{HasWave, IsPartialMerge, contrib, coverage_of};
 
 mod own_tree;
@@ -21,16 +21,20 @@ use overlay_setup::Grain;
 use own_tree::own_tree;
 use prefix_tree::{PrefixTree, TreeError};
 use rank_set::RankSet;
-use stat_plan::Plan;
+use stat_plan::{Plan, Wanted, WaveTimes};
 use std::alloc::{AllocError, Global};
 use std::marker::Model;
 
-// How many sample times each wave of a stream has.
-fn sample_count(plan: &Plan, s: u8) -> u8
+// The sample times of a wave of a stream.
+fn times_of(plan: &Plan, s: u8, w: u8) -> WaveTimes
     requires { IsSome (stream_of plan.now s) }
-    ensures { result ≡ sample_count plan.now s }
+    ensures samples { result.samples ≡ sample_count plan.now s }
+    ensures wave { result.wave ≡ w }
 {
-    plan.known_stream(s).samples()
+    WaveTimes {
+        samples: plan.known_stream(s).samples(),
+        wave: w,
+    }
 }
 
 // How a stream sees paths.
@@ -101,10 +105,10 @@ impl<T: PrefixTree> Contribution<T> {
         ensures partial_merge { IfOk result (IsPartialMerge plan.now) }
     {
         plan.invariant();
-        let own = plan.own_lines(d);
+        let times = times_of(plan, s, w);
+        let own = plan.own_lines(d, times)?;
         let paths = own.paths_by(grain_of(plan, s));
-        let samples = sample_count(plan, s);
-        let tree = own_tree(alloc, own.lines, paths, samples, w, plan.ranks(d))?;
+        let tree = own_tree(alloc, own.lines(), paths, times, plan.ranks(d))?;
         Ok(Contribution::of_tree(s, w, tree))
     }
 
@@ -187,36 +191,8 @@ impl<T: PrefixTree> Contribution<T> {
     }
 }
 
-// The parts of some daemons of a stream, merged by halves: a set is copied once for each halving, and not for each
-// daemon.
-fn merge_parts<T: PrefixTree>(
-    alloc: Global,
-    plan: &Plan,
-    some: &[u32],
-    s: u8,
-    w: u8,
-) -> Result<Contribution<T>, AllocError>
-    requires wave { HasWave plan.now s w }
-    requires daemons { (d : ℕ) → In d some.now → In d (daemons plan.now s) }
-    ensures stream { IfOk result (λ c. c.stream ≡ s) }
-    ensures wave { IfOk result (λ c. c.wave ≡ w) }
-    ensures coverage { IfOk result (λ c. coverage_of c ≡ ranks_on plan.now some.now) }
-    ensures partial_merge { IfOk result (IsPartialMerge plan.now) }
-{
-    let Some(first) = some.first() else {
-        return Ok(Contribution::none(alloc, s, w));
-    };
-    if some.len() == 1 {
-        return Contribution::of_daemon(alloc, plan, *first, s, w);
-    }
-    let (front, back) = some.split_at(some.len() / 2);
-    let mut all: Contribution<T> = merge_parts(alloc, plan, front, s, w)?;
-    let rest: Contribution<T> = merge_parts(alloc, plan, back, s, w)?;
-    all.absorb(plan, &rest)?;
-    Ok(all)
-}
-
-/// All samples of a wave: each daemon's own part is made, and they are merged.
+/// All samples of a wave. For each path the ranks of all daemons are united first: so the paths are added once, and no
+/// daemon's own part is made.
 pub fn direct<T: PrefixTree>(
     alloc: Global,
     plan: &Plan,
@@ -229,5 +205,14 @@ pub fn direct<T: PrefixTree>(
     ensures coverage { IfOk result (λ c. coverage_of c ≡ stream_ranks plan.now s) }
     ensures partial_merge { IfOk result (IsPartialMerge plan.now) }
 {
-    merge_parts(alloc, plan, daemons_of(plan, s), s, w)
+    plan.invariant();
+    let wanted = Wanted {
+        daemons: daemons_of(plan, s),
+        ranks: plan.expected(plan.front(), s),
+        times: times_of(plan, s, w),
+    };
+    let seen = plan.wave_lines(alloc, wanted)?;
+    let paths = seen.paths_by(grain_of(plan, s));
+    let tree = own_tree(alloc, seen.lines(), paths, wanted.times, wanted.ranks)?;
+    Ok(Contribution::of_tree(s, w, tree))
 }

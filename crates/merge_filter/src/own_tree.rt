@@ -1,4 +1,4 @@
-//! The tree of a wave's samples of some ranks, by the lines of these ranks alone.
+//! The tree of a wave's samples of some ranks, by lines that list these ranks alone.
 
 ghost use Rattle.std.specs.Prelude.{◌≡◌, ◌≤◌, IfOk, OnOk};
 ghost use Rattle.std.specs.List.{AllByRecursion};
@@ -12,7 +12,7 @@ ghost use Rattle.merge_filter.specs.Gathering.{HasRoomFor, TakesLine, with_pendi
 use call_path::CallPath;
 use prefix_tree::{PrefixTree, TreeError};
 use rank_set::RankSet;
-use stat_plan::{StackLine, is_in_wave};
+use stat_plan::{StackLine, WaveTimes};
 use std::alloc::{AllocError, Global};
 
 // Ranks that are still to be added to a tree, with a path.
@@ -75,17 +75,16 @@ pub fn own_tree<T: PrefixTree>(
     alloc: Global,
     lines: &[StackLine],
     paths: &[CallPath],
-    samples: u8,
-    wave: u8,
+    times: WaveTimes,
     own: &RankSet,
 ) -> Result<T, AllocError>
     requires numbered { PathIndicesInRange paths.now lines.now }
     requires own { AllByRecursion (λ line. IsSubset line.ranks own.now) lines.now }
     requires within { count_below
-        (tree_of (samples_of (wave_lines samples wave (lines_of paths.now lines.now))) own.now) ≤ 2048 }
+        (tree_of (samples_of (wave_lines times.samples times.wave (lines_of paths.now lines.now))) own.now) ≤ 2048 }
     ensures { IfOk result
         (λ tree. T.tree tree
-        ≡ tree_of (samples_of (wave_lines samples wave (lines_of paths.now lines.now))) own.now) }
+        ≡ tree_of (samples_of (wave_lines times.samples times.wave (lines_of paths.now lines.now))) own.now) }
 {
     let mut tree = T::empty(alloc);
     tree.cover(own)?;
@@ -94,7 +93,7 @@ pub fn own_tree<T: PrefixTree>(
         ranks: RankSet::new(alloc),
     };
     for line in lines {
-        if is_in_wave(samples, wave, line.time) {
+        if times.contains(line.time) {
             take_line(&mut tree, paths, &mut pending, line)?;
         }
     }

@@ -1,11 +1,14 @@
 -- The nodes of ranks, and rows by node number.
-use Rattle.std.proofs.Common.{◌≡◌, ◌≢◌, ◌⊎◌, ℕ, suc, zero, ◌+◌, ◌<◌, ◌≤◌, true, false, List, [], ◌∷◌, get_or, set, length, refl, sym, ap, subst, ◌∙◌, arith, inl, inr, Vec, Global}
+use Rattle.std.proofs.Common.{◌≡◌, ◌≢◌, ◌⊎◌, ℕ, suc, zero, ◌+◌, ◌<◌, ◌≤◌, true, false, List, [], ◌∷◌, get_or, map, set, length, refl, sym, ap, subst, ◌∙◌, arith, inl, inr, Vec, Global}
 use Rattle.std.proofs.lemmas.Bool.{true≢false, or_cases, cases_lt, false_from_ne_true}
 use Rattle.std.proofs.lemmas.List.{get_or-set_same, get_or-set_other, get_or_default, get_or-map, map-set, length-map}
 use Rattle.rank_set.specs.Ranks.{Ranks, none, has, Has, union, has-union, has-none}
 use Rattle.stat_plan.specs.Invariants.{ArePlacedOnce}
 use Rattle.stat_plan.specs.Samples.{ranks_with, all_ranks}
+use Rattle.stat_plan.specs.OwnLines.{HasRankOn}
+use Rattle.stat_plan.specs.Plans.{Plan, ranks, ranks_on}
 use Rattle.stat_plan.specs.Tables.{AreRankNodes, rows_view}
+use Rattle.stat_plan.proofs.InLists.{in_at}
 
 -- a node of the ranks of some sets
 pub record IsRankNode (placed : List Ranks) (r node : ℕ) : Type 0 where
@@ -92,3 +95,15 @@ row_here {X} table node d inside = sym (get_or-map (λ (r : Vec X Global). r.ite
 -- a table with as many rows as another
 pub as_long : {X : Type 0} (table old : List (Vec X Global)) (k : ℕ) → length (rows_view table) ≡ length (rows_view old) → length old ≡ k → length table ≡ k
 as_long {X} table old k same paired = sym (length-map table (λ (r : Vec X Global). r.items)) ∙ same ∙ length-map old (λ (r : Vec X Global). r.items) ∙ paired
+
+-- a rank of some nodes is placed on one of them
+pub rank_on : (p : Plan) (some : List ℕ) (r : ℕ) → Has r (ranks_on p some) → HasRankOn p.placed some r
+unfolding ranks
+rank_on p some r there =
+    let at = rank_node_of (map (ranks p) some) r there in
+    let inside : at.0 < length some = subst (λ k. at.0 < k) (length-map some (ranks p)) at.1.inside in
+    record {
+      node = get_or some at.0 0;
+      there = in_at some at.0 0 inside;
+      rank = ap (λ s. has s r) (sym (get_or-map (ranks p) some at.0 0 none inside)) ∙ at.1.holds;
+    }

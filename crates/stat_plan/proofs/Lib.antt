@@ -3,6 +3,9 @@ pub mod Expecting
 pub mod Indexing
 pub mod Elements
 pub mod Sharing
+pub mod Marking
+pub mod WaveRows
+pub mod Gathering
 pub mod OwnPaths
 pub mod FirstOver
 pub mod LookupLemmas

@@ -1,7 +1,7 @@
 -- Rows that gain their parts of lines.
 use Rattle.std.proofs.Common.{◌≡◌, ◌≢◌, ℕ, suc, zero, ◌+◌, ◌<◌, ◌≤◌, Bool, true, false, ◌&&◌, ◌||◌, nat_eq, List, [], ◌∷◌, ◌++◌, map, take, get_or, set, length, refl, sym, ap, subst, ◌∙◌, arith, eqb-true, eq-eqb, inl, inr}
 use Rattle.std.specs.Prelude.{nat_lt, not, if◌then◌else◌, slice_get, Option, Some, unwrap_or, Result, Ok, Err, OnOk}
-use Rattle.std.specs.List.{list_any}
+use Rattle.std.specs.List.{list_any, AllByRecursion}
 use Rattle.std.specs.List.Sorted.{IsPermutation}
 use Rattle.std.proofs.lemmas.Bool.{true≢false, cases_Bool, cases_lt, eqb-false, le-ltb, lt-ltb, and_parts, and_from, or_cases, or_left, or_right, false_from_ne_true}
 use Rattle.std.proofs.lemmas.List.{get_or_default, length-set, length-map, map-append, map-set, set-get_or, take_more}
@@ -14,7 +14,7 @@ use Rattle.rank_set.specs.Runs.{ranks_between}
 use Rattle.rank_set.proofs.RunSets.{between_high, between_in, between_low}
 use Rattle.rank_set.proofs.SomeMember.{some_member}
 use Rattle.stat_plan.specs.Invariants.{ArePlacedOnce}
-use Rattle.stat_plan.specs.OwnLines.{AreKeysOf, AreNotEmpty, AreOwnRows, AreParted, AreReordered, GainLines, GainParts, GainsRanks, ListPlacedRanks, is_in, key_of, lists, ranks_at, row_at}
+use Rattle.stat_plan.specs.OwnLines.{AreKeysOf, AreNotEmpty, AreParted, AreReordered, GainParts, GainsRanks, ListPlacedRanks, is_in, key_of, lists, ranks_at, row_at}
 use Rattle.stat_plan.specs.Samples.{all_ranks}
 use Rattle.overlay_setup.specs.NodeSets.{up_to}
 use Rattle.stat_plan.specs.declared.samples.StackLine.{StackLine}
@@ -118,56 +118,21 @@ and_none : (a : Bool) → (a && false) ≡ false
 and_none true = refl
 and_none false = refl
 
--- no rank passes the test
-pub parts_none : (placed : List Ranks) (line : StackLine) (test : ℕ → Bool) (rows : List (List StackLine)) → ((r : ℕ) → test r ≡ false) → GainParts placed line test rows rows
-parts_none placed line test rows fails = record {
-  paired = refl;
-  each = λ n r t i below. sym (ap (λ b. is_in (row_at rows n) r t i || (has (ranks_at placed n) r && (b && (nat_eq line.time t && nat_eq line.path i)))) (fails r) ∙ ap (λ b. is_in (row_at rows n) r t i || b) (and_none (has (ranks_at placed n) r)) ∙ or_none (is_in (row_at rows n) r t i));
-  not_empty = λ n below all. all;
-}
-
--- ranks that pass one test, and then those that pass another
-pub parts_more : (placed : List Ranks) (line : StackLine) (before now after : ℕ → Bool) (old mid new : List (List StackLine)) → ((r : ℕ) → (before r || now r) ≡ after r)
-    → GainParts placed line before old mid → GainParts placed line now mid new → GainParts placed line after old new
-parts_more placed line before now after old mid new is one two = record {
-  paired = two.paired ∙ one.paired;
-  each = λ n r t i below.
-      let own = has (ranks_at placed n) r in
-      let at = nat_eq line.time t && nat_eq line.path i in
-      two.each n r t i (inside n below)
-      ∙ ap (λ b. b || (own && (now r && at))) (one.each n r t i below)
-      ∙ both (is_in (row_at old n) r t i) own (before r) (now r) at
-      ∙ ap (λ b. is_in (row_at old n) r t i || (own && (b && at))) (is r);
-  not_empty = λ n below all. two.not_empty n (inside n below) (one.not_empty n below all);
-}
-  where
-    inside : (n : ℕ) → n < length old → n < length mid
-    inside n below = subst (λ k. n < k) (sym one.paired) below
-
-    both : (o w b n a : Bool) → ((o || (w && (b && a))) || (w && (n && a))) ≡ (o || (w && ((b || n) && a)))
-    both true w b n a = refl
-    both false false b n a = refl
-    both false true true true true = refl
-    both false true true false true = refl
-    both false true true true false = refl
-    both false true true false false = refl
-    both false true false n a = refl
-
--- the ranks of one node
-pub parts_of_node : (placed : List Ranks) (line : StackLine) (ranks : Ranks) (node : ℕ) (old : List (List StackLine)) (row : List StackLine) → ArePlacedOnce placed → node < length old → IsSubset ranks (ranks_at placed node)
-    → GainsRanks line ranks (row_at old node) row → GainParts placed line (has ranks) old (set old node row)
-parts_of_node placed line ranks node old row once inside lies gain = record {
+-- a line whose ranks are one node's
+pub parts_of_node : (placed : List Ranks) (line : StackLine) (node : ℕ) (old : List (List StackLine)) (row : List StackLine) → ArePlacedOnce placed → node < length old → IsSubset line.ranks (ranks_at placed node)
+    → GainsRanks line line.ranks (row_at old node) row → GainParts placed line old (set old node row)
+parts_of_node placed line node old row once inside lies gain = record {
   paired = length-set old node row;
   each = λ n r t i below. elim (cases_Bool (nat_eq n node)) [
     | (inl same) ↦
         let e : n ≡ node = eqb-true n node same in
-        subst (λ m. is_in (row_at (set old node row) m) r t i ≡ (is_in (row_at old m) r t i || (has (ranks_at placed m) r && (has ranks r && (nat_eq line.time t && nat_eq line.path i))))) (sym e)
-        (ap (λ xs. is_in xs r t i) (same_row old node row inside) ∙ gain.each r t i ∙ ap (λ b. is_in (row_at old node) r t i || b) (within (has (ranks_at placed node) r) (has ranks r) (nat_eq line.time t && nat_eq line.path i) (lies r)))
+        subst (λ m. is_in (row_at (set old node row) m) r t i ≡ (is_in (row_at old m) r t i || (has (ranks_at placed m) r && (has line.ranks r && (nat_eq line.time t && nat_eq line.path i))))) (sym e)
+        (ap (λ xs. is_in xs r t i) (same_row old node row inside) ∙ gain.each r t i ∙ ap (λ b. is_in (row_at old node) r t i || b) (within (has (ranks_at placed node) r) (has line.ranks r) (nat_eq line.time t && nat_eq line.path i) (lies r)))
     | (inr other) ↦
         ap (λ xs. is_in xs r t i) (other_row old node row inside n (eqb-false n node other))
-        ∙ sym (ap (λ b. is_in (row_at old n) r t i || b) (false_from_ne_true (has (ranks_at placed n) r && (has ranks r && (nat_eq line.time t && nat_eq line.path i))) (λ both.
-        let parts = and_parts (has (ranks_at placed n) r) ((has ranks r && (nat_eq line.time t && nat_eq line.path i))) both in
-        eqb-false n node other (once n node r parts.0 (lies r (and_parts (has ranks r) (nat_eq line.time t && nat_eq line.path i) parts.1).0)))) ∙ or_none (is_in (row_at old n) r t i))
+        ∙ sym (ap (λ b. is_in (row_at old n) r t i || b) (false_from_ne_true (has (ranks_at placed n) r && (has line.ranks r && (nat_eq line.time t && nat_eq line.path i))) (λ both.
+        let parts = and_parts (has (ranks_at placed n) r) ((has line.ranks r && (nat_eq line.time t && nat_eq line.path i))) both in
+        eqb-false n node other (once n node r parts.0 (lies r (and_parts (has line.ranks r) (nat_eq line.time t && nat_eq line.path i) parts.1).0)))) ∙ or_none (is_in (row_at old n) r t i))
   ];
   not_empty = λ n below all. elim (cases_Bool (nat_eq n node)) [
     | (inl same) ↦
@@ -181,57 +146,6 @@ parts_of_node placed line ranks node old row once inside lies gain = record {
     within true l c sub = refl
     within false true c sub = absurd (true≢false (sym (sub refl)))
     within false false c sub = refl
-
--- ---- the runs of a line
-
--- whether a rank of a set is below another rank
-abbrev pub has_below : Ranks → ℕ → ℕ → Bool
-has_below ranks past r = has ranks r && nat_lt r past
-
--- a rank between two
-pub between_from : (first last r : ℕ) → Has r (ranks_between first last) → (first ≤ r) × (r ≤ last)
-between_from first last r there = (
-  elim (cases_lt r first) [ (inl low) ↦ absurd (true≢false (sym there ∙ between_low first last r low)) | (inr from) ↦ from ],
-  elim (cases_lt last r) [ (inl high) ↦ absurd (true≢false (sym there ∙ between_high first last r high)) | (inr up) ↦ up ],
-)
-
-module _ (ranks : Ranks) where
-  -- no rank is below 0
-  pub below_none : (r : ℕ) → has_below ranks 0 r ≡ false
-  below_none r = ap (λ b. has ranks r && b) (le-ltb r 0 (omega arith)) ∙ and_none (has ranks r)
-
-  -- up to the next run nothing comes
-  pub below_run : (from first : ℕ) → from ≤ first → ((q : ℕ) → from ≤ q → q < first → has ranks q ≡ false) → (r : ℕ) → has_below ranks from r ≡ has_below ranks first r
-  below_run from first le passed r = elim (cases_lt r from) [
-    | (inl before) ↦ ap (λ b. has ranks r && b) (lt-ltb r from before ∙ sym (lt-ltb r first (omega (arith, before, le))))
-    | (inr later) ↦ elim (cases_lt r first) [
-      | (inl between) ↦ ap (λ b. b && nat_lt r from) (passed r later between) ∙ sym (ap (λ b. b && nat_lt r first) (passed r later between))
-      | (inr begun) ↦ ap (λ b. has ranks r && b) (le-ltb r from later ∙ sym (le-ltb r first begun))
-    ]
-  ]
-
-  -- a part of a run comes
-  pub below_part : (from last : ℕ) → from ≤ last → ((q : ℕ) → from ≤ q → q ≤ last → Has q ranks) → (r : ℕ) → (has_below ranks from r || has (ranks_between from last) r) ≡ has_below ranks (last + 1) r
-  below_part from last le within r = elim (cases_lt r from) [
-    | (inl before) ↦ (λ i. (has ranks r && lt-ltb r from before i) || between_low from last r before i) ∙ or_none (has ranks r && true) ∙ ap (λ b. has ranks r && b) (sym (lt-ltb r (last + 1) (omega (arith, before, le))))
-    | (inr later) ↦ elim (cases_lt r (last + 1)) [
-      | (inl inside) ↦
-          or_right (has_below ranks from r) (has (ranks_between from last) r) (between_in from last r later (omega (arith, inside)))
-          ∙ sym (and_from (has ranks r) (nat_lt r (last + 1)) (within r later (omega (arith, inside))) (lt-ltb r (last + 1) inside))
-      | (inr past) ↦ (λ i. (has ranks r && le-ltb r from later i) || between_high from last r (omega (arith, past)) i) ∙ or_none (has ranks r && false) ∙ ap (λ b. has ranks r && b) (sym (le-ltb r (last + 1) past))
-    ]
-  ]
-
-  -- where no rank is left, all have come
-  pub below_all : (from : ℕ) → ((q : ℕ) → from ≤ q → has ranks q ≡ false) → (r : ℕ) → has_below ranks from r ≡ has ranks r
-  below_all from none_left r = elim (cases_lt r from) [
-    | (inl before) ↦ ap (λ b. has ranks r && b) (lt-ltb r from before) ∙ and_all (has ranks r)
-    | (inr later) ↦ ap (λ b. b && nat_lt r from) (none_left r later) ∙ sym (none_left r later)
-  ]
-    where
-      and_all : (b : Bool) → (b && true) ≡ b
-      and_all true = refl
-      and_all false = refl
 
 -- ---- all lines
 
@@ -257,34 +171,23 @@ one_more lines k line lt is r t i =
     ∙ list_any-append (λ l. lists l r t i) (take k lines) (line ∷ [])
     ∙ ap (λ b. is_in (take k lines) r t i || b) (or_none (lists line r t i))
 
--- no line is shared yet
-pub rows_none : (placed : List Ranks) (rows : List (List StackLine)) → rows ≡ map (λ (_ : ℕ). []) (up_to (length placed)) → AreOwnRows placed [] rows
-rows_none placed rows is = record {
+-- no line is shared out yet
+pub parted_none : (placed : List Ranks) (spread : List StackLine) (rows : List (List StackLine)) → spread ≡ [] → rows ≡ map (λ (_ : ℕ). []) (up_to (length placed)) → AreParted placed [] spread rows
+parted_none placed spread rows none_spread is = subst (λ xs. AreParted placed [] xs rows) (sym none_spread) (record {
   paired = ap length is ∙ length-map (up_to (length placed)) (λ (_ : ℕ). []) ∙ length-up_to (length placed);
-  each = λ n r t i below. ap (λ xs. is_in xs r t i) (empty n below) ∙ sym (and_none (has (ranks_at placed n) r));
+  each = λ n r t i below. ap (λ xs. is_in xs r t i || (has (ranks_at placed n) r && false)) (empty n below);
   not_empty = λ n below. subst AreNotEmpty (sym (empty n below)) tt;
-}
-  where
-    empty : (n : ℕ) → n < length placed → row_at rows n ≡ []
-    empty n below = ap (λ xs. row_at xs n) is ∙ at_table (λ _. []) (length placed) n [] below
-
-pub parted_none : (placed : List Ranks) (spread : List StackLine) (rows : List (List StackLine)) → spread ≡ [] → AreOwnRows placed [] rows → AreParted placed [] spread rows
-parted_none placed spread rows is are = subst (λ xs. AreParted placed [] xs rows) (sym is) (record {
-  paired = are.paired;
-  each = λ n r t i below. ap (λ b. b || (has (ranks_at placed n) r && false)) (are.each n r t i below) ∙ twice (has (ranks_at placed n) r && false);
-  not_empty = are.not_empty;
   spread_within = λ r t i there. there;
   spread_not_empty = tt;
 })
   where
-    twice : (a : Bool) → (a || a) ≡ a
-    twice true = refl
-    twice false = refl
+    empty : (n : ℕ) → n < length placed → row_at rows n ≡ []
+    empty n below = ap (λ xs. row_at xs n) is ∙ at_table (λ _. []) (length placed) n [] below
 
 -- a line more is taken
 module _ (placed : List Ranks) (lines : List StackLine) (k : ℕ) (line : StackLine) (lt : k < length lines) (is : line ≡ get_or lines k line) where
   -- by the rows
-  pub parted_by_rows : (spread : List StackLine) (old new : List (List StackLine)) → AreParted placed (take k lines) spread old → GainParts placed line (has line.ranks) old new → AreParted placed (take (k + 1) lines) spread new
+  pub parted_by_rows : (spread : List StackLine) (old new : List (List StackLine)) → AreParted placed (take k lines) spread old → GainParts placed line old new → AreParted placed (take (k + 1) lines) spread new
   parted_by_rows spread old new so_far gain = record {
     paired = gain.paired ∙ so_far.paired;
     each = λ n r t i below.
@@ -322,30 +225,6 @@ module _ (placed : List Ranks) (lines : List StackLine) (k : ℕ) (line : StackL
     spread_not_empty = gain.not_empty so_far.spread_not_empty;
   }
 
-  -- a line more is shared out
-  pub lines_more : (old mid new : List (List StackLine)) → GainLines placed (take k lines) old mid → GainParts placed line (has line.ranks) mid new → GainLines placed (take (k + 1) lines) old new
-  lines_more old mid new so_far gain = record {
-    paired = gain.paired ∙ so_far.paired;
-    each = λ n r t i below.
-        let own = has (ranks_at placed n) r in
-        gain.each n r t i (inside n below)
-        ∙ ap (λ b. b || (own && lists line r t i)) (so_far.each n r t i below)
-        ∙ sym (or_group (is_in (row_at old n) r t i) (own && is_in (take k lines) r t i) (own && lists line r t i))
-        ∙ ap (λ b. is_in (row_at old n) r t i || b) (and_or own (is_in (take k lines) r t i) (lists line r t i) ∙ ap (λ b. own && b) (sym (one_more lines k line lt is r t i)));
-    not_empty = λ n below all. gain.not_empty n (inside n below) (so_far.not_empty n below all);
-  }
-    where
-      inside : (n : ℕ) → n < length old → n < length mid
-      inside n below = subst (λ k. n < k) (sym so_far.paired) below
-
--- no line is shared out yet
-pub lines_none : (placed : List Ranks) (rows : List (List StackLine)) → GainLines placed [] rows rows
-lines_none placed rows = record {
-  paired = refl;
-  each = λ n r t i below. sym (ap (λ b. is_in (row_at rows n) r t i || b) (and_none (has (ranks_at placed n) r)) ∙ or_none (is_in (row_at rows n) r t i));
-  not_empty = λ n below all. all;
-}
-
 -- spread lines list placed ranks
 pub spread_placed : (placed : List Ranks) (lines spread : List StackLine) (rows : List (List StackLine)) → ListPlacedRanks placed lines → AreParted placed lines spread rows → ListPlacedRanks placed spread
 spread_placed placed lines spread rows placed_ranks are = all_from _ spread (λ line there. (
@@ -355,17 +234,6 @@ spread_placed placed lines spread rows placed_ranks are = all_from _ spread (λ 
       let from = in_from_any (λ (l : StackLine). lists l r line.time line.path) lines (are.spread_within r line.time line.path here) in
       (all_in (λ (l : StackLine). (l.ranks ≢ none) × IsSubset l.ranks (all_ranks placed)) lines from.0 placed_ranks from.1.0).1 r (and_parts (has from.0.ranks r) (nat_eq from.0.time line.time && nat_eq from.0.path line.path) from.1.1).0,
 ))
-
--- all spread lines are shared out
-pub rows_all : (placed : List Ranks) (lines spread : List StackLine) (old new : List (List StackLine)) → AreParted placed lines spread old → GainLines placed spread old new → AreOwnRows placed lines new
-rows_all placed lines spread old new are gain = record {
-  paired = gain.paired ∙ are.paired;
-  each = λ n r t i below. gain.each n r t i (inside n below) ∙ are.each n r t i below;
-  not_empty = λ n below. gain.not_empty n (inside n below) (are.not_empty n below);
-}
-  where
-    inside : (n : ℕ) → n < length placed → n < length old
-    inside n below = subst (λ k. n < k) (sym are.paired) below
 
 -- ---- the keys of lines
 
@@ -430,16 +298,25 @@ reordered_more old new node row inside moved so_far = record {
   ];
 }
 
--- the order of a row's lines doesn't matter
-pub rows_reordered : (placed : List Ranks) (lines : List StackLine) (old new : List (List StackLine)) → AreReordered old new → AreOwnRows placed lines old → AreOwnRows placed lines new
-rows_reordered placed lines old new moved are = record {
-  paired = moved.paired ∙ are.paired;
-  each = λ n r t i below. same (λ l. lists l r t i) (row_at new n) (row_at old n) (IsPermutation-sym (row_at old n) (row_at new n) (moved.rows n)) ∙ are.each n r t i below;
-  not_empty = λ n below. all_from (λ (l : StackLine). l.ranks ≢ none) (row_at new n) (λ l there. all_in (λ (l : StackLine). l.ranks ≢ none) (row_at old n) l (are.not_empty n below) (in_permuted l (row_at new n) (row_at old n) (IsPermutation-sym (row_at old n) (row_at new n) (moved.rows n)) there));
-}
-  where
-    found : (test : StackLine → Bool) (xs ys : List StackLine) → IsPermutation xs ys → list_any test xs ≡ true → list_any test ys ≡ true
-    found test xs ys moved there = let x = in_from_any test xs there in any_from_in test x.0 ys (in_permuted x.0 xs ys moved x.1.0) x.1.1
+-- what is found in some lines doesn't depend on their order
+found : (test : StackLine → Bool) (xs ys : List StackLine) → IsPermutation xs ys → list_any test xs ≡ true → list_any test ys ≡ true
+found test xs ys moved there = let x = in_from_any test xs there in any_from_in test x.0 ys (in_permuted x.0 xs ys moved x.1.0) x.1.1
 
-    same : (test : StackLine → Bool) (xs ys : List StackLine) → IsPermutation xs ys → list_any test xs ≡ list_any test ys
-    same test xs ys moved = both_ways (list_any test xs) (list_any test ys) (found test xs ys moved) (found test ys xs (IsPermutation-sym xs ys moved))
+pub any_permuted : (test : StackLine → Bool) (xs ys : List StackLine) → IsPermutation xs ys → list_any test ys ≡ list_any test xs
+any_permuted test xs ys moved = both_ways (list_any test ys) (list_any test xs) (found test ys xs (IsPermutation-sym xs ys moved)) (found test xs ys moved)
+
+-- what holds of all lines doesn't either
+pub all_permuted : (P : StackLine → Type 0) (xs ys : List StackLine) → IsPermutation xs ys → AllByRecursion P xs → AllByRecursion P ys
+all_permuted P xs ys moved all = all_from P ys (λ l there. all_in P xs l all (in_permuted l ys xs (IsPermutation-sym xs ys moved) there))
+
+-- so lines stay parted in another order
+pub parted_reordered : (placed : List Ranks) (lines spread sorted : List StackLine) (old new : List (List StackLine)) → AreReordered old new → IsPermutation spread sorted → AreParted placed lines spread old → AreParted placed lines sorted new
+parted_reordered placed lines spread sorted old new moved order are = record {
+  paired = moved.paired ∙ are.paired;
+  each = λ n r t i below.
+      (λ j. any_permuted (λ l. lists l r t i) (row_at old n) (row_at new n) (moved.rows n) j || (has (ranks_at placed n) r && any_permuted (λ l. lists l r t i) spread sorted order j))
+      ∙ are.each n r t i below;
+  not_empty = λ n below. all_permuted (λ (l : StackLine). l.ranks ≢ none) (row_at old n) (row_at new n) (moved.rows n) (are.not_empty n below);
+  spread_within = λ r t i there. are.spread_within r t i (sym (any_permuted (λ l. lists l r t i) spread sorted order) ∙ there);
+  spread_not_empty = all_permuted (λ (l : StackLine). l.ranks ≢ none) spread sorted order are.spread_not_empty;
+}

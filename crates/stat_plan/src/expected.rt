@@ -48,8 +48,8 @@ fn add_daemons(
     Ok(())
 }
 
-// `n` empty sets.
-fn empty_sets(alloc: Global, n: u32) -> Result<Vec<RankSet>, AllocError>
+/// `n` empty sets.
+pub fn empty_sets(alloc: Global, n: usize) -> Result<Vec<RankSet>, AllocError>
     ensures { IfOk result (λ sets. sets.items ≡ map (λ _. none) (up_to n)) }
 {
     let mut sets = Vec::new(alloc);
@@ -71,7 +71,7 @@ pub fn expected_sets(
     requires daemons { (d : ℕ) → In d daemons.now → d < nodes job.now }
     ensures { IfOk result (λ sets. AreExpected job.now daemons.now sets.items) }
 {
-    let mut sets = empty_sets(alloc, job.topology().nodes())?;
+    let mut sets = empty_sets(alloc, job.topology().nodes() as usize)?;
     add_daemons(&mut sets, job, above, daemons)?;
     Ok(sets)
 }

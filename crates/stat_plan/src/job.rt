@@ -1,21 +1,24 @@
 //! A job: what its three files say together.
 
-ghost use Rattle.std.specs.Prelude.{◌≡◌, ◌<◌, length, map, slice_index_or};
+ghost use Rattle.std.specs.Prelude.{◌≡◌, ◌<◌, ℕ, IfOk, length, map, slice_index_or};
 ghost use Rattle.rank_set.specs.Ranks.{none};
 ghost use Rattle.call_path.specs.Functions.{func};
 ghost use Rattle.stat_plan.specs.Invariants.{IsJob, SamplesFit};
 ghost use Rattle.overlay_setup.specs.Scripts.{ScriptFits};
-ghost use Rattle.stat_plan.specs.OwnLines.{AreOwnLines};
+ghost use Rattle.overlay_setup.specs.NodeSets.{In};
+ghost use Rattle.stat_plan.specs.OwnLines.{AreWaveLines};
 ghost use Rattle.stat_plan.specs.PathOrder.{IsOrderOf};
-ghost use Rattle.stat_plan.specs.Plans.{plan_of, nodes, front, ranks};
+ghost use Rattle.stat_plan.specs.Plans.{plan_of, nodes, front, ranks_on};
 ghost use Rattle.overlay_setup.specs.Names.{name_of};
-ghost use Rattle.stat_plan.specs.Shown.{lines_view};
+ghost use Rattle.stat_plan.specs.Shown.{AreNumbered, lines_view, wave_lines_view};
 ghost use Rattle.stat_plan.specs.StackLines.{PathIndicesInRange};
 ghost use Rattle.overlay_setup.specs.Trees.{parent_of, is_daemon};
 
-use crate::samples::{Lines, Samples};
+use crate::samples::{Lines, Samples, WaveLines, WaveTimes};
+use crate::wave_lines::Wanted;
 use overlay_setup::{Fault, Script, StreamDef, Topology};
 use rank_set::RankSet;
+use std::alloc::{AllocError, Global};
 use std::marker::Model;
 
 /// The nodes, the samples and the script of a job, which fit each other.
@@ -83,15 +86,26 @@ impl Job {
         self.samples.lines()
     }
 
-    /// The lines of a node alone, in the order of their paths.
-    pub fn own_lines(&self, n: u32) -> Lines<'_>
+    /// A node's samples of a wave, in the order of their paths.
+    pub fn own_lines(&self, n: u32, times: WaveTimes) -> Result<WaveLines<'_>, AllocError>
         requires { n < length self.now.placed }
-        ensures own { AreOwnLines (slice_index_or self.now.placed n none) self.now.lines (lines_view result) }
-        ensures numbered { PathIndicesInRange result.paths.now result.lines.now }
-        ensures functions { result.functions.now ≡ map (map func) result.paths.now }
-        ensures order { IsOrderOf result.paths.now result.order.now }
+        ensures samples { IfOk result (λ own. AreWaveLines times.samples times.wave (slice_index_or self.now.placed n none) self.now.lines
+            (wave_lines_view own)) }
+        ensures numbered { IfOk result AreNumbered }
     {
-        self.samples.own_lines(n)
+        self.samples.own_lines(n, times)
+    }
+
+    /// The wanted samples, one line for each path in which ranks were seen, in the order of the paths.
+    pub fn wave_lines(&self, alloc: Global, wanted: Wanted<'_>) -> Result<WaveLines<'_>, AllocError>
+        requires times { 0 < wanted.times.samples }
+        requires daemons { (d : ℕ) → In d wanted.daemons.now → d < length self.now.placed }
+        requires ranks { wanted.ranks.now ≡ ranks_on self.now wanted.daemons.now }
+        ensures samples { IfOk result (λ all. AreWaveLines wanted.entry.times.samples wanted.entry.times.wave wanted.entry.ranks.now
+            self.now.lines (wave_lines_view all)) }
+        ensures numbered { IfOk result AreNumbered }
+    {
+        self.samples.wave_lines(alloc, wanted)
     }
 
     /// The ranks of each node, by node number.

@@ -21,7 +21,7 @@ ghost use Rattle.stat_plan.specs.StackLines.{PathIndicesInRange};
 use crate::job::Job;
 use crate::path_order::in_order;
 use crate::plan_error::PlanError;
-use crate::samples::{Lines, StackLine, is_in_wave};
+use crate::samples::{Lines, StackLine, WaveTimes};
 use call_path::CallPath;
 use overlay_setup::{Grain, StreamDef};
 use rank_set::RankSet;
@@ -65,34 +65,33 @@ fn is_within(paths: &[CallPath], order: &[usize], seen: &[bool]) -> bool
     true
 }
 
-// By path number, whether a line at the times of wave `wave` lists one of some ranks in the path.
+// By path number, whether a line at the times of a wave lists one of some ranks in the path.
 fn paths_seen(
     alloc: Global,
     lines: &[StackLine],
     count: usize,
-    samples: u8,
-    wave: u8,
+    times: WaveTimes,
     ranks: &RankSet,
 ) -> Result<Vec<bool>, AllocError>
     requires { AllByRecursion (λ line. line.path < count) lines.now }
     ensures length { IfOk result (λ seen. length seen.items ≡ count) }
-    ensures seen { IfOk result (λ seen. AreSeen lines.now samples wave ranks.now seen.items) }
+    ensures seen { IfOk result (λ seen. AreSeen lines.now times.samples times.wave ranks.now seen.items) }
 {
     let mut seen = vec![in alloc; false; count]?;
     for line in lines {
-        if lists_rank(line, samples, wave, ranks)? {
+        if lists_rank(line, times, ranks)? {
             seen[line.path as usize] = true;
         }
     }
     Ok(seen)
 }
 
-// Whether a line at a time of wave `wave` lists one of some ranks.
-fn lists_rank(line: &StackLine, samples: u8, wave: u8, ranks: &RankSet) -> Result<bool, AllocError>
-    ensures { IfOk result
-        (λ lists. lists ≡ (is_in_wave samples wave line.now.time && share_rank line.now.ranks ranks.now)) }
+// Whether a line at a time of a wave lists one of some ranks.
+fn lists_rank(line: &StackLine, times: WaveTimes, ranks: &RankSet) -> Result<bool, AllocError>
+    ensures { IfOk result (λ lists. lists
+        ≡ (is_in_wave times.samples times.wave line.now.time && share_rank line.now.ranks ranks.now)) }
 {
-    if !is_in_wave(samples, wave, line.time) {
+    if !times.contains(line.time) {
         return Ok(false);
     }
     let mut common = line.ranks.copy()?;
@@ -118,7 +117,11 @@ fn wave_is_within(
         (wave_lines stream.now.samples wave (lines_view all.entry))))) }
 {
     let paths = all.paths_by(stream.grain());
-    let seen = paths_seen(alloc, all.lines, paths.len(), stream.samples(), wave, ranks)?;
+    let times = WaveTimes {
+        samples: stream.samples(),
+        wave,
+    };
+    let seen = paths_seen(alloc, all.lines, paths.len(), times, ranks)?;
     Ok(is_within(paths, order, &seen))
 }
 

@@ -1,17 +1,15 @@
 //! A plan: what the three files of a job say together, with tables for its look-ups.
 
 ghost use Rattle.std.specs.Prelude.{◌≡◌, ◌<◌, ℕ, IfErr, IfOk, IsSome, None, Some, [], length, map, slice_index_or};
-ghost use Rattle.call_path.specs.Functions.{func};
 ghost use Rattle.rank_set.specs.Ranks.{none};
 ghost use Rattle.stat_plan.specs.Invariants.{IsPlan, SamplesFit};
 ghost use Rattle.overlay_setup.specs.Scripts.{ScriptFits};
 ghost use Rattle.stat_plan.specs.Limits.{RefusesAt, first_over};
 ghost use Rattle.overlay_setup.specs.Names.{name_of, number_of};
-ghost use Rattle.stat_plan.specs.OwnLines.{AreOwnLines};
-ghost use Rattle.stat_plan.specs.PathOrder.{IsOrderOf};
-ghost use Rattle.stat_plan.specs.Plans.{ancestors, expected, fault, front, is_under, nodes, plan_of, ranks, serves, stream_of};
-ghost use Rattle.stat_plan.specs.Shown.{IsStreamOf, lines_view};
-ghost use Rattle.stat_plan.specs.StackLines.{PathIndicesInRange};
+ghost use Rattle.overlay_setup.specs.NodeSets.{In};
+ghost use Rattle.stat_plan.specs.OwnLines.{AreWaveLines};
+ghost use Rattle.stat_plan.specs.Plans.{ancestors, expected, fault, front, is_under, nodes, plan_of, ranks, ranks_on, serves, stream_of};
+ghost use Rattle.stat_plan.specs.Shown.{AreNumbered, IsStreamOf, wave_lines_view};
 ghost use Rattle.stat_plan.specs.Tables.{AreAllExpected, AreFaults, ancestors_table, rows_view};
 ghost use Rattle.overlay_setup.specs.Trees.{is_daemon};
 
@@ -21,7 +19,8 @@ use crate::find::stream_index;
 use crate::job::Job;
 use crate::limit::check_limit;
 use crate::plan_error::PlanError;
-use crate::samples::{Lines, Samples};
+use crate::samples::{Samples, WaveLines, WaveTimes};
+use crate::wave_lines::Wanted;
 use overlay_setup::{Fault, Script, StreamDef, Topology};
 use rank_set::RankSet;
 use std::alloc::{AllocError, Global};
@@ -279,16 +278,28 @@ impl Plan {
         }
     }
 
-    /// The lines of a node alone, in the order of their paths: they list the node's ranks, at the times and in the
-    /// paths in which the lines of the samples list them.
-    pub fn own_lines(&self, n: u32) -> Lines<'_>
+    /// A node's samples of a wave, in the order of their paths: its ranks alone, in the paths in which the lines of the
+    /// samples list them at the times of the wave.
+    pub fn own_lines(&self, n: u32, times: WaveTimes) -> Result<WaveLines<'_>, AllocError>
         requires { n < nodes self.now }
-        ensures own { AreOwnLines (ranks self.now n) self.now.lines (lines_view result) }
-        ensures numbered { PathIndicesInRange result.paths.now result.lines.now }
-        ensures functions { result.functions.now ≡ map (map func) result.paths.now }
-        ensures order { IsOrderOf result.paths.now result.order.now }
+        ensures samples { IfOk result (λ own. AreWaveLines times.samples times.wave (ranks self.now n) self.now.lines
+            (wave_lines_view own)) }
+        ensures numbered { IfOk result AreNumbered }
     {
         self.job.invariant();
-        self.job.own_lines(n)
+        self.job.own_lines(n, times)
+    }
+
+    /// The wanted samples, one line for each path in which ranks were seen, in the order of the paths.
+    pub fn wave_lines(&self, alloc: Global, wanted: Wanted<'_>) -> Result<WaveLines<'_>, AllocError>
+        requires times { 0 < wanted.times.samples }
+        requires daemons { (d : ℕ) → In d wanted.daemons.now → d < nodes self.now }
+        requires ranks { wanted.ranks.now ≡ ranks_on self.now wanted.daemons.now }
+        ensures samples { IfOk result (λ all. AreWaveLines wanted.entry.times.samples wanted.entry.times.wave wanted.entry.ranks.now
+            self.now.lines (wave_lines_view all)) }
+        ensures numbered { IfOk result AreNumbered }
+    {
+        self.job.invariant();
+        self.job.wave_lines(alloc, wanted)
     }
 }

@@ -1,17 +1,19 @@
 //! What a samples text says: where the ranks are, and the paths that they were seen in.
 
-ghost use Rattle.std.specs.Prelude.{◌≡◌, ◌<◌, IfOk, length, map, slice_index_or};
-ghost use Rattle.rank_set.specs.Ranks.{none};
+ghost use Rattle.std.specs.Prelude.{◌≡◌, ◌<◌, ◌*◌, ℕ, true, IfOk, length, map, slice_index_or};
+ghost use Rattle.rank_set.specs.Ranks.{Has, none};
+ghost use Rattle.overlay_setup.specs.NodeSets.{In};
 ghost use Rattle.call_path.specs.Functions.{func};
 ghost use Rattle.stat_plan.specs.Samples.{is_in_wave, path_by};
-ghost use Rattle.stat_plan.specs.Shown.{lines_view};
+ghost use Rattle.stat_plan.specs.Shown.{AreNumbered, held_lines, lines_view, wave_lines_view};
 ghost use Rattle.stat_plan.specs.Invariants.{AreSamples};
-ghost use Rattle.stat_plan.specs.OwnLines.{AreOwnLines};
+ghost use Rattle.stat_plan.specs.OwnLines.{AreWaveLines, HasRankOn};
 ghost use Rattle.stat_plan.specs.PathOrder.{IsOrderOf};
 ghost use Rattle.stat_plan.specs.Plans.{sampled};
 
-use crate::own_lines::own_lines;
+use crate::parted_lines::{PartedLines, parted_lines};
 use crate::path_order::{in_order, path_places};
+use crate::wave_lines::{HeldLines, Wanted, node_lines, united_lines};
 use call_path::CallPath;
 use overlay_setup::Grain;
 use rank_set::RankSet;
@@ -72,12 +74,64 @@ fn functions_of(alloc: Global, paths: &[CallPath]) -> Result<Vec<CallPath>, Allo
     Ok(all)
 }
 
-/// Whether a time is one of those of wave `wave`, from 0, where each wave has `samples` sample times.
-pub fn is_in_wave(samples: u8, wave: u8, time: u32) -> bool
-    ensures { result ≡ is_in_wave samples wave time }
-{
-    let first = u32::from(wave) * u32::from(samples);
-    first <= time && time < first + u32::from(samples)
+/// The sample times of a wave.
+#[derive(Clone, Copy)]
+pub struct WaveTimes {
+    /// How many sample times each wave of the stream has.
+    pub samples: u8,
+    /// The number of the wave, from 0.
+    pub wave: u8,
+}
+
+impl WaveTimes {
+    /// The first of the times.
+    pub fn first(self) -> u32
+        ensures value { result ≡ self.wave * self.samples }
+        ensures of_wave { 0 < self.samples → is_in_wave self.samples self.wave result ≡ true }
+    {
+        u32::from(self.wave) * u32::from(self.samples)
+    }
+
+    /// Whether a time is one of them.
+    pub fn contains(self, time: u32) -> bool
+        ensures { result ≡ is_in_wave self.samples self.wave time }
+    {
+        let first = self.first();
+        first <= time && time < first + u32::from(self.samples)
+    }
+}
+
+/// Samples of a wave, of some ranks.
+#[derive(Drop)]
+pub struct WaveLines<'a> {
+    lines: HeldLines<'a>,
+    // The paths by number.
+    paths: &'a [CallPath],
+    // The functions of each path, by its number.
+    functions: &'a [CallPath],
+}
+
+impl<'a> WaveLines<'a> {
+    /// The lines, in the order of their paths.
+    pub fn lines(&self) -> &[StackLine]
+        ensures { result.now ≡ held_lines self.now.lines }
+    {
+        match &self.lines {
+            HeldLines::Kept(lines) => lines,
+            HeldLines::Made(lines) => lines.as_slice(),
+        }
+    }
+
+    /// The paths as a stream of some grain sees them, by number.
+    pub fn paths_by(&self, grain: Grain) -> &'a [CallPath]
+        requires { AreNumbered self.now }
+        ensures { result.now ≡ map (path_by grain) self.now.paths.now }
+    {
+        match grain {
+            Grain::Line => self.paths,
+            Grain::Function => self.functions,
+        }
+    }
 }
 
 /// Where the ranks of a job are, and the samples in the order of their text. Each path is kept once, and has a number.
@@ -90,8 +144,10 @@ pub struct Samples {
     // The numbers of the paths in the order of the paths.
     order: Vec<usize>,
     lines: Vec<StackLine>,
-    // By node number: the lines of the node alone, in the order of their paths.
-    own_lines: Vec<Vec<StackLine>>,
+    // By path number, the place of the path in the order of the paths.
+    places: Vec<usize>,
+    // The lines once more, by the nodes whose ranks they list.
+    parted: PartedLines,
 }
 
 impl Model for Samples {
@@ -106,7 +162,7 @@ impl Model for Samples {
     ghost use Rattle.call_path.specs.Functions.{func};
     ghost use Rattle.stat_plan.specs.StackLines.{lines_of, PathIndicesInRange};
     ghost use Rattle.stat_plan.specs.Invariants.{AreSamples};
-    ghost use Rattle.stat_plan.specs.OwnLines.{AreOwnRows};
+    ghost use Rattle.stat_plan.specs.OwnLines.{AreIndexed, AreParted, ranks_of_lines};
     ghost use Rattle.stat_plan.specs.PathOrder.{IsOrderOf};
     ghost use Rattle.stat_plan.specs.Tables.{rows_view};
 
@@ -117,7 +173,8 @@ impl Model for Samples {
         × AreSamples (sampled a.placed.items (lines_of a.paths.items a.lines.items))
         × (a.functions.items ≡ map (map func) a.paths.items)
         × IsOrderOf a.paths.items a.order.items
-        × AreOwnRows a.placed.items a.lines.items (rows_view a.own_lines.items) };
+        × AreParted a.placed.items a.lines.items a.parted.spread.items (rows_view a.parted.rows.items)
+        × AreIndexed a.placed.items (ranks_of_lines a.parted.spread.items) a.parted.numbers.items };
 }
 
 impl Samples {
@@ -137,14 +194,15 @@ impl Samples {
         let functions = functions_of(alloc, &paths)?;
         let order = in_order(alloc, &paths)?;
         let places = path_places(alloc, &paths, &order)?;
-        let own_lines = own_lines(alloc, &placed, &lines, &places)?;
+        let parted = parted_lines(alloc, &placed, &lines, &places)?;
         Ok(Samples {
             placed,
             paths,
             functions,
             order,
             lines,
-            own_lines,
+            places,
+            parted,
         })
     }
 
@@ -178,20 +236,37 @@ impl Samples {
         }
     }
 
-    /// The lines of a node alone, in the order of their paths.
-    pub fn own_lines(&self, n: u32) -> Lines<'_>
+    /// A node's samples of a wave, in the order of their paths.
+    pub fn own_lines(&self, n: u32, times: WaveTimes) -> Result<WaveLines<'_>, AllocError>
         requires { n < length self.now.placed }
-        ensures own { AreOwnLines (slice_index_or self.now.placed n none) self.now.lines (lines_view result) }
-        ensures numbered { PathIndicesInRange result.paths.now result.lines.now }
-        ensures functions { result.functions.now ≡ map (map func) result.paths.now }
-        ensures order { IsOrderOf result.paths.now result.order.now }
+        ensures samples { IfOk result (λ own. AreWaveLines times.samples times.wave (slice_index_or self.now.placed n none)
+            self.now.lines (wave_lines_view own)) }
+        ensures numbered { IfOk result AreNumbered }
     {
-        let own = &self.own_lines[n as usize];
-        Lines {
-            lines: own.as_slice(),
+        let own = &self.placed[n as usize];
+        let lines = node_lines(&self.parted, &self.places, n, own, times)?;
+        Ok(WaveLines {
+            lines,
             paths: self.paths.as_slice(),
             functions: self.functions.as_slice(),
-            order: self.order.as_slice(),
-        }
+        })
+    }
+
+    /// The wanted samples, one line for each path in which ranks were seen, in the order of the paths.
+    pub fn wave_lines(&self, alloc: Global, wanted: Wanted<'_>) -> Result<WaveLines<'_>, AllocError>
+        requires times { 0 < wanted.times.samples }
+        requires daemons { (d : ℕ) → In d wanted.daemons.now → d < length self.now.placed }
+        requires ranks { (r : ℕ) → Has r wanted.ranks.now → HasRankOn self.now.placed wanted.daemons.now r }
+        ensures samples { IfOk result (λ all. AreWaveLines wanted.entry.times.samples wanted.entry.times.wave wanted.entry.ranks.now
+            self.now.lines (wave_lines_view all)) }
+        ensures numbered { IfOk result AreNumbered }
+    {
+        let count = self.paths.len();
+        let lines = united_lines(alloc, &self.parted, &self.places, count, wanted)?;
+        Ok(WaveLines {
+            lines: HeldLines::Made(lines),
+            paths: self.paths.as_slice(),
+            functions: self.functions.as_slice(),
+        })
     }
 }

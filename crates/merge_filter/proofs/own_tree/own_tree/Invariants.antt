@@ -5,4 +5,4 @@ use Rattle.merge_filter.specs.Gathering.{AreGathered}
 use Rattle.merge_filter.proofs.own_tree.own_tree.Given as goal
 
 abbrev pub invariant-loop-line : goal.invariant-loop-line
-invariant-loop-line g l = AreGathered (wave_lines l.samples l.wave (lines_of l.paths (take l.line-index l.lines))) l.own l.paths l.pending (g.T.PrefixTree.tree l.tree)
+invariant-loop-line g l = AreGathered (wave_lines l.times.samples l.times.wave (lines_of l.paths (take l.line-index l.lines))) l.own l.paths l.pending (g.T.PrefixTree.tree l.tree)

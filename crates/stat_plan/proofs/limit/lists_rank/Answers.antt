@@ -8,4 +8,4 @@ pub returns : goal.returns
 returns c =
     ap not c.is_empty.ensures
     ∙ shared_unless_empty c.args.line.now.ranks c.args.ranks.now c.intersect_with.new.self (c.intersect_with.ensures ∙ ap (those (has c.args.ranks.now)) c.in_ok-common.ensures)
-    ∙ ap (λ b. b && share_rank c.args.line.now.ranks c.args.ranks.now) (sym c.if-not-is_in_wave.false ∙ c.is_in_wave.ensures)
+    ∙ ap (λ b. b && share_rank c.args.line.now.ranks c.args.ranks.now) (sym c.if-not-contains.false ∙ c.contains.ensures)

@@ -3,7 +3,7 @@ use Rattle.stat_plan.specs.OwnLines.{ListPlacedRanks}
 use Rattle.stat_plan.proofs.OwnPaths.{placed_ranks}
 use Rattle.stat_plan.proofs.samples.Samples.new.Goals as goal
 
-pub own_lines-requires-clause-lines : goal.own_lines-requires-clause-lines
-own_lines-requires-clause-lines c =
+pub parted_lines-requires-clause-lines : goal.parted_lines-requires-clause-lines
+parted_lines-requires-clause-lines c =
     subst (λ placed. ListPlacedRanks placed c.deref-6.result.now) (sym c.deref-5.ensures.value)
     (subst (ListPlacedRanks c.args.placed.items) (sym c.deref-6.ensures.value) (placed_ranks c.args.placed.items c.args.paths.items c.args.lines.items c.requires.samples))
