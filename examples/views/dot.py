@@ -73,7 +73,7 @@ def boxes(rows, depth):
 
 def joins(box):
     """Whether a box and the one below it are one: no stack ends between them, and the same ranks pass both."""
-    return len(box.below) == 1 and not box.folded and box.below[0].label == box.label and count(box.ends) == 0
+    return len(box.below) == 1 and box.below[0].label == box.label and count(box.ends) == 0
 
 
 def fold(root, most):

@@ -38,9 +38,15 @@ def runs(text):
 
     >>> runs('4:[0-2,7]'), runs('0:[]')
     ([(0, 2), (7, 7)], [])
-    >>> runs('5:[0-2,7]')
-    Traceback (most recent call last):
-    ValueError: 5:[0-2,7] is no set of ranks
+    >>> for text in '5:[0-2,7]', '3:[0-1,2]', '2:[1,0]', '0-2,7':
+    ...     try:
+    ...         runs(text)
+    ...     except ValueError as error:
+    ...         print(error)
+    5:[0-2,7] is no set of ranks
+    3:[0-1,2] is no set of ranks
+    2:[1,0] is no set of ranks
+    0-2,7 is no set of ranks
     """
     found = SET.match(text)
     pairs = [item.partition('-') for item in found.group(2).split(',') if item] if found else []
