@@ -6,8 +6,8 @@
 The classes stand first, the smallest on top, then the hosts and the tree. What is typed above them picks ranks (417 or
 3,10-12), a class, a host or functions by a part of their name; report.html#417 does so at once.
 
-Where the ranks are: --pids has a line RANK HOST PID for each rank; --samples is the samples file of the report, whose
-`daemon` lines name the hosts. Without either there are no hosts.
+Where the ranks are: --pids has a line RANK HOST PID for each rank, as stat-job leaves it; --samples is the samples file of the
+report, whose `daemon` lines name the hosts. Without either there are no hosts.
 """
 import argparse
 import json
@@ -19,10 +19,10 @@ PAGE = os.path.join(os.path.dirname(os.path.abspath(__file__)), 'page.html')
 
 
 def hosts_of_pids(lines):
-    """The hosts in lines RANK HOST PID.
+    """The hosts in lines RANK HOST PID, where the name of a core file may stand in the place of PID.
 
-    >>> hosts_of_pids(['0 n1 71', '2 n1 73', '1 n2 72']) == [{'name': 'n1', 'ranks': '2:[0,2]', 'pids': [71, 73]},
-    ...                                                      {'name': 'n2', 'ranks': '1:[1]', 'pids': [72]}]
+    >>> hosts_of_pids(['0 n1 71', '2 n1 73', '1 n2 core 1']) == [{'name': 'n1', 'ranks': '2:[0,2]', 'pids': ['71', '73']},
+    ...                                                          {'name': 'n2', 'ranks': '1:[1]', 'pids': ['core 1']}]
     True
     >>> hosts_of_pids(['0 n1'])
     Traceback (most recent call last):
@@ -30,14 +30,14 @@ def hosts_of_pids(lines):
     """
     there, ranks = {}, set()
     for number, line in enumerate(lines, 1):
-        words = line.split()
-        if len(words) != 3 or not (words[0].isdecimal() and words[2].isdecimal()):
+        words = line.strip().split(None, 2)
+        if len(words) != 3 or not words[0].isdecimal():
             raise ValueError('line %d is not RANK HOST PID' % number)
         if int(words[0]) in ranks:
             raise ValueError('line %d has rank %s once more' % (number, words[0]))
         ranks.add(int(words[0]))
-        there.setdefault(words[1], []).append((int(words[0]), int(words[2])))
-    return [{'name': name, 'ranks': set_text((rank, rank) for rank, _ in sorted(pairs)), 'pids': [pid for _, pid in sorted(pairs)]}
+        there.setdefault(words[1], []).append((int(words[0]), words[2]))
+    return [{'name': name, 'ranks': set_text((rank, rank) for rank, _ in pairs), 'pids': [pid for _, pid in sorted(pairs)]}
             for name, pairs in sorted(there.items())]
 
 
