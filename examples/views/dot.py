@@ -6,8 +6,9 @@
 A box is a frame, or several that the same ranks passed one after another. An edge has the ranks that went there. Boxes of the
 same ranks have one colour, and other boxes have others. Small graphs go down; those with more than 12 ends go to the right.
 
-Large trees are folded. Boxes are taken level by level from the root, and of a level those of the most ranks first, until
-there are N. What has no box stands in a dashed one beside them, with its ranks, so no rank is left out unseen.
+Large trees are folded. Boxes are taken level by level from the root, until there are N. Of a level that has too many, each box
+above keeps the same number of ways down, those of the most ranks: so where many ways leave one box they are folded first. What
+has no box stands in a dashed one beside them, with its ranks, so no rank is left out unseen.
 """
 import argparse
 
@@ -76,8 +77,22 @@ def joins(box):
     return len(box.below) == 1 and box.below[0].label == box.label and count(box.ends) == 0
 
 
+def shares(widths, left):
+    """How many of the ways below each box are kept, where each box has so many and `left` may be kept in all.
+
+    >>> shares([80, 2, 1], 10), shares([1, 1, 1], 2), shares([1, 2], 9)
+    ([7, 2, 1], [1, 1, 0], [1, 2])
+    """
+    kept = [0] * len(widths)
+    while left > 0 and kept != widths:
+        for i, width in enumerate(widths):
+            if kept[i] < width and left > 0:
+                kept[i], left = kept[i] + 1, left - 1
+    return kept
+
+
 def fold(root, most):
-    """Folds boxes until there are `most`: the lowest levels first, and of a level those of the fewest ranks.
+    """Folds boxes until there are `most`: those of the lowest levels, and of a level where most ways leave one box.
 
     >>> rows = [{'depth': min(i, 1), 'ends': '0:[]', 'frame': 'f%d' % i, 'label': label}
     ...         for i, label in enumerate(['6:[0-5]', '1:[5]', '3:[0-2]', '2:[3-4]'])]
@@ -88,8 +103,8 @@ def fold(root, most):
     """
     level, left = [root], most - 1
     while level:
-        kept = set(sorted((child for box in level for child in box.below), key=lambda box: -count(box.label))[:left])
-        for box in level:
+        for box, share in zip(level, shares([len(box.below) for box in level], left)):
+            kept = set(sorted(box.below, key=lambda child: -count(child.label))[:share])
             for child in box.below:
                 if child not in kept:
                     box.fold(child.label, sum(len(lower.frames) + lower.folded for lower in walk(child)))
