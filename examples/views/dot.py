@@ -193,7 +193,7 @@ def graph(release, most, depth):
 def main():
     parser = argparse.ArgumentParser(description=__doc__, formatter_class=argparse.RawDescriptionHelpFormatter)
     add_choice(parser)
-    parser.add_argument('--most', type=int, default=60, metavar='N', help='at most N boxes (60), and one for what is folded at each')
+    parser.add_argument('--most', type=int, default=60, metavar='N', help='at most N boxes (60) besides the dashed ones')
     parser.add_argument('--depth', type=int, default=128, metavar='D', help='at most D frames of each stack')
     asked = parser.parse_args()
     if asked.most < 1 or asked.depth < 1:

@@ -213,7 +213,7 @@ def chosen(report, stream, wave):
     if len(fitting) == 1:
         return fitting[0]
     there = ', '.join('--stream %d --wave %d' % (release['stream'], release['wave']) for release in finals)
-    stop('%s; final releases: %s' % ('which release?' if fitting else 'no such final release', there or 'none'))
+    stop('%s there is %s' % ('which release?' if fitting else 'no such final release;', there or 'none'))
 
 
 def add_choice(parser):
