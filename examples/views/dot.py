@@ -162,11 +162,24 @@ def heading(release):
             yield 'without a stack: ' + shorter_set(found['ranks'])
 
 
+def caption(box):
+    """The lines in a box: its frames, and the ranks whose stacks end there though others go on.
+
+    >>> rows = [(0, '0:[]', '/'), (1, '1:[1]', 'main'), (2, '2:[0-1]', 'f')]
+    >>> root = boxes([{'depth': depth, 'ends': ends, 'frame': frame, 'label': '2:[0-1]'} for depth, ends, frame in rows], 9)
+    >>> [caption(box) for box in walk(root)]
+    [['/'], ['main', 'ends here: 1:[1]'], ['f']]
+    """
+    goes_on = box.below or box.folded
+    ends = ['ends here: ' + shorter_set(box.ends)] if goes_on and count(box.ends) else []
+    return [shorter(frame, NAME_WIDTH) for frame in box.frames] + ends
+
+
 def statements(root):
     """The boxes and the edges, in Graphviz' words."""
     numbers, colours = {box: number for number, box in enumerate(walk(root))}, {}
     for box, number in numbers.items():
-        lines = ''.join(shorter(frame, NAME_WIDTH) + '\n' for frame in box.frames)
+        lines = ''.join(line + '\n' for line in caption(box))
         tip = '\n'.join([box.label] + box.frames)[:TIP_WIDTH]
         shade = colour(colours.setdefault(box.label, len(colours)))
         yield 'n%d [label=%s tooltip=%s fillcolor="%s"]' % (number, quoted(lines), quoted(tip), shade)
