@@ -15,6 +15,7 @@ import argparse
 from report import add_choice, chosen, count, put, read_report, runs, set_text, stop
 
 NAME_WIDTH, SET_WIDTH, TIP_WIDTH = 60, 32, 2000
+FRAMES_SHOWN = 16  # of a box with more the first and the last are shown, and all in its tooltip
 ENDS_DOWN = 12  # with more ends than this the graph goes to the right
 HEAD = '''digraph ranks {
   rankdir=%s labelloc=t fontname="Helvetica" fontsize=12 label=%s
@@ -169,10 +170,16 @@ def caption(box):
     >>> root = boxes([{'depth': depth, 'ends': ends, 'frame': frame, 'label': '2:[0-1]'} for depth, ends, frame in rows], 9)
     >>> [caption(box) for box in walk(root)]
     [['/'], ['main', 'ends here: 1:[1]'], ['f']]
+    >>> root.frames, root.below = ['f%d' % i for i in range(40)], []
+    >>> caption(root)
+    ['f0', 'f1', 'f2', 'f3', '.. 32 more ..', 'f36', 'f37', 'f38', 'f39']
     """
     goes_on = box.below or box.folded
     ends = ['ends here: ' + shorter_set(box.ends)] if goes_on and count(box.ends) else []
-    return [shorter(frame, NAME_WIDTH) for frame in box.frames] + ends
+    frames = [shorter(frame, NAME_WIDTH) for frame in box.frames]
+    if len(frames) > FRAMES_SHOWN:
+        frames[4:-4] = ['.. %d more ..' % (len(frames) - 8)]
+    return frames + ends
 
 
 def statements(root):
