@@ -15,7 +15,7 @@ import argparse
 from report import add_choice, chosen, count, put, read_report, runs, set_text, stop
 
 NAME_WIDTH, SET_WIDTH, TIP_WIDTH = 60, 32, 2000
-FRAMES_SHOWN = 16  # of a box with more the first and the last are shown, and all in its tooltip
+FRAMES_SHOWN = 16  # of a box with more, the first and the last are shown
 ENDS_DOWN = 12  # with more ends than this the graph goes to the right
 HEAD = '''digraph ranks {
   rankdir=%s labelloc=t fontname="Helvetica" fontsize=12 label=%s

@@ -24,7 +24,7 @@ def lines(release):
     ['main 2', 'main;poll 2', '(no stack) 1', '(missing: n3:0 is lost) 8']
     """
     for path, ranks in tree_ends(release['tree']).items():
-        yield '%s %d' % (path, ranks)
+        yield '%s %d' % (path, count(ranks))
     for found in release['classes']:
         if not found['paths']:
             yield '(no stack) ' + str(count(found['ranks']))

@@ -109,8 +109,8 @@ def test_classes(release):
     """Tests that each covered rank is in one class, and no other rank is."""
     for found in release['classes']:
         test_fields(found, CLASS, 'a class')
-        if any(not isinstance(path, str) for path in found['paths']):
-            raise ValueError('a class with a path that is no text')
+        if any(not isinstance(path, str) for path in found['paths']) or not runs(found['ranks']):
+            raise ValueError('a class without ranks, or with a path that is no text')
     for missing in release['missing']:
         test_fields(missing, MISSING, 'a daemon with missing ranks')
         runs(missing['ranks'])
@@ -119,11 +119,11 @@ def test_classes(release):
 
 
 def tree_ends(rows):
-    """How many ranks end in each path of a tree, whose rows are tested.
+    """The ranks whose stacks end in each path of a tree, whose rows are tested.
 
     >>> tree_ends([{'depth': 0, 'ends': '0:[]', 'frame': '/', 'label': '2:[0-1]'},
     ...            {'depth': 1, 'ends': '1:[1]', 'frame': 'main', 'label': '2:[0-1]'},
-    ...            {'depth': 2, 'ends': '1:[0]', 'frame': 'poll', 'label': '1:[0]'}]) == {'main': 1, 'main;poll': 1}
+    ...            {'depth': 2, 'ends': '1:[0]', 'frame': 'poll', 'label': '1:[0]'}]) == {'main': '1:[1]', 'main;poll': '1:[0]'}
     True
     >>> tree_ends([{'depth': 1, 'ends': '1:[1]', 'frame': 'main', 'label': '1:[1]'}])
     Traceback (most recent call last):
@@ -139,8 +139,25 @@ def tree_ends(rows):
         frames[max(0, row['depth'] - 1):] = [row['frame']] if i else []
         runs(row['label'])
         if runs(row['ends']):
-            ends[';'.join(frames)] = count(row['ends'])
+            ends[';'.join(frames)] = row['ends']
     return ends
+
+
+def test_labels(rows):
+    """Tests that the label of each row is the ranks that end there or pass a row below. The root has all covered ranks.
+
+    >>> rows = [{'depth': 0, 'ends': '0:[]', 'label': '3:[0-2]'}, {'depth': 1, 'ends': '1:[1]', 'label': '2:[0-1]'}]
+    >>> test_labels(rows + [{'depth': 2, 'ends': '1:[0]', 'label': '1:[0]'}])
+    >>> test_labels(rows)
+    Traceback (most recent call last):
+    ValueError: row 1 of the tree has other ranks than are below it
+    """
+    below = {}  # by depth, the runs of the rows that no row above has taken yet
+    for i, row in reversed(list(enumerate(rows))):
+        parts = runs(row['ends']) + below.pop(row['depth'] + 1, [])
+        if i and set_text(parts) != row['label']:
+            raise ValueError('row %d of the tree has other ranks than are below it' % i)
+        below.setdefault(row['depth'], []).extend(runs(row['label']))
 
 
 def test_release(release):
@@ -152,8 +169,9 @@ def test_release(release):
     ends, seen = tree_ends(release['tree']), {}
     for found in release['classes']:
         for path in found['paths']:
-            seen[path] = seen.get(path, 0) + count(found['ranks'])
-    if seen != ends or release['tree'][0]['label'] != release['covered']:
+            seen.setdefault(path, []).extend(runs(found['ranks']))
+    test_labels(release['tree'])
+    if {path: set_text(parts) for path, parts in seen.items()} != ends or release['tree'][0]['label'] != release['covered']:
         raise ValueError('the classes and the tree disagree')
 
 
