@@ -1,27 +1,27 @@
 -- The first line of a text, by its start and by what stands behind the start.
-use Rattle.std.proofs.Common.{rules, ◌≡◌, ◌≢◌, ◌∙◌, ℕ, zero, suc, ◌+◌, ◌-◌, ◌<◌, ◌≤◌, ◌⊎◌, inl, inr, Bool, true, false, eqb-true, not, ◌&&◌, cond, nat_eq, nat_lt, nat_le, List, [], ◌∷◌, ◌++◌, length, length-append, map, take, drop, drop-cons, get_or, None, Some, Ok, refl, sym, ap, subst, arith, codes}
+use Rattle.std.proofs.Common.{rules, ◌≡◌, ◌≢◌, ◌∙◌, ℕ, zero, suc, ◌+◌, ◌-◌, ◌*◌, ◌<◌, ◌≤◌, ◌⊎◌, inl, inr, Bool, true, false, eqb-true, not, ◌&&◌, cond, nat_eq, nat_lt, nat_le, List, [], ◌∷◌, ◌++◌, length, length-append, map, take, drop, drop-cons, get_or, None, Some, Ok, refl, sym, ap, subst, arith, codes}
 use Rattle.std.specs.Prelude.{◌||◌, All, IsTrue}
 use Rattle.std.specs.Char.{is_ascii_digit}
 use Rattle.std.specs.List.{list_all}
 use Rattle.std.specs.Str.{bytes_eq, IsUtf8, IsAscii, IsCharBoundary}
 use Rattle.std.proofs.Math.Seq.{take-append_seam, drop-append_seam, drop-append-add}
 use Rattle.std.proofs.lemmas.Bool.{and_parts, not-true, ne_eqb, ltb-true, ltb-false, leb-true}
-use Rattle.std.proofs.lemmas.List.{append_assoc, length-drop, take-append-drop}
+use Rattle.std.proofs.lemmas.List.{append_assoc, drop-append-le, length-take-le, take-append-drop}
 use Rattle.std.proofs.lemmas.List.Elements.{All-head, All-tail}
 use Rattle.std.proofs.lemmas.List.Folds.{list_all-append}
 use Rattle.std.proofs.lemmas.List.Sums.{prefix_len_stops, prefix_len-le-length}
 use Rattle.std.proofs.lemmas.Slice.Eq.{bytes_eq-Decides}
 use Rattle.std.proofs.lemmas.Str.{IsUtf8-append, IsUtf8-from_ascii, IsUtf8-take, IsCharBoundary-before_ascii, IsCharBoundary-after_ascii}
-use Rattle.rank_set.specs.Digits.{digits_len}
+use Rattle.rank_set.specs.Digits.{digits_len, value_after}
 use Rattle.rank_set.specs.Ranks.{Ranks, none, has, union, is_subset, has-none, has-union, subset_from}
 use Rattle.rank_set.specs.Runs.{ranks_between}
 use Rattle.rank_set.specs.declared.TheConstants.{RANK_LIMIT}
 use Rattle.rank_set.proofs.RunSets.{has-ranks_between}
 use Rattle.call_path.specs.Path.{Path, path_text}
-use Rattle.call_path.specs.Good.{is_plain, is_good_frame, IsGoodPath}
+use Rattle.call_path.specs.Good.{is_plain, is_good_frame}
 use Rattle.call_path.specs.Reading.{path_of, frames, first_error, frame_error}
 use Rattle.call_path.proofs.ReadBack.{good_parts, read_good}
-use Rattle.text_lines.specs.Lines.{pieces, before_first, without_return, lines, is_blank, begins_with_blank, words, word_len, line_len, after_blanks, after_word, number_in}
+use Rattle.text_lines.specs.Lines.{pieces, before_first, without_return, lines, is_blank, begins_with_blank, words, line_len, after_blanks, after_word}
 use Rattle.text_lines.proofs.Cuts.{first_piece, after_feed}
 use Rattle.text_lines.proofs.Numbers.{word_is, number_words, number_rest}
 use Rattle.text_lines.specs.declared.text_error.TextError.TheVariants.{OutOfMemory}
@@ -29,13 +29,12 @@ use Rattle.stat_plan.specs.Plans.{Sampled}
 use Rattle.stat_plan.specs.Samples.{all_ranks}
 use Rattle.stat_plan.specs.declared.samples.TheConstants.{TIME_LIMIT}
 use Rattle.sample_text.specs.declared.parser.Parser.{Parser}
-use Rattle.sample_text.specs.LineViews.{SamplesOneRank, BeginsOneRank, is_no_feed}
+use Rattle.sample_text.specs.LineViews.{SamplesOneRank, BeginsWithNumber, BeginsOneRank, is_no_feed}
 use Rattle.sample_text.specs.Steps.{sample, with_sample_line, with_sample, if_room}
 use Rattle.sample_text.specs.Taking.{RefusesFirstLine}
-use Rattle.sample_text.proofs.Numbers.{writes}
 use Rattle.sample_text.proofs.Steps.{room, sample_good}
 use Rattle.sample_text.proofs.Texts.{path_good}
-use Rattle.sample_text.proofs.UsualLines.{one_rank_read}
+use Rattle.sample_text.proofs.UsualLines.{path_is, one_rank_read}
 
 pub not_false : (t : Bool) → not t ≡ false → t ≡ true
 not_false true e = refl
@@ -156,11 +155,11 @@ without_return_utf8 : (line : List ℕ) → IsUtf8 line → IsUtf8 (without_retu
 without_return_utf8 line utf8 = elim (return_or_not line) [
   | inl same ↦ subst IsUtf8 (sym same) utf8
   | inr off ↦
-    let front = without_return line in
-    let len = ap length off ∙ length-append front (13 ∷ []) in
-    let here : get_or line (length front) 0 ≡ 13 = ap (λ t. get_or t (length front) 0) off ∙ at_seam front 13 [] 0 in
-    subst IsUtf8 (ap (take (length front)) off ∙ take-append_seam front (13 ∷ []))
-    (IsUtf8-take line (length front) utf8 (IsCharBoundary-before_ascii line (length front) (omega (arith, len)) (omega (arith, here))))
+      let front = without_return line in
+      let len = ap length off ∙ length-append front (13 ∷ []) in
+      let here : get_or line (length front) 0 ≡ 13 = ap (λ t. get_or t (length front) 0) off ∙ at_seam front 13 [] 0 in
+      subst IsUtf8 (ap (take (length front)) off ∙ take-append_seam front (13 ∷ []))
+      (IsUtf8-take line (length front) utf8 (IsCharBoundary-before_ascii line (length front) (omega (arith, len)) (omega (arith, here))))
 ]
 
 first_line_utf8 : (text line : List ℕ) (later : List (List ℕ)) → IsUtf8 text → 0 < length text → lines text ≡ line ∷ later → IsUtf8 line
@@ -172,31 +171,52 @@ first_line_utf8 text line later utf8 some is =
     subst IsUtf8 same
     (without_return_utf8 (take n text) (IsUtf8-take text n utf8 (prefix_len-le-length (λ b. not (nat_eq b 10)) text, λ lt big. absurd (let feed = at_feed lt in omega (arith, feed, big)))))
 
--- a number at the front of a text, and the blank behind it
-pub record FrontNumber (text : List ℕ) (n : ℕ) (rest : List ℕ) : Type 0 where
-  pub word : List ℕ
-  pub blank : ℕ
-  pub whole : text ≡ word ++ blank ∷ rest
-  pub digits : list_all is_ascii_digit word ≡ true
-  pub some : 0 < length word
-  pub is_blank : is_blank blank ≡ true
-  pub number : number_in word ≡ Some n
+-- a digit more, and the number that the digits then write
+value_take : (text : List ℕ) (i value : ℕ) → i < length text → 10 * value_after value (take i text) + (get_or text i 0 - 48) ≡ value_after value (take (suc i) text)
+value_take [] i value lt = absurd (omega arith)
+value_take (b ∷ text) zero value lt = refl
+value_take (b ∷ text) (suc i) value lt = value_take text i (10 * value + (b - 48)) (omega arith)
 
-pub front_number : (text rest : List ℕ) (n : ℕ) → number_in (take (word_len text) text) ≡ Some n → rest ≡ drop (word_len text + 1) text → 0 < length rest → FrontNumber text n rest
-front_number text rest n number behind some =
-    let k = word_len text in
-    let left = ap length behind ∙ length-drop (k + 1) text in
-    let lt : k < length text = omega (arith, left, some) in
-    let next : suc k ≡ k + 1 = omega arith in
-    let w = writes (take k text) n number in
+digits_take : (text : List ℕ) (i : ℕ) → i < length text → list_all is_ascii_digit (take i text) ≡ true → is_ascii_digit (get_or text i 0) ≡ true → list_all is_ascii_digit (take (suc i) text) ≡ true
+digits_take [] i lt digits more = absurd (omega arith)
+digits_take (b ∷ text) zero lt digits more = rw more refl
+digits_take (b ∷ text) (suc i) lt digits more =
+    let parts = and_parts (is_ascii_digit b) (list_all is_ascii_digit (take i text)) digits in
+    (λ j. parts.0 j && digits_take text i (omega arith) parts.1 more j)
+
+module _ (text : List ℕ) (i : ℕ) (lt : i < length text) where
+  next : suc i ≡ i + 1
+  next = omega arith
+
+  pub value_more : (n : ℕ) → n ≡ value_after 0 (take i text) → 10 * n + (get_or text i 0 - 48) ≡ value_after 0 (take (i + 1) text)
+  value_more n value = ap (λ n. 10 * n + (get_or text i 0 - 48)) value ∙ value_take text i 0 lt ∙ ap (λ k. value_after 0 (take k text)) next
+
+  pub digits_more : list_all is_ascii_digit (take i text) ≡ true → is_ascii_digit (get_or text i 0) ≡ true → list_all is_ascii_digit (take (i + 1) text) ≡ true
+  digits_more digits more = ap (λ k. list_all is_ascii_digit (take k text)) (sym next) ∙ digits_take text i lt digits more
+
+-- the first eight bytes of a text
+pub window_len : (text window more : List ℕ) → window ≡ take 8 text → length more + 8 ≡ length text → length window ≡ 8
+window_len text window more front all = ap length front ∙ length-take-le 8 text (omega (arith, all))
+
+-- a text whose first bytes are digits with a space behind them
+pub number_front : (text window more rest : List ℕ) (i n : ℕ) → window ≡ take 8 text → more ≡ drop 8 text → i < length window → 0 < i → get_or window i 0 ≡ 32 → list_all is_ascii_digit (take i window) ≡ true → n ≡ value_after 0 (take i window) → rest ≡ drop (i + 1) text → BeginsWithNumber text n rest
+number_front text window more rest i n front back lt some space digits value behind =
+    let word = take i window in
+    let long : length word ≡ i = length-take-le i window (omega arith) in
+    let next : suc i ≡ i + 1 = omega arith in
+    let all : text ≡ window ++ more = sym (take-append-drop 8 text) ∙ (λ j. sym front j ++ sym back j) in
+    let cut : window ≡ word ++ 32 ∷ drop (i + 1) window = sym (take-append-drop i window) ∙ ap (λ t. word ++ t) (drop-cons window i 0 lt ∙ (λ j. space j ∷ drop (next j) window)) in
+    let later : drop (i + 1) window ++ more ≡ rest = sym (drop-append-le (i + 1) window more (omega (arith, lt))) ∙ ap (drop (i + 1)) (sym all) ∙ sym behind in
     record {
-      word = take k text;
-      blank = get_or text k 0;
-      whole = sym (take-append-drop k text) ∙ ap (λ t. take k text ++ t) (drop-cons text k 0 lt ∙ ap (λ t. get_or text k 0 ∷ t) (ap (λ j. drop j text) next ∙ sym behind));
-      digits = w.all;
-      some = w.some;
-      is_blank = not_false (is_blank (get_or text k 0)) (prefix_len_stops (λ b. not (is_blank b)) text 0 lt);
-      number = number;
+      word = word;
+      blank = 32;
+      whole = all ∙ ap (λ t. t ++ more) cut ∙ append_assoc word (32 ∷ drop (i + 1) window) more ∙ ap (λ t. word ++ 32 ∷ t) later;
+      some = omega (arith, long, some);
+      digits = digits;
+      number = ap (λ t. cond (t || not (list_all is_ascii_digit word)) None (Some (value_after 0 word))) (ne_eqb (length word) 0 (λ e. omega (arith, e, long, some)))
+          ∙ ap (λ t. cond (not t) None (Some (value_after 0 word))) digits
+          ∙ ap Some (sym value);
+      ends = refl;
     }
 
 -- digits before a byte that is none
@@ -246,7 +266,7 @@ all_ascii [] all i = omega arith
 all_ascii (b ∷ bytes) all zero = ltb-true b 128 (and_parts (nat_lt b 128) (list_all (λ b. nat_lt b 128) bytes) all).0
 all_ascii (b ∷ bytes) all (suc i) = all_ascii bytes (and_parts (nat_lt b 128) (list_all (λ b. nat_lt b 128) bytes) all).1 i
 
-pub no_blanks : (path : List ℕ) → begins_with_blank path ≡ false → path ≡ after_blanks path
+no_blanks : (path : List ℕ) → begins_with_blank path ≡ false → path ≡ after_blanks path
 no_blanks [] none = refl
 no_blanks (b ∷ path) none = rw none refl
 
@@ -260,7 +280,7 @@ word_front text bytes word first value front behind is =
     sym value ∙ sym (take-append-drop 6 bytes) ∙ (λ i. (sym front ∙ is) i ++ sym behind i)
 
 -- a text that begins with `stack` and two numbers
-module _ (text first second rest : List ℕ) (time rank : ℕ) (utf8 : IsUtf8 rest) (begins : text ≡ codes "stack " ++ first) (one : FrontNumber first time second) (two : FrontNumber second rank rest) where
+module _ (text first second rest : List ℕ) (time rank : ℕ) (begins : text ≡ codes "stack " ++ first) (one : BeginsWithNumber first time second) (two : BeginsWithNumber second rank rest) where
   start : List ℕ
   start = codes "stack " ++ (one.word ++ one.blank ∷ (two.word ++ two.blank ∷ []))
 
@@ -275,20 +295,28 @@ module _ (text first second rest : List ℕ) (time rank : ℕ) (utf8 : IsUtf8 re
   unfolding start
   start_passes test word digit blank =
       list_all-append test (codes "stack ") (one.word ++ one.blank ∷ (two.word ++ two.blank ∷ []))
-      ∙ (λ i. word i && front_passes test digit blank one.word one.blank (two.word ++ two.blank ∷ []) one.digits one.is_blank (front_passes test digit blank two.word two.blank [] two.digits two.is_blank refl) i)
+      ∙ (λ i. word i && front_passes test digit blank one.word one.blank (two.word ++ two.blank ∷ []) one.digits one.ends (front_passes test digit blank two.word two.blank [] two.digits two.ends refl) i)
 
   sample_in : time ≤ TIME_LIMIT → rank < RANK_LIMIT → (path : List ℕ) → IsUtf8 path → 0 < length path → begins_with_blank path ≡ false → SamplesOneRank (start ++ path) time rank path
   sample_in low below path utf8 some none =
       let third = two.word ++ two.blank ∷ path in
       let bytes = one.word ++ one.blank ∷ third in
       one_rank_read (start ++ path) (codes "stack " ++ bytes) bytes third path (sym (start_before path)) refl refl
-      one.word two.word path (words_front one.word one.blank third one.digits one.some one.is_blank) (words_front two.word two.blank path two.digits two.some two.is_blank)
-      (behind_front one.word one.blank third one.digits one.some one.is_blank) (behind_front two.word two.blank path two.digits two.some two.is_blank) (no_blanks path none)
+      one.word two.word path (words_front one.word one.blank third one.digits one.some one.ends) (words_front two.word two.blank path two.digits two.some two.ends)
+      (behind_front one.word one.blank third one.digits one.some one.ends) (behind_front two.word two.blank path two.digits two.some two.ends) (no_blanks path none)
       time rank low below one.number two.number
       (IsUtf8-append start path (IsUtf8-from_ascii start (all_ascii start (start_passes (λ b. nat_lt b 128) refl digit_ascii blank_ascii))) utf8) some
 
-  pub begins_one_rank : time ≤ TIME_LIMIT → rank < RANK_LIMIT → 0 < length rest → begins_with_blank rest ≡ false → BeginsOneRank text time rank rest
-  begins_one_rank low below some none = record {
+  -- the rest is what is left behind three words
+  pub rest_is : begins_with_blank rest ≡ false → rest ≡ after_blanks (after_word (after_word (after_word text)))
+  rest_is none =
+      path_is text (codes "stack " ++ first) first second rest (sym begins) refl refl one.word two.word rest
+      (ap words one.whole ∙ words_front one.word one.blank second one.digits one.some one.ends) (ap words two.whole ∙ words_front two.word two.blank rest two.digits two.some two.ends)
+      (ap (λ t. after_blanks (after_word t)) one.whole ∙ behind_front one.word one.blank second one.digits one.some one.ends) (ap (λ t. after_blanks (after_word t)) two.whole ∙ behind_front two.word two.blank rest two.digits two.some two.ends)
+      (no_blanks rest none)
+
+  pub begins_one_rank : IsUtf8 rest → time ≤ TIME_LIMIT → rank < RANK_LIMIT → 0 < length rest → begins_with_blank rest ≡ false → BeginsOneRank text time rank rest
+  begins_one_rank utf8 low below some none = record {
     start = start;
     whole = begins ∙ ap (λ t. codes "stack " ++ t) (one.whole ∙ ap (λ t. one.word ++ one.blank ∷ t) two.whole) ∙ sym (start_before rest);
     no_feed = start_passes is_no_feed refl digit_no_feed blank_no_feed;

@@ -39,17 +39,16 @@ digits_all (b ∷ rest) e =
 -- a word that writes a number
 pub record Writes (word : List ℕ) (n : ℕ) : Type 0 where
   pub some : 0 < length word
-  pub all : list_all is_ascii_digit word ≡ true
   pub digits : digits_len word ≡ length word
   pub value : value_after 0 word ≡ n
 
-pub writes : (word : List ℕ) (n : ℕ) → number_in word ≡ Some n → Writes word n
+writes : (word : List ℕ) (n : ℕ) → number_in word ≡ Some n → Writes word n
 writes word n is = by (nat_eq (length word) 0) (list_all is_ascii_digit word) refl refl is
   where
     by : (empty all : Bool) → nat_eq (length word) 0 ≡ empty → list_all is_ascii_digit word ≡ all → cond (empty || not all) None (Some (value_after 0 word)) ≡ Some n → Writes word n
     by true all a b e = cc
     by false false a b e = cc
-    by false true a b e = record { some = grind (arith, nat_tests); all = b; digits = digits_all word b; value = cc }
+    by false true a b e = record { some = grind (arith, nat_tests); digits = digits_all word b; value = cc }
 
 not_over : (n : ℕ) → n < 1048576 → nat_le 1048576 n ≡ false
 not_over n few = grind (arith, nat_tests)

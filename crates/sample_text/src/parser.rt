@@ -8,7 +8,9 @@ ghost use Rattle.sample_text.specs.Steps.{daemon_on, ranks_on, time_on, are_disj
 ghost use Rattle.sample_text.specs.Whole.{empty_sets, lacks_rank};
 
 use crate::paths::Paths;
-use crate::words::{Line, OneRank, OneRankStart, one_rank_line, one_rank_start, read_line, read_other_line};
+use crate::words::{
+    Line, OneRank, OneRankStart, one_rank_line, one_rank_start, read_line, read_other_line,
+};
 use overlay_setup::Topology;
 use rank_set::{RANK_LIMIT, RankSet, RanksError, read_ranks};
 use stat_plan::{LINE_LIMIT, Samples, StackLine, TIME_LIMIT};
@@ -276,7 +278,7 @@ impl<'t> Parser<'t> {
         requires within { path < length self.old.paths.paths.items }
         ensures ok { OnOk result (
             parser_view self.new ≡ with_sample_line (parser_view self.old) (
-                sample time (union none (ranks_between rank rank)) (path_at self.old.paths path)
+            sample time (union none (ranks_between rank rank)) (path_at self.old.paths path)
             )
             ) }
         ensures nodes { parser_nodes self.new ≡ parser_nodes self.old }

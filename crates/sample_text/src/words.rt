@@ -5,13 +5,14 @@ ghost use Rattle.std.specs.Prelude.{◌≡◌, ◌<◌, ℕ, IfOk, IfErr, OnOk, 
 ghost use Rattle.text_lines.specs.Lines.{words, after_word};
 ghost use Rattle.std.specs.Str.{IsUtf8};
 ghost use Rattle.sample_text.specs.Words.{Nothing, daemon_words, path_in, stack_words, directive, read_line};
-ghost use Rattle.sample_text.specs.LineViews.{line_view, SamplesOneRank, BeginsOneRank};
+ghost use Rattle.sample_text.specs.LineViews.{line_view, SamplesOneRank, BeginsWithNumber, BeginsOneRank};
 
 use rank_set::RANK_LIMIT;
 use stat_plan::TIME_LIMIT;
-use text_lines::{
-    Reason, TextError, after_blanks, cut_number, cut_word, is_word, next_word, says_nothing,
-};
+use text_lines::{Reason, TextError, after_blanks, cut_word, is_word, next_word, says_nothing};
+
+// A time or a rank and the space behind it have at most so many bytes, unless zeros stand in front.
+const WINDOW: usize = 8;
 
 /// What a line says.
 #[derive(Debug, Clone, Copy)]
@@ -128,7 +129,33 @@ pub struct OneRankStart<'t> {
     pub rest: &'t str,
 }
 
-/// The usual start of a line of samples that lists one rank: `stack`, TIME and the rank with one blank behind each, and
+// The number that a text begins with, and what is left behind the space that follows it. None where the text begins
+// otherwise, where that space is not within the window, and where the text is shorter than the window. The window's
+// length is known when this is compiled, so its loop becomes straight code.
+#[inline(always)]
+fn short_number(text: &[u8]) -> Option<(u32, &[u8])>
+    ensures { IfSome result (λ cut. BeginsWithNumber text.now cut.0 cut.1.now) }
+{
+    let (window, _) = text.split_first_chunk::<WINDOW>()?;
+    let mut number = 0;
+    for (i, b) in window.iter().enumerate() {
+        if !b.is_ascii_digit() {
+            if *b != b' ' || i == 0 {
+                return None;
+            }
+            let (_, rest) = text.split_at(i + 1);
+            return Some((number, rest));
+        }
+        // for the proof: so few digits write less
+        if number >= 100_000_000 {
+            return None;
+        }
+        number = 10 * number + u32::from(*b - b'0');
+    }
+    None
+}
+
+/// The usual start of a line of samples that lists one rank: `stack`, TIME and the rank with one space behind each, and
 /// then a byte that is no blank. None where the text begins otherwise.
 #[inline(always)]
 pub fn one_rank_start(text: &str) -> Option<OneRankStart<'_>>
@@ -139,10 +166,10 @@ pub fn one_rank_start(text: &str) -> Option<OneRankStart<'_>>
     if *word != *b"stack " {
         return None;
     }
-    let (time, rest) = cut_number(rest, TIME_LIMIT + 1)?;
-    let (rank, rest) = cut_number(rest, RANK_LIMIT)?;
+    let (time, rest) = short_number(rest)?;
+    let (rank, rest) = short_number(rest)?;
     let (b, _) = rest.split_first()?;
-    if *b == b' ' || *b == b'\t' {
+    if time > TIME_LIMIT || rank >= RANK_LIMIT || *b == b' ' || *b == b'\t' {
         return None;
     }
     let rest = path_in(text, rest);

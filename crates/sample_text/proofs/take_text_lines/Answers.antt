@@ -1,10 +1,8 @@
 use Rattle.std.proofs.Common.{◌∙◌, sym, arith, rules}
 use Rattle.std.proofs.lemmas.Bool.{eqb-true}
 use Rattle.text_lines.specs.Lines.{lines}
-use Rattle.text_lines.specs.Parsing.{RefusesLines}
 use Rattle.text_lines.proofs.Cuts.{no_lines}
-use Rattle.text_lines.proofs.Errors.{handed_on}
-use Rattle.text_lines.proofs.Parsing.{none_left, next_taken, next_refused, later_refused}
+use Rattle.text_lines.proofs.Parsing.{none_left, next_taken, later_refused}
 use Rattle.sample_text.specs.Taking.{takes_line, refuses_line}
 use Rattle.sample_text.proofs.take_text_lines.Goals as goal
 

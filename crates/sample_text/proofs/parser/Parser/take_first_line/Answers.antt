@@ -1,4 +1,4 @@
-use Rattle.std.proofs.Common.{◌≡◌, ◌∙◌, ◌<◌, ◌++◌, length, sym, ap, arith, Ok}
+use Rattle.std.proofs.Common.{◌∙◌, ◌<◌, ◌++◌, length, sym, ap, arith, Ok}
 use Rattle.rank_set.specs.Ranks.{has}
 use Rattle.text_lines.specs.Lines.{lines}
 use Rattle.text_lines.specs.declared.text_error.TextError.TheVariants.{OutOfMemory}
@@ -30,8 +30,8 @@ returns-in-Some-cut_same_path-clause-taken c =
       first = first_line c.args.text.now start.rest.now start.time start.rank begins path.line later some path.first;
       taken = (
         first_sample c.args.text.now start.rest.now start.time start.rank begins path.line later some path.first (parser_nodes old) (parser_view old) c.args.line_number
-        ∙ placed_sample (parser_view old) c.args.line_number start.time start.rank path.line (path_at old.paths c.in-Some-cut_same_path.path) few (ap (λ all. has all start.rank) (sym c.requires.ready.placed) ∙ c.in-Some-cut_same_path.ensures.placed) path.read
-        ∙ ap Ok (sym c.in_ok-push_one_rank.ensures.ok),
+            ∙ placed_sample (parser_view old) c.args.line_number start.time start.rank path.line (path_at old.paths c.in-Some-cut_same_path.path) few (ap (λ all. has all start.rank) (sym c.requires.ready.placed) ∙ c.in-Some-cut_same_path.ensures.placed) path.read
+            ∙ ap Ok (sym c.in_ok-push_one_rank.ensures.ok),
         c.push_one_rank.ensures.nodes,
       );
     }
@@ -67,7 +67,7 @@ returns-then-not-is_empty-clause-taken c =
       first = first_line c.args.text.now start.rest.now start.time start.rank begins path later some c.in-Some-next_text_line.ensures.lines;
       taken = (
         first_sample c.args.text.now start.rest.now start.time start.rank begins path later some c.in-Some-next_text_line.ensures.lines (parser_nodes old) (parser_view old) c.args.line_number
-        ∙ c.in_ok-one_rank.ensures.ok,
+            ∙ c.in_ok-one_rank.ensures.ok,
         c.one_rank.ensures.nodes,
       );
     }
