@@ -5,6 +5,7 @@ pub mod Sets
 pub mod Steps
 pub mod Texts
 pub mod Room
+pub mod FirstLines
 pub mod SomeRank
 pub mod InvariantLemmas
 pub mod Lines

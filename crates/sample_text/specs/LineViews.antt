@@ -1,7 +1,11 @@
 -- What the code's lines stand for.
-use Rattle.std.specs.Prelude.{◌≡◌, ℕ, List}
+use Rattle.std.specs.Prelude.{◌≡◌, ◌<◌, ℕ, Bool, true, false, not, nat_eq, List, ◌∷◌, ◌++◌, length, Some}
+use Rattle.std.specs.Char.{is_ascii_digit}
+use Rattle.std.specs.List.{list_all}
+use Rattle.std.specs.Str.{IsUtf8}
 use Rattle.rank_set.specs.Ranks.{none, union}
 use Rattle.rank_set.specs.Runs.{ranks_between}
+use Rattle.text_lines.specs.Lines.{is_blank, begins_with_blank, number_in}
 use Rattle.overlay_setup.specs.Topologies.{Nodes}
 use Rattle.stat_plan.specs.Plans.{Sampled}
 use Rattle.sample_text.specs.Steps.{if_room, with_sample, with_line}
@@ -19,3 +23,29 @@ line_view (line.Stack time ranks path) = Stack time.now ranks.now path.now
 abbrev pub SamplesOneRank : List ℕ → ℕ → ℕ → List ℕ → Type 0
 SamplesOneRank line time rank text = (t : Nodes) (s : Sampled) (line_number : ℕ) →
     with_line t s line_number line ≡ if_room s line_number (with_sample s line_number time (union none (ranks_between rank rank)) text)
+
+-- a text begins with a number, and this is what stands behind the blank that follows the number
+pub record BeginsWithNumber (text : List ℕ) (n : ℕ) (rest : List ℕ) : Type 0 where
+  pub word : List ℕ
+  pub blank : ℕ
+  pub whole : text ≡ word ++ blank ∷ rest
+  pub some : 0 < length word
+  pub digits : list_all is_ascii_digit word ≡ true
+  pub number : number_in word ≡ Some n
+  pub ends : is_blank blank ≡ true
+
+-- whether a byte is no line feed
+abbrev pub is_no_feed : ℕ → Bool
+is_no_feed b = not (nat_eq b 10)
+
+-- A text begins with the start of a line of one rank, and this is what stands behind the start. Whatever PATH a line has
+-- behind such a start, the line is a sample in that path.
+pub record BeginsOneRank (text : List ℕ) (time rank : ℕ) (rest : List ℕ) : Type 0 where
+  pub start : List ℕ
+  pub whole : text ≡ start ++ rest
+  pub no_feed : list_all is_no_feed start ≡ true
+  pub utf8 : IsUtf8 rest
+  pub some : 0 < length rest
+  pub no_blank : begins_with_blank rest ≡ false
+  pub sample : (path : List ℕ) → IsUtf8 path → 0 < length path → begins_with_blank path ≡ false →
+      SamplesOneRank (start ++ path) time rank path

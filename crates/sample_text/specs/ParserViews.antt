@@ -1,8 +1,9 @@
 -- What the parser has parsed, and how its parts fit together.
-use Rattle.std.specs.Prelude.{◌≡◌, ◌≤◌, ⊤, ℕ, List, [], ◌∷◌, length, slice_index_or, Ok, string_bytes, String}
+use Rattle.std.specs.Prelude.{◌≡◌, ◌≤◌, ◌<◌, ⊤, ℕ, List, [], ◌∷◌, length, slice_index_or, Ok, string_bytes, String}
 use Rattle.std.specs.Global.{Global}
 use Rattle.call_path.specs.Path.{Path}
 use Rattle.call_path.specs.Reading.{path_of}
+use Rattle.text_lines.specs.Lines.{lines}
 use Rattle.stat_plan.specs.Plans.{Sampled, sampled}
 use Rattle.stat_plan.specs.Samples.{all_ranks}
 use Rattle.overlay_setup.specs.Topologies.{Nodes}
@@ -24,6 +25,13 @@ HoldsPaths p = AreRead p.texts.keys p.paths.items
 -- the path with a number
 abbrev pub path_at : Paths → ℕ → Path
 path_at p n = slice_index_or p.paths.items n []
+
+-- the first line of a text is read as the path with a number, and this is left of the text
+pub record BeginsWithPath (p : Paths) (text : List ℕ) (number : ℕ) (after : List ℕ) : Type 0 where
+  pub line : List ℕ
+  pub first : lines text ≡ line ∷ lines after
+  pub read : path_of line ≡ Ok (path_at p number)
+  pub within : number < length p.paths.items
 
 -- the ranks and samples of a parser
 abbrev pub parser_view : Parser → Sampled

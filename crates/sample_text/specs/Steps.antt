@@ -87,6 +87,10 @@ add_at (set ∷ sets) (suc n) ranks = set ∷ add_at sets n ranks
 abbrev pub sample : ℕ → Ranks → Path → SampleLine
 sample time ranks path = record { time = time; ranks = ranks; path = path }
 
+-- samples with one more
+abbrev pub with_sample_line : Sampled → SampleLine → Sampled
+with_sample_line s line = record s { lines = s.lines ++ line ∷ [] }
+
 -- a line `daemon NAME RANKS`
 unfoldable pub with_daemon : Nodes → Sampled → ℕ → List ℕ → List ℕ → Result Sampled TextError
 with_daemon t s line_number name word =
@@ -105,7 +109,7 @@ abbrev pub with_sample : Sampled → ℕ → ℕ → Ranks → List ℕ → Resu
 with_sample s line_number time ranks text =
     if_holds (is_subset ranks (all_ranks s.placed)) (Bad line_number Unplaced)
     (and_then (path_on line_number text) (λ path.
-    Ok (record s { lines = s.lines ++ sample time ranks path ∷ [] })))
+    Ok (with_sample_line s (sample time ranks path))))
 
 -- a line `stack TIME RANKS PATH`
 unfoldable pub with_stack : Sampled → ℕ → List ℕ → List ℕ → List ℕ → Result Sampled TextError

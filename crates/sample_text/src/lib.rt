@@ -23,7 +23,7 @@ use overlay_setup::Topology;
 use parser::Parser;
 use stat_plan::Samples;
 use std::alloc::Global;
-use text_lines::{TextError, next_text_line, read_lines};
+use text_lines::{TextError, read_lines};
 
 // Takes the lines of a text in UTF-8 into a parser, up to the first that it refuses.
 fn take_text_lines(text: &str, parser: &mut Parser<'_>) -> Result<(), TextError>
@@ -34,10 +34,9 @@ fn take_text_lines(text: &str, parser: &mut Parser<'_>) -> Result<(), TextError>
 {
     let mut line_number = 1;
     let mut rest = text;
-    while let Some((line, after)) = next_text_line(rest) {
-        parser.take_text(line_number, line)?;
+    while !rest.is_empty() {
+        rest = parser.take_first_line(line_number, rest)?;
         line_number += 1;
-        rest = after;
     }
     Ok(())
 }

@@ -1,19 +1,21 @@
 //! What is parsed of a samples text so far.
 
-ghost use Rattle.std.specs.Prelude.{◌≡◌, ◌≢◌, ◌<◌, not, nat_lt, length, IfOk, IfErr, OnOk, Ok, Err};
-ghost use Rattle.rank_set.specs.Ranks.{none, union};
+ghost use Rattle.std.specs.Prelude.{◌≡◌, ◌≢◌, ◌<◌, not, nat_lt, length, IfOk, IfErr, IfSome, OnOk, true, Ok, Err};
+ghost use Rattle.rank_set.specs.Ranks.{none, union, has};
 ghost use Rattle.rank_set.specs.Runs.{ranks_between};
 ghost use Rattle.text_lines.specs.Parsing.{IsValueOf, IsErrorOf};
 ghost use Rattle.sample_text.specs.Steps.{daemon_on, ranks_on, time_on, are_disjoint, add_at};
 ghost use Rattle.sample_text.specs.Whole.{empty_sets, lacks_rank};
 
 use crate::paths::Paths;
-use crate::words::{Line, OneRank, one_rank_line, read_line, read_other_line};
+use crate::words::{
+    Line, OneRank, OneRankStart, one_rank_line, one_rank_start, read_line, read_other_line,
+};
 use overlay_setup::Topology;
 use rank_set::{RANK_LIMIT, RankSet, RanksError, read_ranks};
 use stat_plan::{LINE_LIMIT, Samples, StackLine, TIME_LIMIT};
 use std::alloc::{AllocError, Global};
-use text_lines::{LineParser, Quantity, Reason, TextError, number_in};
+use text_lines::{LineParser, Quantity, Reason, TextError, next_text_line, number_in};
 
 /// The ranks by node number, and the samples.
 #[derive(Drop)]
@@ -111,11 +113,11 @@ fn lacks_rank(topology: &Topology, placed: &[RankSet]) -> bool
 }
 
 impl<'t> Parser<'t> {
-    ghost use Rattle.sample_text.specs.Steps.{with_daemon, with_stack, with_sample, if_room};
-    ghost use Rattle.sample_text.specs.Taking.{takes_line, refuses_line};
+    ghost use Rattle.sample_text.specs.Steps.{sample, with_sample_line, with_daemon, with_stack, with_sample, if_room};
+    ghost use Rattle.sample_text.specs.Taking.{takes_line, refuses_line, TakesFirstLine, RefusesFirstLine};
     ghost use Rattle.sample_text.specs.Whole.{nothing_parsed, whole};
     ghost use Rattle.sample_text.specs.Invariants.{ParserInvariant};
-    ghost use Rattle.sample_text.specs.ParserViews.{parser_view, parser_nodes, IsConsistent};
+    ghost use Rattle.sample_text.specs.ParserViews.{path_at, parser_view, parser_nodes, BeginsWithPath, IsConsistent};
     ghost use Rattle.stat_plan.specs.Invariants.{SamplesFit};
 
     /// A parser before the first line.
@@ -250,6 +252,76 @@ impl<'t> Parser<'t> {
             Line::Daemon { name, ranks } => self.daemon(line_number, name, ranks),
             Line::Stack { time, ranks, path } => self.stack(line_number, time, ranks, path),
         }
+    }
+
+    // The number of the path that was given last, and what is left of a text, where the text goes on with that path and
+    // the line may be taken: there is room, and its rank is placed.
+    #[inline(always)]
+    fn cut_same_path<'s>(&self, start: &OneRankStart<'s>) -> Option<(u32, &'s str)>
+        requires { IsConsistent self.now }
+        ensures path { IfSome result (λ cut. BeginsWithPath self.now.paths start.now.rest.now cut.0 cut.1.now) }
+        ensures shorter { IfSome result (λ cut. length cut.1.now < length start.now.rest.now) }
+        ensures room { IfSome result (λ _. length self.now.lines.items < LINE_LIMIT) }
+        ensures placed { IfSome result (λ _. has self.now.all start.now.rank ≡ true) }
+    {
+        if self.is_full() || !self.all.contains(start.rank) {
+            return None;
+        }
+        self.paths.cut_last(start.rest)
+    }
+
+    // A sample of a placed rank at a time, in the path with a number.
+    #[inline(always)]
+    fn push_one_rank(&mut self, time: u32, rank: u32, path: u32) -> Result<(), AllocError>
+        requires ready { IsConsistent self.old }
+        requires below_limit { rank < RANK_LIMIT }
+        requires within { path < length self.old.paths.paths.items }
+        ensures ok { OnOk result (
+            parser_view self.new ≡ with_sample_line (parser_view self.old) (
+            sample time (union none (ranks_between rank rank)) (path_at self.old.paths path)
+            )
+            ) }
+        ensures nodes { parser_nodes self.new ≡ parser_nodes self.old }
+        ensures consistent { OnOk result (IsConsistent self.new) }
+    {
+        let ranks = RankSet::in_one_word(*self.placed.allocator(), rank, rank);
+        self.lines.push(StackLine { time, ranks, path })?;
+        Ok(())
+    }
+
+    /// Takes the first line of a text, and returns what is left of the text. The usual line, of one rank in the path of
+    /// the line before it, is taken without a search for its end.
+    #[inline(always)]
+    pub fn take_first_line<'s>(
+        &mut self,
+        line_number: u64,
+        text: &'s str,
+    ) -> Result<&'s str, TextError>
+        requires ready { IsConsistent self.old }
+        requires not_empty { 0 < length text.now }
+        ensures taken { IfOk result (λ after. TakesFirstLine self.old line_number text.now self.new after.now) }
+        ensures shorter { IfOk result (λ after. length after.now < length text.now) }
+        ensures ready { OnOk result (IsConsistent self.new) }
+        ensures refused { IfErr result (λ e. RefusesFirstLine self.old line_number text.now e) }
+    {
+        if let Some(start) = one_rank_start(text) {
+            if let Some((path, after)) = self.cut_same_path(&start) {
+                self.push_one_rank(start.time, start.rank, path)?;
+                return Ok(after);
+            }
+            if let Some((path, after)) = next_text_line(start.rest) {
+                if !path.is_empty() {
+                    let (time, rank) = (start.time, start.rank);
+                    self.one_rank(line_number, OneRank { time, rank, path })?;
+                    return Ok(after);
+                }
+            }
+        }
+        let Some((line, after)) = next_text_line(text) else {
+            unreachable!()
+        };
+        self.take_any_text(line_number, line)?;
+        Ok(after)
     }
 
     /// Takes the next line, which is UTF-8.

@@ -1,6 +1,6 @@
 //! The paths of a samples text, each of them once.
 
-ghost use Rattle.std.specs.Prelude.{◌≡◌, ◌≢◌, ◌≤◌, ◌<◌, ◌+◌, ℕ, true, length, IfOk, IfErr, OnOk, Ok, Err};
+ghost use Rattle.std.specs.Prelude.{◌≡◌, ◌≢◌, ◌≤◌, ◌<◌, ◌+◌, ℕ, true, length, IfOk, IfErr, IfSome, OnOk, Ok, Err};
 ghost use Rattle.call_path.specs.Reading.{path_of};
 ghost use Rattle.stat_plan.specs.declared.samples.TheConstants.{LINE_LIMIT};
 ghost use Rattle.text_lines.specs.Parsing.{IsValueOf, IsErrorOf};
@@ -35,7 +35,7 @@ fn path_on(alloc: Global, line_number: u64, text: &str) -> Result<CallPath, Text
 }
 
 impl Paths {
-    ghost use Rattle.sample_text.specs.ParserViews.{HoldsPaths, path_at};
+    ghost use Rattle.sample_text.specs.ParserViews.{HoldsPaths, BeginsWithPath, path_at};
 
     /// No paths.
     pub fn new(alloc: Global) -> Paths
@@ -47,6 +47,24 @@ impl Paths {
             paths: Vec::new(alloc),
             last: 0,
         }
+    }
+
+    /// The number that was given last, and what is left of a text whose first line is the text of that path, with a line
+    /// feed behind it. None where the text begins otherwise.
+    #[inline(always)]
+    pub fn cut_last<'t>(&self, text: &'t str) -> Option<(u32, &'t str)>
+        requires { HoldsPaths self.now }
+        ensures path { IfSome result (λ cut. BeginsWithPath self.now text.now cut.0 cut.1.now) }
+        ensures shorter { IfSome result (λ cut. length cut.1.now < length text.now) }
+    {
+        let last = self.texts.get_index(self.last as usize)?;
+        let rest = text.as_bytes().strip_prefix(last.as_bytes())?;
+        let (b, after) = rest.split_first()?;
+        if *b != b'\n' {
+            return None;
+        }
+        let (_, after) = text.split_at(text.len() - after.len());
+        Some((self.last, after))
     }
 
     // Whether a text is that of the path whose number was given last.

@@ -9,8 +9,8 @@ use Rattle.sample_text.specs.ParserViews.{IsConsistent}
 use Rattle.sample_text.specs.Taking.{takes_line, refuses_line}
 use Rattle.sample_text.proofs.take_text_lines.Given as goal
 
-abbrev pub invariant-loop-line : goal.invariant-loop-line
-invariant-loop-line l = record {
+abbrev pub invariant-loop-rest : goal.invariant-loop-rest
+invariant-loop-rest l = record {
   room : l.line_number + length l.rest ≤ 1 + length l.text;
   utf8 : shadow (Utf8 l.rest);
   ready : IsConsistent l.parser;
@@ -18,5 +18,5 @@ invariant-loop-line l = record {
   refused : (e : TextError) → RefusesLines takes_line refuses_line l.parser l.line_number (lines l.rest) e → RefusesLines takes_line refuses_line l.fn.parser 1 (lines l.text) e;
 }
 
-abbrev pub decreases-loop-line : goal.decreases-loop-line
-decreases-loop-line l = length l.rest
+abbrev pub decreases-loop-rest : goal.decreases-loop-rest
+decreases-loop-rest l = length l.rest
