@@ -80,7 +80,7 @@ fn paths_seen(
 {
     let mut seen = vec![in alloc; false; count]?;
     for line in lines {
-        if lists_rank(line, samples, wave, ranks)? {
+        if lists_rank(line, samples, wave, ranks) {
             seen[line.path as usize] = true;
         }
     }
@@ -88,16 +88,13 @@ fn paths_seen(
 }
 
 // Whether a line at a time of wave `wave` lists one of some ranks.
-fn lists_rank(line: &StackLine, samples: u8, wave: u8, ranks: &RankSet) -> Result<bool, AllocError>
-    ensures { IfOk result
-        (λ lists. lists ≡ (is_in_wave samples wave line.now.time && share_rank line.now.ranks ranks.now)) }
+fn lists_rank(line: &StackLine, samples: u8, wave: u8, ranks: &RankSet) -> bool
+    ensures { result ≡ (is_in_wave samples wave line.now.time && share_rank line.now.ranks ranks.now) }
 {
     if !is_in_wave(samples, wave, line.time) {
-        return Ok(false);
+        return false;
     }
-    let mut common = line.ranks.copy()?;
-    common.intersect_with(ranks);
-    Ok(!common.is_empty())
+    !line.ranks.is_disjoint(ranks)
 }
 
 // Whether the samples of a wave of a stream have at most 2,048 distinct prefixes. The stream has these ranks, and sees
