@@ -9,7 +9,7 @@ ghost use Rattle.equiv_class.specs.Origins.{AreOrigins, HaveOrigins, LeadToState
 ghost use Rattle.equiv_class.specs.States.{AreTables, ArePartedBy, AreStates, HasEntries, state_after, with_next};
 
 use crate::SeenPath;
-use rank_set::{RANK_LIMIT, RankSet};
+use rank_set::RankSet;
 use rank_table::RankTable;
 use std::alloc::AllocError;
 
@@ -67,22 +67,14 @@ fn next_state(
     Ok(made)
 }
 
-// A number above each of some ranks, at most the limit of ranks.
-fn end_of(ranks: &RankSet) -> u32
-    ensures above { (r : ℕ) → has ranks.now r ≡ true → r < result }
-    ensures within_limit { result ≤ RANK_LIMIT }
-{
-    64 * (ranks.word_offset() + ranks.words().len() as u32)
-}
-
 // A number above each covered rank, and each that was seen in a path.
 pub(crate) fn end_of_all(seen: &[SeenPath<'_>], covered: &RankSet) -> u32
     ensures covered { (r : ℕ) → has covered.now r ≡ true → r < result }
     ensures seen { All (λ path. (r : ℕ) → has path.ranks.now r ≡ true → r < result) seen.now }
 {
-    let mut end = end_of(covered);
+    let mut end = covered.end();
     for path in seen {
-        end = end.max(end_of(path.ranks));
+        end = end.max(path.ranks.end());
     }
     end
 }

@@ -16,3 +16,5 @@ pub mod OneWord
 pub mod RunLists
 pub mod RunTexts
 pub mod SameWords
+pub mod OneWordSets
+pub mod CommonWords

@@ -171,16 +171,14 @@ impl RankSet {
         ensures err { OnErr result (self.new ≡ self.old) }
     {
         // Most often one word of ranks joins words that reach it.
-        if other.words.len() == 1 && self.spans(other) {
-            self.unite_within(other);
+        let others = other.words.as_slice();
+        if others.len() == 1
+            && words::reaches(self.offset, self.words.as_slice(), other.offset, others)
+        {
+            words::or_within(self.words.as_mut_slice(), self.offset, other.offset, others);
             return Ok(());
         }
-        words::add_words(
-            &mut self.offset,
-            &mut self.words,
-            other.offset,
-            other.words.as_slice(),
-        )
+        words::add_words(&mut self.offset, &mut self.words, other.offset, others)
     }
 
     /// The ranks of both sets, in one allocation at most.
@@ -197,12 +195,12 @@ impl RankSet {
         Ok(RankSet { offset, words })
     }
 
-    /// Whether the other set has no rank outside the words (64 ranks each, from 0 on) from that of the least rank to
-    /// that of the greatest: then `unite_within` adds the other's ranks.
+    /// Whether the other set is empty, or both lie in one and the same word (64 ranks each, from 0 on): then
+    /// `unite_within` adds the other's ranks.
     pub fn spans(&self, other: &RankSet) -> bool
         ensures { result ≡ spans self.now other.now }
     {
-        words::spans(
+        one_word::spans(
             self.offset,
             self.words.as_slice(),
             other.offset,
@@ -215,7 +213,7 @@ impl RankSet {
         requires { spans self.old other.now ≡ true }
         ensures { self.new ≡ union self.old other.now }
     {
-        words::or_within(
+        one_word::or_spanned(
             self.words.as_mut_slice(),
             self.offset,
             other.offset,
@@ -223,39 +221,36 @@ impl RankSet {
         );
     }
 
-    /// Keeps the ranks that the other set has, too. It allocates nothing.
-    pub fn intersect_with(&mut self, other: &RankSet)
-        ensures { self.new ≡ those (λ r. has other.now r) self.old }
+    /// The ranks that are in the other set, too. It costs what this set's words do, so the smaller of two goes first.
+    pub fn intersection(&self, other: &RankSet) -> Result<RankSet, AllocError>
+        ensures { IfOk result (λ both. both ≡ those (λ r. has other.now r) self.now) }
     {
+        let mut offset = self.offset;
+        let mut words = words::copy_of(*self.words.allocator(), self.words.as_slice())?;
         words::intersect_words(
-            self.words.as_mut_slice(),
-            self.offset,
+            words.as_mut_slice(),
+            offset,
             other.offset,
             other.words.as_slice(),
         );
-        words::trim(&mut self.offset, &mut self.words);
-    }
-
-    /// Removes the ranks of the other set. It allocates nothing.
-    pub fn subtract(&mut self, other: &RankSet)
-        ensures { self.new ≡ those (λ r. not (has other.now r)) self.old }
-    {
-        words::clear_words(
-            self.words.as_mut_slice(),
-            self.offset,
-            other.offset,
-            other.words.as_slice(),
-        );
-        words::trim(&mut self.offset, &mut self.words);
+        words::trim(&mut offset, &mut words);
+        Ok(RankSet { offset, words })
     }
 
     /// The ranks that are not in the other set.
     pub fn difference(&self, other: &RankSet) -> Result<RankSet, AllocError>
         ensures { IfOk result (λ rest. rest ≡ those (λ r. not (has other.now r)) self.now) }
     {
-        let mut rest = self.copy()?;
-        rest.subtract(other);
-        Ok(rest)
+        let mut offset = self.offset;
+        let mut words = words::copy_of(*self.words.allocator(), self.words.as_slice())?;
+        words::clear_words(
+            words.as_mut_slice(),
+            offset,
+            other.offset,
+            other.words.as_slice(),
+        );
+        words::trim(&mut offset, &mut words);
+        Ok(RankSet { offset, words })
     }
 
     /// Whether the rank is in the set.
@@ -270,6 +265,18 @@ impl RankSet {
         ensures { result ≡ is_subset self.now other.now }
     {
         words::all_are_in(
+            self.offset,
+            self.words.as_slice(),
+            other.offset,
+            other.words.as_slice(),
+        )
+    }
+
+    /// Whether no rank of the set is in the other.
+    pub fn is_disjoint(&self, other: &RankSet) -> bool
+        ensures { result ≡ is_empty (those (λ r. has other.now r) self.now) }
+    {
+        words::are_disjoint(
             self.offset,
             self.words.as_slice(),
             other.offset,
@@ -311,6 +318,14 @@ impl RankSet {
         ensures below_limit { IfSome result (λ r. r < RANK_LIMIT) }
     {
         words::least(self.offset, self.words.as_slice())
+    }
+
+    /// A number above each rank.
+    pub fn end(&self) -> u32
+        ensures above { (r : ℕ) → has self.now r ≡ true → r < result }
+        ensures within_limit { result ≤ RANK_LIMIT }
+    {
+        64 * (self.offset + self.words.len() as u32)
     }
 
     /// The longest run of neighbours that begins with the least rank at or above `from`, `None` where there is no such

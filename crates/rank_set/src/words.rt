@@ -3,7 +3,7 @@
 ghost use Rattle.std.specs.Prelude.{◌≡◌, ℕ, ◌<◌, ◌≤◌, ◌+◌, ◌-◌, ◌*◌, ◌/◌, ◌↔◌, ◌++◌, true, false, OnOk, OnErr, IfOk, IfSome, IfNone, Some, slice_get, not, length, get_or, replicate, bit_or};
 ghost use Rattle.rank_set.specs.Ranks.{none, has, those, union, in_order, is_empty, is_subset, size};
 ghost use Rattle.rank_set.specs.Runs.{ranks_between, IsRun};
-ghost use Rattle.rank_set.specs.Words.{word_at, bit_in, ranks_in, AreWords, ExtendsTo, IsNext, offset_of, run_word, spans, IsOverlap};
+ghost use Rattle.rank_set.specs.Words.{word_at, bit_in, ranks_in, AreWords, ExtendsTo, IsNext, offset_of, run_word, reaches, IsOverlap};
 ghost use Rattle.rank_set.specs.WordLists.{words_of};
 
 use crate::{RANK_LIMIT, Run, WORD_LIMIT};
@@ -218,10 +218,10 @@ pub(crate) fn united(
 }
 
 // Whether all of the other ranks lie in the words from the first to the last.
-pub(crate) fn spans(offset: u32, words: &[u64], other_offset: u32, others: &[u64]) -> bool
+pub(crate) fn reaches(offset: u32, words: &[u64], other_offset: u32, others: &[u64]) -> bool
     requires trimmed { AreWords offset words.now }
     requires trimmed_others { AreWords other_offset others.now }
-    ensures { result ≡ spans (ranks_in offset words.now) (ranks_in other_offset others.now) }
+    ensures { result ≡ reaches (ranks_in offset words.now) (ranks_in other_offset others.now) }
 {
     others.is_empty()
         || offset <= other_offset
@@ -232,7 +232,7 @@ pub(crate) fn spans(offset: u32, words: &[u64], other_offset: u32, others: &[u64
 pub(crate) fn or_within(words: &mut [u64], offset: u32, other_offset: u32, others: &[u64])
     requires trimmed { AreWords offset words.old }
     requires trimmed_others { AreWords other_offset others.now }
-    requires spans { spans (ranks_in offset words.old) (ranks_in other_offset others.now) ≡ true }
+    requires reaches { reaches (ranks_in offset words.old) (ranks_in other_offset others.now) ≡ true }
     ensures trimmed { AreWords offset words.new }
     ensures ranks { ranks_in offset words.new
         ≡ union (ranks_in offset words.old) (ranks_in other_offset others.now) }
@@ -267,7 +267,7 @@ pub(crate) fn add_words(
         *offset = other_offset;
         return Ok(());
     }
-    if spans(*offset, words.as_slice(), other_offset, others) {
+    if reaches(*offset, words.as_slice(), other_offset, others) {
         or_within(words.as_mut_slice(), *offset, other_offset, others);
         return Ok(());
     }
@@ -355,6 +355,20 @@ pub(crate) fn intersect_words(words: &mut [u64], offset: u32, other_offset: u32,
     for i in common.index + common.len..words.len() {
         words[i] = 0;
     }
+}
+
+// Whether no bit is one of the other words' too.
+pub(crate) fn are_disjoint(offset: u32, words: &[u64], other_offset: u32, others: &[u64]) -> bool
+    ensures { result
+        ≡ is_empty (those (λ r. has (ranks_in other_offset others.now) r) (ranks_in offset words.now)) }
+{
+    let common = common_words(offset, words, other_offset, others);
+    for i in 0..common.len {
+        if words[common.index + i] & others[common.other_index + i] != 0 {
+            return false;
+        }
+    }
+    true
 }
 
 // The number of leading zero words.

@@ -82,12 +82,10 @@ fn time_on(line_number: u64, word: &[u8]) -> Result<u32, TextError>
 
 // Whether none of some ranks is one of others.
 #[tactic(auto, unfolding(crate::specs::Steps::are_disjoint))]
-fn are_disjoint(ranks: &RankSet, others: &RankSet) -> Result<bool, AllocError>
-    ensures { IfOk result (λ disjoint. disjoint ≡ are_disjoint ranks.now others.now) }
+fn are_disjoint(ranks: &RankSet, others: &RankSet) -> bool
+    ensures { result ≡ are_disjoint ranks.now others.now }
 {
-    let mut common = ranks.copy()?;
-    common.intersect_with(others);
-    Ok(common.is_empty())
+    ranks.is_disjoint(others)
 }
 
 // Gives more ranks to one of the sets.
@@ -150,8 +148,7 @@ impl<'t> Parser<'t> {
     {
         let n = daemon_on(self.topology, line_number, name)?;
         let ranks = ranks_on(*self.placed.allocator(), line_number, word)?;
-        let disjoint = are_disjoint(&ranks, &self.all)?;
-        if !disjoint {
+        if !are_disjoint(&ranks, &self.all) {
             return Err(TextError::bad(line_number, Reason::PlacedTwice));
         }
         self.all.union_into(&ranks)?;

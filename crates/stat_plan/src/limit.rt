@@ -79,7 +79,7 @@ fn paths_seen(
 {
     let mut seen = vec![in alloc; false; count]?;
     for line in lines {
-        if lists_rank(line, times, ranks)? {
+        if lists_rank(line, times, ranks) {
             seen[line.path as usize] = true;
         }
     }
@@ -87,16 +87,13 @@ fn paths_seen(
 }
 
 // Whether a line at a time of a wave lists one of some ranks.
-fn lists_rank(line: &StackLine, times: WaveTimes, ranks: &RankSet) -> Result<bool, AllocError>
-    ensures { IfOk result (λ lists. lists
-        ≡ (is_in_wave times.samples times.wave line.now.time && share_rank line.now.ranks ranks.now)) }
+fn lists_rank(line: &StackLine, times: WaveTimes, ranks: &RankSet) -> bool
+    ensures { result ≡ (is_in_wave times.samples times.wave line.now.time && share_rank line.now.ranks ranks.now) }
 {
     if !times.contains(line.time) {
-        return Ok(false);
+        return false;
     }
-    let mut common = line.ranks.copy()?;
-    common.intersect_with(ranks);
-    Ok(!common.is_empty())
+    !line.ranks.is_disjoint(ranks)
 }
 
 // Whether the samples of a wave of a stream have at most 2,048 distinct prefixes. The stream has these ranks, and sees

@@ -8,7 +8,6 @@
 
 ghost use Rattle.std.specs.Prelude.{◌≡◌, ◌≢◌, ◌<◌, ◌≤◌, ◌&&◌, ℕ, false, nat_eq, IfOk, IfSome, OnOk, [], length, map, get_or, slice_index_or};
 ghost use Rattle.std.specs.List.Sorted.{IsPermutation};
-ghost use Rattle.rank_set.specs.declared.TheConstants.{RANK_LIMIT};
 ghost use Rattle.rank_set.specs.Ranks.{none, has, Has, IsSubset};
 ghost use Rattle.stat_plan.specs.Invariants.{ArePlacedOnce};
 ghost use Rattle.stat_plan.specs.OwnLines.{AreKeysOf, AreParted, AreIndexed, AreReordered, GainsRanks, ListPlacedRanks, ranks_at, ranks_of_lines};
@@ -19,17 +18,9 @@ ghost use Rattle.stat_plan.specs.Tables.{AreRankNodes, rows_view};
 use crate::line_index::line_numbers;
 use crate::samples::StackLine;
 use indexmap::IndexSet;
-use rank_set::{RANK_LIMIT, RankSet};
+use rank_set::RankSet;
 use rank_table::RankTable;
 use std::alloc::{AllocError, Global};
-
-// A number above each of some ranks, at most the limit of ranks.
-fn end_of(ranks: &RankSet) -> u32
-    ensures above { (q : ℕ) → Has q ranks.now → q < result }
-    ensures within_limit { result ≤ RANK_LIMIT }
-{
-    64 * (ranks.word_offset() + ranks.words().len() as u32)
-}
 
 // A number above each placed rank, at most the limit of ranks.
 fn end_of_all(placed: &[RankSet]) -> u32
@@ -37,7 +28,7 @@ fn end_of_all(placed: &[RankSet]) -> u32
 {
     let mut end = 0;
     for ranks in placed {
-        end = end.max(end_of(ranks));
+        end = end.max(ranks.end());
     }
     end
 }

@@ -14,16 +14,14 @@ use crate::samples::{StackLine, WaveTimes};
 use rank_set::RankSet;
 use std::alloc::{AllocError, Global};
 
-// The ranks that two sets have in common. The second is the one to copy where it has ranks that the first lacks.
+// The ranks that two sets have in common. Mostly the first has many more.
 fn common(ranks: &RankSet, own: &RankSet) -> Result<RankSet, AllocError>
     ensures { IfOk result (λ both. (r : ℕ) → has both r ≡ (has own.now r && has ranks.now r)) }
 {
     if ranks.is_subset(own) {
         return ranks.copy();
     }
-    let mut both = own.copy()?;
-    both.intersect_with(ranks);
-    Ok(both)
+    own.intersection(ranks)
 }
 
 // Adds what a line lists of some ranks, if it is at a time of the wave.
@@ -96,8 +94,7 @@ fn add_common(set: &mut RankSet, ranks: &RankSet, own: &RankSet) -> Result<(), A
     if ranks.is_subset(own) {
         return set.union_into(ranks);
     }
-    let mut both = ranks.copy()?;
-    both.intersect_with(own);
+    let both = ranks.intersection(own)?;
     set.union_into(&both)
 }
 

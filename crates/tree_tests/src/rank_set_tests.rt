@@ -97,7 +97,7 @@ fn assert_union(
     let mut set = left.copy()?;
     assert!(rt; set.equals(left));
     set.union_into(right)?;
-    assert!(rt; left.united(right)?.equals(&set) && set.spans(right));
+    assert!(rt; left.united(right)?.equals(&set));
     assert!(rt; left.is_subset(&set) && right.is_subset(&set));
     assert_text(rt, alloc, &set, text)
 }
@@ -109,10 +109,9 @@ fn assert_difference(
     right: &RankSet,
     text: &str,
 ) -> Result<(), Fail> {
-    let mut set = left.copy()?;
-    set.subtract(right);
-    assert!(rt; left.difference(right)?.equals(&set));
-    assert_text(rt, alloc, &set, text)
+    let rest = left.difference(right)?;
+    assert!(rt; rest.is_disjoint(right));
+    assert_text(rt, alloc, &rest, text)
 }
 
 fn assert_common(
@@ -122,10 +121,11 @@ fn assert_common(
     right: &RankSet,
     text: &str,
 ) -> Result<(), Fail> {
-    let mut set = left.copy()?;
-    set.intersect_with(right);
-    assert_eq!(rt; set.count() == left.count(), left.is_subset(right));
-    assert_text(rt, alloc, &set, text)
+    let common = left.difference(&left.difference(right)?)?;
+    assert_eq!(rt; common.count() == left.count(), left.is_subset(right));
+    assert_eq!(rt; common.is_empty(), left.is_disjoint(right));
+    assert_eq!(rt; common.is_empty(), right.is_disjoint(left));
+    assert_text(rt, alloc, &common, text)
 }
 
 #[test]
@@ -208,6 +208,17 @@ fn keeps_its_words(rt: HostRuntime) -> Result<(), Fail> {
 }
 
 #[test]
+fn gives_a_number_above_all(rt: HostRuntime) -> Result<(), Fail> {
+    let alloc = rt.alloc();
+    assert_eq!(rt; RankSet::new(alloc).end(), 0);
+    for (text, least) in [("0", 1), ("63-64", 65), ("5,1048575", RANK_LIMIT)] {
+        let end = read_ranks(alloc, text.as_bytes())?.end();
+        assert!(rt; end >= least && end <= RANK_LIMIT);
+    }
+    Ok(())
+}
+
+#[test]
 fn tests_single_words(rt: HostRuntime) -> Result<(), Fail> {
     let set = read_ranks(rt.alloc(), b"63-64,130,1048575")?;
     for (index, word) in [(0, 1 << 63), (1, 1), (2, 4), (16_383, 1 << 63), (9, 0)] {
@@ -261,14 +272,16 @@ fn gives_all_runs(rt: HostRuntime) -> Result<(), Fail> {
 }
 
 #[test]
-fn unites_within_its_words(rt: HostRuntime) -> Result<(), Fail> {
+fn unites_within_one_word(rt: HostRuntime) -> Result<(), Fail> {
     let alloc = rt.alloc();
-    let mut set = read_ranks(alloc, b"70,1048575")?;
-    let other = read_ranks(alloc, b"64,1048512")?;
-    assert!(rt; set.spans(&other));
-    assert!(rt; !set.spans(&read_ranks(alloc, b"63,64")?));
+    let mut set = read_ranks(alloc, b"70")?;
+    let other = read_ranks(alloc, b"64,127")?;
+    assert!(rt; set.spans(&other) && set.spans(&RankSet::new(alloc)));
+    assert!(rt; !set.spans(&read_ranks(alloc, b"63")?));
+    assert!(rt; !set.spans(&read_ranks(alloc, b"64,128")?));
+    assert!(rt; !RankSet::new(alloc).spans(&other));
     set.unite_within(&other);
-    assert_text(&rt, alloc, &set, "4:[64,70,1048512,1048575]")
+    assert_text(&rt, alloc, &set, "3:[64,70,127]")
 }
 
 const TEXTS: [(&str, &str); 7] = [

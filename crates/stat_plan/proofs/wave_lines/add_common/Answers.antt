@@ -1,5 +1,5 @@
 use Rattle.std.proofs.Common.{◌≡◌, ℕ, ◌&&◌, ◌||◌, sym, ap, refl, ◌∙◌}
-use Rattle.rank_set.specs.Ranks.{Ranks, has, has-union, those}
+use Rattle.rank_set.specs.Ranks.{Ranks, has, has-union}
 use Rattle.stat_plan.proofs.Gathering.{common_subset, common_swap}
 use Rattle.stat_plan.proofs.Sharing.{on_ok}
 use Rattle.stat_plan.proofs.wave_lines.add_common.Goals as goal
@@ -13,5 +13,5 @@ returns-then-is_subset c =
 pub returns : goal.returns
 returns c =
     on_ok c.union_into-2.result
-    (λ is r. ap (λ s. has s r) is ∙ has-union c.args.set.now c.intersect_with.new.self r ∙ ap (λ b. has c.args.set.now r || b) (common_swap c.args.ranks.now c.args.own.now c.intersect_with.new.self (c.intersect_with.ensures ∙ ap (those (has c.args.own.now)) c.in_ok-both.ensures) r))
+    (λ is r. ap (λ s. has s r) is ∙ has-union c.args.set.now c.in_ok-both.both r ∙ ap (λ b. has c.args.set.now r || b) (common_swap c.args.ranks.now c.args.own.now c.in_ok-both.both c.in_ok-both.ensures r))
     c.union_into-2.ensures.ok

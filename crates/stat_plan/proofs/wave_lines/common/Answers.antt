@@ -11,4 +11,7 @@ returns-then-is_subset c =
     IfOk-weaker c.copy.result (λ both. both ≡ ranks) (λ both. (r : ℕ) → has both r ≡ (has own r && has ranks r)) (λ both is. common_subset ranks own both (sym c.is_subset.ensures ∙ c.if-is_subset.true) is) c.copy.ensures
 
 pub returns : goal.returns
-returns c = common_those c.args.ranks.now c.args.own.now c.intersect_with.new.self (c.intersect_with.ensures ∙ ap (those (has c.args.ranks.now)) c.in_ok-both.ensures)
+returns c =
+    let ranks = c.args.ranks.now in
+    let own = c.args.own.now in
+    IfOk-weaker c.intersection.result (λ both. both ≡ those (has ranks) own) (λ both. (r : ℕ) → has both r ≡ (has own r && has ranks r)) (λ both is. common_those ranks own both is) c.intersection.ensures

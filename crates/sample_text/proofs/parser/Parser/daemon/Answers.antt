@@ -20,16 +20,16 @@ returns-in_err-ranks-clause-err c =
     handed_on c.from_residual-in_err-ranks.result c.in_err-ranks.field-0.0 (λ e. e ≢ OutOfMemory → with_daemon (parser_nodes c.args.self.now) (parser_view c.args.self.now) c.args.line_number c.args.name.now c.args.word.now ≡ Err e) c.from_residual-in_err-ranks.ensures
     (λ memory. daemon_bad_ranks (parser_nodes c.args.self.now) (parser_view c.args.self.now) c.args.line_number c.args.name.now c.args.word.now c.in_ok-n.n c.in_ok-n.ensures.ok c.in_err-ranks.field-0.0 (c.in_err-ranks.ensures.err memory))
 
-pub returns-then-not-disjoint-clause-err : goal.returns-then-not-disjoint-clause-err
-returns-then-not-disjoint-clause-err c = λ _.
+pub returns-then-not-are_disjoint-clause-err : goal.returns-then-not-are_disjoint-clause-err
+returns-then-not-are_disjoint-clause-err c = λ _.
     daemon_twice (parser_nodes c.args.self.now) (parser_view c.args.self.now) c.args.line_number c.args.name.now c.args.word.now c.in_ok-n.n c.in_ok-n.ensures.ok c.in_ok-ranks.ranks c.in_ok-ranks.ensures.ok
-    (ap (are_disjoint c.in_ok-ranks.ranks) (sym c.requires.placed) ∙ sym c.in_ok-disjoint.ensures ∙ c.if-not-disjoint.true)
+    (ap (are_disjoint c.in_ok-ranks.ranks) (sym c.requires.placed) ∙ sym c.are_disjoint.ensures ∙ c.if-not-are_disjoint.true)
     ∙ ap Err (sym c.bad.ensures)
 
 pub returns-clause-ok : goal.returns-clause-ok
 returns-clause-ok c =
     daemon_good (parser_nodes c.args.self.now) (parser_view c.args.self.now) c.args.line_number c.args.name.now c.args.word.now c.in_ok-n.n c.in_ok-n.ensures.ok c.in_ok-ranks.ranks c.in_ok-ranks.ensures.ok
-    (ap (are_disjoint c.in_ok-ranks.ranks) (sym c.requires.placed) ∙ sym c.in_ok-disjoint.ensures ∙ c.if-not-disjoint.false)
+    (ap (are_disjoint c.in_ok-ranks.ranks) (sym c.requires.placed) ∙ sym c.are_disjoint.ensures ∙ c.if-not-are_disjoint.false)
     ∙ ap (λ sets. Ok (sampled sets (parser_view c.args.self.now).lines)) (sym c.in_ok-add_at.ensures)
 
 pub returns-clause-consistent : goal.returns-clause-consistent
