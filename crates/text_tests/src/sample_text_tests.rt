@@ -1,8 +1,9 @@
 //! What no clause says: texts as they are written, and that each call succeeds with ample memory.
 
-use overlay_setup::Topology;
+use call_path::CallPath;
+use overlay_setup::{Grain, Topology};
 use sample_text::read;
-use stat_plan::Lines;
+use stat_plan::{StackLine, WaveTimes};
 use std::alloc::{AllocError, Global};
 use std::process::Abort;
 use std::test::Fail;
@@ -35,14 +36,18 @@ fn accepts_samples(rt: HostRuntime) -> Result<(), Fail> {
 }
 
 // The text of some lines of samples: the last digit of the time, the ranks, and the number and the text of the path.
-fn text_of_lines(alloc: Global, lines: Lines<'_>) -> Result<Vec<u8>, AllocError> {
+fn text_of_lines(
+    alloc: Global,
+    lines: &[StackLine],
+    paths: &[CallPath],
+) -> Result<Vec<u8>, AllocError> {
     let mut out = Vec::new(alloc);
-    for line in lines.lines {
+    for line in lines {
         out.push(b'0' + (line.time % 10) as u8)?;
         out.push(b' ')?;
         line.ranks.write_text(&mut out)?;
         out.extend_from_slice(&[b' ', b'0' + (line.path % 10) as u8, b' '])?;
-        if let Some(path) = lines.paths.get(line.path as usize) {
+        if let Some(path) = paths.get(line.path as usize) {
             path.write_text(&mut out)?;
         }
         out.push(b'\n')?;
@@ -53,7 +58,8 @@ fn text_of_lines(alloc: Global, lines: Lines<'_>) -> Result<Vec<u8>, AllocError>
 // The samples of a text.
 fn samples_in(alloc: Global, text: &str, job: &Topology) -> Result<Vec<u8>, TextError> {
     let samples = read(alloc, text.as_bytes(), job)?;
-    Ok(text_of_lines(alloc, samples.lines())?)
+    let all = samples.lines();
+    Ok(text_of_lines(alloc, all.lines, all.paths)?)
 }
 
 // `stack` lines in the usual form and in others, behind lines that place the ranks 0 to 2, and the samples that they
@@ -109,13 +115,25 @@ fn reads_lines_in_any_form(rt: HostRuntime) -> Result<(), Fail> {
     Ok(())
 }
 
-// The samples of a text for one node alone.
-fn own_lines_in(alloc: Global, text: &str, job: &Topology, n: u32) -> Result<Vec<u8>, TextError> {
+// The samples of a text for one node alone, in a wave of so many sample times.
+fn own_lines_in(
+    alloc: Global,
+    text: &str,
+    job: &Topology,
+    n: u32,
+    times: WaveTimes,
+) -> Result<Vec<u8>, TextError> {
     let samples = read(alloc, text.as_bytes(), job)?;
     if n as usize >= samples.placed().len() {
         return Ok(Vec::new(alloc));
     }
-    Ok(text_of_lines(alloc, samples.own_lines(n))?)
+    let own = samples.own_lines(n, times)?;
+    Ok(text_of_lines(alloc, own.lines(), own.paths_by(Grain::Line))?)
+}
+
+// The times of a wave.
+fn wave(samples: u8, wave: u8) -> WaveTimes {
+    WaveTimes { samples, wave }
 }
 
 const TWO_PATHS_BY_TURNS: &str = "daemon a:0 0-2,6
@@ -131,12 +149,12 @@ fn gives_each_node_one_line_of_a_path_whose_lines_come_by_turns(
     rt: HostRuntime,
 ) -> Result<(), Fail> {
     let job = job(rt.alloc())?;
-    let a = own_lines_in(rt.alloc(), TWO_PATHS_BY_TURNS, &job, 1)?;
+    let a = own_lines_in(rt.alloc(), TWO_PATHS_BY_TURNS, &job, 1, wave(1, 0))?;
     assert_eq!(rt;
         a.as_slice(),
         b"0 4:[0-2,6] 1 main;a\n0 3:[0,2,6] 0 main;b\n".as_slice()
     );
-    let b = own_lines_in(rt.alloc(), TWO_PATHS_BY_TURNS, &job, 2)?;
+    let b = own_lines_in(rt.alloc(), TWO_PATHS_BY_TURNS, &job, 2, wave(1, 0))?;
     assert_eq!(rt;
         b.as_slice(),
         b"0 3:[3-5] 1 main;a\n0 2:[3,5] 0 main;b\n".as_slice()
@@ -155,8 +173,18 @@ stack 8 0 m
 #[test]
 fn unites_no_lines_of_two_times(rt: HostRuntime) -> Result<(), Fail> {
     let job = job(rt.alloc())?;
-    let b = own_lines_in(rt.alloc(), TWO_TIMES_BY_TURNS, &job, 2)?;
+    let b = own_lines_in(rt.alloc(), TWO_TIMES_BY_TURNS, &job, 2, wave(16, 0))?;
     assert_eq!(rt; b.as_slice(), b"7 1:[3] 0 m\n8 1:[3] 0 m\n".as_slice());
+    Ok(())
+}
+
+#[test]
+fn cuts_a_line_for_its_own_wave_alone(rt: HostRuntime) -> Result<(), Fail> {
+    let job = job(rt.alloc())?;
+    let b = own_lines_in(rt.alloc(), TWO_TIMES_BY_TURNS, &job, 2, wave(4, 1))?;
+    assert_eq!(rt; b.as_slice(), b"7 1:[3] 0 m\n".as_slice());
+    let none = own_lines_in(rt.alloc(), TWO_TIMES_BY_TURNS, &job, 2, wave(7, 0))?;
+    assert_eq!(rt; none.as_slice(), b"".as_slice());
     Ok(())
 }
 

@@ -1,7 +1,7 @@
 //! The bound of a net's journals, and in what order a plan's lines are gone through.
 use overlay_net::Net;
 use prefix_tree::OwnedTree;
-use stat_plan::Plan;
+use stat_plan::{Plan, WaveTimes};
 use std::alloc::Global;
 use worked_jobs::jobs::{FOUR_SMP, TWO_TOP};
 
@@ -43,10 +43,15 @@ stack 0 1 main;b
 fn goes_through_lines_in_the_order_of_their_paths(rt: HostRuntime) {
     let plan = plan_of(rt.alloc(), UNORDERED_SMP).expect(&rt, "a plan");
     assert!(rt; plan.nodes() > 1);
-    let own = plan.own_lines(1).lines;
-    assert!(rt; own.len() == 4);
-    assert_eq!(rt; own[0].path, 3u32);
-    assert_eq!(rt; own[1].path, 2u32);
-    assert_eq!(rt; own[2].path, 0u32);
-    assert_eq!(rt; own[3].path, 0u32);
+    let times = WaveTimes {
+        samples: 1,
+        wave: 0,
+    };
+    let own = plan.own_lines(1, times).expect(&rt, "lines");
+    let lines = own.lines();
+    assert!(rt; lines.len() == 4);
+    assert_eq!(rt; lines[0].path, 3u32);
+    assert_eq!(rt; lines[1].path, 2u32);
+    assert_eq!(rt; lines[2].path, 0u32);
+    assert_eq!(rt; lines[3].path, 0u32);
 }
