@@ -1,6 +1,6 @@
 //! Bytes of packets.
 
-ghost use Rattle.std.specs.Prelude.{ℕ, ◌≡◌, ◌≢◌, ◌++◌, ◌∷◌, ◌<◌, ◌≤◌, true, length, List, Ok, OnOk, IfOk};
+ghost use Rattle.std.specs.Prelude.{ℕ, ◌≡◌, ◌≢◌, ◌+◌, ◌++◌, ◌∷◌, ◌<◌, ◌≤◌, true, length, List, Ok, OnOk, IfOk};
 ghost use Rattle.std.specs.List.{flat_map};
 ghost use Rattle.std.specs.Int.{w16, w64, to_be_bytes};
 ghost use Rattle.std.specs.Str.{IsUtf8};
@@ -19,7 +19,7 @@ use crate::frame::Frame;
 use crate::packet::Packet;
 use prefix_tree::{PrefixTree, Row};
 use rank_places::CoverPlaces;
-use rank_set::{RANK_LIMIT, RankSet, Run};
+use rank_set::{RANK_LIMIT, RankSet, Run, WORD_LIMIT};
 use std::alloc::{AllocError, Global};
 
 /// The version that is written.
@@ -168,8 +168,20 @@ fn put_name(depth: u8, name: &str, out: &mut Vec<u8>) -> Result<(), AllocError>
 fn put_set(numbers: &RankSet, out: &mut Vec<u8>) -> Result<(), AllocError>
     ensures { OnOk result (out.new.items ≡ out.old.items ++ set_bytes numbers.now) }
 {
-    let words = numbers.words();
-    out.extend_from_slice(&(numbers.word_offset() as u16).to_be_bytes())?;
+    if let Some(words) = numbers.held_words() {
+        return put_words_at(numbers.word_offset(), words, out);
+    }
+    let words = numbers.words(*out.allocator())?;
+    put_words_at(numbers.word_offset(), &words, out)
+}
+
+// Appends the index of the first of some words, how many there are, and these.
+fn put_words_at(offset: u32, words: &[u64], out: &mut Vec<u8>) -> Result<(), AllocError>
+    requires { offset + length words.now ≤ WORD_LIMIT }
+    ensures { OnOk result (out.new.items ≡ out.old.items
+        ++ (to_be_bytes w16 offset ++ (to_be_bytes w16 (length words.now) ++ flat_map (to_be_bytes w64) words.now))) }
+{
+    out.extend_from_slice(&(offset as u16).to_be_bytes())?;
     out.extend_from_slice(&(words.len() as u16).to_be_bytes())?;
     put_words(words, out)
 }
@@ -188,8 +200,8 @@ fn put_cover(cover: &RankSet, out: &mut Vec<u8>) -> Result<(), AllocError>
     ensures bytes { OnOk result (out.new.items ≡ out.old.items ++ coverage_bytes 2 cover.now) }
     ensures small { OnOk result ((r : ℕ) → Has r cover.now → r < RANK_LIMIT) }
 {
-    // for the proof: its ranks are below the limit, since its words are
-    let _ = cover.words();
+    // for the proof: its ranks are below the limit
+    cover.invariant();
     let runs = cover.runs(*out.allocator())?;
     out.extend_from_slice(&(runs.len() as u32).to_be_bytes())?;
     put_runs(&runs, out)

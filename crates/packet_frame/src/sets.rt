@@ -170,7 +170,7 @@ impl<T: PrefixTree> Scan<T> {
         ensures ready { OnOk result (IsReady self.new.field self.new) }
     {
         let words = mem::replace(&mut self.words, Vec::new(alloc));
-        let numbers = RankSet::from_words(u32::from(self.offset), words);
+        let numbers = RankSet::from_words(alloc, u32::from(self.offset), words)?;
         match self.part {
             Part::Coverage => {
                 self.cover = numbers;

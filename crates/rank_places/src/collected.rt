@@ -98,13 +98,13 @@ impl Collected {
     }
 
     /// The set of the numbers.
-    pub(crate) fn finish(mut self) -> Result<RankSet, AllocError>
+    pub(crate) fn finish(mut self, alloc: Global) -> Result<RankSet, AllocError>
         requires { IsCollected self }
         ensures { IfOk result (λ set. set ≡ collected self) }
     {
         if self.word != 0 {
             self.flush()?;
         }
-        Ok(RankSet::from_words(self.offset, self.words))
+        RankSet::from_words(alloc, self.offset, self.words)
     }
 }

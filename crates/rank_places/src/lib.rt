@@ -53,8 +53,8 @@ impl CoverPlaces {
     pub fn of(alloc: Global, cover: &RankSet) -> Result<CoverPlaces, AllocError>
         ensures { IfOk result (λ places. places ≡ cover.now) }
     {
-        // for the proof: its ranks are below the limit, since its words are
-        let _ = cover.words();
+        // for the proof: its ranks are below the limit
+        cover.invariant();
         let runs = cover.runs(alloc)?;
         Ok(CoverPlaces {
             runs: placed_runs(alloc, &runs)?,

@@ -2,7 +2,7 @@
 
 ghost use Rattle.std.specs.Prelude.{◌≡◌, ◌≢◌, ℕ, ◌+◌, ◌-◌, ◌*◌, ◌/◌, ◌<◌, ◌≤◌, true, [], ◌∷◌, OnOk, IfOk};
 ghost use Rattle.rank_set.specs.Ranks.{none, has, union};
-ghost use Rattle.rank_set.specs.Words.{ranks_in, offset_of};
+ghost use Rattle.rank_set.specs.Words.{ranks_in, offset_of, AreWords};
 ghost use Rattle.rank_set.specs.WordLists.{words_of};
 ghost use Rattle.rank_places.specs.Table.{ArePlaced, cover_of, inside, Becomes, image, AreMoved};
 ghost use Rattle.rank_places.specs.Collected.{collected, IsCollected};
@@ -59,13 +59,12 @@ fn moved_words(alloc: Global, set: &RankSet, run: Shift) -> Result<RankSet, Allo
     requires some { set.now ≢ none }
     requires start { run.first / 64 ≤ offset_of set.now }
     requires below_limit { (x : ℕ) → has set.now x ≡ true → run.target / 64 + (x / 64 - run.first / 64) < WORD_LIMIT }
-    ensures moved { IfOk result
+    ensures { IfOk result
         (λ moved. moved ≡ ranks_in (run.target / 64 + (offset_of set.now - run.first / 64)) (words_of set.now)) }
-    ensures words { ranks_in (offset_of set.now) (words_of set.now) ≡ set.now }
 {
-    let words = Vec::from_slice(alloc, set.words())?;
+    let words = set.words(alloc)?;
     let offset = run.target / 64 + (set.word_offset() - run.first / 64);
-    Ok(RankSet::from_words(offset, words))
+    RankSet::from_words(alloc, offset, words)
 }
 
 /// What the numbers of a set become: places of the ranks of the cover, or, with `back`, ranks at places.
@@ -79,6 +78,8 @@ pub(crate) fn moved(
     requires inside { (x : ℕ) → has set.now x ≡ true → inside back (cover_of runs.now) x ≡ true }
     ensures { IfOk result (λ moved. moved ≡ image back (cover_of runs.now) set.now) }
 {
+    // for the proof: the numbers are below the limit of ranks
+    set.invariant();
     let Some(first) = set.first() else {
         return Ok(RankSet::new(alloc));
     };
@@ -87,28 +88,35 @@ pub(crate) fn moved(
     if at + 1 == runs.len() && run.first % 64 == run.target % 64 {
         return moved_words(alloc, set, run);
     }
-    moved_bits(alloc, runs, back, run, set)
+    if let Some(words) = set.held_words() {
+        return moved_bits(alloc, runs, back, run, set, words);
+    }
+    let words = set.words(alloc)?;
+    moved_bits(alloc, runs, back, run, set, &words)
 }
 
-// What the numbers of a set become, bit by bit where they must. The shift is that of any run.
+// What the numbers of a set become, whose words are given, bit by bit where they must. The shift is that of any run.
 fn moved_bits(
     alloc: Global,
     runs: &[PlacedRun],
     back: bool,
     before: Shift,
     set: &RankSet,
+    words: &[u64],
 ) -> Result<RankSet, AllocError>
     requires placed { ArePlaced 0 0 runs.now }
     requires moves { AreMoved back (cover_of runs.now) before.first before.last before.target }
+    requires trimmed { AreWords (offset_of set.now) words.now }
+    requires words { ranks_in (offset_of set.now) words.now ≡ set.now }
     requires inside { (x : ℕ) → has set.now x ≡ true → inside back (cover_of runs.now) x ≡ true }
     ensures { IfOk result (λ moved. moved ≡ image back (cover_of runs.now) set.now) }
 {
     let mut out = Collected::new(alloc);
     let mut run = before;
     let mut index = set.word_offset();
-    for word in set.words() {
+    for word in words {
         run = put_moved(runs, back, run, index, *word, &mut out)?;
         index += 1;
     }
-    out.finish()
+    out.finish(alloc)
 }

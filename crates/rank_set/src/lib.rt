@@ -92,15 +92,22 @@ impl RankSet {
         }
     }
 
-    /// The set of trimmed words, the first of which is word `offset` of all. It allocates nothing.
-    pub fn from_words(offset: u32, words: Vec<u64>) -> RankSet
-        requires { AreWords offset words.items }
-        ensures { result ≡ ranks_in offset words.items }
+    /// For the proof: each rank is below `RANK_LIMIT`.
+    pub fn invariant(&self)
+        ensures { (r : ℕ) → Has r self.now → r < RANK_LIMIT }
     {
-        RankSet {
+        let _offset = self.offset;
+    }
+
+    /// The set of trimmed words, the first of which is word `offset` of all.
+    pub fn from_words(_alloc: Global, offset: u32, words: Vec<u64>) -> Result<RankSet, AllocError>
+        requires { AreWords offset words.items }
+        ensures { IfOk result (λ set. set ≡ ranks_in offset words.items) }
+    {
+        Ok(RankSet {
             offset,
             words: Words::from_vec(words),
-        }
+        })
     }
 
     /// A copy of the set.
@@ -367,12 +374,21 @@ impl RankSet {
 
     /// The words from that of the least rank to that of the greatest: bit i of the j-th stands for rank
     /// 64 * (word_offset + j) + i.
-    pub fn words(&self) -> &[u64]
-        ensures trimmed { AreWords (offset_of self.now) result.now }
-        ensures ranks { ranks_in (offset_of self.now) result.now ≡ self.now }
-        ensures list { result.now ≡ words_of self.now }
+    pub fn words(&self, alloc: Global) -> Result<Vec<u64>, AllocError>
+        ensures trimmed { IfOk result (λ words. AreWords (offset_of self.now) words.items) }
+        ensures ranks { IfOk result (λ words. ranks_in (offset_of self.now) words.items ≡ self.now) }
+        ensures list { IfOk result (λ words. words.items ≡ words_of self.now) }
     {
-        words::words_in(self.offset, self.words.as_slice())
+        words::words_in(alloc, self.offset, self.words.as_slice())
+    }
+
+    /// The same words without a copy, if the set holds them.
+    pub fn held_words(&self) -> Option<&[u64]>
+        ensures trimmed { IfSome result (λ words. AreWords (offset_of self.now) words.now) }
+        ensures ranks { IfSome result (λ words. ranks_in (offset_of self.now) words.now ≡ self.now) }
+        ensures list { IfSome result (λ words. words.now ≡ words_of self.now) }
+    {
+        Some(words::held(self.offset, self.words.as_slice()))
     }
 
     /// Whether all ranks of word `index` are in the set: bit i of it stands for rank 64 * index + i.

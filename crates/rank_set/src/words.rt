@@ -513,13 +513,25 @@ pub(crate) fn offset_in(offset: u32, words: &[u64]) -> u32
 }
 
 // The words, which begin with that of the least rank.
-pub(crate) fn words_in(offset: u32, words: &[u64]) -> &[u64]
+pub(crate) fn held(offset: u32, words: &[u64]) -> &[u64]
     requires { AreWords offset words.now }
     ensures trimmed { AreWords (offset_of (ranks_in offset words.now)) result.now }
     ensures ranks { ranks_in (offset_of (ranks_in offset words.now)) result.now ≡ ranks_in offset words.now }
     ensures list { result.now ≡ words_of (ranks_in offset words.now) }
 {
     words
+}
+
+// A copy of the words.
+pub(crate) fn words_in(alloc: Global, offset: u32, words: &[u64]) -> Result<Vec<u64>, AllocError>
+    requires { AreWords offset words.now }
+    ensures trimmed { IfOk result (λ all. AreWords (offset_of (ranks_in offset words.now)) all.items) }
+    ensures ranks { IfOk result (λ all. ranks_in (offset_of (ranks_in offset words.now)) all.items
+        ≡ ranks_in offset words.now) }
+    ensures list { IfOk result (λ all. all.items ≡ words_of (ranks_in offset words.now)) }
+{
+    let all = Vec::from_slice(alloc, held(offset, words))?;
+    Ok(all)
 }
 
 // The first number from the given one on, within the words, that is a rank, or with `gap` is not.

@@ -201,9 +201,12 @@ fn keeps_its_words(rt: HostRuntime) -> Result<(), Fail> {
     let alloc = rt.alloc();
     let set = read_ranks(alloc, b"130,200")?;
     assert_eq!(rt; set.word_offset(), 2);
-    assert_eq!(rt; set.words(), [4, 256].as_slice());
-    let words = Vec::from_slice(alloc, set.words())?;
-    assert!(rt; RankSet::from_words(set.word_offset(), words).equals(&set));
+    let words = set.words(alloc)?;
+    assert_eq!(rt; words.as_slice(), [4, 256].as_slice());
+    if let Some(held) = set.held_words() {
+        assert_eq!(rt; held, words.as_slice());
+    }
+    assert!(rt; RankSet::from_words(alloc, set.word_offset(), words)?.equals(&set));
     Ok(())
 }
 

@@ -2,11 +2,11 @@ use Rattle.std.proofs.Common.{rules, ◌∙◌, ◌++◌, ap}
 use Rattle.std.proofs.lemmas.Result.{on_ok_weaker}
 use Rattle.std.specs.List.{flat_map}
 use Rattle.packet_frame.specs.Spelling.{run_bytes}
-use Rattle.packet_frame.proofs.Written.{few_runs, cover_written, small_ranks}
+use Rattle.packet_frame.proofs.Written.{few_runs, cover_written}
 use Rattle.packet_frame.proofs.encoding.put_cover.Goals as goal
 
 pub overflow_cast-len : goal.overflow_cast-len
-overflow_cast-len c = let lt = few_runs c.args.cover.now c.in_ok-runs.runs.items c.len.result (small_ranks c.args.cover.now c.words.result.now c.words.ensures.trimmed c.words.ensures.ranks) c.in_ok-runs.ensures (c.len.ensures ∙ c.in_ok-runs.runs.ok.0) in search rules
+overflow_cast-len c = let lt = few_runs c.args.cover.now c.in_ok-runs.runs.items c.len.result c.invariant.ensures c.in_ok-runs.ensures (c.len.ensures ∙ c.in_ok-runs.runs.ok.0) in search rules
 
 pub returns-clause-bytes : goal.returns-clause-bytes
 returns-clause-bytes c =
@@ -17,4 +17,4 @@ returns-clause-bytes c =
     c.put_runs.ensures
 
 pub returns-clause-small : goal.returns-clause-small
-returns-clause-small c = on_ok_weaker c.put_runs.result (λ _. small_ranks c.args.cover.now c.words.result.now c.words.ensures.trimmed c.words.ensures.ranks) c.put_runs.ensures
+returns-clause-small c = on_ok_weaker c.put_runs.result (λ _. c.invariant.ensures) c.put_runs.ensures

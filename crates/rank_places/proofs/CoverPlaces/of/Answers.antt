@@ -3,17 +3,12 @@ use Rattle.rank_set.specs.declared.TheConstants.{RANK_LIMIT}
 use Rattle.rank_set.specs.declared.Run.{Run}
 use Rattle.rank_set.specs.Ranks.{Ranks, has, in_order}
 use Rattle.rank_set.specs.Runs.{AreRuns, ranks_of_runs, runs_of}
-use Rattle.rank_set.specs.Words.{AreWords, offset_of, ranks_in}
 use Rattle.rank_set.proofs.RunLists.{runs_of_are, runs_of_make}
-use Rattle.rank_set.proofs.WordLists.{ranks_small}
 use Rattle.rank_places.specs.Table.{cover_of, ArePlaced}
 use Rattle.rank_places.proofs.Runs.{are_placed, placed_ends}
 use Rattle.rank_places.proofs.CoverPlaces.of.Goals as goal
 
-module _ (cover : Ranks) (ws : List ℕ) (trimmed : AreWords (offset_of cover) ws) (words : ranks_in (offset_of cover) ws ≡ cover) (runs rs : List Run) (all : map (λ run. (run.first, run.last)) runs ≡ runs_of (in_order cover)) (seen : rs ≡ runs) where
-  small : (r : ℕ) → has cover r ≡ true → r < RANK_LIMIT
-  small r one = ranks_small (offset_of cover) ws trimmed r (ap (λ s. has s r) words ∙ one)
-
+module _ (cover : Ranks) (small : (r : ℕ) → has cover r ≡ true → r < RANK_LIMIT) (runs rs : List Run) (all : map (λ run. (run.first, run.last)) runs ≡ runs_of (in_order cover)) (seen : rs ≡ runs) where
   same : map (λ run. (run.first, run.last)) rs ≡ runs_of (in_order cover)
   same = ap (map (λ run. (run.first, run.last))) seen ∙ all
 
@@ -24,14 +19,14 @@ module _ (cover : Ranks) (ws : List ℕ) (trimmed : AreWords (offset_of cover) w
   make = ap ranks_of_runs same ∙ runs_of_make cover small
 
 pub placed_runs-requires : goal.placed_runs-requires
-placed_runs-requires c = are c.args.cover.now c.words.result.now c.words.ensures.trimmed c.words.ensures.ranks c.in_ok-runs.runs.items c.deref.result.now c.in_ok-runs.ensures c.deref.ensures.value
+placed_runs-requires c = are c.args.cover.now c.invariant.ensures c.in_ok-runs.runs.items c.deref.result.now c.in_ok-runs.ensures c.deref.ensures.value
 
 pub invariant_of-result : goal.invariant_of-result
 invariant_of-result c =
     subst (ArePlaced 0 0) (sym c.in_ok-placed_runs.ensures)
-    (are_placed 0 0 c.deref.result.now (are c.args.cover.now c.words.result.now c.words.ensures.trimmed c.words.ensures.ranks c.in_ok-runs.runs.items c.deref.result.now c.in_ok-runs.ensures c.deref.ensures.value))
+    (are_placed 0 0 c.deref.result.now (are c.args.cover.now c.invariant.ensures c.in_ok-runs.runs.items c.deref.result.now c.in_ok-runs.ensures c.deref.ensures.value))
 
 pub returns : goal.returns
 returns c =
     ap cover_of c.in_ok-placed_runs.ensures ∙ ap ranks_of_runs (placed_ends 0 c.deref.result.now)
-    ∙ make c.args.cover.now c.words.result.now c.words.ensures.trimmed c.words.ensures.ranks c.in_ok-runs.runs.items c.deref.result.now c.in_ok-runs.ensures c.deref.ensures.value
+    ∙ make c.args.cover.now c.invariant.ensures c.in_ok-runs.runs.items c.deref.result.now c.in_ok-runs.ensures c.deref.ensures.value

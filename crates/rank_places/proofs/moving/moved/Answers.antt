@@ -3,6 +3,7 @@ use Rattle.std.proofs.lemmas.Result.{IfOk-weaker}
 use Rattle.rank_set.specs.Ranks.{Ranks, has, has-none}
 use Rattle.rank_set.specs.Words.{ranks_in, offset_of}
 use Rattle.rank_set.specs.WordLists.{words_of}
+use Rattle.rank_set.proofs.WordLists.{words_of_make}
 use Rattle.rank_places.specs.Table.{cover_of, image}
 use Rattle.rank_places.proofs.Images.{image_none}
 use Rattle.rank_places.proofs.WholeWords.{whole_words, least_there, least_word}
@@ -27,5 +28,5 @@ returns-then-run c =
     let high : (x : ℕ) → has s x ≡ true → x ≤ run.last = λ x one. c.shift_at-run.ensures.last c.if-at-runs.true x (least.1 x one) (c.requires.inside x one) in
     let start : run.first / 64 ≤ offset_of s = omega (arith, least_word s c.in-Some.first c.in-Some.ensures.least, c.shift_at-run.ensures.shift.start) in
     IfOk-weaker c.moved_words.result (λ moved. moved ≡ ranks_in (run.target / 64 + (offset_of s - run.first / 64)) (words_of s)) (λ moved. moved ≡ image c.args.back (cover_of c.args.runs.now) s)
-    (λ moved made. made ∙ whole_words c.args.back (cover_of c.args.runs.now) s c.requires.inside run.first run.last run.target c.shift_at-run.ensures.shift.moved c.if-run.true low high (offset_of s) (words_of s) c.moved_words.ensures.words start)
-    c.moved_words.ensures.moved
+    (λ moved made. made ∙ whole_words c.args.back (cover_of c.args.runs.now) s c.requires.inside run.first run.last run.target c.shift_at-run.ensures.shift.moved c.if-run.true low high (offset_of s) (words_of s) (words_of_make s c.invariant.ensures).is start)
+    c.moved_words.ensures

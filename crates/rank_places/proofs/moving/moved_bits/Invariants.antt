@@ -10,5 +10,5 @@ invariant-loop-word l = record {
   index : l.index ≡ offset_of l.set + l.word-index;
   moves : AreMoved l.back (cover_of l.runs) l.run.first l.run.last l.run.target;
   good : IsCollected l.out;
-  numbers : collected l.out ≡ image l.back (cover_of l.runs) (firsts (offset_of l.set) l.word-items l.word-index);
+  numbers : collected l.out ≡ image l.back (cover_of l.runs) (firsts (offset_of l.set) l.words l.word-index);
 }
