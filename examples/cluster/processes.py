@@ -1,0 +1,157 @@
+"""Finds the processes of this host that are ranks of a parallel job, by what /proc says of them.
+
+A launcher tells each process its rank by the environment, and wrappers, shells and the launcher's own daemons may have the
+same variables. So a rank's process is chosen by rules, and where they leave two, none is taken.
+"""
+import collections
+import os
+import re
+
+# Variables with the rank, and with the size of the job; the launcher nearest to the process first. Below an mpirun in a
+# batch script SLURM_PROCID is the number of the daemon that started the process, so Slurm's own comes last.
+LAUNCHERS = (
+    ('OMPI_COMM_WORLD_RANK', ('OMPI_COMM_WORLD_SIZE',)),
+    ('MV2_COMM_WORLD_RANK', ('MV2_COMM_WORLD_SIZE',)),
+    ('PMI_RANK', ('PMI_SIZE',)),
+    ('JSM_NAMESPACE_RANK', ('JSM_NAMESPACE_SIZE',)),
+    ('PALS_RANKID', ()),
+    ('FLUX_TASK_RANK', ('FLUX_JOB_SIZE',)),
+    ('PMIX_RANK', ('SLURM_STEP_NUM_TASKS', 'SLURM_NTASKS')),
+    ('SLURM_PROCID', ('SLURM_STEP_NUM_TASKS', 'SLURM_NTASKS')),
+)
+SAMPLER = os.path.join(os.path.dirname(os.path.abspath(__file__)), 'sample.py')
+MPI = re.compile(r'/lib(p?mpi|mpich|mpi_cray|mpi_gnu)[\w.-]*\.so')
+
+Process = collections.namedtuple('Process', 'pid rank size has_mpi program words')
+
+
+def slurp(name):
+    """The text of a file of /proc, or nothing where it can't be read."""
+    try:
+        with open(name, 'rb') as file:
+            return file.read().decode('utf-8', 'replace')
+    except OSError:
+        return ''
+
+
+def state(pid, thread=None):
+    """One letter: R, S, D (waits in the kernel), T (was stopped), t (a debugger holds it), Z; nothing: no such process."""
+    name = '/proc/%d/stat' % pid if thread is None else '/proc/%d/task/%d/stat' % (pid, thread)
+    return slurp(name).rpartition(') ')[2][:1]
+
+
+def threads(pid):
+    """The numbers of a process' threads."""
+    try:
+        return [int(name) for name in os.listdir('/proc/%d/task' % pid)]
+    except OSError:
+        return []
+
+
+def parents():
+    """The parent of each process."""
+    found = {}
+    for name in filter(str.isdigit, os.listdir('/proc')):
+        words = slurp('/proc/%s/stat' % name).rpartition(') ')[2].split()
+        if len(words) > 1:
+            found[int(name)] = int(words[1])
+    return found
+
+
+def ancestors(pid, parent):
+    """The processes above one.
+
+    >>> ancestors(5, {5: 4, 4: 1, 1: 0})
+    [4, 1]
+    """
+    found = []
+    while parent.get(pid, 0) > 0 and parent[pid] not in found:
+        pid = parent[pid]
+        found.append(pid)
+    return found
+
+
+def rank_and_size(environment):
+    """The rank that a process was told, and the size of the job (0 where no variable says it); None without a rank.
+
+    >>> rank_and_size({'SLURM_PROCID': '1', 'SLURM_NTASKS': '2', 'OMPI_COMM_WORLD_RANK': '9', 'OMPI_COMM_WORLD_SIZE': '16'})
+    (9, 16)
+    >>> rank_and_size({'SLURM_PROCID': '1', 'SLURM_NTASKS': '4'}), rank_and_size({'PALS_RANKID': '3'}), rank_and_size({})
+    ((1, 4), (3, 0), None)
+    """
+    for rank, sizes in LAUNCHERS:
+        if environment.get(rank, '').isdigit():
+            size = next((environment[name] for name in sizes if environment.get(name, '').isdigit()), '0')
+            return int(environment[rank]), int(size)
+    return None
+
+
+def environment_of(pid):
+    """The environment that a process was started with."""
+    return dict(word.partition('=')[::2] for word in slurp('/proc/%d/environ' % pid).split('\0') if '=' in word)
+
+
+def process(pid, environment):
+    """A process that has been told a rank, or None."""
+    told = rank_and_size(environment)
+    words = slurp('/proc/%d/cmdline' % pid).replace('\0', ' ').strip()
+    if not told or not words or state(pid) in ('', 'Z', 'X'):
+        return None
+    try:
+        program = os.readlink('/proc/%d/exe' % pid)
+    except OSError:
+        program = ''
+    return Process(pid, told[0], told[1], bool(MPI.search(slurp('/proc/%d/maps' % pid))), program, words)
+
+
+def chosen(found, parent):
+    """The processes of each rank, one or, where the rules can't tell, several.
+
+    Where some have MPI mapped, only those count. A process that another one of its rank forked from the same program isn't
+    counted; of programs that start another one without MPI, as shells do, the innermost is the rank.
+
+    >>> def a(pid, mpi, program): return Process(pid, 0, 1, mpi, program, '')
+    >>> [p.pid for p in chosen([a(3, False, 'orted'), a(4, True, 'x')], {})[0]]
+    [4]
+    >>> [p.pid for p in chosen([a(4, True, 'x'), a(5, True, 'x')], {5: 4})[0]]
+    [4]
+    >>> [p.pid for p in chosen([a(3, False, 'sh'), a(4, False, 'x'), a(5, False, 'x')], {5: 4, 4: 3})[0]]
+    [4]
+    >>> [p.pid for p in chosen([a(4, True, 'x'), a(5, True, 'x')], {})[0]]
+    [4, 5]
+    """
+    if any(one.has_mpi for one in found):
+        found = [one for one in found if one.has_mpi]
+    ranks = collections.defaultdict(list)
+    for one in sorted(found):
+        ranks[one.rank].append(one)
+    for rank, same in ranks.items():
+        program = {one.pid: one.program for one in same}
+        same = [one for one in same if not any(program.get(pid) == one.program for pid in ancestors(one.pid, parent))]
+        above = {pid for one in same for pid in ancestors(one.pid, parent)}
+        if not any(one.has_mpi for one in same):
+            same = [one for one in same if one.pid not in above]
+        ranks[rank] = same
+    return dict(ranks)
+
+
+def job(wanted, exe):
+    """The processes of each rank on this host, and how many processes with a rank were left out as another job's.
+
+    `wanted` is what their environment must have, as pairs of a variable and its value; the command of each must match the
+    expression `exe`. Where this process runs in a Slurm job, those of other Slurm jobs are left out.
+    """
+    own, parent = os.environ.get('SLURM_JOB_ID', ''), parents()
+    ours = set(ancestors(os.getpid(), parent)) | {os.getpid()}
+    found, others = [], 0
+    for pid in sorted(set(parent) - ours):
+        environment = environment_of(pid)
+        one = process(pid, environment)
+        if one is None or SAMPLER in one.words:
+            continue
+        other = own and environment.get('SLURM_JOB_ID', own) != own
+        if other or any(environment.get(name) != value for name, value in wanted) or not re.search(exe, one.words):
+            others += 1
+            continue
+        found.append(one)
+    return chosen(found, parent), others
