@@ -4,7 +4,8 @@
     fold.py [OPTIONS] FOLDER OUT
 
 Written are OUT.top (a front end, and a daemon for each host), OUT.smp (which rank is where, and the stacks), OUT.scr (one wave
-with all samples), and OUT.pids, with a line RANK HOST PID for each rank. The folder's files are read piece by piece.
+with all samples), and OUT.pids, with a line RANK HOST PID for each rank (of a core file, its name in place of PID). The folder's
+files are read piece by piece.
 
 Ranks that the job has, by its size, and that no host had, are seen in `(not found)`, below a daemon of that name. A rank of
 which two hosts have a process is seen in `(two processes of this rank)`. What is odd is said on standard error, too; where
@@ -24,7 +25,7 @@ import stacks
 RANKS, DAEMONS, PREFIXES, LINES, BYTES = 1048576, 511, 2048, 262144, 33554432
 ADDRESS = re.compile(r'0x[0-9a-f]{9,}')
 HOST = re.compile(r'[^A-Za-z0-9._-]')
-RECORD = re.compile(r'^rank (\d+) pid (\d+) time (\d+)(?: (\(.*\)))?$')
+RECORD = re.compile(r'^rank (\d+) pid (\d+)(?: of (\S+))? time (\d+)(?: (\(.*\)))?$')
 TWO, NOT_FOUND, NO_STACK = '(two processes of this rank)', '(not found)', '(no stack)'
 PIECE, KNOWN = 1 << 20, 1 << 14  # bytes that are read at once; texts whose paths are kept
 
@@ -34,6 +35,7 @@ class Refused(Exception):
 
 
 def refuse(why):
+    """Ends the fold."""
     raise Refused(why)
 
 
@@ -96,38 +98,52 @@ class Fold:
         self.size, self.times, self.too_long = 0, 1, set()
         self.hosts, self.without, self.broken = set(), [], []
 
-    def paths(self, text, pid):
-        """The paths of what was printed of a process, and whether one was too long."""
+    def paths(self, text, pid, rank):
+        """The paths of what was printed of a rank's process."""
         first = '' if self.asked.threads else stacks.first_thread(text, pid)
         key = ADDRESS.sub('', first) or text  # without addresses the text of many processes is the same
         if key not in self.known:
             if len(self.known) >= KNOWN:
                 self.known.clear()
             all_stacks = [stacks.eu_stack(first.split('\n'))] if first else stacks.stacks(text, pid)
-            found = paths.paths(all_stacks, self.choice, self.asked.threads)
-            if self.asked.depth:
-                found = [one[:self.asked.depth] for one in found]
-            self.known[key] = [';'.join(one) for one in found if one], any(paths.LEFT_OUT in one for one in found)
-        return self.known[key]
+            self.known[key] = self.joined(paths.paths(all_stacks, self.choice, self.asked.threads))
+        found, was_long = self.known[key]
+        if was_long:
+            self.too_long.add(rank)
+        return found
+
+    def joined(self, found):
+        """The texts of paths, no longer than asked for; and whether one had too many frames."""
+        was_long = any(paths.LEFT_OUT in one for one in found)
+        if self.asked.depth:
+            found = [one[:self.asked.depth] for one in found]
+        return [';'.join(one) for one in found if one], was_long
 
     def add(self, host, part):
-        """Takes a record of a host."""
+        """Takes a record of a host's file."""
         head, _, text = part.partition('\n')
         if head.startswith('host '):
             self.size = max(self.size, int(head.split()[3]))
             return
         words = RECORD.match(head) or refuse('%s has a record that is none: %.60s' % (host, head))
-        rank, pid, when, why = int(words[1]), int(words[2]), int(words[3]), (words[4] or '').replace(';', ':')
+        rank, pid, when = int(words[1]), int(words[2]), int(words[4])
+        if self.is_placed(rank, (host, words[3] or words[2]), words[5] == TWO):
+            found = self.paths(text, pid, rank) if text.strip() else []
+            self.take(rank, when, found, words[5] or '')
+
+    def is_placed(self, rank, where, are_two=False):
+        """Gives a rank its place, a host and a process; whether it is the only one."""
         if max(rank, self.size - 1) >= RANKS:
             refuse('rank %d: stat takes ranks below %d' % (max(rank, self.size - 1), RANKS))
-        place = self.home.setdefault(rank, (host, pid))
-        if place != (host, pid) or why == TWO:
-            self.two.setdefault(rank, set()).update([place, (host, pid)])
-            return
-        found, was_long = self.paths(text, pid) if text.strip() else ([], False)
-        if was_long:
-            self.too_long.add(rank)
+        place = self.home.setdefault(rank, where)
+        if place != where or are_two:
+            self.two.setdefault(rank, set()).update([place, where])
+        return rank not in self.two
+
+    def take(self, rank, when, found, why):
+        """Takes the paths that a rank was seen in at a time, and what is odd about them."""
         if why:
+            why = why.replace(';', ':')
             self.odd[why].add(rank)
             found = [';'.join(filter(None, [found[0] if found else '', why]))] + found[1:]
         self.times = max(self.times, when + 1)
@@ -166,9 +182,9 @@ class Fold:
 def daemons(home, gone):
     """The ranks of each daemon: a host's; where there are more hosts than a topology takes, those of several.
 
-    >>> daemons({0: ('a', 7), 1: ('b', 8), 2: ('a', 9)}, {3})
+    >>> daemons({0: ('a', '7'), 1: ('b', '8'), 2: ('a', '9')}, {3})
     {'a': [0, 2], 'b': [1], 'not-found': [3]}
-    >>> many = daemons({rank: ('n%04d' % rank, 7) for rank in range(1000)}, set())
+    >>> many = daemons({rank: ('n%04d' % rank, '7') for rank in range(1000)}, set())
     >>> len(many), many['n0002']
     (500, [2, 3])
     """
@@ -220,7 +236,7 @@ def shortened(seen, depth):
 def write(found, gone, out):
     """Writes the four files."""
     places = daemons(found.home, gone)
-    front = 'front-end'
+    front = 'front'
     while front in places:
         front += '_'
     with open(out + '.top', 'w', encoding='utf-8') as top:
@@ -232,7 +248,7 @@ def write(found, gone, out):
     with open(out + '.scr', 'w', encoding='utf-8') as scr:
         scr.write('stream 0 wait-for-all waves 1 samples %d on all\n' % found.times)
     with open(out + '.pids', 'w', encoding='utf-8') as pids:
-        pids.writelines('%d %s %d\n' % (rank, host, pid) for rank, (host, pid) in sorted(found.home.items()))
+        pids.writelines('%d %s %s\n' % (rank, host, pid) for rank, (host, pid) in sorted(found.home.items()))
 
 
 def remarks(found, gone):
@@ -243,7 +259,7 @@ def remarks(found, gone):
     if not found.size:
         yield "the job's size isn't known: ranks above %d would be missing without a word" % max(found.home)
     for rank, where in sorted(found.two.items())[:10]:
-        where = sorted('%s %d' % place for place in where if place[1])
+        where = sorted('%s %s' % place for place in where if place[1] != '0')
         yield 'two processes of rank %d%s' % (rank, ': ' + ' and '.join(where) if len(where) > 1 else '')
     if len(found.two) > 10:
         yield 'two processes of ranks ' + ranges(found.two)
@@ -257,30 +273,35 @@ def remarks(found, gone):
         yield 'no rank on %s' % ' '.join(found.without)
 
 
-def fold(folder, out, asked):
-    """Folds a folder, and returns what is to be known of it, line by line."""
-    found = Fold(asked)
-    try:
-        found.read(os.path.join(folder, 'hosts'))
-    except OSError as error:
-        raise Refused('cannot read %s: %s' % (error.filename, error.strerror))
+def finish(found, out):
+    """Writes the files of what was read, and returns what is to be known of it, line by line."""
     if not found.home:
-        raise Refused('; '.join(['no rank was found'] + ['began and did not end: ' + ' '.join(found.broken)] * bool(found.broken)))
+        refuse('; '.join(['no rank was found'] + ['began and did not end: ' + ' '.join(found.broken)] * bool(found.broken)))
     gone = found.settle()
     if all(paths.is_remark(text) and ';' not in text for (_, text), ranks in found.seen.items() if ranks):
         why = sorted({text for (_, text), ranks in found.seen.items() if ranks} - {NOT_FOUND})
-        raise Refused('none of %d ranks has a stack: %s' % (len(found.home), ', '.join(why)))
+        refuse('none of %d ranks has a stack: %s' % (len(found.home), ', '.join(why)))
     said = list(remarks(found, gone))
     depth = depth_that_fits({text for _, text in found.seen})
     if depth:
         said.append('more than %d prefixes: paths end at their frame %d; --cut says what to cut instead' % (PREFIXES, depth))
         found.seen = shortened(found.seen, depth)
     if len(found.seen) > LINES:
-        raise Refused('%d stacks, and stat takes %d: fewer samples, or --cut' % (len(found.seen), LINES))
+        refuse('%d stacks, and stat takes %d: fewer samples, or --cut' % (len(found.seen), LINES))
     write(found, gone, out)
     if os.path.getsize(out + '.smp') > BYTES:
-        raise Refused('%s.smp has over %d bytes: fewer samples, or --cut' % (out, BYTES))
+        refuse('%s.smp has over %d bytes: fewer samples, or --cut' % (out, BYTES))
     return said
+
+
+def fold(folder, out, asked):
+    """Folds a folder, and returns what is to be known of it, line by line."""
+    found = Fold(asked)
+    try:
+        found.read(os.path.join(folder, 'hosts'))
+    except OSError as error:
+        refuse('cannot read %s: %s' % (error.filename, error.strerror))
+    return finish(found, out)
 
 
 def main():

@@ -176,11 +176,8 @@ def write(out, asked):
     out.write('\n== end\n')
 
 
-def options():
+def options(parser):
     """What was asked for, by the command line and by FOLDER/options.json."""
-    parser = argparse.ArgumentParser(description=__doc__, formatter_class=argparse.RawDescriptionHelpFormatter)
-    add_options(parser)
-    parser.add_argument('folder', metavar='FOLDER')
     asked = parser.parse_args()
     name = os.path.join(asked.folder, 'options.json')
     if os.path.exists(name):
@@ -191,7 +188,10 @@ def options():
 
 
 def main():
-    asked = options()
+    parser = argparse.ArgumentParser(description=__doc__, formatter_class=argparse.RawDescriptionHelpFormatter)
+    add_options(parser)
+    parser.add_argument('folder', metavar='FOLDER')
+    asked = options(parser)
     folder = os.path.join(asked.folder, 'hosts')
     os.makedirs(folder, exist_ok=True)
     part, whole = os.path.join(folder, '.' + host_name()), os.path.join(folder, host_name())

@@ -64,6 +64,8 @@ def place(first, hosts, home):
     if first not in home:
         return ''
     host, pid = home[first]
+    if not pid.isdigit():
+        return '  first: gdb -c %s' % pid
     on = '  on %d host%s' % (len(hosts), 's' * (len(hosts) > 1))
     return on + (', first: ssh %s gdb -p %s' % (host, pid) if pid != '0' else ', first: on %s' % host)
 
