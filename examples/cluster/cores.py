@@ -57,7 +57,7 @@ def printed(name, asked):
     if found is None:
         return 0, ' (eu-stack took over %g s)' % asked.each, ''
     pid = re.match(r'PID (\d+) ', found[0])
-    if not pid or '\n#0 ' not in found[0]:
+    if not pid or 'TID %s:\n#0 ' % pid[1] not in found[0]:
         return 0, ' (%s)' % sample.complaint(found[1], 0), ''
     return int(pid[1]), '', found[0]
 
@@ -90,7 +90,7 @@ def main():
     os.makedirs(folder, exist_ok=True)
     single = {rank: names[0] for rank, names in sorted(files.items()) if len(names) == 1}
     with open(os.path.join(folder, '.cores'), 'w', encoding='utf-8', errors='replace') as out:
-        out.write('== host cores size %d\n' % size)
+        out.write('== host cores size %d mpi 0 job \n' % size)
         for rank in sorted(set(files) - set(single)):
             out.write('== rank %d pid 0 time 0 (two processes of this rank)\n' % rank)
             print('cores.py: rank %d has the files %s' % (rank, ' '.join(files[rank])), file=sys.stderr)

@@ -25,6 +25,7 @@ import stacks
 RANKS, DAEMONS, PREFIXES, LINES, BYTES = 1048576, 511, 2048, 262144, 33554432
 ADDRESS = re.compile(r'0x[0-9a-f]{9,}')
 HOST = re.compile(r'[^A-Za-z0-9._-]')
+HEAD = re.compile(r'^== host \S+ size ([\d,]+) mpi ([01]) job (.*)$')
 RECORD = re.compile(r'^rank (\d+) pid (\d+)(?: of (\S+))? time (\d+)(?: (\(.*\)))?$')
 TWO, NOT_FOUND, NO_STACK = '(two processes of this rank)', '(not found)', '(no stack)'
 PIECE, KNOWN = 1 << 20, 1 << 14  # bytes that are read at once; texts whose paths are kept
@@ -59,16 +60,23 @@ def pieces(file):
     """The parts of a host's file that `== ` begins, one after another; what is no record is left out.
 
     >>> import io
-    >>> list(pieces(io.StringIO('== host a size 2\\n== rank 0 pid 7 time 0\\nx\\n== end\\n')))
-    ['host a size 2', 'rank 0 pid 7 time 0\\nx', 'end\\n']
+    >>> list(pieces(io.StringIO('== rank 0 pid 7 time 0\\nx\\n== rank 1 pid 8 time 0\\n== end\\n')))
+    ['rank 0 pid 7 time 0\\nx', 'rank 1 pid 8 time 0', 'end\\n']
     """
     rest = '\n'
     for block in iter(lambda: file.read(PIECE), ''):
         *whole, rest = (rest + block).split('\n== ')
-        for part in whole:
-            if part:
-                yield part
+        yield from filter(str.strip, whole)
     yield rest
+
+
+def heads_of(folder):
+    """What the first line of each host's file says; None where a file isn't whole, or is none of sample.py's."""
+    found = {}
+    for name in os.listdir(folder):
+        with open(os.path.join(folder, name), encoding='utf-8', errors='replace') as file:
+            found[name] = None if name.startswith('.') else HEAD.match(file.readline().rstrip('\n'))
+    return found
 
 
 def ranges(numbers):
@@ -122,9 +130,6 @@ class Fold:
     def add(self, host, part):
         """Takes a record of a host's file."""
         head, _, text = part.partition('\n')
-        if head.startswith('host '):
-            self.size = max(self.size, int(head.split()[3]))
-            return
         words = RECORD.match(head) or refuse('%s has a record that is none: %.60s' % (host, head))
         rank, pid, when = int(words[1]), int(words[2]), int(words[4])
         if self.is_placed(rank, (host, words[3] or words[2]), words[5] == TWO):
@@ -151,21 +156,36 @@ class Fold:
             self.seen[when, self.names.setdefault(one, one)].append(rank)
 
     def read(self, folder):
-        """Takes the files of all hosts. What stands last in a file that was cut off may be in part, and isn't taken."""
-        for name in sorted(os.listdir(folder)):
-            host = HOST.sub('_', name)[:63]
-            if name.startswith('.'):
-                self.broken.append(name[1:])
-                continue
-            with open(os.path.join(folder, name), encoding='utf-8', errors='replace', newline='\n') as file:
-                last, ranks = '', len(self.home)
-                for part in pieces(file):
-                    if last:
-                        self.add(host, last)
-                    last = part
-                if last.strip() != 'end':
-                    self.broken.append(name)
-                (self.hosts.add if len(self.home) > ranks else self.without.append)(host)
+        """Takes the files of all hosts. A host without MPI doesn't count where others have it: a launcher's daemon is there."""
+        heads = heads_of(folder)
+        self.broken = [name.lstrip('.') for name, head in sorted(heads.items()) if head is None]
+        sizes = {int(size) for head in heads.values() if head for size in head[1].split(',')} - {0}
+        jobs = {job for head in heads.values() if head for job in head[3].split(',')} - {''}
+        if len(jobs) > 1:
+            refuse('more than one job; one of them is chosen by --where ' + ' or --where '.join(sorted(jobs)[:8]))
+        if len(sizes) > 1:
+            refuse('more than one job, of %s ranks: --exe or --where says which' % ', '.join(map(str, sorted(sizes))))
+        self.size = max(sizes, default=0)
+        has_mpi = any(head and head[2] == '1' for head in heads.values())
+        for name, head in sorted(heads.items()):
+            if head:
+                host = HOST.sub('_', name)[:63]
+                is_asked = head[2] == '1' or not has_mpi
+                (self.hosts.add if is_asked and self.has_ranks(folder, name, host) else self.without.append)(host)
+
+    def has_ranks(self, folder, name, host):
+        """Takes a host's file. What stands last in one that was cut off may be in part, and isn't taken."""
+        last, count = '', 0
+        with open(os.path.join(folder, name), encoding='utf-8', errors='replace', newline='\n') as file:
+            file.readline()
+            for part in pieces(file):
+                if last:
+                    self.add(host, last)
+                    count += 1
+                last = part
+        if last.strip() != 'end':
+            self.broken.append(name)
+        return count > 0
 
     def settle(self):
         """Gives the ranks that nobody found, and those of which there are two, the places that the report shows them in."""

@@ -22,7 +22,7 @@ LAUNCHERS = (
 SAMPLER = os.path.join(os.path.dirname(os.path.abspath(__file__)), 'sample.py')
 MPI = re.compile(r'/lib(p?mpi|mpich|mpi_cray|mpi_gnu)[\w.-]*\.so')
 
-Process = collections.namedtuple('Process', 'pid rank size has_mpi program words')
+Process = collections.namedtuple('Process', 'pid rank size job has_mpi program words')
 
 
 def slurp(name):
@@ -86,6 +86,18 @@ def rank_and_size(environment):
     return None
 
 
+def job_of(environment):
+    """What tells a job from others, as VARIABLE=VALUE; nothing where no variable does.
+
+    >>> job_of({'PMIX_NAMESPACE': '7', 'SLURM_JOB_ID': '8'}), job_of({'SLURM_JOB_ID': '8'}), job_of({})
+    ('PMIX_NAMESPACE=7', 'SLURM_JOB_ID=8', '')
+    >>> job_of({'SLURM_JOB_ID': '8', 'SLURM_HET_SIZE': '2'})  # a job of several numbers
+    ''
+    """
+    names = ['PMIX_NAMESPACE'] + ['SLURM_JOB_ID'] * ('SLURM_HET_SIZE' not in environment)
+    return next((name + '=' + environment[name] for name in names if re.match(r'[\w.@:-]+$', environment.get(name, ''))), '')
+
+
 def environment_of(pid):
     """The environment that a process was started with."""
     return dict(word.partition('=')[::2] for word in slurp('/proc/%d/environ' % pid).split('\0') if '=' in word)
@@ -101,7 +113,8 @@ def process(pid, environment):
         program = os.readlink('/proc/%d/exe' % pid)
     except OSError:
         program = ''
-    return Process(pid, told[0], told[1], bool(MPI.search(slurp('/proc/%d/maps' % pid))), program, words)
+    has_mpi = bool(MPI.search(slurp('/proc/%d/maps' % pid)))
+    return Process(pid, told[0], told[1], job_of(environment), has_mpi, program, words)
 
 
 def chosen(found, parent):
@@ -110,7 +123,7 @@ def chosen(found, parent):
     Where some have MPI mapped, only those count. A process that another one of its rank forked from the same program isn't
     counted; of programs that start another one without MPI, as shells do, the innermost is the rank.
 
-    >>> def a(pid, mpi, program): return Process(pid, 0, 1, mpi, program, '')
+    >>> def a(pid, mpi, program): return Process(pid, 0, 1, '', mpi, program, '')
     >>> [p.pid for p in chosen([a(3, False, 'orted'), a(4, True, 'x')], {})[0]]
     [4]
     >>> [p.pid for p in chosen([a(4, True, 'x'), a(5, True, 'x')], {5: 4})[0]]

@@ -6,7 +6,7 @@
 stat-job starts it once on each host of a job, with one folder that all hosts share; fold.py reads that folder. The file has
 what eu-stack (of elfutils) or gdb printed, as it is, so that stacks can be folded in one way and then in another:
 
-    == host NAME size N             the size of the job, by the environment of its ranks
+    == host NAME size N mpi M job J the size and the name of the job, by the environment of its ranks; M is 1 where they have MPI
     == rank R pid P time T (WHY)    what was printed follows; WHY is why there is no stack, or what is odd about it
     == end                          the last line: a file without it was cut off
 
@@ -138,7 +138,7 @@ def printed(pid, asked):
             if was != 'T':
                 go_on(pid)
             return '%s took over %g s' % (words[0], asked.each), ''
-        if '\n#0 ' in found[0]:
+        if re.search(r'^(TID %d|Thread 1 .*):\n#0 ' % pid, found[0], re.M):
             nameless = words[0] == 'gdb' and ' in ?? ()' in found[0]
             return 'stopped by a signal' if was == 'T' else '', found[0].rstrip() + '\n' + (modules(pid) if nameless else '')
         why = complaint(found[1], pid)
@@ -152,17 +152,28 @@ def host_name():
     return os.environ.get('SLURMD_NODENAME') or socket.gethostname().partition('.')[0]
 
 
+def head(found):
+    """The first line of a host's file. Where its processes are of several jobs, it has all their sizes and names.
+
+    >>> one = processes.Process(7, 0, 16, 'SLURM_JOB_ID=8', True, '', '')
+    >>> head([one, one._replace(pid=8, rank=1, job='SLURM_JOB_ID=9')]).partition(' size ')[2]
+    '16 mpi 1 job SLURM_JOB_ID=8,SLURM_JOB_ID=9\\n'
+    """
+    sizes = ','.join(map(str, sorted({one.size for one in found}))) or '0'
+    jobs = ','.join(sorted({one.job for one in found} - {''}))
+    return '== host %s size %s mpi %d job %s\n' % (host_name(), sizes, any(one.has_mpi for one in found), jobs)
+
+
 def write(out, asked):
-    """Writes all samples, and returns the number of ranks."""
+    """Writes all samples."""
     wanted = [tuple(word.partition('=')[::2]) for word in asked.where]
-    job, others = processes.job(wanted, asked.exe)
-    size = max([one.size for same in job.values() for one in same], default=0)
-    single = {rank: same[0].pid for rank, same in sorted(job.items()) if len(same) == 1}
-    out.write('== host %s size %d\n' % (host_name(), size))
-    for rank, same in sorted(job.items()):
+    ranks, others = processes.job(wanted, asked.exe)
+    single = {rank: same[0].pid for rank, same in sorted(ranks.items()) if len(same) == 1}
+    out.write(head([one for same in ranks.values() for one in same]))
+    for rank, same in sorted(ranks.items()):
         if len(same) > 1:
             out.write('== rank %d pid 0 time 0 (two processes of this rank)\n' % rank)
-            print('%s: rank %d is process %s: --exe or --where says which' % (host_name(), rank, ' and '.join(
+            print('%s: rank %d is process %s' % (host_name(), rank, ' and '.join(
                 '%d (%.40s)' % (one.pid, one.words) for one in same[:3])), file=sys.stderr)
     with concurrent.futures.ThreadPoolExecutor(len(os.sched_getaffinity(0))) as pool:
         for when in range(asked.times if single else 0):
@@ -170,8 +181,8 @@ def write(out, asked):
             for rank, (why, text) in zip(single, pool.map(lambda pid: printed(pid, asked), single.values())):
                 why = ' (%s)' % why if why else ''
                 out.write('== rank %d pid %d time %d%s\n%s' % (rank, single[rank], when, why, text))
-    if not job:
-        others = ', and %d processes of other jobs' % others if others else ''
+    if not ranks:
+        others = ', but %d processes that were not asked for' % others if others else ''
         print('%s: no process with a rank%s' % (host_name(), others), file=sys.stderr)
     out.write('\n== end\n')
 

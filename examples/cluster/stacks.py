@@ -176,10 +176,15 @@ def with_python(text, stack):
 
 
 def stacks(text, pid):
-    """The stacks in a text, the first thread's at the front."""
-    found = eu_stacks(text)
-    first = pid
+    """The stacks in a text, the first thread's at the front; none where there is no stack of that one.
+
+    >>> [frame.name for frame in stacks('TID 8:\\n#0  0x1 g\\nTID 7:\\n#0  0x1 f\\n', 7)[0]], stacks('TID 8:\\n#0  0x1 g\\n', 7)
+    (['f'], [])
+    """
+    found, first = eu_stacks(text), pid
     if not found:
         found, first = gdb_stacks(text), 1
     found.sort(key=lambda one: (one[0] != first, one[0]))
+    if not found or found[0][0] != first:
+        return []
     return [with_python(text, frames) if i == 0 else frames for i, (_, frames) in enumerate(found)]
