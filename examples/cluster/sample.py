@@ -75,11 +75,13 @@ def complaint(text, pid):
 
     >>> complaint('eu-stack: dwfl_linux_proc_attach pid 71: Operation not permitted\\n', 71)
     'eu-stack: Operation not permitted'
+    >>> complaint('eu-stack: dwfl_thread_getframes tid 71 at 0x55f7 in /home/x: No DWARF information found\\n', 71)
+    'eu-stack: No DWARF information found'
     >>> complaint('warning: x\\nCould not attach to process.\\nptrace: Operation not permitted.\\n\\n', 71)
     'ptrace: Operation not permitted'
     """
     lines = [line.strip().rstrip('.') for line in text.splitlines() if line.strip()]
-    last = re.sub(r'dwfl_\w+ pid \d+: |\bpid \d+: ?', '', lines[-1]) if lines else 'no stack'
+    last = re.sub(r'dwfl_\w+ [pt]id \d+( at 0x[0-9a-f]+)?( in [^:]*)?: ', '', lines[-1]) if lines else 'no stack'
     return re.sub(r'\b%d\b' % pid, 'PID', last)[:200]
 
 
@@ -140,7 +142,8 @@ def printed(pid, asked):
             return '%s took over %g s' % (words[0], asked.each), ''
         if re.search(r'^(TID %d|Thread 1 .*):\n#0 ' % pid, found[0], re.M):
             nameless = words[0] == 'gdb' and ' in ?? ()' in found[0]
-            return 'stopped by a signal' if was == 'T' else '', found[0].rstrip() + '\n' + (modules(pid) if nameless else '')
+            in_part = complaint(found[1], pid) if 'tid %d at ' % pid in found[1] else ''  # it could not go on to main
+            return 'stopped by a signal' if was == 'T' else in_part, found[0].rstrip() + '\n' + (modules(pid) if nameless else '')
         why = complaint(found[1], pid)
         if REFUSED.search(why):
             break
