@@ -94,6 +94,15 @@ def ranges(numbers):
     return ','.join('%d' % a if a == b else '%d-%d' % (a, b) for a, b in runs)
 
 
+def few(names):
+    """Some names, and how many more there are.
+
+    >>> few(['n%d' % i for i in range(1, 4)]), few(['n%d' % i for i in range(1000)])
+    ('n1 n2 n3', 'n0 n1 n2 n3 n4 n5 n6 n7 and 992 more')
+    """
+    return ' '.join(names[:8]) + (' and %d more' % (len(names) - 8) if len(names) > 8 else '')
+
+
 class Fold:
     """What the files of the hosts say, put together."""
 
@@ -288,15 +297,15 @@ def remarks(found, gone):
     if found.too_long:
         yield 'over 128 frames, of which both ends were kept: %s' % ranges(found.too_long)
     if found.broken:
-        yield 'began and did not end: %s' % ' '.join(found.broken)
+        yield 'began and did not end: %s' % few(found.broken)
     if found.without:
-        yield 'no rank on %s' % ' '.join(found.without)
+        yield 'no rank on %s' % few(found.without)
 
 
 def finish(found, out):
     """Writes the files of what was read, and returns what is to be known of it, line by line."""
     if not found.home:
-        refuse('; '.join(['no rank was found'] + ['began and did not end: ' + ' '.join(found.broken)] * bool(found.broken)))
+        refuse('; '.join(['no rank was found'] + ['began and did not end: ' + few(found.broken)] * bool(found.broken)))
     gone = found.settle()
     if all(paths.is_remark(text) and ';' not in text for (_, text), ranks in found.seen.items() if ranks):
         why = sorted({text for (_, text), ranks in found.seen.items() if ranks} - {NOT_FOUND})

@@ -19,10 +19,16 @@ sample() {
     D) echo "why in the kernel: $(cat "/proc/$1/wchan")"; return ;; # gdb would wait as long as the process does
     T) echo "why stopped by a signal" ;;
     esac
-    said=$(mktemp)
+    said=$(mktemp) status=0
     timeout -k 5 "${SECONDS_EACH:-60}" gdb -nx -batch -p "$1" -ex 'set print frame-arguments none' \
-        -ex 'set backtrace past-main on' -ex 'thread apply all bt' </dev/null 2>"$said" | tee "$said.out"
-    grep -q '^#0' "$said.out" || echo "why $(sed -n '/[^ ]/h; ${g; p}' "$said" | sed 's/\.*$//; s/^$/no stack/')"
+        -ex 'set backtrace past-main on' -ex 'thread apply all bt' </dev/null >"$said.out" 2>"$said" || status=$?
+    case $status in
+    124 | 137) # gdb was ended: the stop that it asked for must not come when it is gone
+        echo "why gdb took over ${SECONDS_EACH:-60} s"
+        [ "$state" = T ] || kill -s CONT "$1" ;;
+    *) grep -q '^#0' "$said.out" || echo "why $(sed -n '/[^ ]/h; ${g; p}' "$said" | sed 's/\.*$//; s/^$/no stack/')" ;;
+    esac
+    cat "$said.out"
     rm -f "$said" "$said.out"
 }
 
