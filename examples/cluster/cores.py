@@ -62,6 +62,11 @@ def printed(name, asked):
     return int(pid[1]), '', found[0]
 
 
+def word_of(name):
+    """A file's name as one word."""
+    return re.sub(r'\s', '?', os.path.abspath(name))
+
+
 def ranks_of(words):
     """The files of each rank, and the size of the job; says which files have no rank."""
     files, size = {}, 0
@@ -90,14 +95,13 @@ def main():
     os.makedirs(folder, exist_ok=True)
     single = {rank: names[0] for rank, names in sorted(files.items()) if len(names) == 1}
     with open(os.path.join(folder, '.cores'), 'w', encoding='utf-8', errors='replace') as out:
-        out.write('== host cores size %d mpi 0 job \n' % size)
+        out.write('== host cores size %d mpi 0 others 0 job \n' % size)
         for rank in sorted(set(files) - set(single)):
-            out.write('== rank %d pid 0 time 0 (two processes of this rank)\n' % rank)
-            print('cores.py: rank %d has the files %s' % (rank, ' '.join(files[rank])), file=sys.stderr)
+            for name in files[rank]:
+                out.write('== rank %d pid 0 of %s time 0 (two processes of this rank)\n' % (rank, word_of(name)))
         with concurrent.futures.ThreadPoolExecutor(len(os.sched_getaffinity(0))) as pool:
             for rank, (pid, why, text) in zip(single, pool.map(lambda name: printed(name, asked), single.values())):
-                name = re.sub(r'\s', '?', os.path.abspath(single[rank]))
-                out.write('== rank %d pid %d of %s time 0%s\n%s' % (rank, pid, name, why, text))
+                out.write('== rank %d pid %d of %s time 0%s\n%s' % (rank, pid, word_of(single[rank]), why, text))
         out.write('\n== end\n')
     os.rename(os.path.join(folder, '.cores'), os.path.join(folder, 'cores'))
 

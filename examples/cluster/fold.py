@@ -25,7 +25,7 @@ import stacks
 RANKS, DAEMONS, PREFIXES, LINES, BYTES = 1048576, 511, 2048, 262144, 33554432
 ADDRESS = re.compile(r'0x[0-9a-f]{9,}')
 HOST = re.compile(r'[^A-Za-z0-9._-]')
-HEAD = re.compile(r'^== host \S+ size ([\d,]+) mpi ([01]) job (.*)$')
+HEAD = re.compile(r'^== host \S+ size ([\d,]+) mpi ([01]) others (\d+) job (.*)$')
 RECORD = re.compile(r'^rank (\d+) pid (\d+)(?: of (\S+))? time (\d+)(?: (\(.*\)))?$')
 TWO, NOT_FOUND, NO_STACK = '(two processes of this rank)', '(not found)', '(no stack)'
 PIECE, KNOWN = 1 << 20, 1 << 14  # bytes that are read at once; texts whose paths are kept
@@ -113,7 +113,7 @@ class Fold:
         self.odd = collections.defaultdict(set)  # the ranks of each remark
         self.known, self.names = {}, {}  # the paths of texts; each path once
         self.size, self.times, self.too_long = 0, 1, set()
-        self.hosts, self.without, self.broken = set(), [], []
+        self.hosts, self.without, self.broken, self.others = set(), [], [], 0
 
     def paths(self, text, pid, rank):
         """The paths of what was printed of a rank's process."""
@@ -169,7 +169,8 @@ class Fold:
         heads = heads_of(folder)
         self.broken = [name.lstrip('.') for name, head in sorted(heads.items()) if head is None]
         sizes = {int(size) for head in heads.values() if head for size in head[1].split(',')} - {0}
-        jobs = {job for head in heads.values() if head for job in head[3].split(',')} - {''}
+        jobs = {job for head in heads.values() if head for job in head[4].split(',')} - {''}
+        self.others = sum(int(head[3]) for head in heads.values() if head)
         if len(jobs) > 1:
             refuse('more than one job; one of them is chosen by --where ' + ' or --where '.join(sorted(jobs)[:8]))
         if len(sizes) > 1:
@@ -288,8 +289,7 @@ def remarks(found, gone):
     if not found.size:
         yield "the job's size isn't known: ranks above %d would be missing without a word" % max(found.home)
     for rank, where in sorted(found.two.items())[:10]:
-        where = sorted('%s %s' % place for place in where if place[1] != '0')
-        yield 'two processes of rank %d%s' % (rank, ': ' + ' and '.join(where) if len(where) > 1 else '')
+        yield 'two processes of rank %d: %s' % (rank, ' and '.join(sorted('%s %s' % place for place in where)))
     if len(found.two) > 10:
         yield 'two processes of ranks ' + ranges(found.two)
     for why, ranks in sorted(found.odd.items()):
@@ -305,7 +305,9 @@ def remarks(found, gone):
 def finish(found, out):
     """Writes the files of what was read, and returns what is to be known of it, line by line."""
     if not found.home:
-        refuse('; '.join(['no rank was found'] + ['began and did not end: ' + few(found.broken)] * bool(found.broken)))
+        more = ['began and did not end: ' + few(found.broken)] * bool(found.broken)
+        more += ['%d processes have a rank and were not asked for' % found.others] * bool(found.others)
+        refuse('; '.join(['no rank was found'] + more))
     gone = found.settle()
     if all(paths.is_remark(text) and ';' not in text for (_, text), ranks in found.seen.items() if ranks):
         why = sorted({text for (_, text), ranks in found.seen.items() if ranks} - {NOT_FOUND})

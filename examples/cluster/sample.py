@@ -6,7 +6,9 @@
 stat-job starts it once on each host of a job, with one folder that all hosts share; fold.py reads that folder. The file has
 what eu-stack (of elfutils) or gdb printed, as it is, so that stacks can be folded in one way and then in another:
 
-    == host NAME size N mpi M job J the size and the name of the job, by the environment of its ranks; M is 1 where they have MPI
+    == host NAME size N mpi M others O job J
+                                    the size and the name of the job, by the environment of its ranks; M is 1 where they have
+                                    MPI; O processes have a rank, too, and were not asked for
     == rank R pid P time T (WHY)    what was printed follows; WHY is why there is no stack, or what is odd about it
     == end                          the last line: a file without it was cut off
 
@@ -45,6 +47,8 @@ def add_options(parser):
     parser.add_argument('--pause', type=float, default=0.5, metavar='SECONDS', help='between two samples (0.5)')
     parser.add_argument('--each', type=float, default=60, metavar='SECONDS',
                         help='the longest that the sampler may take for a process, after which it is ended (60)')
+    parser.add_argument('--all', type=float, default=600, metavar='SECONDS',
+                        help='the longest that all samples of a host may take; the rest is left out then, and said (600)')
     parser.add_argument('--lines', action='store_true',
                         help='inlined functions and lines, too: wants programs built with -g, and takes some times longer')
     parser.add_argument('--gdb', action='store_true', help='gdb, though there is eu-stack: 30 to 60 times slower')
@@ -124,8 +128,23 @@ def go_on(pid):
         pass
 
 
-def printed(pid, asked):
-    """Why there is no stack of a process, or what is odd about it, if anything is; and what the sampler printed."""
+def oddity(was, words, found, pid):
+    """What is odd about a stack, if anything is."""
+    if was == 'T':
+        return 'stopped by a signal'
+    if 'tid %d at ' % pid in found[1]:  # eu-stack could not go on to main
+        return complaint(found[1], pid)
+    return 'no Python calls by py-bt' if 'py-bt' in words and '\n  File "' not in found[0] else ''
+
+
+def printed(pid, asked, until):
+    """Why there is no stack of a process, or what is odd about it, if anything is; and what the sampler printed.
+
+    Nothing goes on after the time `until`.
+    """
+    limit = min(asked.each, until - time.time())
+    if limit <= 0:
+        return 'no time was left', ''
     was = processes.state(pid)
     waits = waits_in_kernel(pid)
     if waits:  # a debugger would wait as long as the process does
@@ -135,15 +154,14 @@ def printed(pid, asked):
     commands = samplers(asked, pid)
     why = '' if commands else 'no gdb on this host' if asked.gdb or asked.python else 'neither eu-stack nor gdb on this host'
     for words in commands:
-        found = ended(words, asked.each)
+        found = ended(words, limit)
         if found is None:
             if was != 'T':
                 go_on(pid)
-            return '%s took over %g s' % (words[0], asked.each), ''
+            return '%s took over %.0f s' % (words[0], limit), ''
         if re.search(r'^(TID %d|Thread 1 .*):\n#0 ' % pid, found[0], re.M):
             nameless = words[0] == 'gdb' and ' in ?? ()' in found[0]
-            in_part = complaint(found[1], pid) if 'tid %d at ' % pid in found[1] else ''  # it could not go on to main
-            return 'stopped by a signal' if was == 'T' else in_part, found[0].rstrip() + '\n' + (modules(pid) if nameless else '')
+            return oddity(was, words, found, pid), found[0].rstrip() + '\n' + (modules(pid) if nameless else '')
         why = complaint(found[1], pid)
         if REFUSED.search(why):
             break
@@ -155,16 +173,16 @@ def host_name():
     return os.environ.get('SLURMD_NODENAME') or socket.gethostname().partition('.')[0]
 
 
-def head(found):
+def head(found, others):
     """The first line of a host's file. Where its processes are of several jobs, it has all their sizes and names.
 
     >>> one = processes.Process(7, 0, 16, 'SLURM_JOB_ID=8', True, '', '')
-    >>> head([one, one._replace(pid=8, rank=1, job='SLURM_JOB_ID=9')]).partition(' size ')[2]
-    '16 mpi 1 job SLURM_JOB_ID=8,SLURM_JOB_ID=9\\n'
+    >>> head([one, one._replace(pid=8, rank=1, job='SLURM_JOB_ID=9')], 0).partition(' size ')[2]
+    '16 mpi 1 others 0 job SLURM_JOB_ID=8,SLURM_JOB_ID=9\\n'
     """
     sizes = ','.join(map(str, sorted({one.size for one in found}))) or '0'
     jobs = ','.join(sorted({one.job for one in found} - {''}))
-    return '== host %s size %s mpi %d job %s\n' % (host_name(), sizes, any(one.has_mpi for one in found), jobs)
+    return '== host %s size %s mpi %d others %d job %s\n' % (host_name(), sizes, any(one.has_mpi for one in found), others, jobs)
 
 
 def write(out, asked):
@@ -172,21 +190,17 @@ def write(out, asked):
     wanted = [tuple(word.partition('=')[::2]) for word in asked.where]
     ranks, others = processes.job(wanted, asked.exe)
     single = {rank: same[0].pid for rank, same in sorted(ranks.items()) if len(same) == 1}
-    out.write(head([one for same in ranks.values() for one in same]))
+    out.write(head([one for same in ranks.values() for one in same], others))
     for rank, same in sorted(ranks.items()):
-        if len(same) > 1:
-            out.write('== rank %d pid 0 time 0 (two processes of this rank)\n' % rank)
-            print('%s: rank %d is process %s' % (host_name(), rank, ' and '.join(
-                '%d (%.40s)' % (one.pid, one.words) for one in same[:3])), file=sys.stderr)
+        for one in same if len(same) > 1 else []:
+            out.write('== rank %d pid %d time 0 (two processes of this rank)\n' % (rank, one.pid))
+    until = time.time() + asked.all
     with concurrent.futures.ThreadPoolExecutor(len(os.sched_getaffinity(0))) as pool:
         for when in range(asked.times if single else 0):
             time.sleep(asked.pause if when else 0)
-            for rank, (why, text) in zip(single, pool.map(lambda pid: printed(pid, asked), single.values())):
+            for rank, (why, text) in zip(single, pool.map(lambda pid: printed(pid, asked, until), single.values())):
                 why = ' (%s)' % why if why else ''
                 out.write('== rank %d pid %d time %d%s\n%s' % (rank, single[rank], when, why, text))
-    if not ranks:
-        others = ', but %d processes that were not asked for' % others if others else ''
-        print('%s: no process with a rank%s' % (host_name(), others), file=sys.stderr)
     out.write('\n== end\n')
 
 
@@ -210,8 +224,10 @@ def main():
     os.makedirs(folder, exist_ok=True)
     part, whole = os.path.join(folder, '.' + host_name()), os.path.join(folder, host_name())
     try:
-        out = open(part, 'x', encoding='utf-8', errors='replace')
+        out = None if os.path.exists(whole) else open(part, 'x', encoding='utf-8', errors='replace')
     except FileExistsError:
+        out = None
+    if not out:
         sys.exit('%s: another sample.py was started here, or on a host of the same name; this one does nothing' % host_name())
     with out:
         write(out, asked)
