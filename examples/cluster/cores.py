@@ -3,9 +3,9 @@
 
     cores.py CORE .. FOLDER
 
-A core file's rank is what its launcher told the process: it is in the environment, which the core has. A file of which the rank
-isn't there, or is there in two ways, is named on standard error, and left out; RANK:CORE in place of CORE says it. stat-job
-starts it with --cores.
+A core file's rank is what its launcher told the process: it is in the environment, which the core has. A file in which no
+rank is found, or two, is named on standard error, and left out; RANK:CORE in place of CORE says it. stat-job starts it
+with --cores.
 """
 import argparse
 import concurrent.futures
@@ -22,7 +22,7 @@ VARIABLE = re.compile(('\\0(%s)=([0-9]{1,9})(?=\\0)' % '|'.join(NAMES)).encode('
 
 
 def told(memory):
-    """The rank that a process was told and the size of its job, by what is found in its memory; None where it isn't clear.
+    """The rank that a process was told and the size of its job, by what its memory has; None where it isn't clear.
 
     >>> told(b'..\\0PMI_RANK=7\\0PMI_SIZE=16\\0SLURM_PROCID=0\\0'), told(b'\\0PMI_RANK=7\\0\\0PMI_RANK=8\\0'), told(b'')
     ((7, 16), None, None)

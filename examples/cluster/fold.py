@@ -3,13 +3,13 @@
 
     fold.py [OPTIONS] FOLDER OUT
 
-Written are OUT.top (a front end, and a daemon for each host), OUT.smp (which rank is where, and the stacks), OUT.scr (one wave
-with all samples), and OUT.pids, with a line RANK HOST PID for each rank (of a core file, its name in place of PID). The folder's
-files are read piece by piece.
+Written are OUT.top (a front end, and a daemon for each host), OUT.smp (which rank is where, and the stacks), OUT.scr (one
+wave with all samples), and OUT.pids, with a line RANK HOST PID for each rank (of a core file, its name in place of PID).
+The folder's files are read piece by piece.
 
-Ranks that the job has, by its size, and that no host had, are seen in `(not found)`, below a daemon of that name. A rank of
-which two hosts have a process is seen in `(two processes of this rank)`. What is odd is said on standard error, too; where
-no rank has a stack, nothing is written, and the status is 1.
+Ranks that the job has, by its size, and that no host had, are seen in `(not found)`, below a daemon of that name; a rank
+with two processes is seen in `(two processes of this rank)`. What is odd is said on standard error, too. Where no rank
+has a stack, nothing is written, and the status is 1.
 """
 import argparse
 import array
@@ -43,7 +43,7 @@ def refuse(why):
 def add_options(parser):
     """The options of folding, which stat-job has, too."""
     parser.add_argument('--cut', action='append', default=[], metavar='REGEX',
-                        help="end stacks at calls that REGEX finds, too, and not at MPI's alone; may be given several times")
+                        help="end stacks at calls that REGEX finds, too, and not at MPI's alone; any number of times")
     parser.add_argument('--whole', action='store_true', help='keep stacks whole')
     parser.add_argument('--threads', action='store_true',
                         help="the threads that run the program's own code, too, as OpenMP's, and not the first alone")
@@ -165,7 +165,7 @@ class Fold:
             self.seen[when, self.names.setdefault(one, one)].append(rank)
 
     def read(self, folder):
-        """Takes the files of all hosts. A host without MPI doesn't count where others have it: a launcher's daemon is there."""
+        """Takes the files of all hosts. Where some have MPI, the others don't count: launchers' daemons are there."""
         heads = heads_of(folder)
         self.broken = [name.lstrip('.') for name, head in sorted(heads.items()) if head is None]
         sizes = {int(size) for head in heads.values() if head for size in head[1].split(',')} - {0}
@@ -198,7 +198,7 @@ class Fold:
         return count > 0
 
     def settle(self):
-        """Gives the ranks that nobody found, and those of which there are two, the places that the report shows them in."""
+        """Puts the ranks that nobody found, and those of which there are two, where the report shows them."""
         if self.two:
             for key, ranks in self.seen.items():
                 self.seen[key] = array.array('I', (rank for rank in ranks if rank not in self.two))
@@ -283,7 +283,8 @@ def write(found, gone, out):
 
 def remarks(found, gone):
     """What is to be known of what was gathered, line by line."""
-    yield '%d ranks on %d hosts, %d samples, %d stacks' % (len(found.home), len(found.hosts), found.times, len(found.seen))
+    counts = len(found.home), len(found.hosts), found.times, len(found.seen)
+    yield '%d ranks on %d hosts, %d samples, %d stacks' % counts
     if gone:
         yield 'not found, of %d: %s' % (max(found.size, max(found.home) + 1), ranges(gone))
     if not found.size:
@@ -315,7 +316,7 @@ def finish(found, out):
     said = list(remarks(found, gone))
     depth = depth_that_fits({text for _, text in found.seen})
     if depth:
-        said.append('more than %d prefixes: paths end at their frame %d; --cut says what to cut instead' % (PREFIXES, depth))
+        said.append('more than %d prefixes: paths end at frame %d; --cut says what to cut instead' % (PREFIXES, depth))
         found.seen = shortened(found.seen, depth)
     if len(found.seen) > LINES:
         refuse('%d stacks, and stat takes %d: fewer samples, or --cut' % (len(found.seen), LINES))

@@ -11,7 +11,7 @@ import re
 FRAMES, NAME_BYTES = 128, 1023  # what the readers of `stat` take
 LEFT_OUT = '(frames left out)'
 
-# How stacks become paths: `cut` finds the frames at which they end (None: they don't), `lines` keeps the number of the line.
+# How stacks become paths: `cut` finds the frames at which they end (None: they don't), `lines` keeps the lines' numbers.
 Choice = collections.namedtuple('Choice', 'cut lines')
 
 CUT = r'^MPI_[A-Z]|^MPI::'
@@ -32,12 +32,12 @@ CYCLE = 8  # the longest cycle of calls that is seen as recursion
 def mpi_name(text, in_library):
     """One name for what MPI calls by several: PMPI_X, and in a library the spellings of Fortran's compilers.
 
-    >>> [mpi_name(name, True) for name in ('PMPI_Recv', 'pmpi_allreduce__', 'mpi_comm_rank_', 'ompi_wait_f', 'MPI_BARRIER')]
-    ['MPI_Recv', 'MPI_Allreduce', 'MPI_Comm_rank', 'MPI_Wait', 'MPI_Barrier']
-    >>> [mpi_name(name, True) for name in ('MPI_Send', 'MPI_T_init_thread', 'mpirun', 'ompi_request_wait', 'mpi_wait_f08_')]
-    ['MPI_Send', 'MPI_T_init_thread', 'mpirun', 'ompi_request_wait', 'MPI_Wait']
-    >>> mpi_name('mpi_exchange_halo_', False)  # the program's own
-    'mpi_exchange_halo_'
+    >>> [mpi_name(name, True) for name in ('PMPI_Recv', 'pmpi_allreduce__', 'mpi_comm_rank_', 'ompi_wait_f')]
+    ['MPI_Recv', 'MPI_Allreduce', 'MPI_Comm_rank', 'MPI_Wait']
+    >>> [mpi_name(name, True) for name in ('MPI_BARRIER', 'mpi_wait_f08_', 'MPI_Send', 'MPI_T_init_thread')]
+    ['MPI_Barrier', 'MPI_Wait', 'MPI_Send', 'MPI_T_init_thread']
+    >>> mpi_name('ompi_request_wait', True), mpi_name('mpi_exchange_halo_', False)  # the last is the program's own
+    ('ompi_request_wait', 'mpi_exchange_halo_')
     """
     if text.startswith('PMPI_'):
         text = text[1:]
@@ -49,7 +49,7 @@ def mpi_name(text, in_library):
 
 
 def fitting(text):
-    """A name of at most 1,023 bytes. Where it is longer, both ends and a number, so that different names stay different.
+    """A name of at most 1,023 bytes. A longer one is both its ends and a number: different names stay different.
 
     >>> names = [fitting('a' * 2000 + end) for end in 'xy'] + [fitting('é' * 600 + 'x')]
     >>> names[0] != names[1], [len(name.encode('utf-8')) <= 1023 for name in names]
@@ -58,8 +58,8 @@ def fitting(text):
     whole = text.encode('utf-8', 'replace')
     if len(whole) <= NAME_BYTES:
         return whole.decode('utf-8', 'replace')
-    number = hashlib.sha1(whole).hexdigest()[:8]
-    return '%s..(%s)..%s' % (whole[:490].decode('utf-8', 'ignore').strip(), number, whole[-490:].decode('utf-8', 'ignore').strip())
+    first, last = [part.decode('utf-8', 'ignore').strip() for part in (whole[:490], whole[-490:])]
+    return '%s..(%s)..%s' % (first, hashlib.sha1(whole).hexdigest()[:8], last)
 
 
 @functools.lru_cache(1 << 16)
@@ -67,11 +67,12 @@ def frame_name(frame, is_innermost):
     """A frame's name as `stat` takes it, the same in all builds; where it has none, its place in its module.
 
     >>> from stacks import Frame
-    >>> frame_name(Frame('PMPI_Recv', '/l/libmpi.so', '', '', ''), True), frame_name(Frame('f() [clone .isra.0]', '', '', '', ''), False)
+    >>> def name(text, module, is_innermost): return frame_name(Frame(text, module, '', '', '0xf2'), is_innermost)
+    >>> name('PMPI_Recv', '/l/libmpi.so', True), name('f() [clone .isra.0]', '', False)
     ('MPI_Recv', 'f()')
-    >>> frame_name(Frame('', '/home/me/solver', '', '', '0xf2'), False), frame_name(Frame('', '/l/libx.so.1.2', '', '', '0xf2'), True)
-    ('solver+0xf2', 'libx.so+?')
-    >>> frame_name(Frame('g<(char)59>(a; b)\\t', '', '', '', ''), False), frame_name(Frame('__work_MOD_relax', '', '', '', ''), False)
+    >>> name('', '/home/me/solver', False), name('', '/l/libx.so.1.2', True), name('', '', False)
+    ('solver+0xf2', 'libx.so+?', '??')
+    >>> name('g<(char)59>(a; b)\\t', '', False), name('__work_MOD_relax', '', False)
     ('g<(char)59>(a: b)', 'work::relax')
     """
     text = COPY.sub('', frame.name) if frame.name != '??' else ''
@@ -79,19 +80,22 @@ def frame_name(frame, is_innermost):
         text = mpi_name(MODULE.sub(r'\1::\2', text), bool(LIBRARY.search(frame.module)))
     elif frame.module:
         # where a loop stands moves from sample to sample; the caller's place says which function it is
-        text = VERSION.sub(r'\1', os.path.basename(frame.module)) + '+' + (frame.offset if frame.offset and not is_innermost else '?')
+        offset = frame.offset if frame.offset and not is_innermost else '?'
+        text = VERSION.sub(r'\1', os.path.basename(frame.module)) + '+' + offset
     return fitting(CONTROL.sub(' ', text.replace(';', ':')).strip() or '??')
 
 
 def is_own(frame):
-    """Whether a frame is the program's own code: not a library's, and not one of the C library's that gdb has lines of.
+    """Whether a frame is the program's own code: not a library's, nor one of the C library's that gdb has lines of.
 
     >>> from stacks import Frame
     >>> [is_own(Frame('f', module, file, '', '')) for module, file in
     ...     (('/home/x', ''), ('/usr/lib/l.so.1', ''), ('', 'a.c'), ('', './nptl/x.c'), ('', ''))]
     [True, False, True, False, False]
     """
-    return not LIBRARY.search(frame.module) if frame.module else bool(re.match(r'(?!\.\.?/|/usr/)', frame.file) and frame.file)
+    if frame.module:
+        return not LIBRARY.search(frame.module)
+    return bool(frame.file) and not frame.file.startswith(('./', '../', '/usr/'))
 
 
 def begin(stack, names, is_first):
@@ -103,24 +107,33 @@ def begin(stack, names, is_first):
     return min(below if is_first else next(own, below), len(names) - 1)
 
 
+def waits_in_openmp(stack):
+    """The outermost frame of OpenMP's library from which no code of the program's was called, if there is one."""
+    for i, frame in enumerate(stack):
+        if OPENMP.search(frame.module) and not any(map(is_own, stack[i:])):
+            return i
+    return None
+
+
 def end(stack, names, cut):
-    """How many frames from the outermost a path may have: those up to a frame that is cut at, or that waits in OpenMP's library.
+    """How many frames a path may have: up to the outermost that is cut at, or that waits in OpenMP's library.
 
     >>> from stacks import Frame
-    >>> stack = [Frame('', module, '', '', '0x1') for module in ('/x', '/lib/libgomp.so.1', '/x', '/lib/libgomp.so.1', '/lib/libc.so.6')]
-    >>> end(stack, ['main', 'g', 'f', 'g', 'futex'], re.compile('none')), end(stack, ['main', 'g', 'f', 'g', 'futex'], None)
-    (4, 5)
+    >>> modules = ('/x', '/lib/libgomp.so.1', '/x', '/lib/libgomp.so.1', '/lib/libc.so.6')
+    >>> stack = [Frame('', module, '', '', '0x1') for module in modules]
+    >>> [end(stack, ['main', 'g', 'f', 'g', 'futex'], cut) for cut in (re.compile('none'), re.compile('f'), None)]
+    [4, 3, 5]
     """
     if cut is None:
         return len(names)
     call = next((i for i, name in enumerate(names) if cut.search(name)), None)
     if call is None:
-        call = next((i for i, frame in enumerate(stack) if OPENMP.search(frame.module) and not any(map(is_own, stack[i:]))), len(names))
-    return call + 1
+        call = waits_in_openmp(stack)
+    return len(names) if call is None else call + 1
 
 
 def once(names, shown):
-    """What is shown of calls in which each recursion is there once: calls that repeat the ones just before take their place.
+    """What is shown of calls in which each recursion is there once: the inner calls take the place of the outer ones.
 
     >>> once(list('mffffgx'), list('mFGHIgx')), once(list('mfgfgfx'), list('mfgfgfx'))
     (['m', 'I', 'g', 'x'], ['m', 'f', 'g', 'f', 'x'])
@@ -156,23 +169,31 @@ def both_ends(texts):
     return texts[:FRAMES // 2 - 1] + [LEFT_OUT] + texts[-(FRAMES // 2):]
 
 
+def with_line(name, frame):
+    """A frame's name with the number of its line behind an `@`, where it is known."""
+    return name + '@' + frame.line if frame.line and len(frame.line) < 10 else name
+
+
 def path(stack, choice, is_first=True):
     """The frames of the path of a stack.
 
     >>> from stacks import Frame
-    >>> stack = [Frame(name, '/x', 'a.c', '7', '') for name in ('_start', 'main', 'f', 'f', 'PMPI_Send', 'poll')]
+    >>> names = ('_start', 'main', 'f', 'f', 'PMPI_Send', 'poll')
+    >>> stack = [Frame(name, '/x', 'a.c', '7', '') for name in names]
     >>> path(stack, Choice(re.compile(CUT), False)), path(stack[2:], Choice(None, True))
     (['main', 'f', 'MPI_Send'], ['f@7', 'MPI_Send@7', 'poll@7'])
     """
     stack = [frame for frame in stack if not frame.file.startswith(PLUMBING)] or stack
-    last = len(stack) - 1
-    names = [frame_name(frame._replace(file='', line=''), i == last) for i, frame in enumerate(stack)]
+    names = [frame_name(frame._replace(file='', line=''), i + 1 == len(stack)) for i, frame in enumerate(stack)]
+    shown = [with_line(name, frame) for name, frame in zip(names, stack)] if choice.lines else names
     first, behind = begin(stack, names, is_first), end(stack, names, choice.cut)
-    shown = [name + '@' + frame.line if choice.lines and frame.line and len(frame.line) < 10 else name for name, frame in zip(names, stack)]
     return both_ends(once(names[first:behind], shown[first:behind]) or shown[-1:])
 
 
 def paths(stacks, choice, threads):
-    """The paths of a process: that of its first thread, and where they are asked for those of threads in its own code."""
-    found = [path(stack, choice, i == 0) for i, stack in enumerate(stacks) if i == 0 or threads and any(map(is_own, stack))]
-    return [list(one) for one in sorted(set(map(tuple, found)))] if threads else found
+    """The paths of a process: that of its first thread, and with `threads` those of the threads in its own code."""
+    found = [path(stack, choice) for stack in stacks[:1]]
+    if threads:
+        others = {tuple(path(stack, choice, False)) for stack in stacks[1:] if any(map(is_own, stack))}
+        found += [list(one) for one in sorted(others.difference(map(tuple, found)))]
+    return found

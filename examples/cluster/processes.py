@@ -1,7 +1,7 @@
 """Finds the processes of this host that are ranks of a parallel job, by what /proc says of them.
 
-A launcher tells each process its rank by the environment, and wrappers, shells and the launcher's own daemons may have the
-same variables. So a rank's process is chosen by rules, and where they leave two, none is taken.
+A launcher tells each process its rank by the environment. Wrappers, shells and the launcher's own daemons may have the same
+variables, so a rank's process is chosen by rules; where they leave two, none is taken.
 """
 import collections
 import os
@@ -35,7 +35,7 @@ def slurp(name):
 
 
 def state(pid, thread=None):
-    """One letter: R, S, D (waits in the kernel), T (was stopped), t (a debugger holds it), Z; nothing: no such process."""
+    """One letter: R, S, D (waits in the kernel), T (was stopped), t (a debugger holds it), Z; nothing for no process."""
     name = '/proc/%d/stat' % pid if thread is None else '/proc/%d/task/%d/stat' % (pid, thread)
     return slurp(name).rpartition(') ')[2][:1]
 
@@ -74,10 +74,11 @@ def ancestors(pid, parent):
 def rank_and_size(environment):
     """The rank that a process was told, and the size of the job (0 where no variable says it); None without a rank.
 
-    >>> rank_and_size({'SLURM_PROCID': '1', 'SLURM_NTASKS': '2', 'OMPI_COMM_WORLD_RANK': '9', 'OMPI_COMM_WORLD_SIZE': '16'})
-    (9, 16)
-    >>> rank_and_size({'SLURM_PROCID': '1', 'SLURM_NTASKS': '4'}), rank_and_size({'PALS_RANKID': '3'}), rank_and_size({})
-    ((1, 4), (3, 0), None)
+    >>> slurm = {'SLURM_PROCID': '1', 'SLURM_NTASKS': '4'}
+    >>> rank_and_size(dict(slurm, OMPI_COMM_WORLD_RANK='9', OMPI_COMM_WORLD_SIZE='16')), rank_and_size(slurm)
+    ((9, 16), (1, 4))
+    >>> rank_and_size({'PALS_RANKID': '3'}), rank_and_size({})
+    ((3, 0), None)
     """
     for rank, sizes in LAUNCHERS:
         if environment.get(rank, '').isdigit():
@@ -95,7 +96,8 @@ def job_of(environment):
     ''
     """
     names = ['PMIX_NAMESPACE'] + ['SLURM_JOB_ID'] * ('SLURM_HET_SIZE' not in environment)
-    return next((name + '=' + environment[name] for name in names if re.match(r'[\w.@:-]+$', environment.get(name, ''))), '')
+    named = (name + '=' + environment[name] for name in names if re.match(r'[\w.@:-]+$', environment.get(name, '')))
+    return next(named, '')
 
 
 def environment_of(pid):
@@ -120,8 +122,8 @@ def process(pid, environment):
 def chosen(found, parent):
     """The processes of each rank, one or, where the rules can't tell, several.
 
-    Where some have MPI mapped, only those count. A process that another one of its rank forked from the same program isn't
-    counted; of programs that start another one without MPI, as shells do, the innermost is the rank.
+    Where some have MPI mapped, only those count. A process that another one of its rank forked from the same program
+    isn't counted; of programs without MPI that start another one, as shells do, the innermost is the rank.
 
     >>> def a(pid, mpi, program): return Process(pid, 0, 1, '', mpi, program, '')
     >>> [p.pid for p in chosen([a(3, False, 'orted'), a(4, True, 'x')], {})[0]]
@@ -151,8 +153,8 @@ def chosen(found, parent):
 def job(wanted, exe):
     """The processes of each rank on this host, and how many processes with a rank were left out as another job's.
 
-    `wanted` is what their environment must have, as pairs of a variable and its value; the command of each must match the
-    expression `exe`. Where this process runs in a Slurm job, those of other Slurm jobs are left out.
+    `wanted` is what their environment must have, as pairs of a variable and its value; the expression `exe` must find
+    something in the command of each. Where this process runs in a Slurm job, those of other Slurm jobs are left out.
     """
     own, parent = os.environ.get('SLURM_JOB_ID', ''), parents()
     ours = set(ancestors(os.getpid(), parent)) | {os.getpid()}

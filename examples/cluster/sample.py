@@ -3,17 +3,17 @@
 
     sample.py [OPTIONS] FOLDER
 
-stat-job starts it once on each host of a job, with one folder that all hosts share; fold.py reads that folder. The file has
-what eu-stack (of elfutils) or gdb printed, as it is, so that stacks can be folded in one way and then in another:
+stat-job starts it once on each host of a job, with one folder that all hosts share; fold.py reads that folder. The file
+has what eu-stack (of elfutils) or gdb printed, as it is, so that stacks can be folded in one way and then in another:
 
     == host NAME size N mpi M others O job J
-                                    the size and the name of the job, by the environment of its ranks; M is 1 where they have
-                                    MPI; O processes have a rank, too, and were not asked for
+                                    the size and the name of the job, by the environment of its ranks; M is 1 where they
+                                    have MPI; O processes have a rank, too, and were not asked for
     == rank R pid P time T (WHY)    what was printed follows; WHY is why there is no stack, or what is odd about it
     == end                          the last line: a file without it was cut off
 
-A file whose name begins with a dot is not whole yet. Where FOLDER/options.json is, it has the options; those of the command
-line go before it.
+A file whose name begins with a dot is not whole yet. Where FOLDER/options.json is, it has the options; those of the
+command line go before it.
 """
 import argparse
 import concurrent.futures
@@ -48,15 +48,15 @@ def add_options(parser):
     parser.add_argument('--each', type=float, default=60, metavar='SECONDS',
                         help='the longest that the sampler may take for a process, after which it is ended (60)')
     parser.add_argument('--all', type=float, default=600, metavar='SECONDS',
-                        help='the longest that all samples of a host may take; the rest is left out then, and said (600)')
+                        help='the longest that all samples of a host may take; what is left then is said (600)')
     parser.add_argument('--lines', action='store_true',
-                        help='inlined functions and lines, too: wants programs built with -g, and takes some times longer')
+                        help='inlined functions and lines, too: wants programs built with -g, and takes longer')
     parser.add_argument('--gdb', action='store_true', help='gdb, though there is eu-stack: 30 to 60 times slower')
     parser.add_argument('--python', action='store_true',
                         help="programs in Python: their own calls, by gdb's py-bt; wants what package python3-dbg has")
     parser.add_argument('--exe', default='', metavar='REGEX', help='only processes whose command has REGEX in it')
     parser.add_argument('--where', action='append', default=[], metavar='VAR=VALUE',
-                        help='only processes with this in their environment, as SLURM_STEP_ID=0; may be given several times')
+                        help='only processes with this in their environment, as SLURM_STEP_ID=0; any number of times')
 
 
 def ended(words, limit):
@@ -90,7 +90,7 @@ def complaint(text, pid):
 
 
 def waits_in_kernel(pid):
-    """The kernel's function in which a thread waits where no debugger can stop it, or nothing. A short wait is no reason."""
+    """The kernel's function in which a thread waits where no debugger can stop it, or nothing. Short waits don't count."""
     there = set(processes.threads(pid))
     for look in range(3):
         time.sleep(0.1 if look else 0)
@@ -152,7 +152,8 @@ def printed(pid, asked, until):
     if was == 't':
         return 'held by another debugger', ''
     commands = samplers(asked, pid)
-    why = '' if commands else 'no gdb on this host' if asked.gdb or asked.python else 'neither eu-stack nor gdb on this host'
+    missing = 'no gdb' if asked.gdb or asked.python else 'neither eu-stack nor gdb'
+    why = '' if commands else missing + ' on this host'
     for words in commands:
         found = ended(words, limit)
         if found is None:
@@ -182,7 +183,8 @@ def head(found, others):
     """
     sizes = ','.join(map(str, sorted({one.size for one in found}))) or '0'
     jobs = ','.join(sorted({one.job for one in found} - {''}))
-    return '== host %s size %s mpi %d others %d job %s\n' % (host_name(), sizes, any(one.has_mpi for one in found), others, jobs)
+    has_mpi = any(one.has_mpi for one in found)
+    return '== host %s size %s mpi %d others %d job %s\n' % (host_name(), sizes, has_mpi, others, jobs)
 
 
 def write(out, asked):
@@ -228,7 +230,7 @@ def main():
     except FileExistsError:
         out = None
     if not out:
-        sys.exit('%s: another sample.py was started here, or on a host of the same name; this one does nothing' % host_name())
+        sys.exit('%s: sample.py was started here before, or on a host of the same name; this one ends' % host_name())
     with out:
         write(out, asked)
     os.rename(part, whole)  # a file that is there is whole

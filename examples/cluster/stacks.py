@@ -7,7 +7,7 @@ import collections
 import functools
 import re
 
-# What is known of a frame; the number of its line and its offset in the module are texts, and what isn't known is empty.
+# What is known of a frame; all are texts, and what isn't known is empty.
 Frame = collections.namedtuple('Frame', 'name module file line offset')
 
 EU_FRAME = re.compile(r'^#\d+\s+0x[0-9a-f]+(?: (.*?))??(?: - ((?:/|\[|linux-|[\w.+-]+\.so).*))?$')
@@ -26,8 +26,8 @@ QUOTED = re.compile(r'"(\\.|[^"\\])*"|\'(\\.|[^\'\\])+\'')
 def eu_frame(line):
     """A frame of a line of eu-stack, without its offset and its source line.
 
-    >>> eu_frame('#0  0x00007f01 poll - /lib/libc.so.6')[:2], eu_frame('#1  0x02 - /home/a b/x')[:2], eu_frame('#2  0x02')[:2]
-    (('poll', '/lib/libc.so.6'), ('', '/home/a b/x'), ('', ''))
+    >>> [eu_frame(line)[:2] for line in ('#0  0x00007f01 poll - /lib/libc.so.6', '#1  0x02 - /home/a b/x', '#2  0x02')]
+    [('poll', '/lib/libc.so.6'), ('', '/home/a b/x'), ('', '')]
     """
     found = EU_FRAME.match(line)
     return Frame(found[1] or '', found[2] or '', '', '', '') if found else Frame('', '', '', '', '')
@@ -99,14 +99,14 @@ def gdb_function(text):
 
     >>> gdb_function('app::Solver<double, 3>::step (this=0x7ffe28354800, rank=0) at hang.cpp:61')
     ('app::Solver<double, 3>::step', ' at hang.cpp:61')
-    >>> gdb_function('std::function<void (int)>::operator()(int) const (this=0x1, __args#0=0) at /a (b)/std_function.h:591')
-    ('std::function<void (int)>::operator()(int) const', ' at /a (b)/std_function.h:591')
+    >>> gdb_function('std::function<void (int)>::operator()(int) const (this=0x1, __args#0=0) at /a (b)/function.h:591')
+    ('std::function<void (int)>::operator()(int) const', ' at /a (b)/function.h:591')
     >>> gdb_function('(anonymous namespace)::wait_for (s="a) (b", c=40 \\'(\\') from /lib/x.so')
     ('(anonymous namespace)::wait_for', ' from /lib/x.so')
-    >>> gdb_function('operator< <char> (a=..., b=...) at x.cpp:1')[0], gdb_function('decltype (auto) visit<int> (v=...) at x.cpp:2')[0]
-    ('operator< <char>', 'decltype (auto) visit<int>')
-    >>> gdb_function('?? () from /lib/libmpi.so.40')[0], gdb_function('<signal handler called>')[0]
-    ('??', '<signal handler called>')
+    >>> lines = ['operator< <char> (a=..., b=...) at x.cpp:1', 'decltype (auto) visit<int> (v=...) at x.cpp:2',
+    ...          '?? () from /lib/libmpi.so.40', '<signal handler called>']
+    >>> [gdb_function(line)[0] for line in lines]
+    ['operator< <char>', 'decltype (auto) visit<int>', '??', '<signal handler called>']
     """
     depth, i = 0, 0
     while i < len(text):
@@ -126,8 +126,10 @@ def gdb_function(text):
 def gdb_frame(number, address, text, modules):
     """A frame of gdb's; where it has no name, by its place in the module, as eu-stack counts it.
 
-    >>> gdb_frame(0, '1f10', '?? () from /lib/x.so', [])[:2], gdb_frame(1, '1f10', '?? ()', [(0x1000, 0x2000, '/home/a')])
-    (('', '/lib/x.so'), Frame(name='', module='/home/a', file='', line='', offset='0xf0f'))
+    >>> gdb_frame(0, '1f10', '?? () from /lib/x.so', [])[:2]
+    ('', '/lib/x.so')
+    >>> gdb_frame(1, '1f10', '?? ()', [(0x1000, 0x2000, '/home/a')])
+    Frame(name='', module='/home/a', file='', line='', offset='0xf0f')
     """
     name, rest = gdb_function(text)
     at = GDB_TAIL.match(rest)
@@ -143,8 +145,8 @@ def gdb_frame(number, address, text, modules):
 def gdb_stacks(text):
     """The stacks in what gdb printed, as (thread, frames), and below it, of sample.py, where the modules are.
 
-    >>> [(thread, [frame.name for frame in frames]) for thread, frames in gdb_stacks('Thread 2 (LWP 7):\\n#0  poll () from /l\\n\\n'
-    ...     'Thread 1 (LWP 6):\\n#0  0x1 in f (x=1) at a.c:1\\n#1  main ()')]
+    >>> text = 'Thread 2 (LWP 7):\\n#0  poll () from /l\\n\\nThread 1 (LWP 6):\\n#0  0x1 in f (x=1) at a.c:1\\n#1  main ()'
+    >>> [(thread, [frame.name for frame in frames]) for thread, frames in gdb_stacks(text)]
     [(2, ['poll']), (1, ['main', 'f'])]
     """
     lines = text.splitlines()
@@ -178,8 +180,10 @@ def with_python(text, stack):
 def stacks(text, pid):
     """The stacks in a text, the first thread's at the front; none where there is no stack of that one.
 
-    >>> [frame.name for frame in stacks('TID 8:\\n#0  0x1 g\\nTID 7:\\n#0  0x1 f\\n', 7)[0]], stacks('TID 8:\\n#0  0x1 g\\n', 7)
-    (['f'], [])
+    >>> [frame.name for frame in stacks('TID 8:\\n#0  0x1 g\\nTID 7:\\n#0  0x1 f\\n', 7)[0]]
+    ['f']
+    >>> stacks('TID 8:\\n#0  0x1 g\\n', 7)
+    []
     """
     found, first = eu_stacks(text), pid
     if not found:

@@ -30,7 +30,8 @@ def short(text, width=WIDTH):
     >>> short('abcdefgh', 6), short('abc', 6)
     ('ab..gh', 'abc')
     """
-    return text if len(text) <= width else text[:width - 2 - (width - 2) // 2] + '..' + text[len(text) - (width - 2) // 2:]
+    half = (width - 2) // 2
+    return text if len(text) <= width else text[:width - 2 - half] + '..' + text[-half:]
 
 
 def parting(texts):
