@@ -94,6 +94,22 @@ def ranges(numbers):
     return ','.join('%d' % a if a == b else '%d-%d' % (a, b) for a, b in runs)
 
 
+def one_job(heads):
+    """The size of the job that the hosts' first lines are about. More than one job is refused.
+
+    >>> head = '== host n1 size 16 mpi 1 others 0 job SLURM_JOB_ID=8'
+    >>> one_job([HEAD.match(head), HEAD.match(head.replace('16', '0').replace('SLURM_JOB_ID=8', ''))])
+    16
+    """
+    sizes = {int(size) for head in heads for size in head[1].split(',')} - {0}
+    jobs = {job for head in heads for job in head[4].split(',')} - {''}
+    if len(jobs) > 1:
+        refuse('more than one job; one of them is chosen by --where ' + ' or --where '.join(sorted(jobs)[:8]))
+    if len(sizes) > 1:
+        refuse('more than one job, of %s ranks: --exe or --where says which' % ', '.join(map(str, sorted(sizes))))
+    return max(sizes, default=0)
+
+
 def few(names):
     """Some names, and how many more there are.
 
@@ -168,20 +184,14 @@ class Fold:
         """Takes the files of all hosts. Where some have MPI, the others don't count: launchers' daemons are there."""
         heads = heads_of(folder)
         self.broken = [name.lstrip('.') for name, head in sorted(heads.items()) if head is None]
-        sizes = {int(size) for head in heads.values() if head for size in head[1].split(',')} - {0}
-        jobs = {job for head in heads.values() if head for job in head[4].split(',')} - {''}
         self.others = sum(int(head[3]) for head in heads.values() if head)
-        if len(jobs) > 1:
-            refuse('more than one job; one of them is chosen by --where ' + ' or --where '.join(sorted(jobs)[:8]))
-        if len(sizes) > 1:
-            refuse('more than one job, of %s ranks: --exe or --where says which' % ', '.join(map(str, sorted(sizes))))
-        self.size = max(sizes, default=0)
         has_mpi = any(head and head[2] == '1' for head in heads.values())
+        counting = {name: head for name, head in heads.items() if head and (head[2] == '1' or not has_mpi)}
+        self.size = one_job(counting.values())
         for name, head in sorted(heads.items()):
             if head:
                 host = HOST.sub('_', name)[:63]
-                is_asked = head[2] == '1' or not has_mpi
-                (self.hosts.add if is_asked and self.has_ranks(folder, name, host) else self.without.append)(host)
+                (self.hosts.add if name in counting and self.has_ranks(folder, name, host) else self.without.append)(host)
 
     def has_ranks(self, folder, name, host):
         """Takes a host's file. What stands last in one that was cut off may be in part, and isn't taken."""
