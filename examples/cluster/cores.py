@@ -21,11 +21,13 @@ NAMES = sorted({name for rank, sizes in processes.LAUNCHERS for name in (rank,) 
 VARIABLE = re.compile(('\\0(%s)=([0-9]{1,9})(?=\\0)' % '|'.join(NAMES)).encode('ascii'))
 
 
-def told(memory):
+def told_by(memory):
     """The rank that a process was told and the size of its job, by what its memory has; None where it isn't clear.
 
-    >>> told(b'..\\0PMI_RANK=7\\0PMI_SIZE=16\\0SLURM_PROCID=0\\0'), told(b'\\0PMI_RANK=7\\0\\0PMI_RANK=8\\0'), told(b'')
-    ((7, 16), None, None)
+    >>> told_by(b'..\\0PMI_RANK=7\\0PMI_SIZE=16\\0SLURM_PROCID=0\\0')
+    (7, 16)
+    >>> told_by(b'\\0PMI_RANK=7\\0\\0PMI_RANK=8\\0'), told_by(b'')
+    (None, None)
     """
     found = {}
     for one in VARIABLE.finditer(memory):
@@ -33,7 +35,7 @@ def told(memory):
     nearest = next((found[rank] for rank, _ in processes.LAUNCHERS if rank in found), set())
     if len(nearest) != 1:
         return None
-    return processes.rank_and_size({name: min(values) for name, values in found.items()})
+    return processes.told({name: min(values) for name, values in found.items()})[:2]
 
 
 def rank_of(word):
@@ -41,7 +43,7 @@ def rank_of(word):
     given = re.match(r'^(\d+):(.*)$', word)
     name = given[2] if given else word
     with open(name, 'rb') as file, mmap.mmap(file.fileno(), 0, access=mmap.ACCESS_READ) as memory:
-        found = told(memory)
+        found = told_by(memory)
     if given:
         return int(given[1]), found[1] if found else 0, name
     return (found[0], found[1], name) if found else None
@@ -95,7 +97,7 @@ def main():
     os.makedirs(folder, exist_ok=True)
     single = {rank: names[0] for rank, names in sorted(files.items()) if len(names) == 1}
     with open(os.path.join(folder, '.cores'), 'w', encoding='utf-8', errors='replace') as out:
-        out.write('== host cores size %d mpi 0 others 0 job \n' % size)
+        out.write('== host cores size %d mpi 0 by core others 0 job \n' % size)
         for rank in sorted(set(files) - set(single)):
             for name in files[rank]:
                 out.write('== rank %d pid 0 of %s time 0 (two processes of this rank)\n' % (rank, word_of(name)))

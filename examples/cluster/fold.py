@@ -25,7 +25,8 @@ import stacks
 RANKS, DAEMONS, PREFIXES, LINES, BYTES = 1048576, 511, 2048, 262144, 33554432
 ADDRESS = re.compile(r'0x[0-9a-f]{9,}')
 HOST = re.compile(r'[^A-Za-z0-9._-]')
-HEAD = re.compile(r'^== host \S+ size ([\d,]+) mpi ([01]) others (\d+) job (.*)$')
+HEAD = re.compile(r'^== host \S+ size (?P<size>[\d,]+) mpi (?P<mpi>[01]) by (?P<by>\S+) '
+                  r'others (?P<others>\d+) job (?P<job>.*)$')
 RECORD = re.compile(r'^rank (\d+) pid (\d+)(?: of (\S+))? time (\d+)(?: (\(.*\)))?$')
 TWO, NOT_FOUND, NO_STACK = '(two processes of this rank)', '(not found)', '(no stack)'
 PIECE, KNOWN = 1 << 20, 1 << 14  # bytes that are read at once; texts whose paths are kept
@@ -94,15 +95,30 @@ def ranges(numbers):
     return ','.join('%d' % a if a == b else '%d-%d' % (a, b) for a, b in runs)
 
 
+def those_that_count(heads):
+    """The hosts with ranks. Where some have MPI, one without counts only if its ranks were told in the same way.
+
+    Else a launcher's daemons are there alone, whose numbers are no ranks.
+
+    >>> head = HEAD.match('== host n1 size 16 mpi 1 by PMI_RANK others 0 job ')
+    >>> daemon = HEAD.match('== host n2 size 4 mpi 0 by SLURM_PROCID others 0 job ')
+    >>> sorted(those_that_count({'n1': head, 'n2': daemon, 'n3': None})), sorted(those_that_count({'n2': daemon}))
+    (['n1'], ['n2'])
+    """
+    there = {name: head for name, head in heads.items() if head}
+    ways = {head.group('by', 'size', 'job') for head in there.values() if head['mpi'] == '1'}
+    return {name: head for name, head in there.items() if not ways or head.group('by', 'size', 'job') in ways}
+
+
 def one_job(heads):
     """The size of the job that the hosts' first lines are about. More than one job is refused.
 
-    >>> head = '== host n1 size 16 mpi 1 others 0 job SLURM_JOB_ID=8'
+    >>> head = '== host n1 size 16 mpi 1 by PMI_RANK others 0 job SLURM_JOB_ID=8'
     >>> one_job([HEAD.match(head), HEAD.match(head.replace('16', '0').replace('SLURM_JOB_ID=8', ''))])
     16
     """
-    sizes = {int(size) for head in heads for size in head[1].split(',')} - {0}
-    jobs = {job for head in heads for job in head[4].split(',')} - {''}
+    sizes = {int(size) for head in heads for size in head['size'].split(',')} - {0}
+    jobs = {job for head in heads for job in head['job'].split(',')} - {''}
     if len(jobs) > 1:
         refuse('more than one job; one of them is chosen by --where ' + ' or --where '.join(sorted(jobs)[:8]))
     if len(sizes) > 1:
@@ -181,13 +197,12 @@ class Fold:
             self.seen[when, self.names.setdefault(one, one)].append(rank)
 
     def read(self, folder):
-        """Takes the files of all hosts. Where some have MPI, the others don't count: launchers' daemons are there."""
+        """Takes the files of all hosts that count."""
         heads = heads_of(folder)
         self.broken = [name.lstrip('.') for name, head in sorted(heads.items()) if head is None]
-        self.others = sum(int(head[3]) for head in heads.values() if head)
-        has_mpi = any(head and head[2] == '1' for head in heads.values())
-        counting = {name: head for name, head in heads.items() if head and (head[2] == '1' or not has_mpi)}
-        self.size = one_job(counting.values())
+        self.others = sum(int(head['others']) for head in heads.values() if head)
+        counting = those_that_count(heads)
+        self.size = one_job(list(counting.values()))
         for name, head in sorted(heads.items()):
             if head:
                 host = HOST.sub('_', name)[:63]

@@ -22,7 +22,8 @@ LAUNCHERS = (
 SAMPLER = os.path.join(os.path.dirname(os.path.abspath(__file__)), 'sample.py')
 MPI = re.compile(r'/lib(p?mpi|mpich|mpi_cray|mpi_gnu)[\w.-]*\.so')
 
-Process = collections.namedtuple('Process', 'pid rank size job has_mpi program words')
+# `by` is the variable that told the rank.
+Process = collections.namedtuple('Process', 'pid rank size by job has_mpi program words')
 
 
 def slurp(name):
@@ -71,19 +72,19 @@ def ancestors(pid, parent):
     return found
 
 
-def rank_and_size(environment):
-    """The rank that a process was told, and the size of the job (0 where no variable says it); None without a rank.
+def told(environment):
+    """The rank that a process was told, the size of the job (0: none was told), and by which variable; or None.
 
     >>> slurm = {'SLURM_PROCID': '1', 'SLURM_NTASKS': '4'}
-    >>> rank_and_size(dict(slurm, OMPI_COMM_WORLD_RANK='9', OMPI_COMM_WORLD_SIZE='16')), rank_and_size(slurm)
-    ((9, 16), (1, 4))
-    >>> rank_and_size({'PALS_RANKID': '3'}), rank_and_size({})
-    ((3, 0), None)
+    >>> told(dict(slurm, OMPI_COMM_WORLD_RANK='9', OMPI_COMM_WORLD_SIZE='16')), told(slurm)
+    ((9, 16, 'OMPI_COMM_WORLD_RANK'), (1, 4, 'SLURM_PROCID'))
+    >>> told({'PALS_RANKID': '3'}), told({})
+    ((3, 0, 'PALS_RANKID'), None)
     """
     for rank, sizes in LAUNCHERS:
         if environment.get(rank, '').isdigit():
             size = next((environment[name] for name in sizes if environment.get(name, '').isdigit()), '0')
-            return int(environment[rank]), int(size)
+            return int(environment[rank]), int(size), rank
     return None
 
 
@@ -107,27 +108,37 @@ def environment_of(pid):
 
 def process(pid, environment):
     """A process that has been told a rank, or None."""
-    told = rank_and_size(environment)
+    found = told(environment)
     words = slurp('/proc/%d/cmdline' % pid).replace('\0', ' ').strip()
-    if not told or not words or state(pid) in ('', 'Z', 'X'):
+    if not found or not words or state(pid) in ('', 'Z', 'X'):
         return None
     try:
         program = os.readlink('/proc/%d/exe' % pid)
     except OSError:
         program = ''
     has_mpi = bool(MPI.search(slurp('/proc/%d/maps' % pid)))
-    return Process(pid, told[0], told[1], job_of(environment), has_mpi, program, words)
+    return Process(pid, found[0], found[1], found[2], job_of(environment), has_mpi, program, words)
+
+
+def way(one):
+    """How a process was told its rank: ranks of one job are told in the same way."""
+    return one.by, one.size, one.job
 
 
 def chosen(found, parent):
     """The processes of each rank, one or, where the rules can't tell, several.
 
-    Where some have MPI mapped, only those count. A process that another one of its rank forked from the same program
-    isn't counted; of programs without MPI that start another one, as shells do, the innermost is the rank.
+    Where some have MPI mapped, those without count only for ranks that none of these has, as one that hangs before it
+    loads MPI, and only if they were told in the same way: a launcher's daemon was told its number by another variable.
+    A process that another one of its rank forked from the same program isn't counted; of programs without MPI that
+    start another one, as shells do, the innermost is the rank.
 
-    >>> def a(pid, mpi, program): return Process(pid, 0, 1, '', mpi, program, '')
-    >>> [p.pid for p in chosen([a(3, False, 'orted'), a(4, True, 'x')], {})[0]]
-    [4]
+    >>> def a(pid, mpi, program, rank=0, by='PMI_RANK'): return Process(pid, rank, 2, by, '', mpi, program, '')
+    >>> found = chosen([a(3, False, 'orted', 1, 'SLURM_PROCID'), a(4, True, 'x'), a(5, False, 'sh')], {4: 5})
+    >>> [(rank, [p.pid for p in same]) for rank, same in found.items()]
+    [(0, [4])]
+    >>> sorted(chosen([a(4, True, 'python'), a(5, False, 'python', 1)], {}))
+    [0, 1]
     >>> [p.pid for p in chosen([a(4, True, 'x'), a(5, True, 'x')], {5: 4})[0]]
     [4]
     >>> [p.pid for p in chosen([a(3, False, 'sh'), a(4, False, 'x'), a(5, False, 'x')], {5: 4, 4: 3})[0]]
@@ -135,8 +146,10 @@ def chosen(found, parent):
     >>> [p.pid for p in chosen([a(4, True, 'x'), a(5, True, 'x')], {})[0]]
     [4, 5]
     """
-    if any(one.has_mpi for one in found):
-        found = [one for one in found if one.has_mpi]
+    with_mpi = [one for one in found if one.has_mpi]
+    if with_mpi:
+        ways, there = {way(one) for one in with_mpi}, {one.rank for one in with_mpi}
+        found = with_mpi + [one for one in found if not one.has_mpi and way(one) in ways and one.rank not in there]
     ranks = collections.defaultdict(list)
     for one in sorted(found):
         ranks[one.rank].append(one)

@@ -6,9 +6,9 @@
 stat-job starts it once on each host of a job, with one folder that all hosts share; fold.py reads that folder. The file
 has what eu-stack (of elfutils) or gdb printed, as it is, so that stacks can be folded in one way and then in another:
 
-    == host NAME size N mpi M others O job J
-                                    the size and the name of the job, by the environment of its ranks; M is 1 where they
-                                    have MPI; O processes have a rank, too, and were not asked for
+    == host NAME size N mpi M by V others O job J
+                                    the size and the name of the job, by the environment of its ranks; M is 1 where some
+                                    have MPI; V told them their ranks; O processes have one, too, and were not asked for
     == rank R pid P time T (WHY)    what was printed follows; WHY is why there is no stack, or what is odd about it
     == end                          the last line: a file without it was cut off
 
@@ -142,7 +142,7 @@ def printed(pid, asked, until):
 
     Nothing goes on after the time `until`.
     """
-    limit = min(asked.each, until - time.time())
+    limit = min(asked.each, until - time.monotonic())
     if limit <= 0:
         return 'no time was left', ''
     was = processes.state(pid)
@@ -177,14 +177,14 @@ def host_name():
 def head(found, others):
     """The first line of a host's file. Where its processes are of several jobs, it has all their sizes and names.
 
-    >>> one = processes.Process(7, 0, 16, 'SLURM_JOB_ID=8', True, '', '')
+    >>> one = processes.Process(7, 0, 16, 'PMI_RANK', 'SLURM_JOB_ID=8', True, '', '')
     >>> head([one, one._replace(pid=8, rank=1, job='SLURM_JOB_ID=9')], 0).partition(' size ')[2]
-    '16 mpi 1 others 0 job SLURM_JOB_ID=8,SLURM_JOB_ID=9\\n'
+    '16 mpi 1 by PMI_RANK others 0 job SLURM_JOB_ID=8,SLURM_JOB_ID=9\\n'
     """
     sizes = ','.join(map(str, sorted({one.size for one in found}))) or '0'
-    jobs = ','.join(sorted({one.job for one in found} - {''}))
+    by, jobs = [','.join(sorted(set(names) - {''})) for names in ((one.by for one in found), (one.job for one in found))]
     has_mpi = any(one.has_mpi for one in found)
-    return '== host %s size %s mpi %d others %d job %s\n' % (host_name(), sizes, has_mpi, others, jobs)
+    return '== host %s size %s mpi %d by %s others %d job %s\n' % (host_name(), sizes, has_mpi, by or '-', others, jobs)
 
 
 def write(out, asked):
@@ -196,7 +196,7 @@ def write(out, asked):
     for rank, same in sorted(ranks.items()):
         for one in same if len(same) > 1 else []:
             out.write('== rank %d pid %d time 0 (two processes of this rank)\n' % (rank, one.pid))
-    until = time.time() + asked.all
+    until = time.monotonic() + asked.all
     with concurrent.futures.ThreadPoolExecutor(len(os.sched_getaffinity(0))) as pool:
         for when in range(asked.times if single else 0):
             time.sleep(asked.pause if when else 0)

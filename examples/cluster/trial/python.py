@@ -1,7 +1,9 @@
 """A Python program that hangs: rank K never leaves a loop, and the others wait for it.
 
-    python3 python.py K
+    python3 python.py K             in a barrier
+    python3 python.py K early       in MPI_Init, for rank K has not yet loaded MPI; below Open MPI's mpirun
 """
+import os
 import sys
 import time
 
@@ -18,6 +20,9 @@ def step(world, different):
 
 
 def main():
+    if 'early' in sys.argv and os.environ['OMPI_COMM_WORLD_RANK'] == sys.argv[1]:
+        print('rank ' + sys.argv[1], flush=True)
+        smooth()
     from mpi4py import MPI
     print('rank %d' % MPI.COMM_WORLD.Get_rank(), flush=True)
     step(MPI.COMM_WORLD, int(sys.argv[1]))
