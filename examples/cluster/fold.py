@@ -186,6 +186,10 @@ class Fold:
             self.two.setdefault(rank, set()).update([place, where])
         return rank not in self.two
 
+    def both(self, rank):
+        """The hosts and processes of a rank of which there are two."""
+        return ' and '.join(sorted('%s %s' % where for where in self.two[rank]))
+
     def take(self, rank, when, found, why):
         """Takes the paths that a rank was seen in at a time, and what is odd about them."""
         if why:
@@ -314,8 +318,8 @@ def remarks(found, gone):
         yield 'not found, of %d: %s' % (max(found.size, max(found.home) + 1), ranges(gone))
     if not found.size:
         yield "the job's size isn't known: ranks above %d would be missing without a word" % max(found.home)
-    for rank, where in sorted(found.two.items())[:10]:
-        yield 'two processes of rank %d: %s' % (rank, ' and '.join(sorted('%s %s' % place for place in where)))
+    for rank in sorted(found.two)[:10]:
+        yield 'two processes of rank %d: %s' % (rank, found.both(rank))
     if len(found.two) > 10:
         yield 'two processes of ranks ' + ranges(found.two)
     for why, ranks in sorted(found.odd.items()):
@@ -337,6 +341,7 @@ def finish(found, out):
     gone = found.settle()
     if all(paths.is_remark(text) and ';' not in text for (_, text), ranks in found.seen.items() if ranks):
         why = sorted({text for (_, text), ranks in found.seen.items() if ranks} - {NOT_FOUND})
+        why += ['rank %d is %s' % (rank, found.both(rank)) for rank in sorted(found.two)[:1]]
         refuse('none of %d ranks has a stack: %s' % (len(found.home), ', '.join(why)))
     said = list(remarks(found, gone))
     depth = depth_that_fits({text for _, text in found.seen})
