@@ -8,6 +8,8 @@ import hashlib
 import os
 import re
 
+from stacks import Frame  # what stacks are made of; the examples below make some
+
 FRAMES, NAME_BYTES = 128, 1023  # what the readers of `stat` take
 LEFT_OUT = '(frames left out)'
 
@@ -66,7 +68,6 @@ def fitting(text):
 def frame_name(frame, is_innermost):
     """A frame's name as `stat` takes it, the same in all builds; where it has none, its place in its module.
 
-    >>> from stacks import Frame
     >>> def name(text, module, is_innermost): return frame_name(Frame(text, module, '', '', '0xf2'), is_innermost)
     >>> name('PMPI_Recv', '/l/libmpi.so', True), name('f() [clone .isra.0]', '', False)
     ('MPI_Recv', 'f()')
@@ -88,7 +89,6 @@ def frame_name(frame, is_innermost):
 def is_own(frame):
     """Whether a frame is the program's own code: not a library's, nor one of the C library's that gdb has lines of.
 
-    >>> from stacks import Frame
     >>> [is_own(Frame('f', module, file, '', '')) for module, file in
     ...     (('/home/x', ''), ('/usr/lib/l.so.1', ''), ('', 'a.c'), ('', './nptl/x.c'), ('', ''))]
     [True, False, True, False, False]
@@ -118,7 +118,6 @@ def waits_in_openmp(stack):
 def end(stack, names, cut):
     """How many frames a path may have: up to the outermost that is cut at, or that waits in OpenMP's library.
 
-    >>> from stacks import Frame
     >>> modules = ('/x', '/lib/libgomp.so.1', '/x', '/lib/libgomp.so.1', '/lib/libc.so.6')
     >>> stack = [Frame('', module, '', '', '0x1') for module in modules]
     >>> [end(stack, ['main', 'g', 'f', 'g', 'futex'], cut) for cut in (re.compile('none'), re.compile('f'), None)]
@@ -177,7 +176,6 @@ def with_line(name, frame):
 def path(stack, choice, is_first=True):
     """The frames of the path of a stack.
 
-    >>> from stacks import Frame
     >>> names = ('_start', 'main', 'f', 'f', 'PMPI_Send', 'poll')
     >>> stack = [Frame(name, '/x', 'a.c', '7', '') for name in names]
     >>> path(stack, Choice(re.compile(CUT), False)), path(stack[2:], Choice(None, True))
