@@ -22,7 +22,7 @@ use Rattle.arena_tree.specs.Links.{LinkedNodes, with_change, relink, first_after
 abbrev pub new_view : List ℕ → Path → Marks → ℕ → NodeView
 new_view g gs w n = record { frames = g ∷ gs; label = w.0; ends = w.1; first = no_place; next = n }
 
--- what a step has for a set that gets the ranks of another: the other, if the set can take it up in its one word, or else their union
+-- what a step has for a set that gets the ranks of another: the other, if the set can take it up in its words, or else their union
 abbrev pub more_for : Ranks → Ranks → Ranks
 more_for s t = cond (spans s t) t (union s t)
 

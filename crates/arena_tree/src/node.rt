@@ -167,7 +167,7 @@ fn frames_behind(path: &CallPath, skip: usize) -> Result<CallPath, AllocError>
     path.behind(skip)
 }
 
-/// Takes up more ranks in the one word of a set, or is replaced by them. It allocates nothing.
+/// Takes up more ranks in the words of a set, or is replaced by them where it can't. It allocates nothing.
 fn put_more(ranks: &mut RankSet, more: RankSet)
     ensures { ranks.new ≡ with_more ranks.old more }
 {

@@ -195,8 +195,8 @@ impl Plan {
     }
 }
 
-/// What a step has for a set that gets the ranks of another: a copy of the other if it is a single word that the set can
-/// take up without memory, or else their union.
+/// What a step has for a set that gets the ranks of another: a copy of the other, which is small where the set is wide,
+/// or their union where the set's words don't reach so far.
 fn more_for(ranks: &RankSet, other: &RankSet) -> Result<RankSet, AllocError>
     ensures { IfOk result (λ more. more ≡ more_for ranks.now other.now) }
 {

@@ -16,5 +16,4 @@ pub mod OneWord
 pub mod RunLists
 pub mod RunTexts
 pub mod SameWords
-pub mod OneWordSets
 pub mod CommonWords

@@ -8,7 +8,7 @@ use Rattle.std.specs.Cmp.{nat_cmp_total, tied_itself, unsigned_tied}
 use Rattle.std.proofs.lemmas.Bool.{cases_Bool, cases_lt, true≢false, and_parts, and_from, or_cases, or_right, eqb-true, leb-true, le-leb}
 use Rattle.std.proofs.lemmas.Nat.Bits.{bit_at-trailing_zeros}
 use Rattle.rank_set.specs.Ranks.{Ranks, has, in_order, has-none, has-in_order, all_have, all_pass}
-use Rattle.rank_set.specs.Words.{is_bit, word_at, ranks_in, AreWords, reaches}
+use Rattle.rank_set.specs.Words.{is_bit, word_at, ranks_in, AreWords, spans}
 use Rattle.rank_set.proofs.WordSets.{word_at-below, word_at-beyond, has-ranks_in, no_bit, no_ranks}
 use Rattle.rank_set.proofs.Trimming.{HasBits, covers_itself, covered_bits, first_word, last_word}
 
@@ -71,12 +71,12 @@ rank_within o ws r one = (
 in_span : Ranks → ℕ → Bool
 in_span s r = list_any (λ a. nat_le (a / 64) (r / 64)) (in_order s) && list_any (λ b. nat_le (r / 64) (b / 64)) (in_order s)
 
-reaches_each : (s t : Ranks) → ((r : ℕ) → has t r ≡ true → in_span s r ≡ true) → reaches s t ≡ true
-unfolding reaches in_span
-reaches_each s t each = all_pass (in_span s) (in_order t) (λ r one. each r (has-in_order t r ∙ one))
+spans_each : (s t : Ranks) → ((r : ℕ) → has t r ≡ true → in_span s r ≡ true) → spans s t ≡ true
+unfolding spans in_span
+spans_each s t each = all_pass (in_span s) (in_order t) (λ r one. each r (has-in_order t r ∙ one))
 
-each_spanned : (s t : Ranks) → reaches s t ≡ true → (r : ℕ) → has t r ≡ true → in_span s r ≡ true
-unfolding reaches in_span
+each_spanned : (s t : Ranks) → spans s t ≡ true → (r : ℕ) → has t r ≡ true → in_span s r ≡ true
+unfolding spans in_span
 each_spanned s t e r one = all_have (in_span s) (in_order t) r e (sym (has-in_order t r) ∙ one)
 
 span_parts : (s : Ranks) (r : ℕ) → in_span s r ≡ true → Passes (λ a. nat_le (a / 64) (r / 64)) s × Passes (λ b. nat_le (r / 64) (b / 64)) s
@@ -93,24 +93,24 @@ span_from s r a b one two low high =
 
 module _ (o : ℕ) (ws : List ℕ) (p : ℕ) (vs : List ℕ) where
   -- no words are spanned by any
-  pub reaches_nothing : length vs ≡ 0 → reaches (ranks_in o ws) (ranks_in p vs) ≡ true
-  reaches_nothing none_left = reaches_each _ _ (λ r one. absurd (true≢false (sym one ∙ ap (λ s. has s r) (no_ranks p vs none_left) ∙ has-none r)))
+  pub spans_nothing : length vs ≡ 0 → spans (ranks_in o ws) (ranks_in p vs) ≡ true
+  spans_nothing none_left = spans_each _ _ (λ r one. absurd (true≢false (sym one ∙ ap (λ s. has s r) (no_ranks p vs none_left) ∙ has-none r)))
 
   module _ (h : AreWords o ws) (small : (k : ℕ) → word_at o ws k < 2 ^ 64) where
     -- words within others are spanned by them
-    pub reaches_inner : 0 < length vs → o ≤ p → p + length vs ≤ o + length ws → reaches (ranks_in o ws) (ranks_in p vs) ≡ true
-    reaches_inner more begins stops =
+    pub spans_inner : 0 < length vs → o ≤ p → p + length vs ≤ o + length ws → spans (ranks_in o ws) (ranks_in p vs) ≡ true
+    spans_inner more begins stops =
         let some : 0 < length ws = elim (cases_lt 0 (length ws)) [ inl lt ↦ lt | inr empty ↦ let z : o ≡ 0 = h.nothing (omega arith) in absurd (omega arith) ] in
         let a = rank_in_word o ws o (omega (arith, first_word o ws, h.first some)) (small o) in
         let b = rank_in_word o ws (o + length ws - 1) (omega (arith, last_word o ws some, h.last some)) (small (o + length ws - 1)) in
-        reaches_each _ _ (λ r one.
+        spans_each _ _ (λ r one.
         let within = rank_within p vs r one in
         span_from (ranks_in o ws) r a.rank b.rank a.is_member b.is_member (omega (arith, a.word, within.0)) (omega (arith, b.word, within.1)))
 
   module _ (h : AreWords p vs) (small : (k : ℕ) → word_at p vs k < 2 ^ 64) where
     -- words that are spanned lie within
-    pub inner_from_reaches : 0 < length vs → reaches (ranks_in o ws) (ranks_in p vs) ≡ true → (o ≤ p) × (p + length vs ≤ o + length ws)
-    inner_from_reaches more e =
+    pub inner_from_spans : 0 < length vs → spans (ranks_in o ws) (ranks_in p vs) ≡ true → (o ≤ p) × (p + length vs ≤ o + length ws)
+    inner_from_spans more e =
         let a = rank_in_word p vs p (omega (arith, first_word p vs, h.first more)) (small p) in
         let b = rank_in_word p vs (p + length vs - 1) (omega (arith, last_word p vs more, h.last more)) (small (p + length vs - 1)) in
         let low = (span_parts (ranks_in o ws) a.rank (each_spanned _ _ e a.rank a.is_member)).0 in
@@ -122,9 +122,9 @@ module _ (o : ℕ) (ws : List ℕ) (p : ℕ) (vs : List ℕ) where
         )
 
     -- words that begin or end elsewhere are not spanned
-    pub reaches_outer : 0 < length vs → ((o ≤ p) × (p + length vs ≤ o + length ws) → ⊥) → reaches (ranks_in o ws) (ranks_in p vs) ≡ false
-    reaches_outer more out = elim (cases_Bool (reaches (ranks_in o ws) (ranks_in p vs))) [
-      | inl e ↦ absurd (out (inner_from_reaches more e))
+    pub spans_outer : 0 < length vs → ((o ≤ p) × (p + length vs ≤ o + length ws) → ⊥) → spans (ranks_in o ws) (ranks_in p vs) ≡ false
+    spans_outer more out = elim (cases_Bool (spans (ranks_in o ws) (ranks_in p vs))) [
+      | inl e ↦ absurd (out (inner_from_spans more e))
       | inr e ↦ e
     ]
 

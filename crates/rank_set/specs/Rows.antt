@@ -5,7 +5,6 @@ use Rattle.rank_set.specs.declared.read.RanksError.TheVariants.{Empty, BadNumber
 use Rattle.rank_set.specs.Ranks.{none, has, set_of, union, with_rank, those}
 use Rattle.rank_set.specs.Runs.{ranks_between}
 use Rattle.rank_set.specs.Words.{word_at, ranks_in, offset_of, spans}
-use Rattle.rank_set.specs.WordLists.{words_of}
 use Rattle.rank_set.specs.Text.{text_of}
 use Rattle.rank_set.specs.RanksText.{ranks_text, ranks_at, items, item_at}
 
@@ -104,26 +103,22 @@ second_word : offset_of (set_of (64 ∷ 66 ∷ [])) ≡ 1
 unfolding with_rank
 second_word = refl
 
--- two sets in one word, or one of them elsewhere
+-- words that hold the ranks of another set
 
-same_word : spans (set_of (100 ∷ [])) (set_of (64 ∷ 127 ∷ [])) ≡ true
-unfolding spans words_of with_rank
-same_word = refl
+within_words : spans (set_of (100 ∷ 200 ∷ [])) (set_of (64 ∷ 255 ∷ [])) ≡ true
+unfolding spans with_rank
+within_words = refl
 
-next_word : spans (set_of (100 ∷ [])) (set_of (128 ∷ [])) ≡ false
-unfolding spans words_of with_rank
-next_word = refl
+below_words : spans (set_of (100 ∷ 200 ∷ [])) (set_of (63 ∷ 200 ∷ [])) ≡ false
+unfolding spans with_rank
+below_words = refl
 
-two_words : spans (set_of (100 ∷ 200 ∷ [])) (set_of (100 ∷ [])) ≡ false
-unfolding spans words_of with_rank
-two_words = refl
-
-two_more_words : spans (set_of (100 ∷ [])) (set_of (100 ∷ 200 ∷ [])) ≡ false
-unfolding spans words_of with_rank
-two_more_words = refl
+past_words : spans (set_of (100 ∷ 200 ∷ [])) (set_of (100 ∷ 256 ∷ [])) ≡ false
+unfolding spans with_rank
+past_words = refl
 
 no_words : spans none (set_of (0 ∷ [])) ≡ false
-unfolding spans words_of with_rank
+unfolding spans with_rank
 no_words = refl
 
 no_ranks : spans none none ≡ true

@@ -1,10 +1,9 @@
 -- Sets of ranks as words of 64 bits.
-use Rattle.std.specs.Prelude.{ℕ, suc, ◌+◌, ◌-◌, ◌*◌, ◌/◌, ◌%◌, ◌^◌, ◌<◌, ◌≤◌, ◌≡◌, Bool, not, cond, min, nat_eq, nat_lt, nat_le, ◌&&◌, ◌||◌, List, [], ◌∷◌, length, get_or, ◌⊎◌}
+use Rattle.std.specs.Prelude.{ℕ, suc, ◌+◌, ◌-◌, ◌*◌, ◌/◌, ◌%◌, ◌^◌, ◌<◌, ◌≤◌, ◌≡◌, Bool, not, cond, min, nat_eq, nat_lt, nat_le, ◌&&◌, List, [], ◌∷◌, length, get_or, ◌⊎◌}
 use Rattle.std.specs.Int.{bit_at}
 use Rattle.std.specs.List.{range_with_len, list_any, list_all}
 use Rattle.rank_set.specs.declared.TheConstants.{WORD_LIMIT}
-use Rattle.rank_set.specs.Ranks.{Ranks, set_of, those, in_order, is_empty}
-use Rattle.rank_set.specs.WordLists.{words_of}
+use Rattle.rank_set.specs.Ranks.{Ranks, set_of, those, in_order}
 
 -- whether bit i of a word is 1
 abbrev pub is_bit : ℕ → ℕ → Bool
@@ -39,12 +38,8 @@ abbrev pub offset_of : Ranks → ℕ
 offset_of s = word_of_first (in_order s)
 
 -- whether each rank of the second set lies in the words from that of the first set's least rank to that of its greatest
-unfoldable pub reaches : Ranks → Ranks → Bool
-reaches s t = list_all (λ r. list_any (λ a. nat_le (a / 64) (r / 64)) (in_order s) && list_any (λ b. nat_le (r / 64) (b / 64)) (in_order s)) (in_order t)
-
--- whether the second set is empty, or both lie in one and the same word
 unfoldable pub spans : Ranks → Ranks → Bool
-spans s t = is_empty t || (nat_eq (length (words_of s)) 1 && nat_eq (length (words_of t)) 1 && nat_eq (offset_of s) (offset_of t))
+spans s t = list_all (λ r. list_any (λ a. nat_le (a / 64) (r / 64)) (in_order s) && list_any (λ b. nat_le (r / 64) (b / 64)) (in_order s)) (in_order t)
 
 -- word k of the ranks from the first to the last
 unfoldable pub run_word : ℕ → ℕ → ℕ → ℕ

@@ -180,7 +180,7 @@ impl RankSet {
         // Most often one word of ranks joins words that reach it.
         let others = other.words.as_slice();
         if others.len() == 1
-            && words::reaches(self.offset, self.words.as_slice(), other.offset, others)
+            && words::spans(self.offset, self.words.as_slice(), other.offset, others)
         {
             words::or_within(self.words.as_mut_slice(), self.offset, other.offset, others);
             return Ok(());
@@ -202,12 +202,12 @@ impl RankSet {
         Ok(RankSet { offset, words })
     }
 
-    /// Whether the other set is empty, or both lie in one and the same word (64 ranks each, from 0 on): then
-    /// `unite_within` adds the other's ranks.
+    /// Whether the other set has no rank outside the words (64 ranks each, from 0 on) from that of the least rank to
+    /// that of the greatest: then `unite_within` adds the other's ranks.
     pub fn spans(&self, other: &RankSet) -> bool
         ensures { result ≡ spans self.now other.now }
     {
-        one_word::spans(
+        words::spans(
             self.offset,
             self.words.as_slice(),
             other.offset,
@@ -220,7 +220,7 @@ impl RankSet {
         requires { spans self.old other.now ≡ true }
         ensures { self.new ≡ union self.old other.now }
     {
-        one_word::or_spanned(
+        words::or_within(
             self.words.as_mut_slice(),
             self.offset,
             other.offset,

@@ -3,7 +3,7 @@
 ghost use Rattle.std.specs.Prelude.{◌≡◌, ℕ, ◌<◌, ◌≤◌, ◌+◌, ◌-◌, ◌*◌, ◌/◌, ◌↔◌, ◌++◌, true, false, OnOk, OnErr, IfOk, IfSome, IfNone, Some, slice_get, not, length, get_or, replicate, bit_or};
 ghost use Rattle.rank_set.specs.Ranks.{none, has, those, union, in_order, is_empty, is_subset, size};
 ghost use Rattle.rank_set.specs.Runs.{ranks_between, IsRun};
-ghost use Rattle.rank_set.specs.Words.{word_at, bit_in, ranks_in, AreWords, ExtendsTo, IsNext, offset_of, run_word, reaches, IsOverlap};
+ghost use Rattle.rank_set.specs.Words.{word_at, bit_in, ranks_in, AreWords, ExtendsTo, IsNext, offset_of, run_word, spans, IsOverlap};
 ghost use Rattle.rank_set.specs.WordLists.{words_of};
 
 use crate::{RANK_LIMIT, Run, WORD_LIMIT};
@@ -80,7 +80,7 @@ fn padded(
     Ok(all)
 }
 
-// A copy of the words that reaches from one index up to another at least, and the index of its first word.
+// A copy of the words that spans from one index up to another at least, and the index of its first word.
 fn reaching(
     alloc: Global,
     offset: u32,
@@ -218,10 +218,10 @@ pub(crate) fn united(
 }
 
 // Whether all of the other ranks lie in the words from the first to the last.
-pub(crate) fn reaches(offset: u32, words: &[u64], other_offset: u32, others: &[u64]) -> bool
+pub(crate) fn spans(offset: u32, words: &[u64], other_offset: u32, others: &[u64]) -> bool
     requires trimmed { AreWords offset words.now }
     requires trimmed_others { AreWords other_offset others.now }
-    ensures { result ≡ reaches (ranks_in offset words.now) (ranks_in other_offset others.now) }
+    ensures { result ≡ spans (ranks_in offset words.now) (ranks_in other_offset others.now) }
 {
     others.is_empty()
         || offset <= other_offset
@@ -232,7 +232,7 @@ pub(crate) fn reaches(offset: u32, words: &[u64], other_offset: u32, others: &[u
 pub(crate) fn or_within(words: &mut [u64], offset: u32, other_offset: u32, others: &[u64])
     requires trimmed { AreWords offset words.old }
     requires trimmed_others { AreWords other_offset others.now }
-    requires reaches { reaches (ranks_in offset words.old) (ranks_in other_offset others.now) ≡ true }
+    requires spans { spans (ranks_in offset words.old) (ranks_in other_offset others.now) ≡ true }
     ensures trimmed { AreWords offset words.new }
     ensures ranks { ranks_in offset words.new
         ≡ union (ranks_in offset words.old) (ranks_in other_offset others.now) }
@@ -267,7 +267,7 @@ pub(crate) fn add_words(
         *offset = other_offset;
         return Ok(());
     }
-    if reaches(*offset, words.as_slice(), other_offset, others) {
+    if spans(*offset, words.as_slice(), other_offset, others) {
         or_within(words.as_mut_slice(), *offset, other_offset, others);
         return Ok(());
     }

@@ -1,12 +1,12 @@
 -- Which lines list ranks of which nodes.
-use Rattle.std.proofs.Common.{◌≡◌, ◌≢◌, ◌⊎◌, ℕ, suc, zero, ◌+◌, ◌<◌, ◌≤◌, List, [], ◌∷◌, ◌++◌, map, take, get_or, set, length, refl, sym, ap, subst, ◌∙◌, arith, eqb-true, inl, inr}
+use Rattle.std.proofs.Common.{true, ◌≡◌, ◌≢◌, ◌⊎◌, ℕ, suc, zero, ◌+◌, ◌<◌, ◌≤◌, List, [], ◌∷◌, ◌++◌, map, take, get_or, set, length, refl, sym, ap, subst, ◌∙◌, arith, eqb-true, inl, inr}
 use Rattle.std.specs.Prelude.{nat_eq}
-use Rattle.std.proofs.lemmas.Bool.{true≢false, cases_Bool, cases_lt, eqb-false, or_left, or_right}
+use Rattle.std.proofs.lemmas.Bool.{true≢false, cases_Bool, cases_lt, eqb-false, and_from, or_left, or_right}
 use Rattle.std.proofs.lemmas.List.{get_or-set_same, get_or-set_other, get_or_default, length-map, length-set, length-take-le, map-append, take_more}
-use Rattle.rank_set.specs.Ranks.{Ranks, none, has, Has, union, has-union, has-none}
+use Rattle.rank_set.specs.Ranks.{Ranks, none, has, Has, union, has-union, has-none, has-those, is_empty, none_from_size, size, those}
 use Rattle.rank_set.specs.Runs.{ranks_between}
 use Rattle.rank_set.proofs.RunSets.{between_in}
-use Rattle.stat_plan.specs.OwnLines.{AreAllMarked, AreIndexed, AreMarked, ranks_at, ranks_of_lines}
+use Rattle.stat_plan.specs.OwnLines.{AreIndexed, AreMarked, ranks_at, ranks_of_lines}
 use Rattle.stat_plan.specs.declared.samples.StackLine.{StackLine}
 
 -- no node has such a rank
@@ -44,41 +44,46 @@ module _ (placed : List Ranks) (P Q : ℕ → Type 0) (number : ℕ) (old mid : 
     kept = λ n i there. stays n i (are.kept n i there);
   }
 
--- one set more has a number
-pub record IsMarkedAt (number : ℕ) (old new : List Ranks) (node : ℕ) : Type 0 where
+-- the first k nodes are asked
+pub record AreMarkedTo (placed : List Ranks) (ranks : Ranks) (number : ℕ) (old new : List Ranks) (k : ℕ) : Type 0 where
   pub paired : length new ≡ length old
-  pub marked : Has number (ranks_at new node)
+  pub marked : (n r : ℕ) → n < k → n < length old → Has r (ranks_at placed n) → Has r ranks → Has number (ranks_at new n)
   pub kept : (n i : ℕ) → Has i (ranks_at old n) → Has i (ranks_at new n)
 
-pub one_marked : (number : ℕ) (mid : List Ranks) (node : ℕ) (d ranks : Ranks) → node < length mid → ranks ≡ union (get_or mid node d) (ranks_between number number) → IsMarkedAt number mid (set mid node ranks) node
-one_marked number mid node d ranks inside is =
-    let here : ranks ≡ union (ranks_at mid node) (ranks_between number number) = is ∙ ap (λ s. union s (ranks_between number number)) (get_or_default mid node d none inside) in
-    let all = marked_more [] (λ _. ⊥) (λ _. ⊥) number mid mid node ranks inside here (λ n r own some. inl some) (marked_none [] (λ _. ⊥) number mid (λ r some. some)) in
-    record {
-      paired = length-set mid node ranks;
-      marked = ap (λ s. has s number) (get_or-set_same mid node ranks none inside ∙ here) ∙ has-union (ranks_at mid node) (ranks_between number number) number ∙ or_right (has (ranks_at mid node) number) (has (ranks_between number number) number) (between_in number number number (omega arith) (omega arith));
-      kept = all.kept;
-    }
+below_last : (n k : ℕ) → n < k + 1 → n ≢ k → n < k
+below_last n k below other = elim (cases_lt n k) [ (inl lt) ↦ lt | (inr ge) ↦ absurd (other (omega (arith, below, ge))) ]
 
-pub record AreMarkedTo (number : ℕ) (old new : List Ranks) (k : ℕ) : Type 0 where
-  pub paired : length new ≡ length old
-  pub marked : (n : ℕ) → n < k → Has number (ranks_at new n)
-  pub kept : (n i : ℕ) → Has i (ranks_at old n) → Has i (ranks_at new n)
-
--- the first k + 1 sets have it
-pub marks_of_all : (number : ℕ) (old mid : List Ranks) (k : ℕ) (ranks : Ranks) → length mid ≡ length old → ((n : ℕ) → n < k → Has number (ranks_at mid n)) → ((n i : ℕ) → Has i (ranks_at old n) → Has i (ranks_at mid n))
-    → IsMarkedAt number mid (set mid k ranks) k → AreMarkedTo number old (set mid k ranks) (k + 1)
-marks_of_all number old mid k ranks paired marked kept step = record {
-  paired = step.paired ∙ paired;
-  marked = λ n below. elim (cases_Bool (nat_eq n k)) [
-    | (inl same) ↦ subst (λ m. Has number (ranks_at (set mid k ranks) m)) (sym (eqb-true n k same)) step.marked
-    | (inr other) ↦ let apart = eqb-false n k other in step.kept n number (marked n (below_last n below apart))
+-- a node more that has none of the ranks
+pub asked_none : (placed : List Ranks) (ranks : Ranks) (number : ℕ) (old mid : List Ranks) (k : ℕ) (own : Ranks) → own ≡ get_or placed k own → k < length placed → is_empty (those (has own) ranks) ≡ true → AreMarkedTo placed ranks number old mid k → AreMarkedTo placed ranks number old mid (k + 1)
+asked_none placed ranks number old mid k own is inside empty are = record {
+  paired = are.paired;
+  marked = λ n r below within here there. elim (cases_Bool (nat_eq n k)) [
+    | (inl same) ↦
+        let e : n ≡ k = eqb-true n k same in
+        let mine : Has r own = ap (λ s. has s r) (is ∙ get_or_default placed k own none inside) ∙ ap (λ m. has (ranks_at placed m) r) (sym e) ∙ here in
+        absurd (true≢false (sym (has-those (has own) ranks r ∙ and_from (has ranks r) (has own r) there mine) ∙ ap (λ s. has s r) (none_from_size (those (has own) ranks) (eqb-true (size (those (has own) ranks)) 0 empty)) ∙ has-none r))
+    | (inr other) ↦ are.marked n r (below_last n k below (eqb-false n k other)) within here there
   ];
-  kept = λ n i there. step.kept n i (kept n i there);
+  kept = are.kept;
 }
-  where
-    below_last : (n : ℕ) → n < k + 1 → n ≢ k → n < k
-    below_last n below other = elim (cases_lt n k) [ (inl lt) ↦ lt | (inr ge) ↦ absurd (other (omega (arith, below, ge))) ]
+
+-- a node more that is marked
+pub asked_one : (placed : List Ranks) (ranks : Ranks) (number : ℕ) (old mid : List Ranks) (k : ℕ) (d more : Ranks) → k < length mid → more ≡ union (get_or mid k d) (ranks_between number number) → AreMarkedTo placed ranks number old mid k → AreMarkedTo placed ranks number old (set mid k more) (k + 1)
+asked_one placed ranks number old mid k d more inside is are =
+    let here : more ≡ union (ranks_at mid k) (ranks_between number number) = is ∙ ap (λ s. union s (ranks_between number number)) (get_or_default mid k d none inside) in
+    let step = marked_more placed (λ _. ⊥) (λ _. ⊥) number mid mid k more inside here (λ n r own some. inl some) (marked_none placed (λ _. ⊥) number mid (λ r some. some)) in
+    record {
+      paired = length-set mid k more ∙ are.paired;
+      marked = λ n r below within own there. elim (cases_Bool (nat_eq n k)) [
+        | (inl same) ↦
+            ap (λ m. has (ranks_at (set mid k more) m) number) (eqb-true n k same)
+            ∙ ap (λ s. has s number) (get_or-set_same mid k more none inside ∙ here)
+            ∙ has-union (ranks_at mid k) (ranks_between number number) number
+            ∙ or_right (has (ranks_at mid k) number) (has (ranks_between number number) number) (between_in number number number (omega arith) (omega arith))
+        | (inr other) ↦ step.kept n number (are.marked n r (below_last n k below (eqb-false n k other)) within own there)
+      ];
+      kept = λ n i there. step.kept n i (are.kept n i there);
+    }
 
 -- a rank of a list of sets with one more is a rank of the list, or of the one more
 last_set : (sets : List Ranks) (more : Ranks) (i r : ℕ) → Has r (ranks_at (sets ++ more ∷ []) i) → Has r (ranks_at sets i) ⊎ (Has r more × (i ≡ length sets))
@@ -121,7 +126,3 @@ indexed_more placed lines k line old new lt is marked are = record {
 
     at_end : (n i r : ℕ) → Has r (ranks_at placed n) → i ≡ length (ranks_of_lines (take k lines)) → Has r line.ranks → Has i (ranks_at new n)
     at_end n i r own last rank = subst (λ j. Has j (ranks_at new n)) (sym (last ∙ count)) (marked.marked n r (node n r own) own rank)
-
--- where each node is marked, each that has such a rank is
-pub marked_by_all : (placed : List Ranks) (P : ℕ → Type 0) (number : ℕ) (old new : List Ranks) → AreAllMarked number old new → AreMarked placed P number old new
-marked_by_all placed P number old new all = record { paired = all.paired; marked = λ n r below own some. all.marked n below; kept = all.kept }

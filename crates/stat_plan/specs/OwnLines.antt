@@ -92,12 +92,6 @@ pub record AreMarked (placed : List Ranks) (IsSome : ℕ → Type 0) (number : �
   pub marked : (n r : ℕ) → n < length old → Has r (ranks_at placed n) → IsSome r → Has number (ranks_at new n)
   pub kept : (n i : ℕ) → Has i (ranks_at old n) → Has i (ranks_at new n)
 
--- it stands for each node
-pub record AreAllMarked (number : ℕ) (old new : List Ranks) : Type 0 where
-  pub paired : length new ≡ length old
-  pub marked : (n : ℕ) → n < length old → Has number (ranks_at new n)
-  pub kept : (n i : ℕ) → Has i (ranks_at old n) → Has i (ranks_at new n)
-
 -- each row in another order
 pub record AreReordered (old new : List (List StackLine)) : Type 0 where
   pub paired : length new ≡ length old

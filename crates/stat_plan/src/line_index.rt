@@ -3,7 +3,7 @@
 ghost use Rattle.std.specs.Prelude.{◌≡◌, IfOk, OnOk, length};
 ghost use Rattle.rank_set.specs.Ranks.{Has, IsSubset, union};
 ghost use Rattle.rank_set.specs.Runs.{ranks_between};
-ghost use Rattle.stat_plan.specs.OwnLines.{AreAllMarked, AreIndexed, AreMarked, ListPlacedRanks, ranks_of_lines};
+ghost use Rattle.stat_plan.specs.OwnLines.{AreIndexed, AreMarked, ListPlacedRanks, ranks_of_lines};
 ghost use Rattle.stat_plan.specs.Samples.{all_ranks};
 ghost use Rattle.stat_plan.specs.Tables.{AreRankNodes};
 
@@ -24,24 +24,20 @@ fn mark(numbers: &mut RankSet, number: u32) -> Result<(), AllocError>
     }
 }
 
-// Whether some ranks have more runs than this.
-fn has_more_runs(ranks: &RankSet, count: usize) -> bool {
-    let mut from = 0;
-    for _ in 0..count {
-        match ranks.next_run(from) {
-            Some(run) => from = run.last + 1,
-            None => return false,
-        }
-    }
-    ranks.next_run(from).is_some()
-}
-
-// Marks each node.
-fn mark_all(numbers: &mut [RankSet], number: u32) -> Result<(), AllocError>
-    ensures { OnOk result (AreAllMarked number numbers.old numbers.new) }
+// Marks each node that has one of some ranks. It asks each node.
+fn mark_each(
+    numbers: &mut [RankSet],
+    placed: &[RankSet],
+    ranks: &RankSet,
+    number: u32,
+) -> Result<(), AllocError>
+    requires { length numbers.old ≡ length placed.now }
+    ensures { OnOk result (AreMarked placed.now (λ r. Has r ranks.now) number numbers.old numbers.new) }
 {
-    for n in 0..numbers.len() {
-        mark(&mut numbers[n], number)?;
+    for n in 0..placed.len() {
+        if !ranks.is_disjoint(&placed[n]) {
+            mark(&mut numbers[n], number)?;
+        }
     }
     Ok(())
 }
@@ -71,8 +67,7 @@ fn mark_nodes(
     Ok(())
 }
 
-// Marks each node that has one of some ranks. Ranks with more runs than there are nodes are most likely ranks of all,
-// and mark all: so no line costs more than nodes and its runs, whichever are fewer.
+// Marks each node that has one of some ranks. It costs as much as there are nodes, or ranks, whichever are fewer.
 fn mark_line(
     numbers: &mut [RankSet],
     rank_to_node: &RankTable,
@@ -85,14 +80,14 @@ fn mark_line(
     requires placed { IsSubset ranks.now (all_ranks placed.now) }
     ensures { OnOk result (AreMarked placed.now (λ r. Has r ranks.now) number numbers.old numbers.new) }
 {
-    if has_more_runs(ranks, placed.len()) {
-        mark_all(numbers, number)
+    if placed.len() <= ranks.count() as usize {
+        mark_each(numbers, placed, ranks, number)
     } else {
         mark_nodes(numbers, rank_to_node, placed, ranks, number)
     }
 }
 
-/// By node number, the numbers of the lines that list ranks of the node, and maybe of some others.
+/// By node number, the numbers of the lines that list ranks of the node.
 pub fn line_numbers(
     alloc: Global,
     placed: &[RankSet],

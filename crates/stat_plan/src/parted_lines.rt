@@ -224,7 +224,7 @@ pub struct PartedLines {
     pub rows: Vec<Vec<StackLine>>,
     /// Lines that list ranks of several nodes, one for each path and time, in the order of their paths.
     pub spread: Vec<StackLine>,
-    /// By node number, the numbers of those spread lines that list ranks of the node, and maybe of some others.
+    /// By node number, the numbers of those spread lines that list ranks of the node.
     pub numbers: Vec<RankSet>,
 }
 

@@ -1,0 +1,5 @@
+use Rattle.stat_plan.proofs.Marking.{AreMarkedTo}
+use Rattle.stat_plan.proofs.line_index.mark_each.Given as goal
+
+abbrev pub invariant-loop-n : goal.invariant-loop-n
+invariant-loop-n l = AreMarkedTo l.placed l.ranks l.number l.fn.numbers l.numbers l.n
