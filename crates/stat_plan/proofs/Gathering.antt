@@ -1,19 +1,19 @@
 -- The ranks that lines list in each path, gathered.
-use Rattle.std.proofs.Common.{◌≡◌, ◌≢◌, ℕ, suc, zero, ◌+◌, ◌<◌, ◌≤◌, Bool, true, false, ◌&&◌, ◌||◌, nat_eq, List, [], ◌∷◌, ◌++◌, take, drop, get_or, set, length, refl, sym, ap, subst, ◌∙◌, arith, eqb-true, eq-eqb, inl, inr}
+use Rattle.std.proofs.Common.{◌≡◌, ℕ, suc, zero, ◌+◌, ◌<◌, ◌≤◌, Bool, true, false, ◌&&◌, ◌||◌, nat_eq, List, [], ◌∷◌, ◌++◌, take, drop, get_or, set, length, refl, sym, ap, subst, ◌∙◌, arith, eqb-true, eq-eqb, inl, inr}
 use Rattle.std.specs.Prelude.{nat_lt, not}
 use Rattle.std.specs.List.{list_any, AllByRecursion}
 use Rattle.std.specs.List.Sorted.{IsPermutation}
-use Rattle.std.proofs.lemmas.Bool.{true≢false, cases_Bool, cases_lt, eqb-false, le-ltb, lt-ltb, and_parts, and_from, or_left, or_right, false_from_ne_true}
+use Rattle.std.proofs.lemmas.Bool.{true≢false, cases_Bool, cases_lt, eqb-false, le-ltb, lt-ltb, and_parts, and_from, false_from_ne_true}
 use Rattle.std.proofs.Math.Seq.{take-append_seam}
 use Rattle.std.proofs.lemmas.List.{append_assoc, get_or-set_same, get_or-set_other, get_or_default, length-append, length-set, take-append-drop, take_all, take_more}
 use Rattle.std.proofs.lemmas.List.Folds.{list_any-append}
-use Rattle.rank_set.specs.Ranks.{Ranks, none, has, Has, IsSubset, has-none, has-those, is_empty, is_subset, none_from_size, size, subset_has, those}
+use Rattle.rank_set.specs.Ranks.{Ranks, none, has, IsSubset, has-none, has-those, is_empty, is_subset, none_from_size, size, subset_has, those}
 use Rattle.overlay_setup.specs.NodeSets.{In}
 use Rattle.stat_plan.specs.OwnLines.{AreLinesOf, AreRanksSeen, AreUnited, GainRanksSeen, is_in, line_sees, lists, ranks_at, row_at, sees}
 use Rattle.stat_plan.specs.Samples.{is_in_wave}
 use Rattle.stat_plan.specs.declared.samples.StackLine.{StackLine}
 use Rattle.stat_plan.proofs.FirstOver.{all_in}
-use Rattle.stat_plan.proofs.InLists.{any_from_in, in_from_any}
+use Rattle.stat_plan.proofs.InLists.{in_from_any}
 use Rattle.stat_plan.proofs.Sharing.{all_permuted, any_permuted, both_ways}
 use Rattle.stat_plan.proofs.WaveRows.{all_append, seen_from, seen_to}
 

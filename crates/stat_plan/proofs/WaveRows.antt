@@ -1,16 +1,16 @@
 -- What lines list in a wave.
-use Rattle.std.proofs.Common.{◌≡◌, ◌≢◌, ℕ, suc, zero, ◌+◌, ◌-◌, ◌<◌, ◌≤◌, min, Bool, true, false, ◌&&◌, ◌||◌, nat_eq, List, [], ◌∷◌, ◌++◌, take, drop, get_or, length, refl, sym, ap, subst, ◌∙◌, arith, eqb-true, eq-eqb, inl, inr}
+use Rattle.std.proofs.Common.{◌≡◌, ℕ, suc, zero, ◌+◌, ◌-◌, ◌<◌, ◌≤◌, min, Bool, true, false, ◌&&◌, ◌||◌, nat_eq, List, [], ◌∷◌, ◌++◌, take, drop, get_or, length, refl, sym, ap, subst, ◌∙◌, arith, eqb-true, eq-eqb, inl, inr}
 use Rattle.std.specs.List.{list_any, AllByRecursion}
 use Rattle.std.specs.List.Sorted.{IsPermutation}
 use Rattle.std.proofs.lemmas.Bool.{true≢false, cases_lt, and_parts, and_from, or_cases, or_left, or_right}
-use Rattle.std.specs.Prelude.{slice_get, Option, Some}
+use Rattle.std.specs.Prelude.{slice_get, Some}
 use Rattle.std.specs.List.{slice_range}
 use Rattle.std.proofs.lemmas.List.{drop-take, take-append-drop, take_all, take_more}
 use Rattle.std.proofs.lemmas.Option.{none-some, same_Some}
 use Rattle.std.proofs.lemmas.List.Folds.{list_any-append}
-use Rattle.rank_set.specs.Ranks.{Ranks, none, has, Has, IsSubset, has-none, is_empty, none_from_size, size}
+use Rattle.rank_set.specs.Ranks.{Ranks, has, Has, IsSubset, has-none, is_empty, none_from_size, size}
 use Rattle.overlay_setup.specs.NodeSets.{In}
-use Rattle.stat_plan.specs.OwnLines.{AreNodeLines, AreParted, AreUnited, AreWaveRows, GainRanksSeen, GainSeen, HasRankOn, is_in, line_sees, lists, ranks_at, ranks_of_lines, row_at, sees}
+use Rattle.stat_plan.specs.OwnLines.{AreNodeLines, AreParted, AreUnited, AreWaveRows, GainSeen, HasRankOn, is_in, line_sees, lists, ranks_at, ranks_of_lines, row_at, sees}
 use Rattle.stat_plan.specs.Samples.{is_in_wave}
 use Rattle.stat_plan.specs.declared.samples.StackLine.{StackLine}
 use Rattle.stat_plan.proofs.FirstOver.{all_in}

@@ -1,8 +1,8 @@
-use Rattle.std.proofs.Common.{◌≡◌, ℕ, ap, ◌∙◌, map, length}
+use Rattle.std.proofs.Common.{ℕ, ap, ◌∙◌, length}
 use Rattle.std.proofs.lemmas.List.{length-map}
 use Rattle.rank_set.specs.Ranks.{none}
 use Rattle.overlay_setup.specs.NodeSets.{up_to}
-use Rattle.stat_plan.proofs.Marking.{indexed_more, indexed_none}
+use Rattle.stat_plan.proofs.Marking.{indexed_none}
 use Rattle.stat_plan.proofs.TableLemmas.{length-up_to}
 use Rattle.stat_plan.proofs.line_index.line_numbers.Goals as goal
 

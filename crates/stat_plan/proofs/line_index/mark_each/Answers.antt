@@ -1,4 +1,4 @@
-use Rattle.std.proofs.Common.{◌<◌, ◌+◌, length, arith, refl, sym, subst, ◌∙◌}
+use Rattle.std.proofs.Common.{◌<◌, ◌+◌, length, arith, sym, subst, ◌∙◌}
 use Rattle.stat_plan.proofs.Marking.{AreMarkedTo, asked_none, asked_one}
 use Rattle.stat_plan.proofs.line_index.mark_each.Goals as goal
 use Rattle.stat_plan.proofs.line_index.mark_each.Goals.{then-not-is_disjoint+in_ok-mark, else-not-is_disjoint}

@@ -1,10 +1,10 @@
-use Rattle.std.proofs.Common.{◌≡◌, ◌≤◌, ◌<◌, ◌+◌, ◌-◌, ◌⊎◌, ℕ, length, get_or, sym, ap, subst, ◌∙◌, arith, inl, inr}
+use Rattle.std.proofs.Common.{◌≡◌, ◌<◌, ◌⊎◌, ℕ, length, sym, ap, subst, ◌∙◌, arith, inl, inr}
 use Rattle.std.proofs.lemmas.Bool.{true≢false, cases_lt}
 use Rattle.std.proofs.lemmas.List.{get_or_default}
 use Rattle.rank_set.specs.Ranks.{Has, none, union}
 use Rattle.rank_set.specs.Runs.{ranks_between}
 use Rattle.stat_plan.specs.OwnLines.{ranks_at}
-use Rattle.stat_plan.proofs.Indexing.{IsRankNode, rank_has_entry, rank_node_is}
+use Rattle.stat_plan.proofs.Indexing.{rank_has_entry, rank_node_is}
 use Rattle.stat_plan.proofs.Marking.{marked_for, marked_more}
 use Rattle.stat_plan.proofs.line_index.mark_nodes.Goals as goal
 

@@ -1,12 +1,9 @@
-use Rattle.std.proofs.Common.{◌≢◌, ◌<◌, ◌+◌, ◌∙◌, List, sym, ap, subst, arith, length, set, take, Vec, Global}
+use Rattle.std.proofs.Common.{◌<◌, ◌+◌, ◌∙◌, List, sym, ap, subst, arith, length, set, take, Vec, Global}
 use Rattle.std.proofs.lemmas.List.{length-map, take_all}
-use Rattle.rank_set.specs.Ranks.{IsSubset, none}
 use Rattle.stat_plan.specs.OwnLines.{AreKeysOf, AreParted, GainsRanks}
-use Rattle.stat_plan.specs.Samples.{all_ranks}
 use Rattle.stat_plan.specs.Tables.{rows_view}
 use Rattle.stat_plan.specs.declared.samples.StackLine.{StackLine}
 use Rattle.stat_plan.specs.declared.parted_lines.SpreadLines.{SpreadLines}
-use Rattle.stat_plan.proofs.Elements.{all_element}
 use Rattle.stat_plan.proofs.Indexing.{row_here, rows_changed}
 use Rattle.stat_plan.proofs.Sharing.{parts_of_node, parted_by_rows, parted_by_spread, parted_none}
 use Rattle.stat_plan.proofs.parted_lines.part_lines.Goals as goal

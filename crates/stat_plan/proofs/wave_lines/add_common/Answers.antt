@@ -1,5 +1,5 @@
-use Rattle.std.proofs.Common.{◌≡◌, ℕ, ◌&&◌, ◌||◌, sym, ap, refl, ◌∙◌}
-use Rattle.rank_set.specs.Ranks.{Ranks, has, has-union}
+use Rattle.std.proofs.Common.{◌||◌, sym, ap, refl, ◌∙◌}
+use Rattle.rank_set.specs.Ranks.{has, has-union}
 use Rattle.stat_plan.proofs.Gathering.{common_subset, common_swap}
 use Rattle.stat_plan.proofs.Sharing.{on_ok}
 use Rattle.stat_plan.proofs.wave_lines.add_common.Goals as goal

@@ -1,4 +1,4 @@
-use Rattle.std.proofs.Common.{◌≡◌, [], ◌∷◌, sym, subst, refl, ◌∙◌}
+use Rattle.std.proofs.Common.{[], ◌∷◌, sym, subst, refl, ◌∙◌}
 use Rattle.stat_plan.specs.OwnLines.{GainSeen}
 use Rattle.stat_plan.proofs.WaveRows.{gain_line, gain_nothing, none_at, none_in_common}
 use Rattle.stat_plan.proofs.wave_lines.add_part.Goals as goal

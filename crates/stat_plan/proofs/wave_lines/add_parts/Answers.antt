@@ -1,4 +1,4 @@
-use Rattle.std.proofs.Common.{arith, subst, take}
+use Rattle.std.proofs.Common.{arith, subst}
 use Rattle.std.proofs.lemmas.List.{take_all}
 use Rattle.stat_plan.specs.OwnLines.{GainSeen}
 use Rattle.stat_plan.proofs.WaveRows.{gain_more, gain_none}

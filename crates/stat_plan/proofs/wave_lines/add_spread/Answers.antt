@@ -1,6 +1,4 @@
-use Rattle.std.proofs.Common.{◌≡◌, ◌≤◌, ◌<◌, ℕ, false, sym, ap, subst, ◌∙◌, arith, take}
-use Rattle.std.proofs.lemmas.Bool.{true≢false, cases_lt}
-use Rattle.rank_set.specs.Ranks.{has}
+use Rattle.std.proofs.Common.{◌<◌, arith, take}
 use Rattle.stat_plan.specs.declared.samples.StackLine.{StackLine}
 use Rattle.stat_plan.proofs.WaveRows.{all_take, gain_same, passed_all, run_gained}
 use Rattle.stat_plan.proofs.wave_lines.add_spread.Goals as goal

@@ -1,6 +1,6 @@
-use Rattle.std.proofs.Common.{◌≡◌, ℕ, ◌&&◌, sym, ap, ◌∙◌}
+use Rattle.std.proofs.Common.{◌≡◌, ℕ, ◌&&◌, sym, ◌∙◌}
 use Rattle.std.proofs.lemmas.Result.{IfOk-weaker}
-use Rattle.rank_set.specs.Ranks.{Ranks, has, those}
+use Rattle.rank_set.specs.Ranks.{has, those}
 use Rattle.stat_plan.proofs.Gathering.{common_subset, common_those}
 use Rattle.stat_plan.proofs.wave_lines.common.Goals as goal
 

@@ -1,4 +1,4 @@
-use Rattle.std.proofs.Common.{◌≡◌, arith, inl, inr, length, sym, ap, subst, refl, ◌∙◌}
+use Rattle.std.proofs.Common.{◌≡◌, arith, inl, inr, length, sym, subst, refl, ◌∙◌}
 use Rattle.std.proofs.lemmas.Bool.{true≢false, cases_lt}
 use Rattle.stat_plan.proofs.Gathering.{AreLinesFrom, lines_from_all, lines_from_more, lines_from_none, lines_from_skip}
 use Rattle.stat_plan.proofs.wave_lines.lines_of_sets.Goals as goal

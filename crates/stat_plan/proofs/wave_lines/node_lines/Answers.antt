@@ -1,7 +1,6 @@
-use Rattle.std.proofs.Common.{◌≡◌, ◌<◌, ℕ, [], length, get_or, sym, ap, subst, ◌∙◌, true, Vec, Global}
-use Rattle.std.specs.List.{AllByRecursion}
+use Rattle.std.proofs.Common.{◌≡◌, [], sym, ap, subst, ◌∙◌, Vec, Global}
 use Rattle.std.proofs.lemmas.List.{get_or_default}
-use Rattle.rank_set.specs.Ranks.{Has, IsSubset, Ranks, is_empty, none}
+use Rattle.rank_set.specs.Ranks.{Has, is_empty, none}
 use Rattle.stat_plan.specs.OwnLines.{AreNodeLines, GainSeen, ranks_at, ranks_of_lines, row_at}
 use Rattle.stat_plan.specs.Tables.{rows_view}
 use Rattle.stat_plan.specs.declared.samples.StackLine.{StackLine}

@@ -1,12 +1,12 @@
-use Rattle.std.proofs.Common.{◌≡◌, ◌<◌, ℕ, List, map, length, get_or, take, sym, ap, subst, refl, ◌∙◌, ◌+◌, arith, Vec, Global}
+use Rattle.std.proofs.Common.{◌≡◌, ◌<◌, ℕ, length, get_or, take, sym, ap, subst, ◌∙◌, ◌+◌, Vec, Global}
 use Rattle.std.specs.List.{AllByRecursion}
-use Rattle.std.proofs.lemmas.List.{get_or_default, length-map, take_all, with_items_is}
+use Rattle.std.proofs.lemmas.List.{get_or_default, length-map, with_items_is}
 use Rattle.rank_set.specs.Ranks.{none}
 use Rattle.overlay_setup.specs.NodeSets.{In, up_to}
 use Rattle.stat_plan.specs.OwnLines.{GainRanksSeen, ranks_at, row_at}
 use Rattle.stat_plan.specs.Tables.{rows_view}
 use Rattle.stat_plan.specs.declared.samples.StackLine.{StackLine}
-use Rattle.stat_plan.proofs.Gathering.{AreRowsSeen, all_seen, rows_seen_more, rows_seen_none}
+use Rattle.stat_plan.proofs.Gathering.{AreRowsSeen, rows_seen_more, rows_seen_none}
 use Rattle.stat_plan.proofs.Indexing.{row_here}
 use Rattle.stat_plan.proofs.InLists.{in_at}
 use Rattle.stat_plan.proofs.TableLemmas.{at_table, length-up_to}

@@ -1,5 +1,3 @@
-use Rattle.std.proofs.Common.{◌≡◌, true, ap, ◌∙◌}
-use Rattle.stat_plan.specs.Samples.{is_in_wave}
 use Rattle.stat_plan.specs.Tables.{rows_view}
 use Rattle.stat_plan.proofs.Gathering.{united}
 use Rattle.stat_plan.proofs.wave_lines.united_lines.Goals as goal

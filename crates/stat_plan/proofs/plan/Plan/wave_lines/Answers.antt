@@ -1,4 +1,4 @@
-use Rattle.std.proofs.Common.{◌≡◌, ◌<◌, length, sym, ap, subst, ◌∙◌}
+use Rattle.std.proofs.Common.{◌<◌, sym, subst}
 use Rattle.stat_plan.specs.Plans.{Plan, nodes}
 use Rattle.stat_plan.proofs.plan.Plan.wave_lines.Goals as goal
 

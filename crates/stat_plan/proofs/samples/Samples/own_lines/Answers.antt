@@ -3,13 +3,11 @@ use Rattle.std.specs.List.{AllByRecursion}
 use Rattle.std.proofs.lemmas.List.{get_or_default}
 use Rattle.rank_set.specs.Ranks.{Has, IsSubset, Ranks, none}
 use Rattle.call_path.specs.Functions.{func}
-use Rattle.call_path.specs.Path.{Path}
 use Rattle.stat_plan.specs.OwnLines.{AreNodeLines, AreWaveLines, ranks_at, row_at}
 use Rattle.stat_plan.specs.Plans.{Sampled}
 use Rattle.stat_plan.specs.Shown.{held_lines}
 use Rattle.stat_plan.specs.StackLines.{PathIndicesInRange, lines_of}
 use Rattle.stat_plan.specs.Tables.{rows_view}
-use Rattle.stat_plan.specs.declared.samples.StackLine.{StackLine}
 use Rattle.stat_plan.proofs.OwnPaths.{row_in_range, row_within, spread_in_range, wave_lines_are}
 use Rattle.stat_plan.proofs.WaveRows.{node_samples}
 use Rattle.stat_plan.proofs.samples.Samples.own_lines.Goals as goal

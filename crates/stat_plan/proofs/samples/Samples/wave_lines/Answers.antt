@@ -1,17 +1,12 @@
-use Rattle.std.proofs.Common.{◌≡◌, ℕ, ◌<◌, List, get_or, length, map, sym, ap, subst, ◌∙◌}
+use Rattle.std.proofs.Common.{◌<◌, length, map, sym, ap, subst, ◌∙◌}
 use Rattle.std.specs.List.{AllByRecursion}
-use Rattle.std.proofs.lemmas.List.{get_or_default}
-use Rattle.rank_set.specs.Ranks.{Has, IsSubset, Ranks, none}
 use Rattle.call_path.specs.Functions.{func}
-use Rattle.call_path.specs.Path.{Path}
-use Rattle.stat_plan.specs.OwnLines.{AreNodeLines, AreWaveLines, ranks_at, row_at}
+use Rattle.stat_plan.specs.OwnLines.{AreWaveLines, row_at}
 use Rattle.stat_plan.specs.Plans.{Sampled}
-use Rattle.stat_plan.specs.Shown.{held_lines}
 use Rattle.stat_plan.specs.StackLines.{PathIndicesInRange, lines_of}
 use Rattle.stat_plan.specs.Tables.{rows_view}
 use Rattle.stat_plan.specs.declared.samples.StackLine.{StackLine}
-use Rattle.overlay_setup.specs.NodeSets.{In}
-use Rattle.stat_plan.specs.OwnLines.{AreWaveRows, HasRankOn}
+use Rattle.stat_plan.specs.OwnLines.{HasRankOn}
 use Rattle.stat_plan.proofs.OwnPaths.{row_in_range, spread_in_range, wave_lines_are}
 use Rattle.std.proofs.lemmas.List.{length-map}
 use Rattle.std.proofs.Common.{Vec, Global, arith}
@@ -43,9 +38,9 @@ returns-clause-samples c =
     let w = wanted.times.wave in
     let some = c.in_ok-lines.lines.items in
     let rows = united_samples a.placed.items a.lines.items a.parted.spread.items (rows_view a.parted.rows.items) c.self.invariant.4 k w wanted.daemons.now wanted.ranks.now c.len-count.result some
-        (λ d there. subst (λ (s : Sampled). d < length s.placed) (sym c.self.view_is) (c.requires.daemons d there))
-        (λ r own. subst (λ (s : Sampled). HasRankOn s.placed wanted.daemons.now r) (sym c.self.view_is) (c.requires.ranks r own))
-        c.in_ok-lines.ensures in
+    (λ d there. subst (λ (s : Sampled). d < length s.placed) (sym c.self.view_is) (c.requires.daemons d there))
+    (λ r own. subst (λ (s : Sampled). HasRankOn s.placed wanted.daemons.now r) (sym c.self.view_is) (c.requires.ranks r own))
+    c.in_ok-lines.ensures in
     subst (λ paths. AreWaveLines k w wanted.ranks.now c.args.self.now.lines (lines_of paths some)) (sym c.as_slice.ensures.value)
     (subst (λ (s : Sampled). AreWaveLines k w wanted.ranks.now s.lines (lines_of a.paths.items some)) c.self.view_is
     (wave_lines_are k w wanted.ranks.now a.paths.items a.lines.items some rows))
