@@ -1,4 +1,4 @@
-use Rattle.std.proofs.Common.{◌≡◌, ◌<◌, sym, ap, subst, ◌∙◌}
+use Rattle.std.proofs.Common.{◌<◌, sym, ap, subst, ◌∙◌}
 use Rattle.rank_set.specs.Ranks.{Has}
 use Rattle.overlay_setup.specs.NodeSets.{In}
 use Rattle.stat_plan.specs.Plans.{ranks_on}
@@ -33,70 +33,70 @@ wave_lines-requires-clause-ranks g c =
 pub own_tree-requires-clause-own : goal.own_tree-requires-clause-own
 own_tree-requires-clause-own g c lifetimes outlives =
     lie c.args.plan.now c.args.s c.args.w c.times_of.result.samples c.times_of.result.wave c.grain_of.result c.paths_by-paths.result.now c.in_ok-seen.seen c.lines.result.now c.expected.result.now
-  (record {
-    lines_are = c.lines.ensures;
-    times = c.times_of.ensures.samples;
-    wave = c.times_of.ensures.wave;
-    sees = c.grain_of.ensures;
-    by_grain = c.paths_by-paths.ensures;
-    samples_are = c.in_ok-seen.ensures.samples;
-    numbered = c.in_ok-seen.ensures.numbered;
-    lies = λ r there. subst (Has r) (all_expected c.args.plan.now c.args.s c.args.w c.invariant.ensures c.requires c.front.result c.expected.result.now c.front.ensures.value c.expected.ensures) there;
-  })
+    (record {
+      lines_are = c.lines.ensures;
+      times = c.times_of.ensures.samples;
+      wave = c.times_of.ensures.wave;
+      sees = c.grain_of.ensures;
+      by_grain = c.paths_by-paths.ensures;
+      samples_are = c.in_ok-seen.ensures.samples;
+      numbered = c.in_ok-seen.ensures.numbered;
+      lies = λ r there. subst (Has r) (all_expected c.args.plan.now c.args.s c.args.w c.invariant.ensures c.requires c.front.result c.expected.result.now c.front.ensures.value c.expected.ensures) there;
+    })
 
 pub own_tree-requires-clause-numbered : goal.own_tree-requires-clause-numbered
 own_tree-requires-clause-numbered g c lifetimes outlives =
     in_range c.args.plan.now c.args.s c.args.w c.times_of.result.samples c.times_of.result.wave c.grain_of.result c.paths_by-paths.result.now c.in_ok-seen.seen c.lines.result.now c.expected.result.now
-  (record {
-    lines_are = c.lines.ensures;
-    times = c.times_of.ensures.samples;
-    wave = c.times_of.ensures.wave;
-    sees = c.grain_of.ensures;
-    by_grain = c.paths_by-paths.ensures;
-    samples_are = c.in_ok-seen.ensures.samples;
-    numbered = c.in_ok-seen.ensures.numbered;
-    lies = λ r there. subst (Has r) (all_expected c.args.plan.now c.args.s c.args.w c.invariant.ensures c.requires c.front.result c.expected.result.now c.front.ensures.value c.expected.ensures) there;
-  })
+    (record {
+      lines_are = c.lines.ensures;
+      times = c.times_of.ensures.samples;
+      wave = c.times_of.ensures.wave;
+      sees = c.grain_of.ensures;
+      by_grain = c.paths_by-paths.ensures;
+      samples_are = c.in_ok-seen.ensures.samples;
+      numbered = c.in_ok-seen.ensures.numbered;
+      lies = λ r there. subst (Has r) (all_expected c.args.plan.now c.args.s c.args.w c.invariant.ensures c.requires c.front.result c.expected.result.now c.front.ensures.value c.expected.ensures) there;
+    })
 
 pub own_tree-requires-clause-within : goal.own_tree-requires-clause-within
 own_tree-requires-clause-within g c lifetimes outlives =
     within c.args.plan.now c.args.s c.args.w c.times_of.result.samples c.times_of.result.wave c.grain_of.result c.paths_by-paths.result.now c.in_ok-seen.seen c.lines.result.now c.expected.result.now
-  (record {
-    lines_are = c.lines.ensures;
-    times = c.times_of.ensures.samples;
-    wave = c.times_of.ensures.wave;
-    sees = c.grain_of.ensures;
-    by_grain = c.paths_by-paths.ensures;
-    samples_are = c.in_ok-seen.ensures.samples;
-    numbered = c.in_ok-seen.ensures.numbered;
-    lies = λ r there. subst (Has r) (all_expected c.args.plan.now c.args.s c.args.w c.invariant.ensures c.requires c.front.result c.expected.result.now c.front.ensures.value c.expected.ensures) there;
-  }) c.invariant.ensures c.requires
+    (record {
+      lines_are = c.lines.ensures;
+      times = c.times_of.ensures.samples;
+      wave = c.times_of.ensures.wave;
+      sees = c.grain_of.ensures;
+      by_grain = c.paths_by-paths.ensures;
+      samples_are = c.in_ok-seen.ensures.samples;
+      numbered = c.in_ok-seen.ensures.numbered;
+      lies = λ r there. subst (Has r) (all_expected c.args.plan.now c.args.s c.args.w c.invariant.ensures c.requires c.front.result c.expected.result.now c.front.ensures.value c.expected.ensures) there;
+    }) c.invariant.ensures c.requires
 
 pub returns-clause-coverage : goal.returns-clause-coverage
 returns-clause-coverage g c =
     covered c.args.plan.now c.args.s c.args.w c.times_of.result.samples c.times_of.result.wave c.grain_of.result c.paths_by-paths.result.now c.in_ok-seen.seen c.lines.result.now c.expected.result.now
-  (record {
-    lines_are = c.lines.ensures;
-    times = c.times_of.ensures.samples;
-    wave = c.times_of.ensures.wave;
-    sees = c.grain_of.ensures;
-    by_grain = c.paths_by-paths.ensures;
-    samples_are = c.in_ok-seen.ensures.samples;
-    numbered = c.in_ok-seen.ensures.numbered;
-    lies = λ r there. subst (Has r) (all_expected c.args.plan.now c.args.s c.args.w c.invariant.ensures c.requires c.front.result c.expected.result.now c.front.ensures.value c.expected.ensures) there;
-  }) c.of_tree.result (g.T.PrefixTree.tree c.in_ok-tree.tree) c.of_tree.ensures c.in_ok-tree.ensures
+    (record {
+      lines_are = c.lines.ensures;
+      times = c.times_of.ensures.samples;
+      wave = c.times_of.ensures.wave;
+      sees = c.grain_of.ensures;
+      by_grain = c.paths_by-paths.ensures;
+      samples_are = c.in_ok-seen.ensures.samples;
+      numbered = c.in_ok-seen.ensures.numbered;
+      lies = λ r there. subst (Has r) (all_expected c.args.plan.now c.args.s c.args.w c.invariant.ensures c.requires c.front.result c.expected.result.now c.front.ensures.value c.expected.ensures) there;
+    }) c.of_tree.result (g.T.PrefixTree.tree c.in_ok-tree.tree) c.of_tree.ensures c.in_ok-tree.ensures
     ∙ all_expected c.args.plan.now c.args.s c.args.w c.invariant.ensures c.requires c.front.result c.expected.result.now c.front.ensures.value c.expected.ensures
 
 pub returns-clause-partial_merge : goal.returns-clause-partial_merge
 returns-clause-partial_merge g c =
     merged c.args.plan.now c.args.s c.args.w c.times_of.result.samples c.times_of.result.wave c.grain_of.result c.paths_by-paths.result.now c.in_ok-seen.seen c.lines.result.now c.expected.result.now
-  (record {
-    lines_are = c.lines.ensures;
-    times = c.times_of.ensures.samples;
-    wave = c.times_of.ensures.wave;
-    sees = c.grain_of.ensures;
-    by_grain = c.paths_by-paths.ensures;
-    samples_are = c.in_ok-seen.ensures.samples;
-    numbered = c.in_ok-seen.ensures.numbered;
-    lies = λ r there. subst (Has r) (all_expected c.args.plan.now c.args.s c.args.w c.invariant.ensures c.requires c.front.result c.expected.result.now c.front.ensures.value c.expected.ensures) there;
-  }) c.of_tree.result (g.T.PrefixTree.tree c.in_ok-tree.tree) c.of_tree.ensures c.in_ok-tree.ensures c.requires
+    (record {
+      lines_are = c.lines.ensures;
+      times = c.times_of.ensures.samples;
+      wave = c.times_of.ensures.wave;
+      sees = c.grain_of.ensures;
+      by_grain = c.paths_by-paths.ensures;
+      samples_are = c.in_ok-seen.ensures.samples;
+      numbered = c.in_ok-seen.ensures.numbered;
+      lies = λ r there. subst (Has r) (all_expected c.args.plan.now c.args.s c.args.w c.invariant.ensures c.requires c.front.result c.expected.result.now c.front.ensures.value c.expected.ensures) there;
+    }) c.of_tree.result (g.T.PrefixTree.tree c.in_ok-tree.tree) c.of_tree.ensures c.in_ok-tree.ensures c.requires
