@@ -1,25 +1,40 @@
 -- A set that gets more ranks.
 use Rattle.std.proofs.Common.{◌≡◌, Bool, true, false, cond, ◌||◌, refl, sym, ap, ◌∙◌}
-use Rattle.rank_set.specs.Ranks.{Ranks, has, union, has-union, same_ranks}
-use Rattle.rank_set.specs.Words.{spans}
+use Rattle.std.proofs.lemmas.Bool.{true≢false, eqb-true}
+use Rattle.rank_set.specs.Ranks.{Ranks, none, has, union, size, is_empty, has-none, has-union, same_ranks, none_from_size}
 use Rattle.arena_tree.specs.Steps.{more_for, with_more}
 
-or_twice : (a b : Bool) → (a || (a || b)) ≡ (a || b)
-or_twice true b = refl
-or_twice false b = refl
+or_false : (a : Bool) → (a || false) ≡ a
+or_false true = refl
+or_false false = refl
 
--- a union with what is united already
-union_twice : (s t : Ranks) → union s (union s t) ≡ union s t
-union_twice s t = same_ranks _ _ (λ r. has-union s (union s t) r ∙ ap (λ b. has s r || b) (has-union s t r) ∙ or_twice (has s r) (has t r) ∙ sym (has-union s t r))
+or_false_left : (a b : Bool) → (a || b) ≡ false → a ≡ false
+or_false_left true b e = absurd (true≢false e)
+or_false_left false b e = refl
 
-either : (b : Bool) (s t : Ranks) → s ≡ t → cond b s t ≡ t
-either true s t e = e
-either false s t e = refl
+empty_is : (s : Ranks) → is_empty s ≡ true → s ≡ none
+empty_is s e = none_from_size s (eqb-true (size s) 0 e)
 
-by_spans : (s t : Ranks) (b : Bool) → spans s t ≡ b → with_more s (cond b t (union s t)) ≡ union s t
-by_spans s t true e = ap (λ b. cond b (union s t) t) e
-by_spans s t false e = either (spans s (union s t)) (union s (union s t)) (union s t) (union_twice s t)
+-- a union with no ranks is the set
+no_more : (s t : Ranks) → is_empty t ≡ true → s ≡ union s t
+no_more s t e = same_ranks _ _ (λ r. sym (has-union s t r ∙ ap (λ u. has s r || has u r) (empty_is t e) ∙ ap (λ b. has s r || b) (has-none r) ∙ or_false (has s r)))
+
+-- a set whose union has no ranks is that union
+all_empty : (s t : Ranks) → is_empty (union s t) ≡ true → s ≡ union s t
+all_empty s t e =
+    let nothing : union s t ≡ none = empty_is (union s t) e in
+    same_ranks _ _ (λ r.
+    let gone : has (union s t) r ≡ false = ap (λ u. has u r) nothing ∙ has-none r in
+    or_false_left (has s r) (has t r) (sym (has-union s t r) ∙ gone) ∙ sym gone)
+
+by_union : (s t : Ranks) (b : Bool) → is_empty (union s t) ≡ b → cond b s (union s t) ≡ union s t
+by_union s t true e = all_empty s t e
+by_union s t false e = refl
+
+by_other : (s t : Ranks) (b : Bool) → is_empty t ≡ b → with_more s (cond b t (union s t)) ≡ union s t
+by_other s t true e = ap (λ b. cond b s t) e ∙ no_more s t e
+by_other s t false e = by_union s t (is_empty (union s t)) refl
 
 -- what a step has for a set makes it the union
 pub more_makes_union : (s t : Ranks) → with_more s (more_for s t) ≡ union s t
-more_makes_union s t = by_spans s t (spans s t) refl
+more_makes_union s t = by_other s t (is_empty t) refl

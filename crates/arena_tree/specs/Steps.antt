@@ -1,8 +1,7 @@
 -- The steps of a merge, and what they make of the nodes.
 -- No clause of a public call cites this file: it says how a change is planned and done.
 use Rattle.std.specs.Prelude.{◌≡◌, ℕ, zero, suc, ◌+◌, ◌<◌, cond, nat_eq, length, List, [], ◌∷◌, ◌++◌, slice_get, take}
-use Rattle.rank_set.specs.Ranks.{Ranks, none, union}
-use Rattle.rank_set.specs.Words.{spans}
+use Rattle.rank_set.specs.Ranks.{Ranks, none, union, is_empty}
 use Rattle.call_path.specs.Path.{Path}
 use Rattle.prefix_tree.specs.Tree.{Marks}
 use Rattle.prefix_tree.specs.Owned.{by_order}
@@ -22,13 +21,13 @@ use Rattle.arena_tree.specs.Links.{LinkedNodes, with_change, relink, first_after
 abbrev pub new_view : List ℕ → Path → Marks → ℕ → NodeView
 new_view g gs w n = record { frames = g ∷ gs; label = w.0; ends = w.1; first = no_place; next = n }
 
--- what a step has for a set that gets the ranks of another: the other, if the set can take it up in its words, or else their union
+-- what a step has for a set that gets the ranks of another: their union, or the other where that has no ranks
 abbrev pub more_for : Ranks → Ranks → Ranks
-more_for s t = cond (spans s t) t (union s t)
+more_for s t = cond (is_empty t) t (union s t)
 
 -- a set after that
 abbrev pub with_more : Ranks → Ranks → Ranks
-with_more s more = cond (spans s more) (union s more) more
+with_more s more = cond (is_empty more) s more
 
 -- a node with more marks
 abbrev pub with_more_marks : Ranks → Ranks → NodeView → NodeView

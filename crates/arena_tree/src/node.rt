@@ -167,13 +167,11 @@ fn frames_behind(path: &CallPath, skip: usize) -> Result<CallPath, AllocError>
     path.behind(skip)
 }
 
-/// Takes up more ranks in the words of a set, or is replaced by them where it can't. It allocates nothing.
+/// Replaces a set by what it becomes, unless that has no ranks. It allocates nothing.
 fn put_more(ranks: &mut RankSet, more: RankSet)
     ensures { ranks.new ≡ with_more ranks.old more }
 {
-    if ranks.spans(&more) {
-        ranks.unite_within(&more);
-    } else {
+    if !more.is_empty() {
         drop(mem::replace(ranks, more));
     }
 }

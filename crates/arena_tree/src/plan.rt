@@ -195,14 +195,12 @@ impl Plan {
     }
 }
 
-/// What a step has for a set that gets the ranks of another: a copy of the other, which is small where the set is wide,
-/// or their union where the set's words don't reach so far.
+/// What a step has for a set that gets the ranks of another: their union, or the other where that has no ranks.
 fn more_for(ranks: &RankSet, other: &RankSet) -> Result<RankSet, AllocError>
     ensures { IfOk result (λ more. more ≡ more_for ranks.now other.now) }
 {
-    if ranks.spans(other) {
-        other.copy()
-    } else {
-        ranks.united(other)
+    if other.is_empty() {
+        return other.copy();
     }
+    ranks.united(other)
 }

@@ -17,3 +17,7 @@ pub mod RunLists
 pub mod RunTexts
 pub mod SameWords
 pub mod CommonWords
+pub mod RunMerging
+pub mod RunSearch
+pub mod RunWalks
+pub mod RunSizes

@@ -1,5 +1,5 @@
 -- The ranks of a single word.
-use Rattle.std.proofs.Common.{◌≡◌, ℕ, ◌+◌, ◌-◌, ◌*◌, ◌/◌, ◌%◌, ◌^◌, ◌<◌, ◌≤◌, nat_lt, true, false, eqb, List, [], ◌∷◌, get_or, sym, ap, ◌∙◌, inl, inr, arith, w64}
+use Rattle.std.proofs.Common.{◌≡◌, ℕ, zero, suc, refl, ◌+◌, ◌-◌, ◌*◌, ◌/◌, ◌%◌, ◌^◌, ◌<◌, ◌≤◌, nat_lt, true, false, eqb, List, [], ◌∷◌, get_or, sym, ap, ◌∙◌, inl, inr, arith, w64}
 use Rattle.std.proofs.Math.Nat.{div-lt_iff_lt-mul, div-add-mod, mod-lt, mul_comm}
 use Rattle.std.specs.Prelude.{bit_and}
 use Rattle.std.specs.Int.{bit_at, bit_not, trailing_zeros}
@@ -8,9 +8,9 @@ use Rattle.std.specs.List.{list_all}
 use Rattle.std.proofs.lemmas.Bool.{cases_Bool, cases_lt, cases_eq, true≢false, eqb-true, eqb-false, ltb-true, lt-ltb}
 use Rattle.std.proofs.lemmas.Nat.{pow_pos}
 use Rattle.std.proofs.lemmas.Nat.Bits.{bit_at-trailing_zeros, bit_at_above, bit_at_cat_high}
-use Rattle.rank_set.specs.Ranks.{has, in_order, is_subset, has-in_order, all_pass, all_have}
+use Rattle.rank_set.specs.Ranks.{none, has, in_order, is_subset, has-in_order, all_pass, all_have}
 use Rattle.rank_set.specs.Words.{is_bit, word_at, ranks_in}
-use Rattle.rank_set.proofs.WordSets.{word_at-below, word_at-from, word_at-beyond, has-ranks_in, subset_words, not_subset_words}
+use Rattle.rank_set.proofs.WordSets.{all_zeros, word_at-below, word_at-from, word_at-beyond, has-ranks_in, subset_words, not_subset_words}
 use Rattle.rank_set.proofs.Spanning.{rank_within}
 
 -- the word itself
@@ -100,3 +100,18 @@ below_is o w count room small is = elim (cases_lt 0 (w / 2 ^ room)) [
 
     smaller : (w room : ℕ) → w / 2 ^ room ≤ w
     smaller w room = Rattle.std.proofs.Math.Nat.div-le_self w (2 ^ room)
+
+-- no bits are no ranks
+pub empty_word : (o w : ℕ) → w ≡ 0 → ranks_in o (w ∷ []) ≡ none
+empty_word o w nothing = all_zeros o (w ∷ []) (λ j. each j)
+  where
+    each : (j : ℕ) → get_or (w ∷ []) j 0 ≡ 0
+    each zero = nothing
+    each (suc j) = refl
+
+-- a word with bits has a rank
+pub word_member : (o w : ℕ) → w < 2 ^ 64 → 0 < w → (r : ℕ) × (r / 64 ≡ o) × (has (ranks_in o (w ∷ [])) r ≡ true)
+word_member o w small some =
+    let i : ℕ = trailing_zeros w64 w in
+    let facts = bit_at-trailing_zeros w64 w some small in
+    (64 * o + i, omega (arith, facts.0), bit_one o w i facts.0 (ap (λ x. eqb x 1) facts.1))

@@ -27,12 +27,12 @@ or_swap true false = refl
 or_swap false true = refl
 or_swap false false = refl
 
-union_assoc : (s t u : Ranks) → union (union s t) u ≡ union s (union t u)
+pub union_assoc : (s t u : Ranks) → union (union s t) u ≡ union s (union t u)
 union_assoc s t u = same_ranks _ _ (λ q.
     has-union (union s t) u q ∙ ap (λ b. b || has u q) (has-union s t q) ∙ or_assoc (has s q) (has t q) (has u q)
     ∙ sym (has-union s (union t u) q ∙ ap (λ b. has s q || b) (has-union t u q)))
 
-union_swap : (s t : Ranks) → union s t ≡ union t s
+pub union_swap : (s t : Ranks) → union s t ≡ union t s
 union_swap s t = same_ranks _ _ (λ q. has-union s t q ∙ or_swap (has s q) (has t q) ∙ sym (has-union t s q))
 
 -- no rank of runs lies below the least that they may have
@@ -51,11 +51,11 @@ runs_small least (r ∷ rs) h q one = elim (cases_lt r.1 q) [
 ]
 
 -- each run takes two ranks at least, with the gap
-runs_count : (least : ℕ) (rs : List (ℕ × ℕ)) → AreRuns least rs → least ≤ RANK_LIMIT + 1 → least + 2 * length rs ≤ RANK_LIMIT + 1
+pub runs_count : (least : ℕ) (rs : List (ℕ × ℕ)) → AreRuns least rs → least ≤ RANK_LIMIT + 1 → least + 2 * length rs ≤ RANK_LIMIT + 1
 runs_count least [] h le = omega arith
 runs_count least (r ∷ rs) h le = omega (arith, h.0, h.1, runs_count (r.1 + 2) rs h.3 (omega (arith, h.2)))
 
-runs_later : (a b : ℕ) (rs : List (ℕ × ℕ)) → a ≤ b → AreRuns b rs → AreRuns a rs
+pub runs_later : (a b : ℕ) (rs : List (ℕ × ℕ)) → a ≤ b → AreRuns b rs → AreRuns a rs
 runs_later a b [] le h = tt
 runs_later a b (r ∷ rs) le h = (omega (arith, h.0), h.1, h.2, h.3)
 

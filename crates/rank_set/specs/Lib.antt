@@ -1,5 +1,6 @@
 pub mod Ranks
 pub mod Runs
+pub mod Held
 pub mod Text
 pub mod Words
 pub mod WordLists

@@ -1,9 +1,9 @@
 -- Runs of neighbouring ranks in a set.
-use Rattle.std.specs.Prelude.{⊤, ℕ, suc, ◌+◌, ◌-◌, ◌≤◌, ◌<◌, ◌≡◌, true, false, cond, nat_eq, Option, None, Some, List, [], ◌∷◌}
+use Rattle.std.specs.Prelude.{⊤, ℕ, suc, ◌+◌, ◌-◌, ◌≤◌, ◌<◌, ◌≡◌, true, false, cond, nat_eq, nat_le, Option, None, Some, List, [], ◌∷◌, map}
 use Rattle.std.specs.List.{range_with_len}
 use Rattle.rank_set.specs.declared.TheConstants.{RANK_LIMIT}
 use Rattle.rank_set.specs.declared.Run.{Run}
-use Rattle.rank_set.specs.Ranks.{Ranks, none, has, set_of, union}
+use Rattle.rank_set.specs.Ranks.{Ranks, none, has, set_of, union, those}
 
 -- the ranks from the first to the last, none where the last is less
 unfoldable pub ranks_between : ℕ → ℕ → Ranks
@@ -46,3 +46,15 @@ ranks_of_runs (r ∷ rs) = union (ranks_between r.0 r.1) (ranks_of_runs rs)
 abbrev pub AreRuns : ℕ → List (ℕ × ℕ) → Type 0
 AreRuns least [] = ⊤
 AreRuns least (r ∷ rs) = (least ≤ r.0) × (r.0 ≤ r.1) × (r.1 < RANK_LIMIT) × AreRuns (r.1 + 2) rs
+
+-- the first and the last rank of a run
+abbrev pub run_pair : Run → ℕ × ℕ
+run_pair run = (run.first, run.last)
+
+-- the same of each run
+abbrev pub run_pairs : List Run → List (ℕ × ℕ)
+run_pairs runs = map run_pair runs
+
+-- the ranks of a set that are no greater than a number
+abbrev pub up_to : ℕ → Ranks → Ranks
+up_to to s = those (λ r. nat_le r to) s

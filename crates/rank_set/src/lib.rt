@@ -1,30 +1,38 @@
-//! Sets of ranks, held as words of 64 bits that are trimmed at both ends.
+//! Sets of ranks, held as words of 64 bits or as runs of neighbours, whichever takes less room.
 //!
 //! A contract sees a `RankSet` as a value of `Ranks`: the members in ascending order. Two sets with the same members
-//! are equal. A union of two full sets takes one operation a word, and at most one allocation.
+//! are equal, however they are held.
 #![tactic(auto)]
 
 ghost use Rattle.std.specs.Prelude.{◌≡◌, ℕ, ◌<◌, ◌≤◌, ◌/◌, ◌↔◌, true, false, OnOk, OnErr, IfOk, IfSome, IfNone, Some, slice_get, not, map, ◌++◌, [], ◌∷◌};
 ghost use Rattle.rank_set.specs.Ranks.{none, has, with_rank, union, those, in_order, is_empty, is_subset, size, Has};
-ghost use Rattle.rank_set.specs.Runs.{ranks_between, IsRun, runs_of};
-ghost use Rattle.rank_set.specs.Words.{ranks_in, AreWords, offset_of, spans};
+ghost use Rattle.rank_set.specs.Runs.{ranks_between, IsRun, runs_of, up_to};
+ghost use Rattle.rank_set.specs.Words.{ranks_in, AreWords, offset_of};
 ghost use Rattle.rank_set.specs.WordLists.{words_of};
 ghost use Rattle.rank_set.specs.Text.{text_of};
 
+mod by_runs;
 pub mod digits;
+mod held;
 pub mod laws;
 mod one_word;
 mod read;
+
 mod run_list;
+mod run_set;
+mod sorted_runs;
 mod text;
+mod word_set;
 mod words;
 
 pub use one_word::word_is_below;
 pub use read::{RanksError, read_ranks};
+
 use std::alloc::{AllocError, Global};
 use std::marker::Model;
-use text::write_ranks;
-use words::Words;
+use held::Held;
+use run_set::RunSet;
+use word_set::WordSet;
 
 /// The most words that a set spans.
 pub const WORD_LIMIT: u32 = 16_384;
@@ -53,7 +61,7 @@ impl From<AllocError> for RankError {
 }
 
 /// Neighbouring ranks, from the first to the last.
-#[derive(Debug, PartialEq, Eq, Clone, Copy)]
+#[derive(Debug, PartialEq, Eq, Clone, Copy, Default)]
 pub struct Run {
     pub first: u32,
     pub last: u32,
@@ -62,23 +70,18 @@ pub struct Run {
 /// A set of ranks, each below `RANK_LIMIT`.
 #[derive(Drop)]
 pub struct RankSet {
-    // The index of the first word among all words: bit i of word k stands for rank 64 * k + i.
-    offset: u32,
-    // Neither the first nor the last is 0, and with no words the offset is 0.
-    words: Words,
+    held: Held,
 }
 
 impl Model for RankSet {
     ghost use Rattle.rank_set.specs.Ranks.{Ranks, coded_ranks};
-    ghost use Rattle.rank_set.specs.Words.{ranks_in, AreWords};
+    ghost use Rattle.rank_set.specs.Held.{ranks_held};
 
     ghost Value = { Ranks };
 
     ghost coded = { coded_ranks };
 
-    ghost view = { λ a. ranks_in a.offset a.words.items };
-
-    ghost invariant = { λ a. AreWords a.offset a.words.items };
+    ghost view = { λ a. ranks_held a.held };
 }
 
 impl RankSet {
@@ -87,8 +90,7 @@ impl RankSet {
         ensures { result ≡ none }
     {
         RankSet {
-            offset: 0,
-            words: Words::new(alloc),
+            held: Held::Words(WordSet::new(alloc)),
         }
     }
 
@@ -96,7 +98,10 @@ impl RankSet {
     pub fn invariant(&self)
         ensures { (r : ℕ) → Has r self.now → r < RANK_LIMIT }
     {
-        let _offset = self.offset;
+        match &self.held {
+            Held::Words(words) => words.invariant(),
+            Held::Runs(runs) => runs.invariant(),
+        }
     }
 
     /// The set of trimmed words, the first of which is word `offset` of all.
@@ -104,20 +109,28 @@ impl RankSet {
         requires { AreWords offset words.items }
         ensures { IfOk result (λ set. set ≡ ranks_in offset words.items) }
     {
-        Ok(RankSet {
-            offset,
-            words: Words::from_vec(words),
-        })
+        let mut held = Held::Words(WordSet::from_words(offset, words));
+        held.settle();
+        Ok(RankSet { held })
     }
 
     /// A copy of the set.
     pub fn copy(&self) -> Result<RankSet, AllocError>
         ensures { IfOk result (λ copy. copy ≡ self.now) }
     {
-        Ok(RankSet {
-            offset: self.offset,
-            words: words::copy_of(*self.words.allocator(), self.words.as_slice())?,
-        })
+        let held = match &self.held {
+            Held::Words(words) => Held::Words(words.copy()?),
+            Held::Runs(runs) => Held::Runs(runs.copy()?),
+        };
+        Ok(RankSet { held })
+    }
+
+    /// The allocator of the set.
+    fn allocator(&self) -> Global {
+        match &self.held {
+            Held::Words(words) => words.allocator(),
+            Held::Runs(runs) => runs.allocator(),
+        }
     }
 
     /// Adds a rank. On failure the set is unchanged.
@@ -156,8 +169,7 @@ impl RankSet {
         ensures { result ≡ union none (ranks_between first last) }
     {
         RankSet {
-            offset: first / 64,
-            words: words::one_word(alloc, first, last),
+            held: Held::Words(WordSet::in_one_word(alloc, first, last)),
         }
     }
 
@@ -168,7 +180,7 @@ impl RankSet {
         ensures ok { OnOk result (self.new ≡ union self.old (ranks_between first last)) }
         ensures err { OnErr result (self.new ≡ self.old) }
     {
-        words::add_run(&mut self.offset, &mut self.words, first, last)
+        self.held.put_run(first, last)
     }
 
     /// Adds the ranks of the other set. On failure the set is unchanged.
@@ -178,136 +190,100 @@ impl RankSet {
         ensures err { OnErr result (self.new ≡ self.old) }
     {
         // Most often one word of ranks joins words that reach it.
-        let others = other.words.as_slice();
-        if others.len() == 1
-            && words::spans(self.offset, self.words.as_slice(), other.offset, others)
-        {
-            words::or_within(self.words.as_mut_slice(), self.offset, other.offset, others);
+        if self.held.take_up_word(&other.held) {
             return Ok(());
         }
-        words::add_words(&mut self.offset, &mut self.words, other.offset, others)
+        self.held.unite(&other.held)
     }
 
-    /// The ranks of both sets, in one allocation at most.
+    /// The ranks of both sets.
     pub fn united(&self, other: &RankSet) -> Result<RankSet, AllocError>
         ensures { IfOk result (λ all. all ≡ union self.now other.now) }
     {
-        let (offset, words) = words::united(
-            *self.words.allocator(),
-            self.offset,
-            self.words.as_slice(),
-            other.offset,
-            other.words.as_slice(),
-        )?;
-        Ok(RankSet { offset, words })
+        if let (Held::Words(words), Held::Words(others)) = (&self.held, &other.held) {
+            let mut held = Held::Words(words.united(others)?);
+            held.settle_if_wider(words.span());
+            return Ok(RankSet { held });
+        }
+        let mut all = self.copy()?;
+        all.held.unite(&other.held)?;
+        Ok(all)
     }
 
-    /// Whether the other set has no rank outside the words (64 ranks each, from 0 on) from that of the least rank to
-    /// that of the greatest: then `unite_within` adds the other's ranks.
-    pub fn spans(&self, other: &RankSet) -> bool
-        ensures { result ≡ spans self.now other.now }
-    {
-        words::spans(
-            self.offset,
-            self.words.as_slice(),
-            other.offset,
-            other.words.as_slice(),
-        )
-    }
-
-    /// Adds the ranks of the other set, which the set spans. It allocates nothing.
-    pub fn unite_within(&mut self, other: &RankSet)
-        requires { spans self.old other.now ≡ true }
-        ensures { self.new ≡ union self.old other.now }
-    {
-        words::or_within(
-            self.words.as_mut_slice(),
-            self.offset,
-            other.offset,
-            other.words.as_slice(),
-        );
-    }
-
-    /// The ranks that are in the other set, too. It costs what this set's words do, so the smaller of two goes first.
+    /// The ranks that are in the other set, too. The smaller of two goes first.
     pub fn intersection(&self, other: &RankSet) -> Result<RankSet, AllocError>
         ensures { IfOk result (λ both. both ≡ those (λ r. has other.now r) self.now) }
     {
-        let mut offset = self.offset;
-        let mut words = words::copy_of(*self.words.allocator(), self.words.as_slice())?;
-        words::intersect_words(
-            words.as_mut_slice(),
-            offset,
-            other.offset,
-            other.words.as_slice(),
-        );
-        words::trim(&mut offset, &mut words);
-        Ok(RankSet { offset, words })
+        if let (Held::Words(words), Held::Words(others)) = (&self.held, &other.held) {
+            let mut held = Held::Words(words.intersection(others)?);
+            held.settle();
+            return Ok(RankSet { held });
+        }
+        let others = by_runs::difference(self, other)?;
+        let both = by_runs::difference(self, &others)?;
+        Ok(both)
     }
 
     /// The ranks that are not in the other set.
     pub fn difference(&self, other: &RankSet) -> Result<RankSet, AllocError>
         ensures { IfOk result (λ rest. rest ≡ those (λ r. not (has other.now r)) self.now) }
     {
-        let mut offset = self.offset;
-        let mut words = words::copy_of(*self.words.allocator(), self.words.as_slice())?;
-        words::clear_words(
-            words.as_mut_slice(),
-            offset,
-            other.offset,
-            other.words.as_slice(),
-        );
-        words::trim(&mut offset, &mut words);
-        Ok(RankSet { offset, words })
+        if let (Held::Words(words), Held::Words(others)) = (&self.held, &other.held) {
+            let mut held = Held::Words(words.difference(others)?);
+            held.settle();
+            return Ok(RankSet { held });
+        }
+        by_runs::difference(self, other)
     }
 
     /// Whether the rank is in the set.
     pub fn contains(&self, r: u32) -> bool
         ensures { result ≡ has self.now r }
     {
-        words::word_of(self.offset, self.words.as_slice(), r / 64) >> (r % 64) & 1 == 1
+        match &self.held {
+            Held::Words(words) => words.contains(r),
+            Held::Runs(runs) => runs.contains(r),
+        }
     }
 
     /// Whether each rank of the set is in the other.
     pub fn is_subset(&self, other: &RankSet) -> bool
         ensures { result ≡ is_subset self.now other.now }
     {
-        words::all_are_in(
-            self.offset,
-            self.words.as_slice(),
-            other.offset,
-            other.words.as_slice(),
-        )
+        if let (Held::Words(words), Held::Words(others)) = (&self.held, &other.held) {
+            return words.is_subset(others);
+        }
+        by_runs::is_subset(self, other)
     }
 
     /// Whether no rank of the set is in the other.
     pub fn is_disjoint(&self, other: &RankSet) -> bool
         ensures { result ≡ is_empty (those (λ r. has other.now r) self.now) }
     {
-        words::are_disjoint(
-            self.offset,
-            self.words.as_slice(),
-            other.offset,
-            other.words.as_slice(),
-        )
+        if let (Held::Words(words), Held::Words(others)) = (&self.held, &other.held) {
+            return words.is_disjoint(others);
+        }
+        by_runs::is_disjoint(self, other)
     }
 
     /// Whether the two sets have the same ranks.
     pub fn equals(&self, other: &RankSet) -> bool
         ensures { (result ≡ true) ↔ (self.now ≡ other.now) }
     {
-        words::are_same(
-            self.offset,
-            self.words.as_slice(),
-            other.offset,
-            other.words.as_slice(),
-        )
+        if let (Held::Words(words), Held::Words(others)) = (&self.held, &other.held) {
+            return words.equals(others);
+        }
+        by_runs::is_subset(self, other) && by_runs::is_subset(other, self)
     }
 
     /// Whether the set has no ranks.
     pub fn is_empty(&self) -> bool
         ensures { result ≡ is_empty self.now }
     {
-        words::has_none(self.offset, self.words.as_slice())
+        match &self.held {
+            Held::Words(words) => words.is_empty(),
+            Held::Runs(runs) => runs.is_empty(),
+        }
     }
 
     /// The number of ranks in the set.
@@ -315,7 +291,10 @@ impl RankSet {
         ensures count { result ≡ size self.now }
         ensures within_limit { result ≤ RANK_LIMIT }
     {
-        words::ones(self.words.as_slice())
+        match &self.held {
+            Held::Words(words) => words.count(),
+            Held::Runs(runs) => runs.count(),
+        }
     }
 
     /// The least rank, `None` for the empty set.
@@ -324,7 +303,10 @@ impl RankSet {
         ensures least { IfSome result (λ r. slice_get (in_order self.now) 0 ≡ Some r) }
         ensures below_limit { IfSome result (λ r. r < RANK_LIMIT) }
     {
-        words::least(self.offset, self.words.as_slice())
+        match &self.held {
+            Held::Words(words) => words.first(),
+            Held::Runs(runs) => runs.first(),
+        }
     }
 
     /// A number above each rank.
@@ -332,7 +314,10 @@ impl RankSet {
         ensures above { (r : ℕ) → has self.now r ≡ true → r < result }
         ensures within_limit { result ≤ RANK_LIMIT }
     {
-        64 * (self.offset + self.words.len() as u32)
+        match &self.held {
+            Held::Words(words) => words.end(),
+            Held::Runs(runs) => runs.end(),
+        }
     }
 
     /// The longest run of neighbours that begins with the least rank at or above `from`, `None` where there is no such
@@ -342,14 +327,41 @@ impl RankSet {
         ensures run { IfSome result (λ run. IsRun self.now from run.first run.last) }
         ensures below_limit { IfSome result (λ run. run.last < RANK_LIMIT) }
     {
-        words::next_run(self.offset, self.words.as_slice(), from)
+        self.next_run_near(from, &mut 0)
+    }
+
+    /// The same run. The hint is what an earlier call left in it, and makes the search short.
+    pub(crate) fn next_run_near(&self, from: u32, hint: &mut usize) -> Option<Run>
+        ensures none { IfNone result ((q : ℕ) → from ≤ q → has self.now q ≡ false) }
+        ensures run { IfSome result (λ run. IsRun self.now from run.first run.last) }
+        ensures below_limit { IfSome result (λ run. run.last < RANK_LIMIT) }
+    {
+        match &self.held {
+            Held::Words(words) => words.next_run(from),
+            Held::Runs(runs) => runs.next_run(from, hint),
+        }
+    }
+
+    /// The longest run among the ranks up to `to` that begins with the least rank at or above `from`.
+    pub(crate) fn run_within(&self, from: u32, to: u32, hint: &mut usize) -> Option<Run>
+        ensures none { IfNone result ((q : ℕ) → from ≤ q → q ≤ to → has self.now q ≡ false) }
+        ensures run { IfSome result (λ run. IsRun (up_to to self.now) from run.first run.last) }
+        ensures below_limit { IfSome result (λ run. run.last < RANK_LIMIT) }
+    {
+        match &self.held {
+            Held::Words(words) => words.run_within(from, to),
+            Held::Runs(runs) => runs.run_within(from, to, hint),
+        }
     }
 
     /// All longest runs of neighbours, in order.
     pub fn runs(&self, alloc: Global) -> Result<Vec<Run>, AllocError>
         ensures { IfOk result (λ runs. map (λ run. (run.first, run.last)) runs.items ≡ runs_of (in_order self.now)) }
     {
-        run_list::runs_in(alloc, self.offset, self.words.as_slice())
+        match &self.held {
+            Held::Words(words) => words.runs(alloc),
+            Held::Runs(runs) => runs.runs(alloc),
+        }
     }
 
     /// Appends the set's text, as `4:[0-2,7]`. On failure `out` is unchanged.
@@ -358,7 +370,10 @@ impl RankSet {
         ensures err { OnErr result (out.new.items ≡ out.old.items) }
     {
         let len = out.len();
-        let written = write_ranks(self.offset, self.words.as_slice(), out);
+        let written = match &self.held {
+            Held::Words(words) => words.write_text(out),
+            Held::Runs(runs) => runs.write_text(out),
+        };
         if written.is_err() {
             out.truncate(len);
         }
@@ -369,7 +384,10 @@ impl RankSet {
     pub fn word_offset(&self) -> u32
         ensures { result ≡ offset_of self.now }
     {
-        words::offset_in(self.offset, self.words.as_slice())
+        match self.first() {
+            Some(first) => first / 64,
+            None => 0,
+        }
     }
 
     /// The words from that of the least rank to that of the greatest: bit i of the j-th stands for rank
@@ -379,7 +397,10 @@ impl RankSet {
         ensures ranks { IfOk result (λ words. ranks_in (offset_of self.now) words.items ≡ self.now) }
         ensures list { IfOk result (λ words. words.items ≡ words_of self.now) }
     {
-        words::words_in(alloc, self.offset, self.words.as_slice())
+        match &self.held {
+            Held::Words(words) => words.words(alloc),
+            Held::Runs(runs) => runs.to_words()?.words(alloc),
+        }
     }
 
     /// The same words without a copy, if the set holds them.
@@ -388,13 +409,19 @@ impl RankSet {
         ensures ranks { IfSome result (λ words. ranks_in (offset_of self.now) words.now ≡ self.now) }
         ensures list { IfSome result (λ words. words.now ≡ words_of self.now) }
     {
-        Some(words::held(self.offset, self.words.as_slice()))
+        match &self.held {
+            Held::Words(words) => Some(words.held_words()),
+            Held::Runs(_) => None,
+        }
     }
 
     /// Whether all ranks of word `index` are in the set: bit i of it stands for rank 64 * index + i.
     pub fn covers_word(&self, index: u32, word: u64) -> bool
         ensures { result ≡ is_subset (ranks_in index (word ∷ [])) self.now }
     {
-        one_word::covers_word(self.offset, self.words.as_slice(), index, word)
+        match &self.held {
+            Held::Words(words) => words.covers_word(index, word),
+            Held::Runs(_) => by_runs::covers_word(self, index, word),
+        }
     }
 }

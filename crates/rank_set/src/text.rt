@@ -4,11 +4,12 @@ ghost use Rattle.std.specs.Prelude.{◌≡◌, ◌<◌, ◌≤◌, ◌+◌, ◌+
 ghost use Rattle.std.specs.Fmt.{decimal};
 ghost use Rattle.rank_set.specs.Ranks.{in_order};
 ghost use Rattle.rank_set.specs.Words.{ranks_in};
-ghost use Rattle.rank_set.specs.Runs.{runs_of};
+ghost use Rattle.rank_set.specs.Runs.{runs_of, ranks_of_runs, AreRuns, run_pairs};
 ghost use Rattle.rank_set.specs.Text.{run_text, runs_text, text_of, BeginsWith};
 
+use crate::sorted_runs::count;
 use crate::words::{next_run, ones};
-use crate::{RANK_LIMIT, WORD_LIMIT};
+use crate::{RANK_LIMIT, Run, WORD_LIMIT};
 use itoa::{Buffer, write_digits};
 use std::alloc::AllocError;
 
@@ -79,6 +80,36 @@ pub(crate) fn write_ranks(offset: u32, words: &[u64], out: &mut Vec<u8>) -> Resu
     write_number(ones(words), out)?;
     out.extend_from_slice(b":[")?;
     write_runs(offset, words, out)?;
+    out.push(b']')?;
+    Ok(())
+}
+
+// Appends runs, parted by commas.
+fn write_each_run(runs: &[Run], out: &mut Vec<u8>) -> Result<(), AllocError>
+    requires { AreRuns 0 (run_pairs runs.now) }
+    ensures ok { OnOk result (out.new.items ≡ out.old.items ++ runs_text (run_pairs runs.now)) }
+    ensures kept { BeginsWith out.new.items out.old.items }
+{
+    let mut follows = false;
+    for run in runs {
+        if follows {
+            out.push(b',')?;
+        }
+        write_run(run.first, run.last, out)?;
+        follows = true;
+    }
+    Ok(())
+}
+
+// Appends the text of the ranks of runs. On failure a part of it may stand behind what `out` had.
+pub(crate) fn write_run_list(runs: &[Run], out: &mut Vec<u8>) -> Result<(), AllocError>
+    requires { AreRuns 0 (run_pairs runs.now) }
+    ensures ok { OnOk result (out.new.items ≡ out.old.items ++ text_of (ranks_of_runs (run_pairs runs.now))) }
+    ensures kept { BeginsWith out.new.items out.old.items }
+{
+    write_number(count(runs), out)?;
+    out.extend_from_slice(b":[")?;
+    write_each_run(runs, out)?;
     out.push(b']')?;
     Ok(())
 }

@@ -2,7 +2,7 @@
 
 ghost use Rattle.std.specs.Prelude.{◌≡◌, ℕ, ◌<◌, ◌≤◌, ◌+◌, ◌-◌, ◌*◌, ◌/◌, ◌↔◌, ◌++◌, true, false, OnOk, OnErr, IfOk, IfSome, IfNone, Some, slice_get, not, length, get_or, replicate, bit_or};
 ghost use Rattle.rank_set.specs.Ranks.{none, has, those, union, in_order, is_empty, is_subset, size};
-ghost use Rattle.rank_set.specs.Runs.{ranks_between, IsRun};
+ghost use Rattle.rank_set.specs.Runs.{ranks_between, IsRun, up_to};
 ghost use Rattle.rank_set.specs.Words.{word_at, bit_in, ranks_in, AreWords, ExtendsTo, IsNext, offset_of, run_word, spans, IsOverlap};
 ghost use Rattle.rank_set.specs.WordLists.{words_of};
 
@@ -571,5 +571,26 @@ pub(crate) fn next_run(offset: u32, words: &[u64], from: u32) -> Option<Run>
     Some(Run {
         first,
         last: end - 1,
+    })
+}
+
+// The longest run among the ranks up to `to` that begins with the least rank at or above `from`.
+pub(crate) fn run_within(offset: u32, words: &[u64], from: u32, to: u32) -> Option<Run>
+    requires { offset + length words.now ≤ WORD_LIMIT }
+    ensures none { IfNone result ((q : ℕ) → from ≤ q → q ≤ to → has (ranks_in offset words.now) q ≡ false) }
+    ensures run { IfSome result (λ run. IsRun (up_to to (ranks_in offset words.now)) from run.first run.last) }
+    ensures in_range { IfSome result (λ run. run.last < 64 * (offset + length words.now)) }
+{
+    let len = (to / 64 + 1).saturating_sub(offset) as usize;
+    let len = len.min(words.len());
+    let Some(run) = next_run(offset, &words[..len], from) else {
+        return None;
+    };
+    if to < run.first {
+        return None;
+    }
+    Some(Run {
+        first: run.first,
+        last: run.last.min(to),
     })
 }

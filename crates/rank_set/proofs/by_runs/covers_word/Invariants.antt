@@ -1,0 +1,14 @@
+use Rattle.std.proofs.Common.{◌≤◌, ◌-◌, [], ◌∷◌}
+use Rattle.rank_set.specs.declared.TheConstants.{RANK_LIMIT}
+use Rattle.rank_set.specs.Words.{ranks_in}
+use Rattle.rank_set.proofs.RunWalks.{IsInBelow}
+use Rattle.rank_set.proofs.by_runs.covers_word.Given as goal
+
+abbrev pub invariant-loop-run : goal.invariant-loop-run
+invariant-loop-run l = record {
+  within : l.from ≤ RANK_LIMIT;
+  done : IsInBelow (ranks_in l.index (l.word ∷ [])) l.set l.from;
+}
+
+abbrev pub decreases-loop-run : goal.decreases-loop-run
+decreases-loop-run l = RANK_LIMIT - l.from

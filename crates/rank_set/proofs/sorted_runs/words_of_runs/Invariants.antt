@@ -1,0 +1,10 @@
+use Rattle.std.proofs.Common.{◌≡◌, drop}
+use Rattle.rank_set.specs.Ranks.{union}
+use Rattle.rank_set.specs.Runs.{ranks_of_runs, AreRuns, run_pairs}
+use Rattle.rank_set.proofs.sorted_runs.words_of_runs.Given as goal
+
+abbrev pub invariant-loop-run : goal.invariant-loop-run
+invariant-loop-run l = record {
+  rest : AreRuns 0 (run_pairs (drop l.run-index l.runs));
+  ranks : union l.words (ranks_of_runs (run_pairs (drop l.run-index l.runs))) ≡ ranks_of_runs (run_pairs l.runs);
+}

@@ -1,0 +1,108 @@
+//! What is asked of two sets run by run, however they are held.
+
+ghost use Rattle.std.specs.Prelude.{◌≡◌, ◌≤◌, ◌<◌, not, OnOk, IfOk, [], ◌∷◌};
+ghost use Rattle.rank_set.specs.Ranks.{has, is_empty, is_subset, those, union};
+ghost use Rattle.rank_set.specs.Runs.{ranks_between, IsRunInRange};
+ghost use Rattle.rank_set.specs.Words.{ranks_in};
+
+use crate::held::Held;
+use crate::run_set::RunSet;
+use crate::words::next_run;
+use crate::{RankSet, Run, WORD_LIMIT};
+use std::alloc::AllocError;
+
+// Whether all ranks of a run are in the set.
+fn has_run(set: &RankSet, run: Run, hint: &mut usize) -> bool
+    requires { run.first ≤ run.last }
+    ensures { result ≡ is_subset (ranks_between run.first run.last) set.now }
+{
+    match set.run_within(run.first, run.last, hint) {
+        Some(within) => within.first == run.first && within.last == run.last,
+        None => false,
+    }
+}
+
+/// Whether all ranks of word `index` are in the set.
+pub(crate) fn covers_word(set: &RankSet, index: u32, word: u64) -> bool
+    ensures { result ≡ is_subset (ranks_in index (word ∷ [])) set.now }
+{
+    if index >= WORD_LIMIT {
+        // for the proof: each rank is below the limit
+        set.invariant();
+        return word == 0;
+    }
+    let mut hint = 0;
+    let mut from = 0;
+    while let Some(run) = next_run(index, &[word], from) {
+        if !has_run(set, run, &mut hint) {
+            return false;
+        }
+        from = run.last + 1;
+    }
+    true
+}
+
+/// Whether each rank of the first set is in the second.
+pub(crate) fn is_subset(set: &RankSet, other: &RankSet) -> bool
+    ensures { result ≡ is_subset set.now other.now }
+{
+    let (mut hint, mut other_hint) = (0, 0);
+    let mut from = 0;
+    while let Some(run) = set.next_run_near(from, &mut hint) {
+        if !has_run(other, run, &mut other_hint) {
+            return false;
+        }
+        from = run.last + 1;
+    }
+    true
+}
+
+/// Whether no rank of the first set is in the second.
+pub(crate) fn is_disjoint(set: &RankSet, other: &RankSet) -> bool
+    ensures { result ≡ is_empty (those (λ r. has other.now r) set.now) }
+{
+    let (mut hint, mut other_hint) = (0, 0);
+    let mut from = 0;
+    while let Some(run) = set.next_run_near(from, &mut hint) {
+        if other.run_within(run.first, run.last, &mut other_hint).is_some() {
+            return false;
+        }
+        from = run.last + 1;
+    }
+    true
+}
+
+// Adds the ranks of a run that the other set does not have.
+fn put_gaps(run: Run, other: &RankSet, hint: &mut usize, out: &mut RunSet) -> Result<(), AllocError>
+    requires { IsRunInRange run.first run.last }
+    ensures { OnOk result
+        (out.new ≡ union out.old (those (λ r. not (has other.now r)) (ranks_between run.first run.last))) }
+{
+    let mut from = run.first;
+    while let Some(hole) = other.run_within(from, run.last, hint) {
+        if from < hole.first {
+            out.put_run(from, hole.first - 1)?;
+        }
+        from = hole.last + 1;
+    }
+    if from <= run.last {
+        out.put_run(from, run.last)?;
+    }
+    Ok(())
+}
+
+/// The ranks of the first set that are not in the second.
+pub(crate) fn difference(set: &RankSet, other: &RankSet) -> Result<RankSet, AllocError>
+    ensures { IfOk result (λ rest. rest ≡ those (λ r. not (has other.now r)) set.now) }
+{
+    let mut rest = RunSet::new(set.allocator());
+    let (mut hint, mut other_hint) = (0, 0);
+    let mut from = 0;
+    while let Some(run) = set.next_run_near(from, &mut hint) {
+        put_gaps(run, other, &mut other_hint, &mut rest)?;
+        from = run.last + 1;
+    }
+    let mut held = Held::Runs(rest);
+    held.settle();
+    Ok(RankSet { held })
+}

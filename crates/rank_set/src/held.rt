@@ -1,0 +1,123 @@
+//! How a set of ranks is held, and when it takes the other form.
+
+ghost use Rattle.std.specs.Prelude.{◌≡◌, ◌<◌, ◌≤◌, true, false, OnOk, OnErr, IfOk};
+ghost use Rattle.rank_set.specs.Ranks.{union};
+ghost use Rattle.rank_set.specs.Runs.{ranks_between};
+ghost use Rattle.rank_set.specs.Held.{ranks_held};
+
+use crate::RANK_LIMIT;
+use crate::run_set::RunSet;
+use crate::word_set::WordSet;
+use std::alloc::AllocError;
+
+/// The ranks as words or as runs.
+#[derive(Drop)]
+pub(crate) enum Held {
+    Words(WordSet),
+    Runs(RunSet),
+}
+
+// Words that span fewer are never made runs.
+const FEW_WORDS: u32 = 4;
+
+// The words that a set spans for each of its runs, at the least, where words become runs. Then runs take an eighth to a
+// half of the room.
+const WORDS_PER_RUN: u32 = 4;
+
+impl Held {
+    // How many words the ranks span.
+    fn span(&self) -> u32 {
+        match self {
+            Held::Words(words) => words.span(),
+            Held::Runs(runs) => runs.span(),
+        }
+    }
+
+    /// Takes the other form where that takes less room. Where memory runs out the form stays.
+    pub(crate) fn settle(&mut self)
+        ensures { ranks_held self.new ≡ ranks_held self.old }
+    {
+        match self {
+            Held::Words(words) => {
+                let span = words.span();
+                if span < FEW_WORDS {
+                    return;
+                }
+                if let Ok(Some(runs)) = words.few_runs(span / WORDS_PER_RUN) {
+                    *self = Held::Runs(runs);
+                }
+            }
+            Held::Runs(runs) => {
+                if 2 * u64::from(runs.len()) <= u64::from(runs.span()) {
+                    return;
+                }
+                if let Ok(words) = runs.to_words() {
+                    *self = Held::Words(words);
+                }
+            }
+        }
+    }
+
+    /// Does so if the ranks span more words than before, past a power of two: so the runs of words that grow are seldom
+    /// counted.
+    pub(crate) fn settle_if_wider(&mut self, before: u32)
+        ensures { ranks_held self.new ≡ ranks_held self.old }
+    {
+        if self.span().leading_zeros() < before.leading_zeros() {
+            self.settle();
+        }
+    }
+
+    /// Adds the other ranks if they are one word that words reach, and returns whether they are.
+    #[inline(always)]
+    pub(crate) fn take_up_word(&mut self, other: &Held) -> bool
+        ensures taken { result ≡ true → ranks_held self.new ≡ union (ranks_held self.old) (ranks_held other.now) }
+        ensures left { result ≡ false → ranks_held self.new ≡ ranks_held self.old }
+    {
+        match (self, other) {
+            (Held::Words(words), Held::Words(others)) => words.take_up_word(others),
+            _ => false,
+        }
+    }
+
+    /// Adds the ranks of a run that is not empty and within the limit. On failure the ranks stay.
+    pub(crate) fn put_run(&mut self, first: u32, last: u32) -> Result<(), AllocError>
+        requires not_empty { first ≤ last }
+        requires below_limit { last < RANK_LIMIT }
+        ensures ok { OnOk result (ranks_held self.new ≡ union (ranks_held self.old) (ranks_between first last)) }
+        ensures err { OnErr result (ranks_held self.new ≡ ranks_held self.old) }
+    {
+        let before = self.span();
+        match self {
+            Held::Words(words) => words.put_run(first, last)?,
+            Held::Runs(runs) => runs.put_run(first, last)?,
+        }
+        self.settle_if_wider(before);
+        Ok(())
+    }
+
+    // Adds the other ranks, in the form that is held.
+    fn join(&mut self, other: &Held) -> Result<(), AllocError>
+        ensures ok { OnOk result (ranks_held self.new ≡ union (ranks_held self.old) (ranks_held other.now)) }
+        ensures err { OnErr result (ranks_held self.new ≡ ranks_held self.old) }
+    {
+        match (self, other) {
+            (Held::Words(words), Held::Words(others)) => words.union_into(others),
+            (Held::Words(words), Held::Runs(others)) => words.union_into(&others.to_words()?),
+            (Held::Runs(runs), Held::Words(others)) => runs.union_into(&others.to_runs()?),
+            (Held::Runs(runs), Held::Runs(others)) => runs.union_into(others),
+        }
+    }
+
+    /// Adds the other ranks. On failure the ranks stay.
+    #[inline(never)]
+    pub(crate) fn unite(&mut self, other: &Held) -> Result<(), AllocError>
+        ensures ok { OnOk result (ranks_held self.new ≡ union (ranks_held self.old) (ranks_held other.now)) }
+        ensures err { OnErr result (ranks_held self.new ≡ ranks_held self.old) }
+    {
+        let before = self.span();
+        self.join(other)?;
+        self.settle_if_wider(before);
+        Ok(())
+    }
+}

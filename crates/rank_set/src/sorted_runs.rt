@@ -1,0 +1,177 @@
+//! Rank sets as lists of their longest runs, in order.
+
+ghost use Rattle.std.specs.Prelude.{◌≡◌, ℕ, ◌<◌, ◌≤◌, ◌+◌, ◌-◌, ◌++◌, [], ◌∷◌, true, IfOk, length, get_or};
+ghost use Rattle.rank_set.specs.Ranks.{has, union, size};
+ghost use Rattle.rank_set.specs.Runs.{ranks_between, ranks_of_runs, AreRuns, IsRunInRange, run_pair, run_pairs};
+
+use crate::word_set::WordSet;
+use crate::{RANK_LIMIT, Run};
+use smallvec::SmallVec;
+use std::alloc::{AllocError, Global};
+
+/// The runs of a set: a single one is stored in the set itself, without an allocation.
+pub(crate) type Runs = SmallVec<Run, 1>;
+
+/// The index of the first run that ends at a rank or above it, or the number of runs where none does. The hint is an
+/// index that may be near: the steps are as many as the distance has binary digits.
+pub(crate) fn find(runs: &[Run], hint: usize, from: u32) -> usize
+    ensures within { result ≤ length runs.now }
+    ensures before { 0 < result → (get_or (run_pairs runs.now) (result - 1) (0, 0)).1 < from }
+    ensures here { result < length runs.now → from ≤ (get_or (run_pairs runs.now) result (0, 0)).1 }
+{
+    let mut low = 0;
+    if 0 < hint && hint <= runs.len() && runs[hint - 1].last < from {
+        low = hint;
+    }
+    let mut high = runs.len();
+    let mut stride = 0;
+    while low < high {
+        let ahead = stride.min((high - low) / 2);
+        if runs[low + ahead].last < from {
+            low += ahead + 1;
+            stride = 2 * ahead + 1;
+        } else {
+            high = low + ahead;
+        }
+    }
+    low
+}
+
+// Joins the next run, which begins no earlier, to the pending one where they overlap or touch; else the pending run is
+// put behind the others, and the next one is pending.
+fn join(done: &mut Runs, pending: Run, next: Run) -> Result<Run, AllocError>
+    requires runs { AreRuns 0 (run_pairs done.old.items ++ run_pair pending ∷ []) }
+    requires next { IsRunInRange next.first next.last }
+    requires order { pending.first ≤ next.first }
+    ensures runs { IfOk result (λ p. AreRuns 0 (run_pairs done.new.items ++ run_pair p ∷ [])) }
+    ensures order { IfOk result (λ p. p.first ≤ next.first) }
+    ensures ranks { IfOk result (λ p. ranks_of_runs (run_pairs done.new.items ++ run_pair p ∷ [])
+        ≡ union (ranks_of_runs (run_pairs done.old.items ++ run_pair pending ∷ []))
+        (ranks_between next.first next.last)) }
+{
+    if next.first <= pending.last + 1 {
+        return Ok(Run {
+            first: pending.first,
+            last: pending.last.max(next.last),
+        });
+    }
+    done.push(pending)?;
+    Ok(next)
+}
+
+// Joins all runs of a list, which begin no earlier than the pending one. It gives the run that is pending then.
+fn join_all(done: &mut Runs, pending: Run, rest: &[Run]) -> Result<Run, AllocError>
+    requires runs { AreRuns 0 (run_pairs done.old.items ++ run_pair pending ∷ []) }
+    requires rest { AreRuns pending.first (run_pairs rest.now) }
+    ensures runs { IfOk result (λ p. AreRuns 0 (run_pairs done.new.items ++ run_pair p ∷ [])) }
+    ensures ranks { IfOk result (λ p. ranks_of_runs (run_pairs done.new.items ++ run_pair p ∷ [])
+        ≡ union (ranks_of_runs (run_pairs done.old.items ++ run_pair pending ∷ []))
+        (ranks_of_runs (run_pairs rest.now))) }
+{
+    let mut last = pending;
+    for run in rest {
+        last = join(done, last, *run)?;
+    }
+    Ok(last)
+}
+
+// Joins the runs of two lists, which begin no earlier than the pending one, in the order of their first ranks.
+fn join_both(
+    done: &mut Runs,
+    pending: Run,
+    runs: &[Run],
+    others: &[Run],
+) -> Result<Run, AllocError>
+    requires done { AreRuns 0 (run_pairs done.old.items ++ run_pair pending ∷ []) }
+    requires runs { AreRuns pending.first (run_pairs runs.now) }
+    requires others { AreRuns pending.first (run_pairs others.now) }
+    ensures done { IfOk result (λ p. AreRuns 0 (run_pairs done.new.items ++ run_pair p ∷ [])) }
+    ensures ranks { IfOk result (λ p. ranks_of_runs (run_pairs done.new.items ++ run_pair p ∷ [])
+        ≡ union (ranks_of_runs (run_pairs done.old.items ++ run_pair pending ∷ []))
+        (union (ranks_of_runs (run_pairs runs.now)) (ranks_of_runs (run_pairs others.now)))) }
+{
+    let mut last = pending;
+    let mut i = 0;
+    let mut j = 0;
+    while i < runs.len() && j < others.len() {
+        if runs[i].first <= others[j].first {
+            last = join(done, last, runs[i])?;
+            i += 1;
+        } else {
+            last = join(done, last, others[j])?;
+            j += 1;
+        }
+    }
+    if i < runs.len() {
+        let all = join_all(done, last, &runs[i..])?;
+        return Ok(all);
+    }
+    let all = join_all(done, last, &others[j..])?;
+    Ok(all)
+}
+
+/// The runs of the ranks of both lists.
+pub(crate) fn merged(alloc: Global, runs: &[Run], others: &[Run]) -> Result<Runs, AllocError>
+    requires runs { AreRuns 0 (run_pairs runs.now) }
+    requires others { AreRuns 0 (run_pairs others.now) }
+    ensures runs { IfOk result (λ all. AreRuns 0 (run_pairs all.items)) }
+    ensures ranks { IfOk result (λ all. ranks_of_runs (run_pairs all.items)
+        ≡ union (ranks_of_runs (run_pairs runs.now)) (ranks_of_runs (run_pairs others.now))) }
+{
+    let Some((first, later)) = runs.split_first() else {
+        let all = Runs::from_slice(alloc, others)?;
+        return Ok(all);
+    };
+    let Some((other, others_later)) = others.split_first() else {
+        let all = Runs::from_slice(alloc, runs)?;
+        return Ok(all);
+    };
+    let mut done = Runs::with_capacity(alloc, runs.len().max(others.len()))?;
+    if first.first <= other.first {
+        let last = join_both(&mut done, *first, later, others)?;
+        done.push(last)?;
+        return Ok(done);
+    }
+    let last = join_both(&mut done, *other, runs, others_later)?;
+    done.push(last)?;
+    Ok(done)
+}
+
+/// The number behind the last rank, 0 for no runs.
+pub(crate) fn end(runs: &[Run]) -> u32
+    requires { AreRuns 0 (run_pairs runs.now) }
+    ensures above { (r : ℕ) → has (ranks_of_runs (run_pairs runs.now)) r ≡ true → r < result }
+    ensures last { 0 < length runs.now
+        → (get_or (run_pairs runs.now) (length runs.now - 1) (0, 0)).1 + 1 ≡ result }
+    ensures within_limit { result ≤ RANK_LIMIT }
+{
+    if runs.is_empty() {
+        return 0;
+    }
+    runs[runs.len() - 1].last + 1
+}
+
+/// The number of ranks in the runs.
+pub(crate) fn count(runs: &[Run]) -> u32
+    requires { AreRuns 0 (run_pairs runs.now) }
+    ensures count { result ≡ size (ranks_of_runs (run_pairs runs.now)) }
+    ensures within_limit { result ≤ RANK_LIMIT }
+{
+    let mut total = 0;
+    for run in runs {
+        total += run.last - run.first + 1;
+    }
+    total
+}
+
+/// The ranks of the runs as words.
+pub(crate) fn words_of_runs(alloc: Global, runs: &[Run]) -> Result<WordSet, AllocError>
+    requires { AreRuns 0 (run_pairs runs.now) }
+    ensures { IfOk result (λ words. words ≡ ranks_of_runs (run_pairs runs.now)) }
+{
+    let mut words = WordSet::new(alloc);
+    for run in runs {
+        words.put_run(run.first, run.last)?;
+    }
+    Ok(words)
+}
