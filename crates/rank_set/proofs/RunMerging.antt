@@ -1,5 +1,5 @@
 -- The last of some runs, made longer or followed by another.
-use Rattle.std.proofs.Common.{◌≡◌, ℕ, ◌+◌, ◌<◌, ◌≤◌, max, List, [], ◌∷◌, ◌++◌, drop, take, length, get_or, ◌-◌, sym, ap, subst, ◌∙◌, refl, arith}
+use Rattle.std.proofs.Common.{◌≡◌, ℕ, zero, suc, set, ◌+◌, ◌<◌, ◌≤◌, max, List, [], ◌∷◌, ◌++◌, drop, take, length, get_or, ◌-◌, sym, ap, subst, ◌∙◌, refl, arith}
 use Rattle.std.proofs.lemmas.List.{drop_more, drop_all, take_all, length-drop, map-append}
 use Rattle.rank_set.specs.declared.Run.{Run}
 use Rattle.rank_set.specs.Runs.{run_pair, run_pairs, ranks_between, ranks_of_runs, AreRuns}
@@ -130,3 +130,34 @@ start_empty zs p T e = ap (λ ys. union (ranks_of_runs (run_pairs ys ++ p ∷ []
 -- the ranks of one run
 pub only_run : (a b : ℕ) → ranks_of_runs ((a, b) ∷ []) ≡ ranks_between a b
 only_run a b = union-none_right (ranks_between a b)
+
+-- a list as all but its last run and that run, and the list with another in its place
+pub record LastIs (xs : List Run) (n : ℕ) (y : Run) : Type 0 where
+  pub before : List Run
+  pub is : xs ≡ before ++ get_or xs n (record { first = 0; last = 0 }) ∷ []
+  pub changed : set xs n y ≡ before ++ y ∷ []
+
+pub last_is : (xs : List Run) (n : ℕ) (y : Run) → length xs ≡ suc n → LastIs xs n y
+last_is [] n y e = absurd (omega (arith, e))
+last_is (x ∷ []) zero y e = record { before = []; is = refl; changed = refl }
+last_is (x ∷ []) (suc n) y e = absurd (omega (arith, e))
+last_is (x ∷ z ∷ zs) zero y e = absurd (omega (arith, e))
+last_is (x ∷ z ∷ zs) (suc n) y e =
+    let rest = last_is (z ∷ zs) n y (omega (arith, e)) in
+    record { before = x ∷ rest.before; is = ap (λ ys. x ∷ ys) rest.is; changed = ap (λ ys. x ∷ ys) rest.changed }
+
+-- the last run of a list, made longer
+pub extended : (xs : List Run) (n first last : ℕ) (y : Run) → length xs ≡ suc n → AreRuns 0 (run_pairs xs) → (get_or xs n (record { first = 0; last = 0 })).last + 1 ≡ first → first ≤ last → last < RANK_LIMIT → y ≡ record { first = (get_or xs n (record { first = 0; last = 0 })).first; last = last }
+    → AreRuns 0 (run_pairs (set xs n y)) × (ranks_of_runs (run_pairs (set xs n y)) ≡ union (ranks_of_runs (run_pairs xs)) (ranks_between first last))
+extended xs n first last y e h touches some small is =
+    let parts = last_is xs n y e in
+    let old : Run = get_or xs n (record { first = 0; last = 0 }) in
+    let was : run_pairs xs ≡ run_pairs parts.before ++ run_pair old ∷ [] = pairs_push parts.before xs old parts.is in
+    let now : run_pairs (set xs n y) ≡ run_pairs parts.before ++ (old.first, last) ∷ [] = pairs_push parts.before (set xs n y) y parts.changed ∙ ap (λ (r : Run). run_pairs parts.before ++ run_pair r ∷ []) is in
+    let good : AreRuns 0 (run_pairs parts.before ++ (old.first, old.last) ∷ []) = subst (AreRuns 0) was h in
+    let run = last_good 0 (run_pairs parts.before) old.first old.last good in
+    (
+      subst (AreRuns 0) (sym now) (last_longer 0 (run_pairs parts.before) old.first old.last last good (omega (arith, touches, some)) small),
+      ap ranks_of_runs now ∙ ranks_longer (run_pairs parts.before) old.first old.last first last last run.0 some (omega (arith, touches, run.0)) (omega (arith, touches)) (omega (arith, touches, some))
+      ∙ ap (λ rs. union (ranks_of_runs rs) (ranks_between first last)) (sym was),
+    )

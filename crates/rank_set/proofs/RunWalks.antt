@@ -342,3 +342,13 @@ rest_of_rest s t = same_ranks _ _ (λ q.
     both true true = refl
     both true false = refl
     both false b = refl
+
+-- sets have no common rank in either order
+pub met_either_way : (s t : Ranks) → is_empty (those (has s) t) ≡ is_empty (those (has t) s)
+met_either_way s t = ap is_empty (same_ranks _ _ (λ q. has-those (has s) t q ∙ swap (has t q) (has s q) ∙ sym (has-those (has t) s q)))
+  where
+    swap : (a b : Bool) → (a && b) ≡ (b && a)
+    swap true true = refl
+    swap true false = refl
+    swap false true = refl
+    swap false false = refl

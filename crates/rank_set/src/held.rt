@@ -87,12 +87,20 @@ impl Held {
         ensures ok { OnOk result (ranks_held self.new ≡ union (ranks_held self.old) (ranks_between first last)) }
         ensures err { OnErr result (ranks_held self.new ≡ ranks_held self.old) }
     {
-        let before = self.span();
         match self {
-            Held::Words(words) => words.put_run(first, last)?,
-            Held::Runs(runs) => runs.put_run(first, last)?,
+            Held::Words(words) => {
+                let before = words.span();
+                words.put_run(first, last)?;
+                self.settle_if_wider(before);
+            }
+            Held::Runs(runs) => {
+                let before = runs.len();
+                runs.put_run(first, last)?;
+                if before < runs.len() {
+                    self.settle();
+                }
+            }
         }
-        self.settle_if_wider(before);
         Ok(())
     }
 

@@ -263,6 +263,10 @@ impl RankSet {
         if let (Held::Words(words), Held::Words(others)) = (&self.held, &other.held) {
             return words.is_disjoint(others);
         }
+        // Words go first: most often they are few.
+        if let Held::Words(_) = &other.held {
+            return by_runs::is_disjoint(other, self);
+        }
         by_runs::is_disjoint(self, other)
     }
 

@@ -5,7 +5,7 @@ ghost use Rattle.rank_set.specs.Ranks.{none, has, union, in_order, is_empty, siz
 ghost use Rattle.rank_set.specs.Runs.{ranks_between, ranks_of_runs, AreRuns, IsRun, runs_of, run_pairs, up_to};
 ghost use Rattle.rank_set.specs.Text.{text_of, BeginsWith};
 
-use crate::sorted_runs::{Runs, count, end, find, merged, words_of_runs};
+use crate::sorted_runs::{Runs, count, end, extend_last, find, merged, words_of_runs};
 use crate::text::write_run_list;
 use crate::word_set::WordSet;
 use crate::{RANK_LIMIT, Run};
@@ -91,8 +91,13 @@ impl RunSet {
         ensures ok { OnOk result (self.new ≡ union self.old (ranks_between first last)) }
         ensures err { OnErr result (self.new ≡ self.old) }
     {
-        if end(self.runs.as_slice()) < first {
+        let behind = end(self.runs.as_slice());
+        if behind < first {
             self.runs.push(Run { first, last })?;
+            return Ok(());
+        }
+        if behind == first && !self.runs.is_empty() {
+            extend_last(self.runs.as_mut_slice(), first, last);
             return Ok(());
         }
         self.runs = merged(

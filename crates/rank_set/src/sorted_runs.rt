@@ -151,6 +151,23 @@ pub(crate) fn end(runs: &[Run]) -> u32
     runs[runs.len() - 1].last + 1
 }
 
+/// Adds the ranks of a run that begins right behind the last.
+pub(crate) fn extend_last(runs: &mut [Run], first: u32, last: u32)
+    requires runs { AreRuns 0 (run_pairs runs.old) }
+    requires some { 0 < length runs.old }
+    requires touches { (get_or (run_pairs runs.old) (length runs.old - 1) (0, 0)).1 + 1 ≡ first }
+    requires next { IsRunInRange first last }
+    ensures runs { AreRuns 0 (run_pairs runs.new) }
+    ensures ranks { ranks_of_runs (run_pairs runs.new)
+        ≡ union (ranks_of_runs (run_pairs runs.old)) (ranks_between first last) }
+{
+    let at = runs.len() - 1;
+    runs[at] = Run {
+        first: runs[at].first,
+        last,
+    };
+}
+
 /// The number of ranks in the runs.
 pub(crate) fn count(runs: &[Run]) -> u32
     requires { AreRuns 0 (run_pairs runs.now) }

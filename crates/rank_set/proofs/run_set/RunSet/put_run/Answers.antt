@@ -6,17 +6,17 @@ use Rattle.rank_set.proofs.RunMerging.{pairs_push, ranks_with, only_run}
 use Rattle.rank_set.proofs.RunSearch.{append_run, run_at, pairs_length}
 use Rattle.rank_set.proofs.run_set.RunSet.put_run.Goals as goal
 
-pub invariant_of-self-then-end-first : goal.invariant_of-self-then-end-first
-invariant_of-self-then-end-first c =
+pub invariant_of-self-then-behind-first : goal.invariant_of-self-then-behind-first
+invariant_of-self-then-behind-first c =
     let xs : List Run = c.self.inside.runs.items in
-    let gap : 0 < length xs → (run_at (run_pairs xs) (length xs - 1)).1 + 1 < c.args.first = subst (λ (ys : List Run). 0 < length ys → (run_at (run_pairs ys) (length ys - 1)).1 + 1 < c.args.first) c.as_slice.ensures (λ lt. omega (arith, c.end.ensures.last lt, c.if-end-first.true)) in
+    let gap : 0 < length xs → (run_at (run_pairs xs) (length xs - 1)).1 + 1 < c.args.first = subst (λ (ys : List Run). 0 < length ys → (run_at (run_pairs ys) (length ys - 1)).1 + 1 < c.args.first) c.as_slice.ensures (λ lt. omega (arith, c.end-behind.ensures.last lt, c.if-behind-first.true)) in
     subst (AreRuns 0) (sym (pairs_push xs c.push.new.self.items _ c.in_ok-push.ensures.ok))
     (append_run 0 (run_pairs xs) c.args.first c.args.last c.self.invariant (omega arith)
     (λ lt. subst (λ n. (run_at (run_pairs xs) (n - 1)).1 + 1 < c.args.first) (sym (pairs_length xs)) (gap (omega (arith, lt, pairs_length xs))))
     c.requires.not_empty c.requires.below_limit)
 
-pub returns-then-end-first-clause-ok : goal.returns-then-end-first-clause-ok
-returns-then-end-first-clause-ok c =
+pub returns-then-behind-first-clause-ok : goal.returns-then-behind-first-clause-ok
+returns-then-behind-first-clause-ok c =
     ap ranks_of_runs (pairs_push c.self.inside.runs.items c.push.new.self.items _ c.in_ok-push.ensures.ok)
     ∙ ranks_with (run_pairs c.self.inside.runs.items) c.args.first c.args.last
     ∙ ap (λ (s : Ranks). union s (ranks_between c.args.first c.args.last)) c.self.view_is
