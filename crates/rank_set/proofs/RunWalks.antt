@@ -18,7 +18,8 @@ between_parts first last q one = elim (cases_lt q first) [
   ]
 ]
 
-not_subset : (s t : Ranks) (q : ℕ) → has s q ≡ true → has t q ≡ false → is_subset s t ≡ false
+-- a set with a rank that the other lacks is no subset of it
+pub not_subset : (s t : Ranks) (q : ℕ) → has s q ≡ true → has t q ≡ false → is_subset s t ≡ false
 not_subset s t q one other = elim (cases_Bool (is_subset s t)) [
   | inl e ↦ absurd (true≢false (sym (subset_has s t e q one) ∙ other))
   | inr e ↦ e
@@ -352,3 +353,37 @@ met_either_way s t = ap is_empty (same_ranks _ _ (λ q. has-those (has s) t q �
     swap true false = refl
     swap false true = refl
     swap false false = refl
+
+-- nothing is left of a subset
+pub no_rest_of_subset : (s t : Ranks) → is_subset s t ≡ true → those (λ r. not (has t r)) s ≡ none
+no_rest_of_subset s t all = same_ranks _ _ (λ q. has-those (λ r. not (has t r)) s q ∙ elim (cases_Bool (has s q)) [
+  | inl one ↦ ap (λ b. has s q && not b) (subset_has s t all q one) ∙ and_false s (has s q)
+  | inr e ↦ ap (λ b. b && not (has t q)) e
+] ∙ sym (has-none q))
+
+-- a rank in a gap of the second set is not in it
+pub gap_has : (s t : Ranks) (from first last to : ℕ) (o : Option Run) → is_some o ≡ true → IsRun t from first last → to + 1 ≡ first → IfSome o (λ r. IsRun (up_to to s) from r.first r.last) → is_subset s t ≡ false
+gap_has s t from first last to None none run next met = absurd (true≢false (sym none))
+gap_has s t from first last to (Some r) one run next met =
+    let end = cut_end s from to r.first r.last met in
+    not_subset s t r.first (cut_has s from to r.first r.last r.first met (omega arith) met.some) (run.passed r.first met.start (omega (arith, next, end, met.some)))
+
+-- the ranks up to the end of a run are in the second set if its gap has none of the first
+pub gap_step : (s t : Ranks) (from first last : ℕ) → IsInBelow s t from → IsRun t from first last → ((q : ℕ) → from ≤ q → q < first → has s q ≡ false) → IsInBelow s t (last + 1)
+gap_step s t from first last done run gap = λ q lt one. elim (cases_lt q from) [
+  | inl low ↦ done q low one
+  | inr up ↦ elim (cases_lt q first) [
+    | inl before ↦ absurd (true≢false (sym one ∙ gap q up before))
+    | inr at ↦ run.within q at (omega (arith, lt))
+  ]
+]
+
+-- behind the last run there is a gap
+pub last_gap : (s t : Ranks) (from end : ℕ) (o : Option Run) → IsInBelow s t from → ((q : ℕ) → from ≤ q → has t q ≡ false) → ((r : ℕ) → has s r ≡ true → r < end)
+    → IfNone o ((q : ℕ) → from ≤ q → q ≤ end → has s q ≡ false) → IfSome o (λ r. IsRun (up_to end s) from r.first r.last) → not (is_some o) ≡ is_subset s t
+last_gap s t from end None done none_left small unmet met = sym (subset_from s t (λ q one. elim (cases_lt q from) [
+  | inl low ↦ done q low one
+  | inr up ↦ absurd (true≢false (sym one ∙ unmet q up (omega (arith, small q one))))
+]))
+last_gap s t from end (Some r) done none_left small unmet met =
+    sym (not_subset s t r.first (cut_has s from end r.first r.last r.first met (omega arith) met.some) (none_left r.first met.start))

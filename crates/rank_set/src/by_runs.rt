@@ -11,17 +11,6 @@ use crate::words::next_run;
 use crate::{RankSet, Run, WORD_LIMIT};
 use std::alloc::AllocError;
 
-// Whether all ranks of a run are in the set.
-fn has_run(set: &RankSet, run: Run, hint: &mut usize) -> bool
-    requires { run.first ≤ run.last }
-    ensures { result ≡ is_subset (ranks_between run.first run.last) set.now }
-{
-    match set.run_within(run.first, run.last, hint) {
-        Some(within) => within.first == run.first && within.last == run.last,
-        None => false,
-    }
-}
-
 /// Whether all ranks of word `index` are in the set.
 pub(crate) fn covers_word(set: &RankSet, index: u32, word: u64) -> bool
     ensures { result ≡ is_subset (ranks_in index (word ∷ [])) set.now }
@@ -34,7 +23,7 @@ pub(crate) fn covers_word(set: &RankSet, index: u32, word: u64) -> bool
     let mut hint = 0;
     let mut from = 0;
     while let Some(run) = next_run(index, &[word], from) {
-        if !has_run(set, run, &mut hint) {
+        if !set.has_run(run, &mut hint) {
             return false;
         }
         from = run.last + 1;
@@ -49,12 +38,28 @@ pub(crate) fn is_subset(set: &RankSet, other: &RankSet) -> bool
     let (mut hint, mut other_hint) = (0, 0);
     let mut from = 0;
     while let Some(run) = set.next_run_near(from, &mut hint) {
-        if !has_run(other, run, &mut other_hint) {
+        if !other.has_run(run, &mut other_hint) {
             return false;
         }
         from = run.last + 1;
     }
     true
+}
+
+/// The same, by the gaps of the second set: whether the first has no rank in them.
+pub(crate) fn lies_in(set: &RankSet, other: &RankSet) -> bool
+    ensures { result ≡ is_subset set.now other.now }
+{
+    let end = set.end();
+    let (mut hint, mut other_hint) = (0, 0);
+    let mut from = 0;
+    while let Some(run) = other.next_run_near(from, &mut other_hint) {
+        if from < run.first && set.run_within(from, run.first - 1, &mut hint).is_some() {
+            return false;
+        }
+        from = run.last + 1;
+    }
+    set.run_within(from, end, &mut hint).is_none()
 }
 
 /// Whether no rank of the first set is in the second.

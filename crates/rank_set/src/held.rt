@@ -17,12 +17,18 @@ pub(crate) enum Held {
     Runs(RunSet),
 }
 
-// Words that span fewer are never made runs.
-const FEW_WORDS: u32 = 4;
+// Sets that span at least so many words, 8 KiB of them, are made runs where these take a quarter of the room.
+const MANY_WORDS: u32 = 1_024;
 
-// The words that a set spans for each of its runs, at the least, where words become runs. Then runs take an eighth to a
-// half of the room.
-const WORDS_PER_RUN: u32 = 4;
+// How many runs take the place of so many words, at most. Words are united and compared much faster than runs, so sets
+// that are not wide are made runs only if these are very few.
+fn fitting_runs(span: u32) -> u32 {
+    if span < MANY_WORDS {
+        span / 128
+    } else {
+        span / 4
+    }
+}
 
 impl Held {
     // How many words the ranks span.
@@ -39,16 +45,16 @@ impl Held {
     {
         match self {
             Held::Words(words) => {
-                let span = words.span();
-                if span < FEW_WORDS {
+                let fitting = fitting_runs(words.span());
+                if fitting == 0 {
                     return;
                 }
-                if let Ok(Some(runs)) = words.few_runs(span / WORDS_PER_RUN) {
+                if let Ok(Some(runs)) = words.few_runs(fitting) {
                     *self = Held::Runs(runs);
                 }
             }
             Held::Runs(runs) => {
-                if 2 * u64::from(runs.len()) <= u64::from(runs.span()) {
+                if runs.len() / 2 <= fitting_runs(runs.span()) {
                     return;
                 }
                 if let Ok(words) = runs.to_words() {

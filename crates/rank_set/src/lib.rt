@@ -233,6 +233,9 @@ impl RankSet {
             held.settle();
             return Ok(RankSet { held });
         }
+        if self.is_subset(other) {
+            return Ok(RankSet::new(self.allocator()));
+        }
         by_runs::difference(self, other)
     }
 
@@ -250,10 +253,11 @@ impl RankSet {
     pub fn is_subset(&self, other: &RankSet) -> bool
         ensures { result ≡ is_subset self.now other.now }
     {
-        if let (Held::Words(words), Held::Words(others)) = (&self.held, &other.held) {
-            return words.is_subset(others);
+        match (&self.held, &other.held) {
+            (Held::Words(words), Held::Words(others)) => words.is_subset(others),
+            (Held::Words(_), Held::Runs(_)) => by_runs::lies_in(self, other),
+            (Held::Runs(_), _) => by_runs::is_subset(self, other),
         }
-        by_runs::is_subset(self, other)
     }
 
     /// Whether no rank of the set is in the other.
@@ -263,8 +267,8 @@ impl RankSet {
         if let (Held::Words(words), Held::Words(others)) = (&self.held, &other.held) {
             return words.is_disjoint(others);
         }
-        // Words go first: most often they are few.
-        if let Held::Words(_) = &other.held {
+        // The one with runs goes first: it has fewer of them.
+        if let Held::Words(_) = &self.held {
             return by_runs::is_disjoint(other, self);
         }
         by_runs::is_disjoint(self, other)
@@ -274,10 +278,11 @@ impl RankSet {
     pub fn equals(&self, other: &RankSet) -> bool
         ensures { (result ≡ true) ↔ (self.now ≡ other.now) }
     {
-        if let (Held::Words(words), Held::Words(others)) = (&self.held, &other.held) {
-            return words.equals(others);
+        match (&self.held, &other.held) {
+            (Held::Words(words), Held::Words(others)) => words.equals(others),
+            (Held::Runs(runs), Held::Runs(others)) => runs.equals(others),
+            _ => self.is_subset(other) && other.is_subset(self),
         }
-        by_runs::is_subset(self, other) && by_runs::is_subset(other, self)
     }
 
     /// Whether the set has no ranks.
@@ -355,6 +360,17 @@ impl RankSet {
         match &self.held {
             Held::Words(words) => words.run_within(from, to),
             Held::Runs(runs) => runs.run_within(from, to, hint),
+        }
+    }
+
+    /// Whether all ranks of a run are in the set.
+    pub(crate) fn has_run(&self, run: Run, hint: &mut usize) -> bool
+        requires { run.first ≤ run.last }
+        ensures { result ≡ is_subset (ranks_between run.first run.last) self.now }
+    {
+        match &self.held {
+            Held::Words(words) => words.has_run(run),
+            Held::Runs(runs) => runs.has_run(run, hint),
         }
     }
 

@@ -1,11 +1,11 @@
 //! Sets of ranks as their longest runs of neighbours, in order.
 
-ghost use Rattle.std.specs.Prelude.{◌≡◌, ℕ, ◌<◌, ◌≤◌, true, false, OnOk, OnErr, IfOk, IfSome, IfNone, Some, slice_get, map, ◌++◌};
-ghost use Rattle.rank_set.specs.Ranks.{none, has, union, in_order, is_empty, size, Has};
+ghost use Rattle.std.specs.Prelude.{◌≡◌, ℕ, ◌<◌, ◌≤◌, ◌↔◌, true, false, OnOk, OnErr, IfOk, IfSome, IfNone, Some, slice_get, map, ◌++◌};
+ghost use Rattle.rank_set.specs.Ranks.{none, has, union, in_order, is_empty, is_subset, size, Has};
 ghost use Rattle.rank_set.specs.Runs.{ranks_between, ranks_of_runs, AreRuns, IsRun, runs_of, run_pairs, up_to};
 ghost use Rattle.rank_set.specs.Text.{text_of, BeginsWith};
 
-use crate::sorted_runs::{Runs, count, end, extend_last, find, merged, words_of_runs};
+use crate::sorted_runs::{Runs, are_same, count, end, extend_last, find, merged, words_of_runs};
 use crate::text::write_run_list;
 use crate::word_set::WordSet;
 use crate::{RANK_LIMIT, Run};
@@ -214,6 +214,27 @@ impl RunSet {
         ensures { result ≡ has self.now r }
     {
         self.run_within(r, r, &mut 0).is_some()
+    }
+
+    /// Whether all ranks of a run are in the set.
+    pub(crate) fn has_run(&self, run: Run, hint: &mut usize) -> bool
+        requires { run.first ≤ run.last }
+        ensures { result ≡ is_subset (ranks_between run.first run.last) self.now }
+    {
+        let runs = self.runs.as_slice();
+        let at = find(runs, *hint, run.first);
+        *hint = at;
+        if at >= runs.len() {
+            return false;
+        }
+        runs[at].first <= run.first && run.last <= runs[at].last
+    }
+
+    /// Whether the two sets have the same ranks.
+    pub(crate) fn equals(&self, other: &RunSet) -> bool
+        ensures { (result ≡ true) ↔ (self.now ≡ other.now) }
+    {
+        are_same(self.runs.as_slice(), other.runs.as_slice())
     }
 
     /// All longest runs of neighbours, in order.

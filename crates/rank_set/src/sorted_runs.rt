@@ -1,6 +1,6 @@
 //! Rank sets as lists of their longest runs, in order.
 
-ghost use Rattle.std.specs.Prelude.{◌≡◌, ℕ, ◌<◌, ◌≤◌, ◌+◌, ◌-◌, ◌++◌, [], ◌∷◌, true, IfOk, length, get_or};
+ghost use Rattle.std.specs.Prelude.{◌≡◌, ℕ, ◌<◌, ◌≤◌, ◌+◌, ◌-◌, ◌++◌, [], ◌∷◌, ◌↔◌, true, IfOk, length, get_or};
 ghost use Rattle.rank_set.specs.Ranks.{has, union, size};
 ghost use Rattle.rank_set.specs.Runs.{ranks_between, ranks_of_runs, AreRuns, IsRunInRange, run_pair, run_pairs};
 
@@ -166,6 +166,23 @@ pub(crate) fn extend_last(runs: &mut [Run], first: u32, last: u32)
         first: runs[at].first,
         last,
     };
+}
+
+/// Whether the two lists have the same runs: then they have the same ranks.
+pub(crate) fn are_same(runs: &[Run], others: &[Run]) -> bool
+    requires runs { AreRuns 0 (run_pairs runs.now) }
+    requires others { AreRuns 0 (run_pairs others.now) }
+    ensures { (result ≡ true) ↔ (ranks_of_runs (run_pairs runs.now) ≡ ranks_of_runs (run_pairs others.now)) }
+{
+    if runs.len() != others.len() {
+        return false;
+    }
+    for (i, run) in runs.iter().enumerate() {
+        if run.first != others[i].first || run.last != others[i].last {
+            return false;
+        }
+    }
+    true
 }
 
 /// The number of ranks in the runs.

@@ -275,6 +275,17 @@ impl WordSet {
         words::run_within(self.offset, self.words.as_slice(), from, to)
     }
 
+    /// Whether all ranks of a run are in the set.
+    pub(crate) fn has_run(&self, run: Run) -> bool
+        requires { run.first ≤ run.last }
+        ensures { result ≡ is_subset (ranks_between run.first run.last) self.now }
+    {
+        match self.run_within(run.first, run.last) {
+            Some(within) => within.first == run.first && within.last == run.last,
+            None => false,
+        }
+    }
+
     /// All longest runs of neighbours, in order.
     pub(crate) fn runs(&self, alloc: Global) -> Result<Vec<Run>, AllocError>
         ensures { IfOk result (λ runs. map (λ run. (run.first, run.last)) runs.items ≡ runs_of (in_order self.now)) }
@@ -296,15 +307,10 @@ impl WordSet {
     pub(crate) fn few_runs(&self, most: u32) -> Result<Option<RunSet>, AllocError>
         ensures { IfOk result (λ found. IfSome found (λ runs. runs ≡ self.now)) }
     {
-        let mut runs = RunSet::new(self.allocator());
-        let mut from = 0;
-        while let Some(run) = self.next_run(from) {
-            if runs.len() >= most {
-                return Ok(None);
-            }
-            runs.put_run(run.first, run.last)?;
-            from = run.last + 1;
+        if words::run_starts(self.words.as_slice()) > most {
+            return Ok(None);
         }
+        let runs = self.to_runs()?;
         Ok(Some(runs))
     }
 

@@ -461,6 +461,17 @@ pub(crate) fn ones(words: &[u64]) -> u32
     total
 }
 
+/// How many runs of neighbours the words have. It serves to choose a form, and no clause speaks of it.
+pub(crate) fn run_starts(words: &[u64]) -> u32 {
+    let mut total: u32 = 0;
+    let mut before = 0;
+    for word in words {
+        total = total.saturating_add((word & !(word << 1 | before)).count_ones());
+        before = word >> 63;
+    }
+    total
+}
+
 // Whether the two have the same ranks: trimmed words that do are equal.
 pub(crate) fn are_same(offset: u32, words: &[u64], other_offset: u32, others: &[u64]) -> bool
     requires trimmed { AreWords offset words.now }

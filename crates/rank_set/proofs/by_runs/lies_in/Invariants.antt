@@ -1,12 +1,12 @@
 use Rattle.std.proofs.Common.{◌≤◌, ◌-◌}
 use Rattle.rank_set.specs.declared.TheConstants.{RANK_LIMIT}
-use Rattle.rank_set.proofs.RunWalks.{IsPartBelow}
-use Rattle.rank_set.proofs.word_set.WordSet.few_runs.Given as goal
+use Rattle.rank_set.proofs.RunWalks.{IsInBelow}
+use Rattle.rank_set.proofs.by_runs.lies_in.Given as goal
 
 abbrev pub invariant-loop-run : goal.invariant-loop-run
 invariant-loop-run l = record {
   within : l.from ≤ RANK_LIMIT;
-  done : IsPartBelow l.self l.runs l.from;
+  done : IsInBelow l.set l.other l.from;
 }
 
 abbrev pub decreases-loop-run : goal.decreases-loop-run
