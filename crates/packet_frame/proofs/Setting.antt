@@ -199,7 +199,7 @@ from_no_places cover = same_ranks _ _ (λ r. has-those (λ q. has none (place co
     never true = refl
     never false = refl
 
-ranks_at_none : (version : ℕ) (cover : Ranks) → ranks_at version cover none ≡ none
+pub ranks_at_none : (version : ℕ) (cover : Ranks) → ranks_at version cover none ≡ none
 ranks_at_none version cover = by_case (is_first version)
   where
     by_case : (first : Bool) → cond first none (from_places cover none) ≡ none

@@ -1,8 +1,8 @@
 //! Reads frames, wherever the input ends.
 
-ghost use Rattle.std.specs.Prelude.{◌≡◌, ◌+◌, ◌<◌, [], true, false, OnOk, IfErr, Ok};
+ghost use Rattle.std.specs.Prelude.{◌≡◌, ◌+◌, ◌<◌, ◌≤◌, [], true, false, OnOk, IfErr, Ok};
 ghost use Rattle.packet_frame.specs.declared.scan.Field.TheVariants as fields;
-ghost use Rattle.packet_frame.specs.Scanning.{IsFollowed, field_width};
+ghost use Rattle.packet_frame.specs.Scanning.{field_width};
 ghost use Rattle.packet_frame.specs.Reading.{IsOn, IsWhole, Waits, Fails, refusal_at};
 
 use crate::error::{FieldError, FrameError, FrameReason};
@@ -58,7 +58,6 @@ impl<T: PrefixTree> Reader<T> {
         requires on { IsOn self.old bytes.now }
         requires next { self.old.scan.field ≡ field }
         ensures on { OnOk result (IsOn self.new bytes.now) }
-        ensures follows { result ≡ Ok true → IsFollowed field self.new.scan.field }
         ensures at { result ≡ Ok true → self.new.at ≡ self.old.at + field_width field self.old.scan }
         ensures waits { result ≡ Ok false → Waits bytes.now self.new.at }
         ensures refused { IfErr result (Fails bytes.now) }
@@ -76,47 +75,23 @@ impl<T: PrefixTree> Reader<T> {
         Ok(true)
     }
 
-    // Reads a row up to its words: whether all of that is there.
-    fn read_row(&mut self, alloc: Global, bytes: &[u8]) -> Result<bool, FrameError>
-        requires on { IsOn self.old bytes.now }
-        requires next { self.old.scan.field ≡ fields.Depth }
-        ensures on { OnOk result (IsOn self.new bytes.now) }
-        ensures at { result ≡ Ok true → self.old.at < self.new.at }
-        ensures waits { result ≡ Ok false → Waits bytes.now self.new.at }
-        ensures refused { IfErr result (Fails bytes.now) }
-    {
-        match self.read(alloc, bytes, Field::Depth) {
-            Ok(true) => (),
-            other => return other,
-        }
-        match self.read(alloc, bytes, Field::NameLength) {
-            Ok(true) => (),
-            other => return other,
-        }
-        match self.read(alloc, bytes, Field::Name) {
-            Ok(true) => (),
-            other => return other,
-        }
-        match self.read(alloc, bytes, Field::Offset) {
-            Ok(true) => (),
-            other => return other,
-        }
-        self.read(alloc, bytes, Field::WordCount)
-    }
-
-    // Reads the next field, or what is alike in all rows.
-    fn read_next(&mut self, alloc: Global, bytes: &[u8]) -> Result<bool, FrameError>
+    // Reads rows in one go, up to the ends of the first that has some, or to the first that the fields are read of.
+    fn read_rows(&mut self, bytes: &[u8]) -> Result<(), FrameError>
         requires on { IsOn self.old bytes.now }
         requires some { self.old.scan.field ≡ fields.End → ⊥ }
         ensures on { OnOk result (IsOn self.new bytes.now) }
-        ensures at { result ≡ Ok true → self.old.at < self.new.at }
-        ensures waits { result ≡ Ok false → Waits bytes.now self.new.at }
+        ensures some { OnOk result (self.new.scan.field ≡ fields.End → ⊥) }
+        ensures at { OnOk result (self.old.at ≤ self.new.at) }
         ensures refused { IfErr result (Fails bytes.now) }
     {
-        if self.scan.field == Field::Depth {
-            return self.read_row(alloc, bytes);
+        while self.scan.field == Field::Depth {
+            self.at = self.scan.take_row_head(bytes, self.at)?;
+            if self.scan.field != Field::Offset {
+                return Ok(());
+            }
+            self.at = self.scan.pass_no_ends(bytes, self.at);
         }
-        self.read(alloc, bytes, self.scan.field)
+        Ok(())
     }
 
     /// Reads on to the end of the frame, or of the input: whether the frame is whole. What was read before must still
@@ -129,7 +104,8 @@ impl<T: PrefixTree> Reader<T> {
         ensures refused { IfErr result (Fails bytes.now) }
     {
         while self.scan.field != Field::End {
-            match self.read_next(alloc, bytes) {
+            self.read_rows(bytes)?;
+            match self.read(alloc, bytes, self.scan.field) {
                 Ok(true) => (),
                 other => return other,
             }

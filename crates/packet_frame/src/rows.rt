@@ -48,7 +48,6 @@ impl<T: PrefixTree> Scan<T> {
         requires width { length field.now ≡ 1 }
         ensures takes { Takes (left_at fields.Depth self.old) field.now result (left self.new) }
         ensures ready { OnOk result (IsReady self.new.field self.new) }
-        ensures next { OnOk result (self.new.field ≡ fields.NameLength) }
     {
         let depth = u8_of(field);
         if depth > 128 {
@@ -72,7 +71,6 @@ impl<T: PrefixTree> Scan<T> {
         requires width { length field.now ≡ 2 }
         ensures takes { Takes (left_at fields.NameLength self.old) field.now result (left self.new) }
         ensures ready { OnOk result (IsReady self.new.field self.new) }
-        ensures next { OnOk result (self.new.field ≡ fields.Name) }
     {
         let length = u16_of(field);
         if length == 0 {
@@ -86,13 +84,13 @@ impl<T: PrefixTree> Scan<T> {
         Ok(())
     }
 
-    // Whether the name comes after the sibling before it.
+    // Whether the name of a row of this depth comes after the sibling before it.
     #[inline(always)]
-    fn is_in_order(&self, name: &[u8]) -> bool
-        requires { 1 ≤ self.now.depth }
-        ensures { result ≡ is_after (slice_get self.now.path (self.now.depth - 1)) name.now }
+    pub fn is_in_order(&self, depth: u8, name: &[u8]) -> bool
+        requires { 1 ≤ depth }
+        ensures { result ≡ is_after (slice_get self.now.path (depth - 1)) name.now }
     {
-        let above = self.depth as usize - 1;
+        let above = depth as usize - 1;
         if above >= self.path.len() {
             return true;
         }
@@ -106,12 +104,11 @@ impl<T: PrefixTree> Scan<T> {
         requires width { length field.now ≡ self.old.name_length }
         ensures takes { Takes (left_at fields.Name self.old) field.now result (left self.new) }
         ensures ready { OnOk result (IsReady self.new.field self.new) }
-        ensures next { OnOk result (self.new.field ≡ fields.Offset) }
     {
         let Some(name) = name_of(field) else {
             return Err(FieldError::Broken(FrameReason::NotCanonical));
         };
-        if !self.is_in_order(field) {
+        if !self.is_in_order(self.depth, field) {
             return Err(FieldError::Broken(FrameReason::NotCanonical));
         }
         self.path.cut(self.depth as usize - 1);
@@ -122,6 +119,7 @@ impl<T: PrefixTree> Scan<T> {
     }
 
     // The next row, if any is left.
+    #[inline(always)]
     fn next_row(&mut self)
         requires { IsBeforeRow self.old }
         ensures left { left self.new ≡ left_at fields.Depth self.old }
@@ -196,7 +194,7 @@ fn two_plain_blocks(field: &[u8]) -> bool
 
 // It tests blocks of 16 bytes, and the last 16 in place of those that are left, since single bytes take longer.
 #[inline(always)]
-fn are_plain_ascii(field: &[u8]) -> bool
+pub fn are_plain_ascii(field: &[u8]) -> bool
     ensures { result ≡ list_all is_plain_ascii field.now }
 {
     if field.len() < 8 {

@@ -31,7 +31,6 @@ impl<T: PrefixTree> Scan<T> {
         requires width { length field.now ≡ 2 }
         ensures takes { Takes (left_at fields.Offset self.old) field.now result (left self.new) }
         ensures ready { OnOk result (IsReady self.new.field self.new) }
-        ensures next { OnOk result (self.new.field ≡ fields.WordCount) }
     {
         let offset = u16_of(field);
         if u32::from(offset) >= self.word_limit() {
