@@ -23,6 +23,8 @@ use Rattle.packet_frame.proofs.Setting.{set_follows, words_end, ranks_at_none}
 use Rattle.packet_frame.proofs.Steps.{field_taken}
 use Rattle.packet_frame.proofs.Growing.{named_more}
 
+-- ---- the rules of a depth, a length and a name hold
+
 both : (a b : Bool) → a ≡ true → b ≡ true → (a && b) ≡ true
 both true b p q = q
 both false b p q = absurd cc
@@ -31,7 +33,6 @@ either : (a : Bool) (n m : ℕ) → (a ≡ false → n ≡ m) → (a || nat_eq n
 either true n m h = refl
 either false n m h = let e : n ≡ m = h refl in grind (arith, e)
 
--- three rules that hold
 three_hold : (a b c : Bool) → a ≡ true → b ≡ true → c ≡ true → broken ((a, OverLimit) ∷ (b, NotCanonical) ∷ (c, NotCanonical) ∷ []) ≡ None
 three_hold true true true p q r = refl
 three_hold true true false p q r = absurd cc
@@ -61,7 +62,9 @@ length_fine n some most =
     let b : nat_le n 1023 ≡ true = le-leb n 1023 most in
     two_hold _ _ a b
 
--- what was cut off the front of the rest
+-- ---- a row up to its ends
+
+-- what is behind so many bytes of the rest is behind so many more of all
 cut_off : (bytes rest : List ℕ) (at n : ℕ) → rest ≡ drop at bytes → drop n rest ≡ drop (at + n) bytes
 cut_off bytes rest at n e = ap (drop n) e ∙ drop-drop n at bytes
 
@@ -70,6 +73,7 @@ module _ (version stream wave : ℕ) (cover : Ranks) (t : Tree) (count : ℕ) wh
   abbrev pub ends_left : Path → ℕ → Form (Packet Tree)
   ends_left p depth = set_form (word_limit version) (ends_needed depth (is_last count)) (ends_rule version cover) >>= λ numbers. after_ends version stream wave cover t p count (ranks_at version cover numbers)
 
+  -- depth, length and name are read, and the ends are left
   pub head_read : (path : Path) (ended : Bool) (bytes : List ℕ) (at depth len : ℕ) (name : List ℕ) → 0 < count → MayHaveDepth path ended depth → 0 < len → len ≤ 1023 → is_name name ≡ true → is_after (slice_get path (depth - 1)) name ≡ true → at + 1 + 2 + len ≤ length bytes → depth ≡ from_be_bytes w8 (piece bytes at 1) → len ≡ from_be_bytes w16 (piece bytes (at + 1) 2) → name ≡ piece bytes (at + 1 + 2) len → ReadsOn bytes (rows_left version stream wave cover t path ended count) at (ends_left (path_at path depth name) depth) (at + 1 + 2 + len)
   unfolding depth_form name_length_form name_form
   head_read path ended bytes at depth len name some may len_some len_most good after within depth_is len_is name_is more =
@@ -85,6 +89,7 @@ module _ (version stream wave : ℕ) (cover : Ranks) (t : Tree) (count : ℕ) wh
       ∙ field_taken (name_form path depth len >>= named) (named (piece bytes (at + 1 + 2) len)) bytes more (at + 1 + 2) within third
       ∙ ap (λ form. read form (bytes ++ more) (at + 1 + 2 + len)) (ap named (sym name_is) ∙ ends_follow version stream wave cover t depth count (is_last count) (path_at path depth name))
 
+  -- no words are within the limit of either version
   no_words : (b : Bool) → nat_lt 0 (cond b 256 16384) ≡ true
   no_words true = refl
   no_words false = refl
@@ -101,6 +106,7 @@ module _ (version stream wave : ℕ) (cover : Ranks) (t : Tree) (count : ℕ) wh
   count_holds true p = refl
   count_holds false p = absurd cc
 
+  -- no offset and no words are read, and no ends follow
   pub ends_read : (p : Path) (depth : ℕ) (bytes : List ℕ) (at : ℕ) → ends_needed depth (is_last count) ≡ None → at + 2 + 2 ≤ length bytes → 0 ≡ from_be_bytes w16 (piece bytes at 2) → 0 ≡ from_be_bytes w16 (piece bytes (at + 2) 2) → ReadsOn bytes (ends_left p depth) at (after_ends version stream wave cover t p count none) (at + 2 + 2)
   unfolding offset_form word_count_form
   ends_read p depth bytes at none_needed within offset_is count_is more =
@@ -123,6 +129,7 @@ at_ends s field part =
     ap (λ f. left_at f s) field
     ∙ ap (λ (p : Part). set_form (word_limit s.version) (needed p s.depth s.rows_left) (word_rule p s.version s.cover) >>= after_set p s.version s.stream s.wave s.cover s.tree s.path s.rows_left) part
 
+-- a row that isn't the last, and not at the greatest depth, needs no ends
 needs_none : (depth count : ℕ) → 1 < count → (depth ≡ 128 → ⊥) → ends_needed depth (is_last count) ≡ None
 needs_none depth count some less =
     let a : nat_eq (count - 1) 0 ≡ false = grind (arith, some) in
@@ -134,8 +141,10 @@ needs_none depth count some less =
     neither false true p q = absurd cc
     neither true b p q = absurd cc
 
--- the ends of the row that was named are passed
+-- ---- the same of a scan, and of the pieces that its code cuts
+
 module _ {X : Type 0} (s : Scan X) (bytes : List ℕ) (at : ℕ) where
+  -- the ends of the row that was named are passed
   pub passes_ends : (first rest second : List ℕ) → s.field ≡ fields.Offset → s.part ≡ parts.Ends → 1 < s.rows_left → (s.depth ≡ 128 → ⊥) → at + 4 ≤ length bytes → first ≡ take 2 (drop at bytes) → rest ≡ drop 2 (drop at bytes) → second ≡ take 2 rest → from_be_bytes w16 first ≡ 0 → from_be_bytes w16 second ≡ 0 → ReadsOn bytes (left s) at (rows_left s.version s.stream s.wave s.cover s.tree s.path false (s.rows_left - 1)) (at + 4)
   passes_ends first rest second field part some less within first_is rest_is second_is no_offset no_count more =
       let two : at + 2 + 2 ≡ at + 4 = omega arith in

@@ -51,17 +51,15 @@ impl<T: PrefixTree> Reader<T> {
         }
     }
 
-    // Reads the next field, which is this one: whether it is there. Where a caller names the field by a constant, no
-    // code asks which it is.
-    #[inline(always)]
-    fn read(&mut self, alloc: Global, bytes: &[u8], field: Field) -> Result<bool, FrameError>
-        requires on { IsOn self.old bytes.now }
-        requires next { self.old.scan.field ≡ field }
+    // Reads the next field: whether it is there.
+    fn read(&mut self, alloc: Global, bytes: &[u8]) -> Result<bool, FrameError>
+        requires { IsOn self.old bytes.now }
         ensures on { OnOk result (IsOn self.new bytes.now) }
-        ensures at { result ≡ Ok true → self.new.at ≡ self.old.at + field_width field self.old.scan }
+        ensures at { result ≡ Ok true → self.new.at ≡ self.old.at + field_width self.old.scan.field self.old.scan }
         ensures waits { result ≡ Ok false → Waits bytes.now self.new.at }
         ensures refused { IfErr result (Fails bytes.now) }
     {
+        let field = self.scan.field;
         let width = self.scan.width(field);
         let (_, rest) = bytes.split_at(self.at);
         if rest.len() < width {
@@ -105,7 +103,7 @@ impl<T: PrefixTree> Reader<T> {
     {
         while self.scan.field != Field::End {
             self.read_rows(bytes)?;
-            match self.read(alloc, bytes, self.scan.field) {
+            match self.read(alloc, bytes) {
                 Ok(true) => (),
                 other => return other,
             }

@@ -97,7 +97,6 @@ impl<T: PrefixTree> Scan<T> {
         self.path.frame(above).as_bytes().cmp(name) == Ordering::Less
     }
 
-    #[inline(always)]
     #[tactic(auto, unfolding(crate::specs::Frame::name_form, crate::specs::Frame::ends_form))]
     pub fn take_name(&mut self, field: &[u8]) -> Result<(), FieldError>
         requires ready { IsReady fields.Name self.old }
@@ -215,7 +214,7 @@ pub fn are_plain_ascii(field: &[u8]) -> bool
 }
 
 // The field as text, where it is a good name.
-fn any_name_of(field: &[u8]) -> Option<&str>
+fn name_of(field: &[u8]) -> Option<&str>
     ensures some { IfSome result (λ name. name.now ≡ field.now) }
     ensures good { IfSome result (λ name. is_name field.now ≡ true) }
     ensures none { IfNone result (is_name field.now ≡ false) }
@@ -227,17 +226,4 @@ fn any_name_of(field: &[u8]) -> Option<&str>
         Ok(name) => Some(name),
         Err(_) => None,
     }
-}
-
-// The same, and faster where it is ASCII, as most names are.
-#[inline(always)]
-fn name_of(field: &[u8]) -> Option<&str>
-    ensures some { IfSome result (λ name. name.now ≡ field.now) }
-    ensures good { IfSome result (λ name. is_name field.now ≡ true) }
-    ensures none { IfNone result (is_name field.now ≡ false) }
-{
-    if are_plain_ascii(field) {
-        return Some(unsafe { str::from_utf8_unchecked(field) });
-    }
-    any_name_of(field)
 }
