@@ -47,8 +47,7 @@ impl<T: PrefixTree> RowTree<T> {
         self.tree.cover(cover)
     }
 
-    /// Adds the ends of one more row, if it has any. Most rows have none, and take but the test.
-    #[inline(always)]
+    /// Adds the ends of one more row, if it has any.
     pub fn grow(
         &mut self,
         alloc: Global,

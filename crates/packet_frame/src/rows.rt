@@ -131,8 +131,7 @@ impl<T: PrefixTree> Scan<T> {
         }
     }
 
-    // The row is whole. Each caller has this code in its own, and with no ends much of it falls away.
-    #[inline(always)]
+    // The row is whole.
     pub fn end_row(&mut self, alloc: Global, ends: RankSet) -> Result<(), FieldError>
         requires named { IsNamed self.old }
         requires covered { IsTrue (is_subset ends self.old.cover) }
