@@ -48,6 +48,7 @@ impl<T: PrefixTree> RowTree<T> {
     }
 
     /// Adds the ends of one more row, if it has any.
+    #[inline(always)]
     pub fn grow(
         &mut self,
         alloc: Global,

@@ -132,6 +132,7 @@ impl<T: PrefixTree> Scan<T> {
     }
 
     // The row is whole.
+    #[inline(always)]
     pub fn end_row(&mut self, alloc: Global, ends: RankSet) -> Result<(), FieldError>
         requires named { IsNamed self.old }
         requires covered { IsTrue (is_subset ends self.old.cover) }
