@@ -5,6 +5,8 @@ pub mod Feeds
 pub mod FewRows
 pub mod FormLaws
 pub mod Growing
+pub mod Heads
+pub mod Names
 pub mod ReadFields
 pub mod ReadRows
 pub mod ReadSets

@@ -17,11 +17,10 @@ use Rattle.packet_frame.specs.Frame.{word_form, next_word, after_word, words_for
 use Rattle.call_path.specs.Path.{Path}
 use Rattle.packet_frame.specs.declared.scan.Scan.{Scan}
 use Rattle.prefix_tree.specs.Tree.{Tree}
-use Rattle.packet_frame.specs.declared.packet.Packet.{Packet}
 use Rattle.packet_frame.specs.FrameRows.{HasGrown}
 use Rattle.packet_frame.specs.declared.scan.Part.{Part}
 use Rattle.packet_frame.specs.declared.scan.Part.TheVariants as parts
-use Rattle.packet_frame.specs.Scanning.{words_left, word_rule, IsInPart, IsInSet, MayEnd, after_ends, after_set, set_then}
+use Rattle.packet_frame.specs.Scanning.{words_left, word_rule, IsInPart, IsInSet, MayEnd}
 use Rattle.packet_frame.proofs.Binding.{bind_assoc, bind_same, first_and_rest}
 
 module _ {B : Type 0} (of_word : ℕ → ℕ → Rules) (k : Ranks → Form B) where
@@ -199,20 +198,9 @@ from_no_places cover = same_ranks _ _ (λ r. has-those (λ q. has none (place co
     never true = refl
     never false = refl
 
-ranks_at_none : (version : ℕ) (cover : Ranks) → ranks_at version cover none ≡ none
+pub ranks_at_none : (version : ℕ) (cover : Ranks) → ranks_at version cover none ≡ none
 ranks_at_none version cover = by_case (is_first version)
   where
     by_case : (first : Bool) → cond first none (from_places cover none) ≡ none
     by_case true = refl
     by_case false = from_no_places cover
-
--- no words are no ends
-pub no_ends : {X : Type 0} (s : Scan X) → s.part ≡ parts.Ends → s.words.items ≡ [] → after_ends s.version s.stream s.wave s.cover s.tree s.path s.rows_left none ≡ set_then s (ranks_in s.offset s.words.items)
-no_ends s part empty =
-    let then : Ranks → Form (Packet Tree) = after_ends s.version s.stream s.wave s.cover s.tree s.path s.rows_left in
-    sym (
-    ap (λ (p : Part). after_set p s.version s.stream s.wave s.cover s.tree s.path s.rows_left (ranks_in s.offset s.words.items)) part
-    ∙ ap (λ ws. then (ranks_at s.version s.cover (ranks_in s.offset ws))) empty
-    ∙ ap (λ r. then (ranks_at s.version s.cover r)) (ranks_in-none s.offset)
-    ∙ ap then (ranks_at_none s.version s.cover)
-    )

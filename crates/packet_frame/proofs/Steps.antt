@@ -188,14 +188,3 @@ ends r bytes on end = sym (now_on r bytes on) ∙ ap (λ f. read (left_at f r.sc
 pub fails_at : {X : Type 0} (r : Reader X) (bytes : List ℕ) (e : FieldError) (t : Scan X) → IsOn r bytes → r.at + field_width r.scan.field r.scan ≤ length bytes → Takes (left r.scan) (piece bytes r.at (field_width r.scan.field r.scan)) (Err e) (left t) → Fails bytes (refusal_at r.at e)
 fails_at r bytes (faults.Broken reason) t on within taken = (breaks r bytes reason on within taken.0, taken.1, on.within)
 fails_at r bytes faults.OutOfMemory t on within taken = tt
-
--- ---- the same of a field that is known to come next
-
-pub took : {X : Type 0} (r : Reader X) (t : Scan X) (f : Field) (bytes : List ℕ) → IsOn r bytes → r.scan.field ≡ f → r.at + field_width f r.scan ≤ length bytes → after_field (left_at f r.scan) (piece bytes r.at (field_width f r.scan)) ≡ Ok (left t) → IsReady t.field t → IsOn (record { at = r.at + field_width f r.scan; scan = t }) bytes
-took r t f bytes on next = subst (λ (g : Field). r.at + field_width g r.scan ≤ length bytes → after_field (left_at g r.scan) (piece bytes r.at (field_width g r.scan)) ≡ Ok (left t) → IsReady t.field t → IsOn (record { at = r.at + field_width g r.scan; scan = t }) bytes) next (goes_on r t bytes on)
-
-pub waits_for : {X : Type 0} (r : Reader X) (f : Field) (bytes : List ℕ) → IsOn r bytes → r.scan.field ≡ f → length bytes < r.at + field_width f r.scan → Waits bytes r.at
-waits_for r f bytes on next = subst (λ (g : Field). length bytes < r.at + field_width g r.scan → Waits bytes r.at) next (waits r bytes on)
-
-pub fails_in : {X : Type 0} (r : Reader X) (f : Field) (bytes : List ℕ) (e : FieldError) (t : Scan X) → IsOn r bytes → r.scan.field ≡ f → r.at + field_width f r.scan ≤ length bytes → Takes (left_at f r.scan) (piece bytes r.at (field_width f r.scan)) (Err e) (left t) → Fails bytes (refusal_at r.at e)
-fails_in r f bytes e t on next = subst (λ (g : Field). r.at + field_width g r.scan ≤ length bytes → Takes (left_at g r.scan) (piece bytes r.at (field_width g r.scan)) (Err e) (left t) → Fails bytes (refusal_at r.at e)) next (fails_at r bytes e t on)

@@ -20,7 +20,7 @@ use Rattle.packet_frame.specs.declared.scan.Part.TheVariants as parts
 use Rattle.packet_frame.specs.declared.scan.Scan.{Scan}
 use Rattle.packet_frame.specs.Sent.{packet_map, tree_from}
 use Rattle.packet_frame.specs.FrameRows.{grown, rows_onto, HasGrown}
-use Rattle.packet_frame.specs.Fields.{Form, whole, ◌>>=◌, Rules, list_form, after_field, is_short}
+use Rattle.packet_frame.specs.Fields.{Form, whole, ◌>>=◌, Rules, list_form, read, after_field, is_short}
 use Rattle.packet_frame.specs.Frame.{Message, next_word, after_word, word_count_form, set_form, is_first, word_limit, no_rules, run_count_form, last_rank_form, next_run, after_run, ends_rule, ranks_at, ends_needed, ends_form, name_length_form, name_form, path_at, next_row, after_row, kind_form, stream_form, wave_form, row_count_form, content_form, packet_form, frame_form}
 
 -- a byte of a name that is a character by itself
@@ -130,24 +130,6 @@ field_width fields.NameLength s = 2
 field_width fields.Name s = s.name_length
 field_width fields.End s = 0
 
--- in a row each field up to its word count is followed by one and the same
-abbrev pub IsFollowed : Field → Field → Type 0
-IsFollowed fields.Depth next = next ≡ fields.NameLength
-IsFollowed fields.NameLength next = next ≡ fields.Name
-IsFollowed fields.Name next = next ≡ fields.Offset
-IsFollowed fields.Offset next = next ≡ fields.WordCount
-IsFollowed fields.WordCount next = Unit {0}
-IsFollowed fields.Version next = Unit {0}
-IsFollowed fields.Kind next = Unit {0}
-IsFollowed fields.Stream next = Unit {0}
-IsFollowed fields.Wave next = Unit {0}
-IsFollowed fields.RunCount next = Unit {0}
-IsFollowed fields.FirstRank next = Unit {0}
-IsFollowed fields.LastRank next = Unit {0}
-IsFollowed fields.Word next = Unit {0}
-IsFollowed fields.RowCount next = Unit {0}
-IsFollowed fields.End next = Unit {0}
-
 -- ---- what was read before each field
 
 -- a coverage's ranks are counted, and have their places
@@ -188,6 +170,13 @@ IsInPart parts.Ends s = IsNamed s
 abbrev pub MayEnd : (version : ℕ) → (cover numbers : Ranks) → Type 0
 MayEnd version cover numbers = (is_first version ≡ true → is_subset numbers cover ≡ true) × (is_first version ≡ false → (p : ℕ) → Has p numbers → p < size cover)
 
+-- a row may have this depth, behind a row with this path, where some paths end or not
+pub record MayHaveDepth (before : Path) (ended : Bool) (depth : ℕ) : Type 0 where
+  pub some : 1 ≤ depth
+  pub limit : depth ≤ 128
+  pub near : depth ≤ length before + 1
+  pub next : ended ≡ false → depth ≡ length before + 1
+
 -- some words of a set were read
 pub record IsInSet {X : Type 0} (s : Scan X) : Type 0 where
   pub part : IsInPart s.part s
@@ -221,3 +210,7 @@ abbrev pub Takes : Form (Packet Tree) → List ℕ → Result (Unit {0}) FieldEr
 Takes old bytes (Ok x) new = after_field old bytes ≡ Ok new
 Takes old bytes (Err (errors.Broken reason)) new = (after_field old bytes ≡ Err reason) × (is_short reason ≡ false)
 Takes old bytes (Err errors.OutOfMemory) new = Unit {0}
+
+-- To read the old form from an offset on is to read the new one from the next offset on, whatever follows the bytes.
+abbrev pub ReadsOn : List ℕ → Form (Packet Tree) → ℕ → Form (Packet Tree) → ℕ → Type 0
+ReadsOn bytes old at new next = (more : List ℕ) → read old (bytes ++ more) at ≡ read new (bytes ++ more) next

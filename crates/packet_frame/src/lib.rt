@@ -12,6 +12,7 @@ mod laws;
 mod number;
 mod packet;
 mod reader;
+mod row_head;
 mod row_tree;
 mod rows;
 mod scan;

@@ -3,6 +3,7 @@
 ghost use Rattle.std.specs.Prelude.{◌≡◌, length};
 ghost use Rattle.std.specs.Int.{w8, w16, w32, w64, from_be_bytes};
 
+#[inline(always)]
 pub fn u8_of(field: &[u8]) -> u8
     requires { length field.now ≡ 1 }
     ensures { result ≡ from_be_bytes w8 field.now }
@@ -10,6 +11,7 @@ pub fn u8_of(field: &[u8]) -> u8
     field[0]
 }
 
+#[inline(always)]
 pub fn u16_of(field: &[u8]) -> u16
     requires { length field.now ≡ 2 }
     ensures { result ≡ from_be_bytes w16 field.now }

@@ -1,8 +1,8 @@
 //! Reads frames, wherever the input ends.
 
-ghost use Rattle.std.specs.Prelude.{◌≡◌, ◌+◌, ◌<◌, [], true, false, OnOk, IfErr, Ok};
+ghost use Rattle.std.specs.Prelude.{◌≡◌, ◌+◌, ◌<◌, ◌≤◌, [], true, false, OnOk, IfErr, Ok};
 ghost use Rattle.packet_frame.specs.declared.scan.Field.TheVariants as fields;
-ghost use Rattle.packet_frame.specs.Scanning.{IsFollowed, field_width};
+ghost use Rattle.packet_frame.specs.Scanning.{field_width};
 ghost use Rattle.packet_frame.specs.Reading.{IsOn, IsWhole, Waits, Fails, refusal_at};
 
 use crate::error::{FieldError, FrameError, FrameReason};
@@ -51,18 +51,15 @@ impl<T: PrefixTree> Reader<T> {
         }
     }
 
-    // Reads the next field, which is this one: whether it is there. Where a caller names the field by a constant, no
-    // code asks which it is.
-    #[inline(always)]
-    fn read(&mut self, alloc: Global, bytes: &[u8], field: Field) -> Result<bool, FrameError>
-        requires on { IsOn self.old bytes.now }
-        requires next { self.old.scan.field ≡ field }
+    // Reads the next field: whether it is there.
+    fn read(&mut self, alloc: Global, bytes: &[u8]) -> Result<bool, FrameError>
+        requires { IsOn self.old bytes.now }
         ensures on { OnOk result (IsOn self.new bytes.now) }
-        ensures follows { result ≡ Ok true → IsFollowed field self.new.scan.field }
-        ensures at { result ≡ Ok true → self.new.at ≡ self.old.at + field_width field self.old.scan }
+        ensures at { result ≡ Ok true → self.new.at ≡ self.old.at + field_width self.old.scan.field self.old.scan }
         ensures waits { result ≡ Ok false → Waits bytes.now self.new.at }
         ensures refused { IfErr result (Fails bytes.now) }
     {
+        let field = self.scan.field;
         let width = self.scan.width(field);
         let (_, rest) = bytes.split_at(self.at);
         if rest.len() < width {
@@ -76,47 +73,23 @@ impl<T: PrefixTree> Reader<T> {
         Ok(true)
     }
 
-    // Reads a row up to its words: whether all of that is there.
-    fn read_row(&mut self, alloc: Global, bytes: &[u8]) -> Result<bool, FrameError>
-        requires on { IsOn self.old bytes.now }
-        requires next { self.old.scan.field ≡ fields.Depth }
-        ensures on { OnOk result (IsOn self.new bytes.now) }
-        ensures at { result ≡ Ok true → self.old.at < self.new.at }
-        ensures waits { result ≡ Ok false → Waits bytes.now self.new.at }
-        ensures refused { IfErr result (Fails bytes.now) }
-    {
-        match self.read(alloc, bytes, Field::Depth) {
-            Ok(true) => (),
-            other => return other,
-        }
-        match self.read(alloc, bytes, Field::NameLength) {
-            Ok(true) => (),
-            other => return other,
-        }
-        match self.read(alloc, bytes, Field::Name) {
-            Ok(true) => (),
-            other => return other,
-        }
-        match self.read(alloc, bytes, Field::Offset) {
-            Ok(true) => (),
-            other => return other,
-        }
-        self.read(alloc, bytes, Field::WordCount)
-    }
-
-    // Reads the next field, or what is alike in all rows.
-    fn read_next(&mut self, alloc: Global, bytes: &[u8]) -> Result<bool, FrameError>
+    // Reads rows in one go, up to the ends of the first that has some, or to the first that the fields are read of.
+    fn read_rows(&mut self, bytes: &[u8]) -> Result<(), FrameError>
         requires on { IsOn self.old bytes.now }
         requires some { self.old.scan.field ≡ fields.End → ⊥ }
         ensures on { OnOk result (IsOn self.new bytes.now) }
-        ensures at { result ≡ Ok true → self.old.at < self.new.at }
-        ensures waits { result ≡ Ok false → Waits bytes.now self.new.at }
+        ensures some { OnOk result (self.new.scan.field ≡ fields.End → ⊥) }
+        ensures at { OnOk result (self.old.at ≤ self.new.at) }
         ensures refused { IfErr result (Fails bytes.now) }
     {
-        if self.scan.field == Field::Depth {
-            return self.read_row(alloc, bytes);
+        while self.scan.field == Field::Depth {
+            self.at = self.scan.take_row_head(bytes, self.at)?;
+            if self.scan.field != Field::Offset {
+                return Ok(());
+            }
+            self.at = self.scan.pass_no_ends(bytes, self.at);
         }
-        self.read(alloc, bytes, self.scan.field)
+        Ok(())
     }
 
     /// Reads on to the end of the frame, or of the input: whether the frame is whole. What was read before must still
@@ -129,7 +102,8 @@ impl<T: PrefixTree> Reader<T> {
         ensures refused { IfErr result (Fails bytes.now) }
     {
         while self.scan.field != Field::End {
-            match self.read_next(alloc, bytes) {
+            self.read_rows(bytes)?;
+            match self.read(alloc, bytes) {
                 Ok(true) => (),
                 other => return other,
             }

@@ -47,7 +47,7 @@ impl<T: PrefixTree> RowTree<T> {
         self.tree.cover(cover)
     }
 
-    /// Adds the ends of one more row, if it has any. Most rows have none, and take but the test.
+    /// Adds the ends of one more row, if it has any.
     #[inline(always)]
     pub fn grow(
         &mut self,

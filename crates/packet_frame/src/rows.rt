@@ -48,7 +48,6 @@ impl<T: PrefixTree> Scan<T> {
         requires width { length field.now ≡ 1 }
         ensures takes { Takes (left_at fields.Depth self.old) field.now result (left self.new) }
         ensures ready { OnOk result (IsReady self.new.field self.new) }
-        ensures next { OnOk result (self.new.field ≡ fields.NameLength) }
     {
         let depth = u8_of(field);
         if depth > 128 {
@@ -72,7 +71,6 @@ impl<T: PrefixTree> Scan<T> {
         requires width { length field.now ≡ 2 }
         ensures takes { Takes (left_at fields.NameLength self.old) field.now result (left self.new) }
         ensures ready { OnOk result (IsReady self.new.field self.new) }
-        ensures next { OnOk result (self.new.field ≡ fields.Name) }
     {
         let length = u16_of(field);
         if length == 0 {
@@ -86,32 +84,30 @@ impl<T: PrefixTree> Scan<T> {
         Ok(())
     }
 
-    // Whether the name comes after the sibling before it.
+    // Whether the name of a row of this depth comes after the sibling before it.
     #[inline(always)]
-    fn is_in_order(&self, name: &[u8]) -> bool
-        requires { 1 ≤ self.now.depth }
-        ensures { result ≡ is_after (slice_get self.now.path (self.now.depth - 1)) name.now }
+    pub fn is_in_order(&self, depth: u8, name: &[u8]) -> bool
+        requires { 1 ≤ depth }
+        ensures { result ≡ is_after (slice_get self.now.path (depth - 1)) name.now }
     {
-        let above = self.depth as usize - 1;
+        let above = depth as usize - 1;
         if above >= self.path.len() {
             return true;
         }
         self.path.frame(above).as_bytes().cmp(name) == Ordering::Less
     }
 
-    #[inline(always)]
     #[tactic(auto, unfolding(crate::specs::Frame::name_form, crate::specs::Frame::ends_form))]
     pub fn take_name(&mut self, field: &[u8]) -> Result<(), FieldError>
         requires ready { IsReady fields.Name self.old }
         requires width { length field.now ≡ self.old.name_length }
         ensures takes { Takes (left_at fields.Name self.old) field.now result (left self.new) }
         ensures ready { OnOk result (IsReady self.new.field self.new) }
-        ensures next { OnOk result (self.new.field ≡ fields.Offset) }
     {
         let Some(name) = name_of(field) else {
             return Err(FieldError::Broken(FrameReason::NotCanonical));
         };
-        if !self.is_in_order(field) {
+        if !self.is_in_order(self.depth, field) {
             return Err(FieldError::Broken(FrameReason::NotCanonical));
         }
         self.path.cut(self.depth as usize - 1);
@@ -122,6 +118,7 @@ impl<T: PrefixTree> Scan<T> {
     }
 
     // The next row, if any is left.
+    #[inline(always)]
     fn next_row(&mut self)
         requires { IsBeforeRow self.old }
         ensures left { left self.new ≡ left_at fields.Depth self.old }
@@ -134,7 +131,7 @@ impl<T: PrefixTree> Scan<T> {
         }
     }
 
-    // The row is whole. Each caller has this code in its own, and with no ends much of it falls away.
+    // The row is whole.
     #[inline(always)]
     pub fn end_row(&mut self, alloc: Global, ends: RankSet) -> Result<(), FieldError>
         requires named { IsNamed self.old }
@@ -196,7 +193,7 @@ fn two_plain_blocks(field: &[u8]) -> bool
 
 // It tests blocks of 16 bytes, and the last 16 in place of those that are left, since single bytes take longer.
 #[inline(always)]
-fn are_plain_ascii(field: &[u8]) -> bool
+pub fn are_plain_ascii(field: &[u8]) -> bool
     ensures { result ≡ list_all is_plain_ascii field.now }
 {
     if field.len() < 8 {
@@ -217,7 +214,7 @@ fn are_plain_ascii(field: &[u8]) -> bool
 }
 
 // The field as text, where it is a good name.
-fn any_name_of(field: &[u8]) -> Option<&str>
+fn name_of(field: &[u8]) -> Option<&str>
     ensures some { IfSome result (λ name. name.now ≡ field.now) }
     ensures good { IfSome result (λ name. is_name field.now ≡ true) }
     ensures none { IfNone result (is_name field.now ≡ false) }
@@ -229,17 +226,4 @@ fn any_name_of(field: &[u8]) -> Option<&str>
         Ok(name) => Some(name),
         Err(_) => None,
     }
-}
-
-// The same, and faster where it is ASCII, as most names are.
-#[inline(always)]
-fn name_of(field: &[u8]) -> Option<&str>
-    ensures some { IfSome result (λ name. name.now ≡ field.now) }
-    ensures good { IfSome result (λ name. is_name field.now ≡ true) }
-    ensures none { IfNone result (is_name field.now ≡ false) }
-{
-    if are_plain_ascii(field) {
-        return Some(unsafe { str::from_utf8_unchecked(field) });
-    }
-    any_name_of(field)
 }

@@ -2,7 +2,7 @@
 
 ghost use Rattle.std.specs.Prelude.{◌≡◌, length, OnOk};
 ghost use Rattle.packet_frame.specs.Sent.{packet_map};
-ghost use Rattle.packet_frame.specs.Scanning.{left, left_at, Takes, IsReady, IsFollowed, field_width, packet_read};
+ghost use Rattle.packet_frame.specs.Scanning.{left, left_at, Takes, IsReady, field_width, packet_read};
 
 use crate::error::FieldError;
 use crate::packet::Packet;
@@ -145,7 +145,6 @@ impl<T: PrefixTree> Scan<T> {
         requires width { length bytes.now ≡ field_width field self.old }
         ensures takes { Takes (left_at field self.old) bytes.now result (left self.new) }
         ensures ready { OnOk result (IsReady self.new.field self.new) }
-        ensures follows { OnOk result (IsFollowed field self.new.field) }
     {
         match field {
             Field::Version => self.take_version(bytes),

@@ -31,7 +31,6 @@ impl<T: PrefixTree> Scan<T> {
         requires width { length field.now ≡ 2 }
         ensures takes { Takes (left_at fields.Offset self.old) field.now result (left self.new) }
         ensures ready { OnOk result (IsReady self.new.field self.new) }
-        ensures next { OnOk result (self.new.field ≡ fields.WordCount) }
     {
         let offset = u16_of(field);
         if u32::from(offset) >= self.word_limit() {
@@ -140,26 +139,7 @@ impl<T: PrefixTree> Scan<T> {
     }
 
     // The set is whole.
-    #[inline(always)]
     fn end_set(&mut self, alloc: Global) -> Result<(), FieldError>
-        requires part { IsInPart self.old.part self.old }
-        requires words { AreWords self.old.offset self.old.words.items }
-        requires may_end { self.old.part ≡ parts.Ends
-            → MayEnd self.old.version self.old.cover (ranks_in self.old.offset self.old.words.items) }
-        ensures ends { OnOk result
-            (set_then self.old (ranks_in self.old.offset self.old.words.items) ≡ left self.new) }
-        ensures err { IfErr result (λ e. e ≡ FieldError.OutOfMemory) }
-        ensures ready { OnOk result (IsReady self.new.field self.new) }
-    {
-        // Most rows have no ends, and take no more than this.
-        if self.part == Part::Ends && self.words.is_empty() {
-            return self.end_row(alloc, RankSet::new(alloc));
-        }
-        self.end_words(alloc)
-    }
-
-    // The set is whole, and has words or is the coverage.
-    fn end_words(&mut self, alloc: Global) -> Result<(), FieldError>
         requires part { IsInPart self.old.part self.old }
         requires words { AreWords self.old.offset self.old.words.items }
         requires may_end { self.old.part ≡ parts.Ends

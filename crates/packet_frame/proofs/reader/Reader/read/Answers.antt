@@ -2,31 +2,31 @@ use Rattle.std.proofs.Common.{◌≡◌, ℕ, ◌+◌, ◌≤◌, ◌<◌, lengt
 use Rattle.packet_frame.specs.Reading.{Fails, IsOn}
 use Rattle.packet_frame.specs.Scanning.{field_width, Takes, left, left_at}
 use Rattle.packet_frame.specs.Fields.{piece}
-use Rattle.packet_frame.proofs.Steps.{took, waits_for, fails_in}
+use Rattle.packet_frame.proofs.Steps.{goes_on, waits, fails_at}
 use Rattle.packet_frame.proofs.reader.Reader.read.Goals as goal
 
 pub returns-then-rest-width-clause-waits : goal.returns-then-rest-width-clause-waits
 returns-then-rest-width-clause-waits g c =
     let r = c.args.self.now in
-    let less : length c.args.bytes.now < r.at + field_width c.args.field r.scan = omega (arith, c.if-rest-width.true, c.width-width.ensures, c.split_at.ensures.back_len) in
-    λ _. waits_for r c.args.field c.args.bytes.now c.requires.on c.requires.next less
+    let less : length c.args.bytes.now < r.at + field_width r.scan.field r.scan = omega (arith, c.if-rest-width.true, c.width-width.ensures, c.split_at.ensures.back_len) in
+    λ _. waits r c.args.bytes.now c.requires less
 
 pub returns-in-Err-clause-refused : goal.returns-in-Err-clause-refused
 returns-in-Err-clause-refused g c =
     let r = c.args.self.now in
-    let f = c.args.field in
+    let f = r.scan.field in
     let w = field_width f r.scan in
-    let within : r.at + w ≤ length c.args.bytes.now = omega (arith, c.if-rest-width.false, c.width-width.ensures, c.split_at.ensures.back_len, c.requires.on.within) in
+    let within : r.at + w ≤ length c.args.bytes.now = omega (arith, c.if-rest-width.false, c.width-width.ensures, c.split_at.ensures.back_len, c.requires.within) in
     let is : c.split_at-2.result.0.now ≡ piece c.args.bytes.now r.at w = c.split_at-2.ensures.front ∙ ap (take c.width-width.result) c.split_at.ensures.back ∙ ap (piece c.args.bytes.now r.at) c.width-width.ensures in
     let taken : Takes (left_at f r.scan) (piece c.args.bytes.now r.at w) (Err c.in-Err.error) (left c.take.new.self) = subst (λ res. Takes (left_at f r.scan) (piece c.args.bytes.now r.at w) res (left c.take.new.self)) c.in-Err.is (subst (λ front. Takes (left_at f r.scan) front c.take.result (left c.take.new.self)) is c.take.ensures.takes) in
-    subst (Fails c.args.bytes.now) (sym c.refused.ensures) (fails_in r f c.args.bytes.now c.in-Err.error c.take.new.self c.requires.on c.requires.next within taken)
+    subst (Fails c.args.bytes.now) (sym c.refused.ensures) (fails_at r c.args.bytes.now c.in-Err.error c.take.new.self c.requires within taken)
 
 pub returns-clause-on : goal.returns-clause-on
 returns-clause-on g c =
     let r = c.args.self.now in
-    let f = c.args.field in
+    let f = r.scan.field in
     let w = field_width f r.scan in
-    let within : r.at + w ≤ length c.args.bytes.now = omega (arith, c.if-rest-width.false, c.width-width.ensures, c.split_at.ensures.back_len, c.requires.on.within) in
+    let within : r.at + w ≤ length c.args.bytes.now = omega (arith, c.if-rest-width.false, c.width-width.ensures, c.split_at.ensures.back_len, c.requires.within) in
     let is : c.split_at-2.result.0.now ≡ piece c.args.bytes.now r.at w = c.split_at-2.ensures.front ∙ ap (take c.width-width.result) c.split_at.ensures.back ∙ ap (piece c.args.bytes.now r.at) c.width-width.ensures in
     let taken : Takes (left_at f r.scan) (piece c.args.bytes.now r.at w) (Ok c.in_default.field-0) (left c.take.new.self) = subst (λ res. Takes (left_at f r.scan) (piece c.args.bytes.now r.at w) res (left c.take.new.self)) c.in_default.is (subst (λ front. Takes (left_at f r.scan) front c.take.result (left c.take.new.self)) is c.take.ensures.takes) in
-    subst (λ (n : ℕ). IsOn (record { at = r.at + n; scan = c.take.new.self }) c.args.bytes.now) (sym c.width-width.ensures) (took r c.take.new.self f c.args.bytes.now c.requires.on c.requires.next within taken c.in_default.ensures.ready)
+    subst (λ (n : ℕ). IsOn (record { at = r.at + n; scan = c.take.new.self }) c.args.bytes.now) (sym c.width-width.ensures) (goes_on r c.take.new.self c.args.bytes.now c.requires within taken c.in_default.ensures.ready)
