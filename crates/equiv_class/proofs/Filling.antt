@@ -1,8 +1,7 @@
--- The ranks of a set go to the sets of their states, one after another.
-use Rattle.std.proofs.Common.{◌≡◌, ℕ, zero, suc, ◌++◌, ◌<◌, ◌≤◌, ◌-◌, Bool, true, false, ◌&&◌, ◌||◌, eqb, ltb, List, [], ◌∷◌, length, get_or, set, replicate, refl, sym, ap, ◌∙◌, inl, inr, arith}
+-- The ranks of a set go to those of their states, one after another.
+use Rattle.std.proofs.Common.{◌≡◌, ℕ, zero, suc, ◌<◌, ◌≤◌, ◌-◌, Bool, true, false, ◌&&◌, ◌||◌, eqb, ltb, List, [], ◌∷◌, length, get_or, replicate, refl, sym, ap, ◌∙◌, inl, inr, arith}
 use Rattle.std.proofs.lemmas.Bool.{true≢false, and_from, cases_eq, cases_lt, eq-eqb, ne_eqb, lt-ltb, le-ltb}
 use Rattle.std.proofs.Math.Bool.{or-false, or-true}
-use Rattle.std.proofs.lemmas.List.{get_or-set_same, get_or-set_other, length-set, get_or-replicate}
 use Rattle.rank_set.specs.Ranks.{Ranks, none, has, those, union, has-none, has-those, has-union, same_ranks}
 use Rattle.rank_set.specs.Runs.{IsRun, ranks_between}
 use Rattle.rank_set.proofs.RunSets.{between_in, between_low, between_high}
@@ -13,24 +12,18 @@ use Rattle.equiv_class.proofs.Cuts.{those-on}
 abbrev pub of_state_below : List ℕ → ℕ → ℕ → ℕ → Bool
 of_state_below states k q s = eqb (get_or states s 0) k && ltb s q
 
--- each set has the ranks of its state below an end
-pub record AreFilled (E : Ranks) (states : List ℕ) (n q : ℕ) (sets : List Ranks) : Type 0 where
-  pub long : length sets ≡ n
-  pub filled : (k : ℕ) → k < n → get_or sets k none ≡ those (of_state_below states k q) E
-
-length-replicate : (n : ℕ) → length (replicate n none) ≡ n
-length-replicate zero = refl
-length-replicate (suc n) = ap suc (length-replicate n)
+-- each state has its ranks below an end
+pub record AreFilled (E : Ranks) (states : List ℕ) (q : ℕ) (ranks : ℕ → Ranks) : Type 0 where
+  pub filled : (k : ℕ) → ranks k ≡ those (of_state_below states k q) E
 
 and_false : (a b : Bool) → (a && (b && false)) ≡ false
 and_false true true = refl
 and_false true false = refl
 and_false false b = refl
 
-pub fill_start : (E : Ranks) (states : List ℕ) (n : ℕ) (sets : List Ranks) → sets ≡ replicate n none → AreFilled E states n 0 sets
-fill_start E states n sets is = record {
-  long = ap length is ∙ length-replicate n;
-  filled = λ k lt. ap (λ xs. get_or xs k none) is ∙ get_or-replicate n k none none lt
+pub fill_start : (E : Ranks) (states : List ℕ) (ranks : ℕ → Ranks) → ((k : ℕ) → ranks k ≡ none) → AreFilled E states 0 ranks
+fill_start E states ranks is = record {
+  filled = λ k. is k
       ∙ same_ranks _ _ (λ s. has-none s ∙ sym (has-those (of_state_below states k 0) E s ∙ ap (λ b. has E s && (eqb (get_or states s 0) k && b)) (le-ltb s 0 (omega arith))
       ∙ and_false (has E s) (eqb (get_or states s 0) k)));
 }
@@ -46,11 +39,10 @@ same_side E from first last run s member = elim (cases_lt s from) [
 ]
 
 -- and nothing changes
-pub fill_gap : (E : Ranks) (states : List ℕ) (n from first last : ℕ) (sets : List Ranks) → IsRun E from first last → AreFilled E states n from sets
-    → AreFilled E states n first sets
-fill_gap E states n from first last sets run h = record {
-  long = h.long;
-  filled = λ k lt. h.filled k lt
+pub fill_gap : (E : Ranks) (states : List ℕ) (from first last : ℕ) (ranks : ℕ → Ranks) → IsRun E from first last → AreFilled E states from ranks
+    → AreFilled E states first ranks
+fill_gap E states from first last ranks run h = record {
+  filled = λ k. h.filled k
       ∙ those-on E (of_state_below states k from) (of_state_below states k first) (λ s member. ap (λ b. eqb (get_or states s 0) k && b) (same_side E from first last run s member));
 }
 
@@ -106,18 +98,14 @@ module _ (E : Ranks) (states : List ℕ) (r e : ℕ) (some : r < e) (members : (
         ]
       ]
 
-  pub fill_step : (n : ℕ) (sets sets' : List Ranks) → get_or states r 0 < n → sets' ≡ set sets (get_or states r 0) (union (get_or sets (get_or states r 0) none) (ranks_between r (e - 1)))
-      → AreFilled E states n r sets → AreFilled E states n e sets'
-  fill_step n sets sets' own_in is h =
+  pub fill_step : (ranks ranks' : ℕ → Ranks) → ranks' (get_or states r 0) ≡ union (ranks (get_or states r 0)) (ranks_between r (e - 1)) → ((k : ℕ) → (k ≡ get_or states r 0 → ⊥) → ranks' k ≡ ranks k)
+      → AreFilled E states r ranks → AreFilled E states e ranks'
+  fill_step ranks ranks' own_is others h =
       let own : ℕ = get_or states r 0 in
-      let own_lt : own < length sets = omega (arith, own_in, h.long) in
       record {
-        long = ap length is ∙ length-set sets own (union (get_or sets own none) (ranks_between r (e - 1))) ∙ h.long;
-        filled = λ k lt. elim (cases_eq k own) [
-          | inl is_own ↦ (λ i. get_or (is i) (is_own i) none) ∙ get_or-set_same sets own (union (get_or sets own none) (ranks_between r (e - 1))) none own_lt
-              ∙ ap (λ S. union S (ranks_between r (e - 1))) (h.filled own own_in) ∙ own_set ∙ ap (λ x. those (of_state_below states x e) E) (sym is_own)
-          | inr ne ↦ ap (λ xs. get_or xs k none) is ∙ get_or-set_other sets own k (union (get_or sets own none) (ranks_between r (e - 1))) none ne ∙ h.filled k lt
-              ∙ other_set k ne
+        filled = λ k. elim (cases_eq k own) [
+          | inl is_own ↦ ap ranks' is_own ∙ own_is ∙ ap (λ S. union S (ranks_between r (e - 1))) (h.filled own) ∙ own_set ∙ ap (λ x. those (of_state_below states x e) E) (sym is_own)
+          | inr ne ↦ others k ne ∙ h.filled k ∙ other_set k ne
         ];
       }
 
@@ -125,25 +113,24 @@ module _ (E : Ranks) (states : List ℕ) (r e : ℕ) (some : r < e) (members : (
 pub turned : (a b : ℕ) → eqb a b ≡ eqb b a
 turned a b = elim (cases_eq a b) [ inl e ↦ eq-eqb a b e ∙ sym (eq-eqb b a (sym e)) | inr ne ↦ ne_eqb a b ne ∙ sym (ne_eqb b a (λ e. ne (sym e))) ]
 
--- when all are in their sets
-pub fill_end : (E : Ranks) (states : List ℕ) (n q : ℕ) (sets : List Ranks) → AreFilled E states n q sets → ((r : ℕ) → q ≤ r → has E r ≡ false)
-    → ((r : ℕ) → get_or states r 0 < n)
-    → (r : ℕ) → has E r ≡ true → get_or sets (get_or states r 0) none ≡ those (λ s. eqb (get_or states r 0) (get_or states s 0)) E
-fill_end E states n q sets h passed within r member =
-    let own : ℕ = get_or states r 0 in
-    h.filled own (within r) ∙ those-on E (of_state_below states own q) (λ s. eqb own (get_or states s 0)) each
+-- when all have gone to their states
+pub fill_end : (E : Ranks) (states : List ℕ) (q : ℕ) (ranks : ℕ → Ranks) → AreFilled E states q ranks → ((r : ℕ) → q ≤ r → has E r ≡ false)
+    → (k : ℕ) → ranks k ≡ those (λ s. eqb k (get_or states s 0)) E
+fill_end E states q ranks h passed k =
+    h.filled k ∙ those-on E (of_state_below states k q) (λ s. eqb k (get_or states s 0)) each
   where
     and_true : (b : Bool) → (b && true) ≡ b
     and_true true = refl
     and_true false = refl
 
-    each : (s : ℕ) → has E s ≡ true → of_state_below states (get_or states r 0) q s ≡ eqb (get_or states r 0) (get_or states s 0)
+    each : (s : ℕ) → has E s ≡ true → of_state_below states k q s ≡ eqb k (get_or states s 0)
     each s in_E = elim (cases_lt s q) [
-      | inl lt ↦ ap (λ b. eqb (get_or states s 0) (get_or states r 0) && b) (lt-ltb s q lt) ∙ and_true (eqb (get_or states s 0) (get_or states r 0)) ∙ turned (get_or states s 0) (get_or states r 0)
+      | inl lt ↦ ap (λ b. eqb (get_or states s 0) k && b) (lt-ltb s q lt) ∙ and_true (eqb (get_or states s 0) k) ∙ turned (get_or states s 0) k
       | inr ge ↦ absurd (true≢false (sym in_E ∙ passed s ge))
     ]
 
-zeros : (n r : ℕ) → get_or {A = ℕ} (replicate n 0) r 0 ≡ 0
+-- a list of zeros has nothing else
+pub zeros : (n r : ℕ) → get_or {A = ℕ} (replicate n 0) r 0 ≡ 0
 zeros zero r = refl
 zeros (suc n) zero = refl
 zeros (suc n) (suc r) = zeros n r
@@ -154,8 +141,3 @@ tables_start states next start is_next = record {
   states_within = λ r. omega (arith, start r, ap length is_next);
   next_within = λ k. omega (arith, ap (λ xs. get_or xs k 0) is_next ∙ zeros 1 k, ap length is_next);
 }
-
--- one empty set more
-pub one_more : (n : ℕ) → replicate n none ++ none ∷ [] ≡ replicate (suc n) none
-one_more zero = refl
-one_more (suc n) = ap (λ xs. none ∷ xs) (one_more n)

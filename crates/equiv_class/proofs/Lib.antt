@@ -9,6 +9,8 @@ pub mod Cuts
 pub mod Partition
 pub mod Parting
 pub mod Filling
+pub mod BlockTable
+pub mod IndexPaths
 pub mod LedPaths
 pub mod StateOrder
 pub mod StateClasses

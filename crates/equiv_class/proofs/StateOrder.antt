@@ -5,7 +5,7 @@ use Rattle.std.specs.Ordering.{nat_cmp, eq_by_cmp}
 use Rattle.std.proofs.lemmas.Bool.{true≢false, and_parts, and_from, or_cases, cases_eq, cases_lt, eq-eqb, ne_eqb, lt-ltb, le-ltb}
 use Rattle.std.proofs.Math.Bool.{or-false, or-true}
 use Rattle.std.proofs.lemmas.List.{map-append}
-use Rattle.rank_set.specs.Ranks.{Ranks, none, has, in_order, is_empty, is_strictly_increasing, has-in_order}
+use Rattle.rank_set.specs.Ranks.{Ranks, has, in_order, is_empty, is_strictly_increasing, has-in_order}
 use Rattle.rank_set.specs.Runs.{IsRun}
 use Rattle.equiv_class.specs.States.{is_first, states_in_order, with_state}
 use Rattle.equiv_class.proofs.Filling.{AreFilled, of_state_below, same_side}
@@ -134,10 +134,10 @@ module _ (E : Ranks) (states : List ℕ) (r e : ℕ) (some : r < e) (members : (
         | inr past ↦ ap (λ b. b && is_first states E s) (le-ltb s e past)
       ]
 
-  -- the set of the state is empty where r is the first of it
-  first_by_set : (n : ℕ) (sets : List Ranks) → get_or states r 0 < n → AreFilled E states n r sets → is_empty (get_or sets (get_or states r 0) none) ≡ is_first states E r
-  first_by_set n sets own_in h =
-      ap is_empty (h.filled (get_or states r 0) own_in)
+  -- the state has no ranks yet where r is the first of it
+  first_by_ranks : (ranks : ℕ → Ranks) → AreFilled E states r ranks → is_empty (ranks (get_or states r 0)) ≡ is_first states E r
+  first_by_ranks ranks h =
+      ap is_empty (h.filled (get_or states r 0))
       ∙ ap (λ (xs : List ℕ). length xs == 0) (in_order-those (of_state_below states (get_or states r 0) r) E)
       ∙ none_kept (of_state_below states (get_or states r 0) r) (in_order E)
 
@@ -149,7 +149,7 @@ module _ (E : Ranks) (states : List ℕ) (r e : ℕ) (some : r < e) (members : (
       ∙ sym (same_order states E (λ s. ltb s e && is_first states E s) (λ s. (ltb s r && is_first states E s) || eqb s r) (λ s _. first_comes is_new s))
   noted false was = same_order states E (λ s. ltb s r && is_first states E s) (λ s. ltb s e && is_first states E s) (λ s _. not_first was s)
 
-  pub order_step : (n : ℕ) (sets : List Ranks) (order order' : List ℕ) → get_or states r 0 < n → AreFilled E states n r sets
-      → order' ≡ with_state (get_or sets (get_or states r 0) none) (get_or states r 0) order → order ≡ order_below states E r → order' ≡ order_below states E e
-  order_step n sets order order' own_in h is so_far =
-      is ∙ (λ i. cond (first_by_set n sets own_in h i) (so_far i ++ get_or states r 0 ∷ []) (so_far i)) ∙ noted (is_first states E r) refl
+  pub order_step : (ranks : ℕ → Ranks) (order order' : List ℕ) → AreFilled E states r ranks
+      → order' ≡ with_state (ranks (get_or states r 0)) (get_or states r 0) order → order ≡ order_below states E r → order' ≡ order_below states E e
+  order_step ranks order order' h is so_far =
+      is ∙ (λ i. cond (first_by_ranks ranks h i) (so_far i ++ get_or states r 0 ∷ []) (so_far i)) ∙ noted (is_first states E r) refl

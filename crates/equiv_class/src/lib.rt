@@ -2,44 +2,54 @@
 //! rank of each.
 #![tactic(auto)]
 
-ghost use Rattle.std.specs.Prelude.{◌≡◌, ◌++◌, ◌<◌, ℕ, true, false, [], IfOk, OnOk, length};
+ghost use Rattle.std.specs.Prelude.{◌≡◌, ◌++◌, ◌<◌, ℕ, true, false, List, [], IfOk, OnOk, length, map};
 ghost use Rattle.rank_set.specs.Ranks.{Ranks, has};
-ghost use Rattle.std.specs.List.{list_any};
+ghost use Rattle.std.specs.List.{AllByRecursion, list_any};
 ghost use Rattle.std.specs.List.Sorted.{IsStrictlySortedBy};
 ghost use Rattle.call_path.specs.Path.{Path, is_path, path_cmp};
 ghost use Rattle.call_path.specs.Pairs.{HasNoEmptyPath, Pairs, is_pair};
 ghost use Rattle.prefix_tree.specs.Tree.{tree_of, pairs_of};
 ghost use Rattle.equiv_class.specs.Classes.{HaveOwnPaths, equivalent, classes_of, classes_with, paths_of};
-ghost use Rattle.equiv_class.specs.ClassList.{class_view, class_views};
+ghost use Rattle.equiv_class.specs.ClassList.{HaveIndices, class_views, classes_view, path_of};
 ghost use Rattle.equiv_class.specs.SeenPaths.{entries_view, seen_in};
 ghost use Rattle.equiv_class.specs.Origins.{origin_of, path_at, paths_before};
-ghost use Rattle.equiv_class.specs.StateBlocks.{HasStates, block_at, blocks_view};
+ghost use Rattle.equiv_class.specs.StateBlocks.{HasStates, blocks_view};
 
 use call_path::{CallPath, PathBuilder};
 use prefix_tree::PrefixTree;
-use rank_blocks::{Blocks, find_blocks};
+use rank_blocks::{Block, Blocks, find_blocks};
 use rank_set::RankSet;
-use states::Origin;
+use states::{Origin, count_paths};
 use std::alloc::{AllocError, Global};
 
 mod rank_blocks;
 mod states;
 
-/// Ranks that were seen in just the same paths, and those paths.
+/// A path in which some rank was seen, with the ranks that were seen in it.
+#[derive(Drop)]
+pub struct SeenPath<'a> {
+    pub path: CallPath,
+    /// At least one rank.
+    pub ranks: &'a RankSet,
+}
+
+/// Ranks that were seen in just the same paths.
 #[derive(Drop)]
 pub struct Class {
     /// At least one rank.
     pub ranks: RankSet,
-    /// The paths in their order: frame by frame in byte order, a prefix first. None for ranks that were
-    /// seen in no path.
-    pub paths: Vec<CallPath>,
+    /// The indices of those paths in the list of all seen paths, in ascending order. None for ranks that were seen
+    /// in no path.
+    pub paths: Vec<u32>,
 }
 
-// A path in which some rank was seen, with the ranks that were seen in it.
+/// The classes of a tree's ranks. Each path stands here once, however many classes have it.
 #[derive(Drop)]
-struct SeenPath<'a> {
-    path: CallPath,
-    ranks: &'a RankSet,
+pub struct TreeClasses<'a> {
+    /// The paths in their order: frame by frame in byte order, a prefix first.
+    pub seen: Vec<SeenPath<'a>>,
+    /// The classes, by their least ranks.
+    pub all: Vec<Class>,
 }
 
 /// A law of classes: two ranks are equivalent exactly where they were seen in the same paths.
@@ -64,18 +74,23 @@ pub fn paths_of_classes()
 /// The classes of a tree's covered ranks, by their least ranks. Covered ranks that were seen in no path
 /// are a class too.
 ///
-/// `own` says it of the pairs that the tree's rows give, and `pairs` of any pairs that the tree is of.
-pub fn classes<T: PrefixTree>(alloc: Global, tree: &T) -> Result<Vec<Class>, AllocError>
+/// `own` says it of the pairs that the tree's rows give, and `pairs` of any pairs that the tree is of. `seen` says
+/// which paths there are, and with which ranks.
+pub fn classes<'a, T: PrefixTree>(alloc: Global, tree: &'a T) -> Result<TreeClasses<'a>, AllocError>
     ensures own { IfOk result
-        (λ all. class_views all.items ≡ classes_of (pairs_of (T.tree tree.now)) (T.tree tree.now).coverage) }
+        (λ found. classes_view found ≡ classes_of (pairs_of (T.tree tree.now)) (T.tree tree.now).coverage) }
     ensures pairs { IfOk result
-        (λ all. (P : Pairs) (C : Ranks) → HasNoEmptyPath P → T.tree tree.now ≡ tree_of P C
-        → class_views all.items ≡ classes_of P C) }
+        (λ found. (P : Pairs) (C : Ranks) → HasNoEmptyPath P → T.tree tree.now ≡ tree_of P C
+        → classes_view found ≡ classes_of P C) }
+    ensures seen { IfOk result (λ found. entries_view found.seen.items ≡ seen_in (T.tree tree.now)) }
+    ensures indices { IfOk result (λ found. HaveIndices (length found.seen.items) found.all.items) }
 {
     let mut frames = PathBuilder::new(alloc);
     let seen = seen_paths(alloc, tree, &mut frames)?;
-    let found = find_blocks(alloc, &seen, tree.row(0).label)?;
-    take_classes(alloc, &seen, &found)
+    let count = count_paths(&seen)?;
+    let blocks = find_blocks(alloc, &seen, count, tree.row(0).label)?;
+    let all = take_classes(alloc, count, blocks)?;
+    Ok(TreeClasses { seen, all })
 }
 
 // The paths in which ranks were seen, in order, found with an empty path.
@@ -103,69 +118,59 @@ fn seen_paths<'a, T: PrefixTree>(
     Ok(seen)
 }
 
-// The classes of the blocks, in the order of their states.
-fn take_classes(
-    alloc: Global,
-    seen: &[SeenPath<'_>],
-    blocks: &Blocks,
-) -> Result<Vec<Class>, AllocError>
-    requires { HasStates blocks.now }
-    ensures { IfOk result (λ all. class_views all.items ≡ blocks_view (entries_view seen.now) blocks.now) }
+// The classes of the blocks, in their order, where so many paths were seen.
+fn take_classes(alloc: Global, count: u32, found: Blocks) -> Result<Vec<Class>, AllocError>
+    requires { HasStates found }
+    ensures view { IfOk result
+        (λ all. (es : List (Path × Ranks)) → length es ≡ count → class_views es all.items ≡ blocks_view es found) }
+    ensures indices { IfOk result (λ all. HaveIndices count all.items) }
 {
+    let Blocks {
+        origins,
+        all: blocks,
+    } = found;
     let mut all = Vec::new(alloc);
-    for state in blocks.order.as_slice() {
-        let class = class_of_state(alloc, seen, blocks, *state)?;
-        all.push(class)?;
+    for block in blocks {
+        let Block { state, ranks } = block;
+        let paths = state_paths(alloc, count, &origins, state)?;
+        all.push(Class { ranks, paths })?;
     }
     Ok(all)
 }
 
-// The class of the ranks of a state.
-fn class_of_state(
-    alloc: Global,
-    seen: &[SeenPath<'_>],
-    blocks: &Blocks,
-    state: u32,
-) -> Result<Class, AllocError>
-    requires in_sets { state < length blocks.now.sets.items }
-    requires in_origins { state < length blocks.now.origins.items }
-    requires backward { (k : ℕ) → 0 < k → (origin_of blocks.now.origins.items k).from < k }
-    ensures { IfOk result (λ class. class_view class ≡ block_at (entries_view seen.now) blocks.now state) }
-{
-    let paths = state_paths(alloc, seen, blocks.origins.as_slice(), state)?;
-    let ranks = blocks.sets[state as usize].copy()?;
-    Ok(Class { ranks, paths })
-}
-
-// The paths that led to a state, found from the last one back.
+// The indices of the paths that led to a state, found from the last one back.
 fn state_paths(
     alloc: Global,
-    seen: &[SeenPath<'_>],
+    count: u32,
     origins: &[Origin],
     state: u32,
-) -> Result<Vec<CallPath>, AllocError>
+) -> Result<Vec<u32>, AllocError>
     requires known { state < length origins.now }
     requires backward { (k : ℕ) → 0 < k → (origin_of origins.now k).from < k }
-    ensures { IfOk result (λ paths. paths.items ≡ paths_before (entries_view seen.now) origins.now state) }
+    ensures paths { IfOk result (λ paths. (es : List (Path × Ranks)) → length es ≡ count
+        → map (path_of es) paths.items ≡ paths_before es origins.now state) }
+    ensures indices { IfOk result (λ paths. AllByRecursion (λ i. i < count) paths.items) }
 {
     let mut paths = Vec::new(alloc);
     let mut at = state;
     while at > 0 {
         let origin = origins[at as usize];
-        add_path(&mut paths, seen, origin.path)?;
+        add_path(&mut paths, count, origin.path)?;
         at = origin.from;
     }
     paths.as_mut_slice().reverse();
     Ok(paths)
 }
 
-// Appends the path that has a number, if one has it.
-fn add_path(paths: &mut Vec<CallPath>, seen: &[SeenPath<'_>], number: u32) -> Result<(), AllocError>
-    ensures { OnOk result (paths.new.items ≡ paths.old.items ++ path_at (entries_view seen.now) number) }
+// Appends the index of a path, if it is one of so many.
+fn add_path(paths: &mut Vec<u32>, count: u32, path: u32) -> Result<(), AllocError>
+    ensures paths { OnOk result ((es : List (Path × Ranks)) → length es ≡ count
+        → map (path_of es) paths.new.items ≡ map (path_of es) paths.old.items ++ path_at es path) }
+    ensures indices { OnOk result
+        (AllByRecursion (λ i. i < count) paths.old.items → AllByRecursion (λ i. i < count) paths.new.items) }
 {
-    let k = number as usize;
-    if k < seen.len() {
-        paths.push(seen[k].path.copy()?)?;
+    if path < count {
+        paths.push(path)?;
     }
     Ok(())
 }

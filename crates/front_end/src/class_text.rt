@@ -1,40 +1,49 @@
 //! The text of classes.
-ghost use Rattle.std.specs.List.{flat_map};
-ghost use Rattle.std.specs.Prelude.{◌≡◌, ◌++◌, OnErr, OnOk};
+ghost use Rattle.std.specs.List.{AllByRecursion, flat_map};
+ghost use Rattle.std.specs.Prelude.{◌≡◌, ◌++◌, ◌<◌, OnErr, OnOk, length, map};
 ghost use Rattle.std.specs.Fmt.{decimal};
-ghost use Rattle.equiv_class.specs.ClassList.{class_view, class_views};
+ghost use Rattle.equiv_class.specs.ClassList.{HaveIndices, class_view, classes_view, path_of};
+ghost use Rattle.equiv_class.specs.SeenPaths.{entries_view};
 ghost use Rattle.front_end.specs.ClassText.{class_text as text_of_class, classes_text, path_line};
 
 use call_path::CallPath;
-use equiv_class::Class;
+use equiv_class::{Class, SeenPath, TreeClasses};
 use std::alloc::AllocError;
 
 /// Appends the classes, one after another.
-pub fn write_classes(classes: &[Class], out: &mut Vec<u8>) -> Result<(), AllocError>
-    ensures { OnOk result (out.new.items ≡ out.old.items ++ classes_text (class_views classes.now)) }
+pub fn write_classes(classes: &TreeClasses<'_>, out: &mut Vec<u8>) -> Result<(), AllocError>
+    requires indices { HaveIndices (length classes.now.seen.items) classes.now.all.items }
+    ensures { OnOk result (out.new.items ≡ out.old.items ++ classes_text (classes_view classes.now)) }
 {
-    for class in classes {
-        write_class(class, out)?;
+    for class in &classes.all {
+        write_class(&classes.seen, class, out)?;
     }
     Ok(())
 }
 
-fn write_class(class: &Class, out: &mut Vec<u8>) -> Result<(), AllocError>
-    ensures { OnOk result (out.new.items ≡ out.old.items ++ text_of_class (class_view class.now)) }
+// Appends a class of these paths.
+fn write_class(seen: &[SeenPath<'_>], class: &Class, out: &mut Vec<u8>) -> Result<(), AllocError>
+    requires indices { AllByRecursion (λ i. i < length seen.now) class.now.paths.items }
+    ensures { OnOk result
+        (out.new.items ≡ out.old.items ++ text_of_class (class_view (entries_view seen.now) class.now)) }
 {
     out.extend_from_slice(b"class ")?;
     class.ranks.write_text(out)?;
     out.extend_from_slice(b" paths ")?;
     write_number(class.paths.as_slice().len(), out)?;
     out.push(b'\n')?;
-    write_paths(&class.paths, out)
+    write_paths(seen, &class.paths, out)
 }
 
-fn write_paths(paths: &[CallPath], out: &mut Vec<u8>) -> Result<(), AllocError>
-    ensures { OnOk result (out.new.items ≡ out.old.items ++ flat_map path_line paths.now) }
+// Appends the lines of the paths that have these indices.
+fn write_paths(seen: &[SeenPath<'_>], indices: &[u32], out: &mut Vec<u8>) -> Result<(), AllocError>
+    requires indices { AllByRecursion (λ i. i < length seen.now) indices.now }
+    ensures { OnOk result
+        (out.new.items
+        ≡ out.old.items ++ flat_map path_line (map (path_of (entries_view seen.now)) indices.now)) }
 {
-    for path in paths {
-        write_path(path, out)?;
+    for index in indices {
+        write_path(&seen[*index as usize].path, out)?;
     }
     Ok(())
 }

@@ -1,15 +1,16 @@
 //! Trees and classes as JSON.
-ghost use Rattle.std.specs.Prelude.{◌≡◌, ◌++◌, codes, map, OnOk};
+ghost use Rattle.std.specs.List.{AllByRecursion};
+ghost use Rattle.std.specs.Prelude.{◌≡◌, ◌++◌, ◌<◌, codes, length, map, OnOk};
 ghost use Rattle.serde_json.specs.Data.{string};
 ghost use Rattle.rank_set.specs.Text.{text_of};
 ghost use Rattle.call_path.specs.Path.{path_text as text_of_path};
-ghost use Rattle.equiv_class.specs.ClassList.{class_view, class_views};
+ghost use Rattle.equiv_class.specs.ClassList.{HaveIndices, class_view, classes_view, path_of};
+ghost use Rattle.equiv_class.specs.SeenPaths.{entries_view};
 ghost use Rattle.front_end.specs.JsonValues.{class_data, classes_data, list_of, ranks_data, row_of, tree_data};
 ghost use Rattle.front_end.specs.JsonTokens.{member_tokens, value_tokens};
 
 use crate::json_text::{JsonText, path_text, ranks_text};
-use call_path::CallPath;
-use equiv_class::Class;
+use equiv_class::{Class, SeenPath, TreeClasses};
 use prefix_tree::{PrefixTree, Row};
 use std::alloc::{AllocError, Global};
 
@@ -76,34 +77,57 @@ fn write_ends(
 }
 
 /// Appends the list of the classes.
-pub fn write_classes(alloc: Global, classes: &[Class], out: &mut JsonText) -> Result<(), AllocError>
-    ensures { OnOk result (out.new ≡ out.old ++ value_tokens (classes_data (class_views classes.now))) }
+pub fn write_classes(
+    alloc: Global,
+    classes: &TreeClasses<'_>,
+    out: &mut JsonText,
+) -> Result<(), AllocError>
+    requires indices { HaveIndices (length classes.now.seen.items) classes.now.all.items }
+    ensures { OnOk result (out.new ≡ out.old ++ value_tokens (classes_data (classes_view classes.now))) }
 {
     out.begin_list()?;
-    for class in classes {
-        write_class(alloc, class, out)?;
+    for class in &classes.all {
+        write_class(alloc, &classes.seen, class, out)?;
     }
     out.end_list()
 }
 
-fn write_class(alloc: Global, class: &Class, out: &mut JsonText) -> Result<(), AllocError>
-    ensures { OnOk result (out.new ≡ out.old ++ value_tokens (class_data (class_view class.now))) }
+// Appends the object of a class of these paths.
+fn write_class(
+    alloc: Global,
+    seen: &[SeenPath<'_>],
+    class: &Class,
+    out: &mut JsonText,
+) -> Result<(), AllocError>
+    requires indices { AllByRecursion (λ i. i < length seen.now) class.now.paths.items }
+    ensures { OnOk result
+        (out.new ≡ out.old ++ value_tokens (class_data (class_view (entries_view seen.now) class.now))) }
 {
     out.begin_object()?;
     out.key("paths")?;
-    write_paths(alloc, &class.paths, out)?;
+    write_paths(alloc, seen, &class.paths, out)?;
     let ranks = ranks_text(alloc, &class.ranks)?;
     out.text("ranks", ranks.as_str())?;
     out.end_object()
 }
 
-fn write_paths(alloc: Global, paths: &[CallPath], out: &mut JsonText) -> Result<(), AllocError>
+// Appends the list of the paths that have these indices.
+fn write_paths(
+    alloc: Global,
+    seen: &[SeenPath<'_>],
+    indices: &[u32],
+    out: &mut JsonText,
+) -> Result<(), AllocError>
+    requires indices { AllByRecursion (λ i. i < length seen.now) indices.now }
     ensures { OnOk result
-        (out.new ≡ out.old ++ value_tokens (list_of (map (λ path. string (text_of_path path)) paths.now))) }
+        (out.new
+        ≡ out.old
+        ++ value_tokens (list_of
+        (map (λ path. string (text_of_path path)) (map (path_of (entries_view seen.now)) indices.now)))) }
 {
     out.begin_list()?;
-    for path in paths {
-        let text = path_text(alloc, path)?;
+    for index in indices {
+        let text = path_text(alloc, &seen[*index as usize].path)?;
         out.string(text.as_str())?;
     }
     out.end_list()

@@ -127,8 +127,8 @@ fn covered_count<T: PrefixTree>(tree: &T) -> u32
 fn class_count<T: PrefixTree>(alloc: Global, tree: &T) -> Result<usize, AllocError>
     ensures { IfOk result (λ count. count ≡ class_count (T.tree tree.now)) }
 {
-    let all = classes(alloc, tree)?;
-    Ok(all.len())
+    let found = classes(alloc, tree)?;
+    Ok(found.all.len())
 }
 
 // Appends the counts of a tree, and the line's end.

@@ -3,7 +3,7 @@ ghost use Rattle.std.specs.Prelude.{IsTrue};
 ghost use Rattle.call_path.specs.Good.{is_good_frame};
 
 use call_path::{CallPath, PathBuilder};
-use equiv_class::{Class, classes, classes_part_ranks, equivalent_by_paths, paths_of_classes};
+use equiv_class::{TreeClasses, classes, classes_part_ranks, equivalent_by_paths, paths_of_classes};
 use prefix_tree::{OwnedTree, PrefixTree};
 use rank_set::RankSet;
 use std::alloc::{AllocError, Global};
@@ -47,9 +47,9 @@ fn add_path(rt: &impl Abort, tree: &mut OwnedTree, ranks: &RankSet, path: &CallP
 }
 
 // The lines of the classes in a report.
-fn text_of(alloc: Global, classes: &[Class]) -> Result<String, AllocError> {
+fn text_of(alloc: Global, found: &TreeClasses<'_>) -> Result<String, AllocError> {
     let mut text = String::new(alloc);
-    for class in classes {
+    for class in &found.all {
         let mut ranks = Vec::new(alloc);
         class.ranks.write_text(&mut ranks)?;
         text.push_str("class ")?;
@@ -57,17 +57,24 @@ fn text_of(alloc: Global, classes: &[Class]) -> Result<String, AllocError> {
             text.push(char::from(*byte))?;
         }
         text.push_str(&format!(in alloc; " paths {}\n", class.paths.len())?)?;
-        for path in &class.paths {
-            let mut before = "  ";
-            for i in 0..path.len() {
-                text.push_str(before)?;
-                text.push_str(path.frame(i))?;
-                before = ";";
+        for index in &class.paths {
+            if let Some(seen) = found.seen.get(*index as usize) {
+                push_path(&mut text, &seen.path)?;
             }
-            text.push_str("\n")?;
         }
     }
     Ok(text)
+}
+
+fn push_path(text: &mut String, path: &CallPath) -> Result<(), AllocError> {
+    let mut before = "  ";
+    for i in 0..path.len() {
+        text.push_str(before)?;
+        text.push_str(path.frame(i))?;
+        before = ";";
+    }
+    text.push_str("\n")?;
+    Ok(())
 }
 
 fn check(rt: &impl Abort, alloc: Global, tree: &OwnedTree, want: &str) -> Result<(), AllocError> {

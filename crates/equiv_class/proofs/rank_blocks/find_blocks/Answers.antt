@@ -1,4 +1,3 @@
-use Rattle.std.proofs.Common.{length, ap, arith}
 use Rattle.equiv_class.specs.SeenPaths.{entries_view}
 use Rattle.equiv_class.specs.declared.rank_blocks.Blocks.{Blocks}
 use Rattle.equiv_class.proofs.Filling.{tables_start}
@@ -17,12 +16,10 @@ part_by_paths-requires-clause-origins c =
 
 pub returns-clause-states : goal.returns-clause-states
 returns-clause-states c =
-    let parted = c.in_ok-part_by_paths.ensures in
-    has_states (entries_view c.args.seen.now) c.args.covered.now c.part_by_paths.new.states _ parted.paths
-    (λ r. omega (arith, parted.tables.states_within r, c.in_ok-end.ensures, ap length c.as_slice.ensures.value, c.in_ok-sets.ensures.length)) c.in_ok-sets.ensures.order
+    let blocks : Blocks = record { origins = c.part_by_paths.new.origins; all = c.in_ok-all.all } in
+    has_states (entries_view c.args.seen.now) c.args.covered.now c.part_by_paths.new.states blocks c.in_ok-part_by_paths.ensures.paths c.in_ok-all.ensures.order
 
 pub returns-clause-classes : goal.returns-clause-classes
 returns-clause-classes c P lists =
-    let blocks : Blocks = record { origins = c.part_by_paths.new.origins; sets = c.in_ok-sets.sets; order = c.ranks_by_state.new.order } in
-    classes_by_states P (entries_view c.args.seen.now) c.args.covered.now c.part_by_paths.new.states blocks c.in_ok-part_by_paths.ensures.states c.in_ok-part_by_paths.ensures.paths
-    c.in_ok-sets.ensures.sets c.in_ok-sets.ensures.order lists
+    classes_by_states P (entries_view c.args.seen.now) c.args.covered.now c.part_by_paths.new.states c.part_by_paths.new.origins.items c.in_ok-all.all.items c.in_ok-part_by_paths.ensures.states
+    c.in_ok-part_by_paths.ensures.paths c.in_ok-all.ensures.ranks c.in_ok-all.ensures.order lists

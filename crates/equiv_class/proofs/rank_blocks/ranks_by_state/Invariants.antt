@@ -1,5 +1,6 @@
-use Rattle.std.proofs.Common.{◌≡◌, ◌≤◌, ◌+◌, ◌-◌}
+use Rattle.std.proofs.Common.{◌≡◌, ◌≤◌, ◌+◌, ◌-◌, length}
 use Rattle.rank_set.specs.declared.TheConstants.{RANK_LIMIT}
+use Rattle.equiv_class.proofs.BlockTable.{IsTable, ranks_at, states_of}
 use Rattle.equiv_class.proofs.Filling.{AreFilled}
 use Rattle.equiv_class.proofs.StateOrder.{order_below}
 use Rattle.equiv_class.proofs.rank_blocks.ranks_by_state.Given as goal
@@ -8,8 +9,10 @@ abbrev pub invariant-loop-from : goal.invariant-loop-from
 invariant-loop-from l = record {
   begins : l.run.first ≤ l.from;
   within : l.from ≤ l.run.last + 1;
-  filled : AreFilled l.covered l.states l.end l.from l.sets.items;
-  ordered : l.order.items ≡ order_below l.states l.covered l.from;
+  long : length l.numbers.items ≡ l.end;
+  table : IsTable l.numbers.items l.blocks.items;
+  filled : AreFilled l.covered l.states l.from (ranks_at l.numbers.items l.blocks.items);
+  ordered : states_of l.blocks.items ≡ order_below l.states l.covered l.from;
 }
 
 abbrev pub decreases-loop-from : goal.decreases-loop-from
@@ -18,8 +21,10 @@ decreases-loop-from l = l.run.last + 1 - l.from
 abbrev pub invariant-loop-run : goal.invariant-loop-run
 invariant-loop-run l = record {
   within : l.from ≤ RANK_LIMIT;
-  filled : AreFilled l.covered l.states l.end l.from l.sets.items;
-  ordered : l.order.items ≡ order_below l.states l.covered l.from;
+  long : length l.numbers.items ≡ l.end;
+  table : IsTable l.numbers.items l.blocks.items;
+  filled : AreFilled l.covered l.states l.from (ranks_at l.numbers.items l.blocks.items);
+  ordered : states_of l.blocks.items ≡ order_below l.states l.covered l.from;
 }
 
 abbrev pub decreases-loop-run : goal.decreases-loop-run

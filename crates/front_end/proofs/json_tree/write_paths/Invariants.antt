@@ -1,10 +1,13 @@
 use Rattle.std.proofs.Common.{◌≡◌, ◌++◌, drop, map}
 use Rattle.serde_json.specs.Data.{string}
 use Rattle.call_path.specs.Path.{path_text}
+use Rattle.equiv_class.specs.ClassList.{path_of}
+use Rattle.equiv_class.specs.SeenPaths.{entries_view}
 use Rattle.front_end.specs.JsonValues.{list_of}
 use Rattle.front_end.specs.JsonTokens.{rest_tokens, value_tokens}
 use Rattle.front_end.proofs.json_tree.write_paths.Given as goal
 
-abbrev pub invariant-loop-path : goal.invariant-loop-path
-invariant-loop-path l =
-    l.out ++ rest_tokens (map (λ path. string (path_text path)) (drop l.path-index l.paths)) ≡ l.fn.out ++ value_tokens (list_of (map (λ path. string (path_text path)) l.paths))
+abbrev pub invariant-loop-index : goal.invariant-loop-index
+invariant-loop-index l =
+    l.out ++ rest_tokens (map (λ path. string (path_text path)) (map (path_of (entries_view l.seen)) (drop l.index-index l.indices)))
+    ≡ l.fn.out ++ value_tokens (list_of (map (λ path. string (path_text path)) (map (path_of (entries_view l.seen)) l.indices)))
