@@ -17,14 +17,16 @@ pub(crate) enum Held {
     Runs(RunSet),
 }
 
-// Sets that span at least so many words, 8 KiB of them, are made runs where these take a quarter of the room.
+/// A set that spans fewer words, 1 KiB of them, is held as words: they are united and compared much faster than runs.
+pub(crate) const FEW_WORDS: u32 = 128;
+
+// Words that span at least so many, 8 KiB of them, are made runs where these take a quarter of the room.
 const MANY_WORDS: u32 = 1_024;
 
-// How many runs take the place of so many words, at most. Words are united and compared much faster than runs, so sets
-// that are not wide are made runs only if these are very few.
+// How many runs are better than so many words, at most.
 fn fitting_runs(span: u32) -> u32 {
     if span < MANY_WORDS {
-        span / 128
+        span / FEW_WORDS
     } else {
         span / 4
     }
@@ -45,11 +47,11 @@ impl Held {
     {
         match self {
             Held::Words(words) => {
-                let fitting = fitting_runs(words.span());
-                if fitting == 0 {
+                let span = words.span();
+                if span < MANY_WORDS {
                     return;
                 }
-                if let Ok(Some(runs)) = words.few_runs(fitting) {
+                if let Ok(Some(runs)) = words.few_runs(fitting_runs(span)) {
                     *self = Held::Runs(runs);
                 }
             }

@@ -30,7 +30,7 @@ pub use read::{RanksError, read_ranks};
 
 use std::alloc::{AllocError, Global};
 use std::marker::Model;
-use held::Held;
+use held::{FEW_WORDS, Held};
 use run_set::RunSet;
 use word_set::WordSet;
 
@@ -171,6 +171,24 @@ impl RankSet {
         RankSet {
             held: Held::Words(WordSet::in_one_word(alloc, first, last)),
         }
+    }
+
+    /// The set of the ranks from `first` to `last`, if it is one that takes no allocation.
+    pub(crate) fn of_run(alloc: Global, first: u32, last: u32) -> Option<RankSet>
+        requires not_empty { first ≤ last }
+        requires below_limit { last < RANK_LIMIT }
+        ensures { IfSome result (λ set. set ≡ union none (ranks_between first last)) }
+    {
+        let more_words = last / 64 - first / 64;
+        if more_words == 0 {
+            return Some(RankSet::in_one_word(alloc, first, last));
+        }
+        if more_words < FEW_WORDS {
+            return None;
+        }
+        Some(RankSet {
+            held: Held::Runs(RunSet::of_run(alloc, Run { first, last })),
+        })
     }
 
     /// Adds the ranks of a run that is not empty and within the limit.

@@ -127,16 +127,15 @@ fn put_pending(ranks: &mut RankSet, pending: Option<Run>) -> Result<(), AllocErr
     }
 }
 
-// The ranks of a text that is one item, where they lie in one word. None for other texts, and for one that is refused.
-fn read_one_word(alloc: Global, text: &[u8]) -> Option<RankSet>
+// The ranks of a text that is one item, where these take no allocation. None for other texts, and for one that is
+// refused.
+fn read_one_item(alloc: Global, text: &[u8]) -> Option<RankSet>
     requires { 0 < length text.now }
     ensures { IfSome result (λ ranks. ranks_text text.now ≡ Ok ranks) }
 {
     match item_at(0, text) {
-        Ok(run) if run.first / 64 == run.last / 64 => {
-            Some(RankSet::in_one_word(alloc, run.first, run.last))
-        }
-        _ => None,
+        Ok(run) => RankSet::of_run(alloc, run.first, run.last),
+        Err(_) => None,
     }
 }
 
@@ -172,7 +171,7 @@ pub fn read_ranks(alloc: Global, text: &[u8]) -> Result<RankSet, RanksError>
     if text.is_empty() {
         return Err(RanksError::Empty);
     }
-    if let Some(ranks) = read_one_word(alloc, text) {
+    if let Some(ranks) = read_one_item(alloc, text) {
         return Ok(ranks);
     }
     let mut ranks = RankSet::new(alloc);

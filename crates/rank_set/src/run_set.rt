@@ -52,6 +52,17 @@ impl RunSet {
         }
     }
 
+    /// The set of the ranks of one run. It allocates nothing.
+    pub(crate) fn of_run(alloc: Global, run: Run) -> RunSet
+        requires not_empty { run.first ≤ run.last }
+        requires below_limit { run.last < RANK_LIMIT }
+        ensures { result ≡ union none (ranks_between run.first run.last) }
+    {
+        RunSet {
+            runs: Runs::from_buf(alloc, [run]),
+        }
+    }
+
     /// For the proof: each rank is below `RANK_LIMIT`.
     pub(crate) fn invariant(&self)
         ensures { (r : ℕ) → Has r self.now → r < RANK_LIMIT }
