@@ -12,3 +12,4 @@ pub mod Lines
 pub mod LineViews
 pub mod Grammar
 pub mod Acceptance
+pub mod Feeding

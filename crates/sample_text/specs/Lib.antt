@@ -7,3 +7,4 @@ pub mod ParserViews
 pub mod Taking
 pub mod Grammar
 pub mod Rows
+pub mod Feeding

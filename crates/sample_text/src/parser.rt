@@ -15,7 +15,7 @@ use overlay_setup::Topology;
 use rank_set::{RANK_LIMIT, RankSet, RanksError, read_ranks};
 use stat_plan::{LINE_LIMIT, Samples, StackLine, TIME_LIMIT};
 use std::alloc::{AllocError, Global};
-use text_lines::{LineParser, Quantity, Reason, TextError, next_text_line, number_in};
+use text_lines::{Quantity, Reason, TextError, next_text_line, number_in};
 
 /// The ranks by node number, and the samples.
 #[derive(Drop)]
@@ -335,8 +335,8 @@ impl<'t> Parser<'t> {
         self.take_any_text(line_number, line)
     }
 
-    // Takes the next line, whose bytes may be any.
-    fn take_line(&mut self, line_number: u64, line: &[u8]) -> Result<(), TextError>
+    /// Takes the next line, whose bytes may be any.
+    pub fn take_line(&mut self, line_number: u64, line: &[u8]) -> Result<(), TextError>
         requires { IsConsistent self.old }
         ensures taken { OnOk result (takes_line self.old line_number line.now self.new) }
         ensures ready { OnOk result (IsConsistent self.new) }
@@ -362,23 +362,5 @@ impl<'t> Parser<'t> {
         let alloc = *self.placed.allocator();
         let paths = self.paths.into_paths();
         Ok(Samples::new(alloc, self.placed, paths, self.lines)?)
-    }
-}
-
-impl LineParser for Parser<'_> {
-    ghost use Rattle.text_lines.specs.Parsing.{TakesBy, RefusesBy};
-    ghost use Rattle.sample_text.specs.ParserViews.{parser_view, parser_nodes, IsConsistent};
-    ghost use Rattle.sample_text.specs.Steps.{with_line};
-
-    ghost is_ready = { IsConsistent };
-
-    ghost takes = { TakesBy parser_nodes parser_view with_line };
-
-    ghost refuses = { RefusesBy parser_nodes parser_view with_line };
-
-    fn take(self, line_number: u64, line: &[u8]) -> Result<Self, TextError> {
-        let mut parser = self;
-        parser.take_line(line_number, line)?;
-        Ok(parser)
     }
 }

@@ -1,5 +1,6 @@
 pub mod Faults
 pub mod Desk
+pub mod Feeding
 pub mod Sink
 pub mod MemDesk
 pub mod MemSink

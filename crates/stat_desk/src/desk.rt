@@ -1,6 +1,7 @@
-//! A desk gives whole files by name.
-ghost use Rattle.std.specs.Prelude.{◌≡◌, ◌<◌, ◌^◌, ℕ, List, Option, IfOk, IsErrOf};
+//! A desk gives files by name, whole or in pieces.
+ghost use Rattle.std.specs.Prelude.{◌≡◌, ◌<◌, ◌^◌, [], ℕ, List, Option, IfOk, OnOk, OnErr, IsErrOf};
 ghost use Rattle.stat_desk.specs.Desk.{CountsAt, FailedAt, IsAsked, IsLonger, IsWhole, SameFaults};
+ghost use Rattle.stat_desk.specs.Feeding.{FeedsNext, FeedsPrefix, FeedsWhole, HasRoomFor};
 
 /// Why a read returned no bytes.
 #[derive(Clone, Copy, Debug, PartialEq, Eq)]
@@ -13,7 +14,19 @@ pub enum DeskError {
     OutOfMemory,
 }
 
-/// Gives whole files by name, and counts its faults.
+/// Takes bytes in pieces, in order.
+pub trait Feed {
+    /// Feeding these bytes, however they are cut, turns one value into another.
+    ghost feeds: { Self → List ℕ → Self → Type 0 };
+
+    /// Takes the next piece. A value that runs out of memory, or refuses what it was fed, takes the later pieces all
+    /// the same, and says so when it is asked what it read.
+    fn feed(&mut self, piece: &[u8])
+        requires { HasRoomFor feeds self.old piece.now }
+        ensures { FeedsNext feeds self.old piece.now self.new };
+}
+
+/// Gives files by name, and counts its faults.
 pub trait Desk {
     /// How often reads have failed, up to 2^64 - 1.
     ghost faults: { Self → ℕ };
@@ -35,6 +48,27 @@ pub trait Desk {
     /// bytes. No read changes the contents of a file.
     fn read(&mut self, name: &str, max: u64) -> Result<Vec<u8>, DeskError>
         ensures whole { IfOk result (λ bytes. IsWhole (contents self.old name.now) max bytes.items) }
+        ensures too_long { IsErrOf result DeskError.TooLong → IsLonger (contents self.old name.now) max }
+        ensures failed { IsErrOf result DeskError.Failed
+            → FailedAt (faults self.old) (faults self.new) (last_fault self.new) name.now }
+        ensures counts { CountsAt (faults self.old) (faults self.new) (last_fault self.old)
+            (last_fault self.new) name.now }
+        ensures fits_u64 { faults self.new < 2 ^ 64 }
+        ensures out_of_memory { IsErrOf result DeskError.OutOfMemory → SameFaults (faults self.old) (faults self.new)
+            (last_fault self.old) (last_fault self.new) }
+        ensures reads { IsAsked (reads self.old) (reads self.new) name.now result }
+        ensures contents { contents self.new ≡ contents self.old };
+
+    /// Feeds all bytes of the file of that name, if they are at most `max`, piece by piece to a value that was fed
+    /// nothing. After an error it was fed a prefix of the file.
+    ///
+    /// # Errors
+    ///
+    /// Those of `read`.
+    fn read_pieces<F: Feed>(&mut self, name: &str, max: u64, fed: &mut F) -> Result<(), DeskError>
+        requires nothing_fed { F.feeds fed.old [] fed.old }
+        ensures whole { OnOk result (FeedsWhole F.feeds fed.old fed.new (contents self.old name.now) max) }
+        ensures prefix { OnErr result (FeedsPrefix F.feeds fed.old fed.new (contents self.old name.now) max) }
         ensures too_long { IsErrOf result DeskError.TooLong → IsLonger (contents self.old name.now) max }
         ensures failed { IsErrOf result DeskError.Failed
             → FailedAt (faults self.old) (faults self.new) (last_fault self.new) name.now }

@@ -1,4 +1,4 @@
-//! The outside as traits. A desk gives whole files by name, and a sink takes bytes; each counts its
+//! The outside as traits. A desk gives files by name, whole or in pieces, and a sink takes bytes; each counts its
 //! faults, so that a caller can tell a fault of the outside from a fault of its own. Also the events
 //! of the machine, and the journal that lists them.
 #![tactic(auto)]
@@ -12,7 +12,7 @@ mod mem_sink;
 mod sink;
 mod system;
 
-pub use desk::{Desk, DeskError};
+pub use desk::{Desk, DeskError, Feed};
 pub use event::Event;
 pub use gate::{Gate, OpenGate};
 pub use journal::Journal;

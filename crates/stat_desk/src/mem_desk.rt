@@ -4,9 +4,10 @@ ghost use Rattle.std.specs.Borrow.{Bor};
 ghost use Rattle.std.specs.declared.alloc.Global.{Global};
 ghost use Rattle.stat_desk.specs.Desk.{CountsAt, FailedAt, IsAsked, IsLonger, IsWhole, SameFaults};
 ghost use Rattle.stat_desk.specs.Faults.{next_count};
+ghost use Rattle.stat_desk.specs.Feeding.{FeedsAs, FeedsPrefix, FeedsWhole};
 ghost use Rattle.stat_desk.specs.MemDesk.{Gives, after_read, entries_of, file_of, read_answer};
 
-use crate::{Desk, DeskError};
+use crate::{Desk, DeskError, Feed};
 use std::alloc::{AllocError, Global};
 use std::marker::Model;
 
@@ -15,6 +16,23 @@ use std::marker::Model;
 struct StoredFile {
     name: String,
     bytes: Vec<u8>,
+}
+
+// How many bytes are fed at once: so few that the lines of most files are cut.
+const PIECE: usize = 64;
+
+// Feeds bytes in pieces.
+fn feed_pieces<F: Feed>(bytes: &[u8], fed: &mut F)
+    requires nothing_fed { F.feeds fed.old [] fed.old }
+    ensures { F.feeds fed.old bytes.now fed.new }
+{
+    let mut count = 0;
+    while count < bytes.len() {
+        let (_, rest) = bytes.split_at(count);
+        let (piece, _) = rest.split_at(rest.len().min(PIECE));
+        fed.feed(piece);
+        count += piece.len();
+    }
 }
 
 /// Files in memory. Its contents are what was put. Its reads fail where they are told to, and at names that were not
@@ -160,6 +178,31 @@ impl Desk for MemDesk {
                 }
                 answer
             }
+        }
+    }
+    // `exactly` says what each read feeds or returns, and `state` what the desk is afterwards.
+    fn read_pieces<F: Feed>(&mut self, name: &str, max: u64, fed: &mut F) -> Result<(), DeskError>
+        requires nothing_fed { F.feeds fed.old [] fed.old }
+        ensures whole { OnOk result (FeedsWhole F.feeds fed.old fed.new (file_of self.old.files name.now) max) }
+        ensures prefix { OnErr result (FeedsPrefix F.feeds fed.old fed.new (file_of self.old.files name.now) max) }
+        ensures too_long { IsErrOf result DeskError.TooLong → IsLonger (file_of self.old.files name.now) max }
+        ensures failed { IsErrOf result DeskError.Failed
+            → FailedAt self.old.faults self.new.faults self.new.last_fault name.now }
+        ensures counts { CountsAt self.old.faults self.new.faults self.old.last_fault self.new.last_fault name.now }
+        ensures fits_u64 { self.new.faults < 2 ^ 64 }
+        ensures out_of_memory { IsErrOf result DeskError.OutOfMemory
+            → SameFaults self.old.faults self.new.faults self.old.last_fault self.new.last_fault }
+        ensures reads { IsAsked self.old.reads self.new.reads name.now result }
+        ensures contents { self.new.files ≡ self.old.files }
+        ensures state { self.new ≡ after_read self.old name.now result }
+        ensures exactly { FeedsAs F.feeds fed.old fed.new (read_answer self.old name.now max) result }
+    {
+        match self.read(name, max) {
+            Ok(bytes) => {
+                feed_pieces(bytes.as_slice(), fed);
+                Ok(())
+            }
+            Err(error) => Err(error),
         }
     }
 }

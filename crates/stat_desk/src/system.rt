@@ -1,8 +1,9 @@
 //! The real desk and sinks. No contract says what the system contains; they count each of its errors.
 ghost use Rattle.std.specs.Prelude.{◌≡◌, ◌<◌, ◌≤◌, ◌+◌, ◌^◌, [], length, map, None, IfOk, IfSome, OnOk, vec_len, option_map, string_bytes};
 ghost use Rattle.stat_desk.specs.Desk.{CountsAt, FailedAt};
+ghost use Rattle.stat_desk.specs.Feeding.{FeedsPrefix};
 
-use crate::{Desk, DeskError, Sink, SinkError};
+use crate::{Desk, DeskError, Feed, Sink, SinkError};
 use std::alloc::{AllocError, Global};
 use std::fs;
 use std::io::{Read, Write};
@@ -106,6 +107,40 @@ fn read_up_to<F: Read>(alloc: Global, file: &mut F, max: u64) -> Result<Vec<u8>,
     Err(DeskError::TooLong)
 }
 
+// How many bytes are fed at once.
+const PIECE: usize = 65_536;
+
+// Feeds all bytes that a file gives, if they are at most `max`. It takes at most a piece more from the file.
+fn feed_up_to<I: Read, F: Feed>(
+    alloc: Global,
+    file: &mut I,
+    max: u64,
+    fed: &mut F,
+) -> Result<(), DeskError>
+    requires nothing_fed { F.feeds fed.old [] fed.old }
+    ensures { FeedsPrefix F.feeds fed.old fed.new None max }
+{
+    let mut piece = Vec::new(alloc);
+    if make_room(&mut piece, PIECE).is_err() {
+        return Err(DeskError::OutOfMemory);
+    }
+    let mut left = max;
+    loop {
+        let Ok(count) = file.read(&mut piece[..]) else {
+            return Err(DeskError::Failed);
+        };
+        if count == 0 {
+            return Ok(());
+        }
+        if count as u64 > left {
+            return Err(DeskError::TooLong);
+        }
+        let (bytes, _) = piece.as_slice().split_at(count);
+        fed.feed(bytes);
+        left -= count as u64;
+    }
+}
+
 impl<R: Files> Desk for FileDesk<'_, R> {
     ghost faults = { λ d. d.faults };
 
@@ -131,6 +166,26 @@ impl<R: Files> Desk for FileDesk<'_, R> {
         };
         match read_up_to(self.alloc, &mut file, max) {
             Ok(bytes) => Ok(bytes),
+            Err(DeskError::Failed) => Err(self.refuse(at_fault)),
+            Err(other) => Err(other),
+        }
+    }
+
+    fn read_pieces<F: Feed>(&mut self, name: &str, max: u64, fed: &mut F) -> Result<(), DeskError> {
+        let (Ok(asked), Ok(at_fault)) = (
+            String::from_str(self.alloc, name),
+            String::from_str(self.alloc, name),
+        ) else {
+            return Err(DeskError::OutOfMemory);
+        };
+        if self.reads.push(asked).is_err() {
+            return Err(DeskError::OutOfMemory);
+        }
+        let Ok(mut file) = fs::open(self.rt, name) else {
+            return Err(self.refuse(at_fault));
+        };
+        match feed_up_to(self.alloc, &mut file, max, fed) {
+            Ok(()) => Ok(()),
             Err(DeskError::Failed) => Err(self.refuse(at_fault)),
             Err(other) => Err(other),
         }

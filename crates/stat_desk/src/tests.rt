@@ -126,6 +126,54 @@ fn file_desk_reads_real_files(rt: HostRuntime) -> Result<(), AllocError> {
     Ok(())
 }
 
+// Bytes that came in pieces, joined.
+#[derive(Drop)]
+struct Joined {
+    bytes: Vec<u8>,
+    pieces: u32,
+}
+
+impl Feed for Joined {
+    ghost feeds = { λ _ _ _. Unit {0} };
+
+    fn feed(&mut self, piece: &[u8]) {
+        self.pieces = self.pieces.saturating_add(1);
+        let _ = self.bytes.extend_from_slice(piece);
+    }
+}
+
+#[test]
+fn desks_feed_files_in_pieces(rt: HostRuntime) -> Result<(), AllocError> {
+    let alloc = rt.alloc();
+    let mut long = Vec::new(alloc);
+    for number in 0..140_000u32 {
+        long.push((number % 251) as u8)?;
+    }
+    assert!(rt; fs::write(&rt, "pieces", long.as_slice()).is_ok());
+    let mut desk = FileDesk::new(alloc, &rt);
+    let reads: [(&str, u64, Result<(), DeskError>); 3] = [
+        ("pieces", 140_000, Ok(())),
+        ("pieces", 139_999, Err(DeskError::TooLong)),
+        ("absent", 140_000, Err(DeskError::Failed)),
+    ];
+    for (name, max, want) in reads {
+        let mut joined = Joined {
+            bytes: Vec::new(alloc),
+            pieces: 0,
+        };
+        assert_eq!(rt;
+            desk.read_pieces(name, max, &mut joined),
+            want,
+            "{name} {max}"
+        );
+        if want.is_ok() {
+            assert!(rt; joined.pieces > 1);
+            assert_eq!(rt; joined.bytes.as_slice(), long.as_slice());
+        }
+    }
+    Ok(())
+}
+
 #[test]
 fn standard_output_takes_bytes(rt: HostRuntime) {
     let mut sink = StdSink::new(&rt);

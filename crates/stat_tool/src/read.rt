@@ -1,6 +1,8 @@
-//! Reads the files that the words name, each whole, and tests each before the next is read.
+//! Reads the files that the words name, and tests each before the next is read. The samples are read in pieces, the
+//! others whole.
 ghost use Rattle.std.specs.Prelude.{◌≡◌, ◌≤◌, ◌++◌, ◌∷◌, List, [], IfErr, IfOk, OnOk};
 ghost use Rattle.stat_desk.specs.Desk.{IsWhole};
+ghost use Rattle.stat_desk.specs.Feeding.{FeedsWhole};
 ghost use Rattle.stat_plan.specs.Invariants.{SamplesFit};
 ghost use Rattle.overlay_setup.specs.Scripts.{ScriptFits};
 ghost use Rattle.stat_plan.specs.Plans.{plan_of};
@@ -17,7 +19,8 @@ ghost use Rattle.stat_tool.specs.Status.{refusal_of};
 use crate::status::{FileRole, Status};
 use overlay_setup::{Script, Topology};
 use prefix_tree::PREFIX_LIMIT;
-use stat_desk::{Desk, DeskError};
+use sample_text::Feeder;
+use stat_desk::{Desk, DeskError, Feed};
 use stat_plan::{Plan, PlanError, Samples};
 use stat_words::Files;
 use std::alloc::Global;
@@ -46,6 +49,36 @@ pub fn read_file<D: Desk>(desk: &mut D, name: &str, role: FileRole) -> Result<Ve
     let limit = limit_of(role);
     match desk.read(name, limit) {
         Ok(bytes) => Ok(bytes),
+        Err(DeskError::Failed) => Err(Status::DeskFault(role)),
+        Err(DeskError::TooLong) => Err(Status::OverLimit {
+            file: role,
+            line: 0,
+            what: Quantity::Bytes,
+            limit,
+        }),
+        Err(DeskError::OutOfMemory) => Err(Status::OutOfMemory),
+    }
+}
+
+/// Feeds all bytes of one file, in pieces.
+fn feed_file<D: Desk, F: Feed>(
+    desk: &mut D,
+    name: &str,
+    role: FileRole,
+    fed: &mut F,
+) -> Result<(), Status>
+    requires nothing_fed { F.feeds fed.old [] fed.old }
+    ensures ok { OnOk result (FeedsWhole F.feeds fed.old fed.new (D.contents desk.old name.now) (limit_of role)) }
+    ensures err { IfErr result
+        (Refuses role name.now (desk_change D.faults D.last_fault D.contents desk.old desk.new)) }
+    ensures read { OnOk result (D.reads desk.new ≡ D.reads desk.old ++ name.now ∷ []) }
+    ensures reads { AreReadInOrder (D.reads desk.old) (D.reads desk.new) (name.now ∷ []) }
+    ensures later { D.faults desk.old ≤ D.faults desk.new }
+    ensures contents { D.contents desk.new ≡ D.contents desk.old }
+{
+    let limit = limit_of(role);
+    match desk.read_pieces(name, limit, fed) {
+        Ok(()) => Ok(()),
         Err(DeskError::Failed) => Err(Status::DeskFault(role)),
         Err(DeskError::TooLong) => Err(Status::OverLimit {
             file: role,
@@ -114,11 +147,15 @@ fn read_samples<D: Desk>(
     ensures later { D.faults desk.old ≤ D.faults desk.new }
     ensures contents { D.contents desk.new ≡ D.contents desk.old }
 {
-    let bytes = match read_file(desk, name, FileRole::Samples) {
-        Ok(bytes) => bytes,
-        Err(status) => return Err(status),
+    let mut feeder = match Feeder::new(alloc, topology) {
+        Ok(feeder) => feeder,
+        Err(_) => return Err(Status::OutOfMemory),
     };
-    match sample_text::read(alloc, bytes.as_slice(), topology) {
+    match feed_file(desk, name, FileRole::Samples, &mut feeder) {
+        Ok(()) => {}
+        Err(status) => return Err(status),
+    }
+    match feeder.finish() {
         Ok(samples) => Ok(samples),
         Err(error) => Err(refusal(FileRole::Samples, error)),
     }

@@ -2,8 +2,9 @@
 
 use call_path::CallPath;
 use overlay_setup::{Grain, Topology};
-use sample_text::read;
-use stat_plan::{StackLine, WaveTimes};
+use sample_text::{Feeder, read};
+use stat_desk::Feed;
+use stat_plan::{Samples, StackLine, WaveTimes};
 use std::alloc::{AllocError, Global};
 use std::process::Abort;
 use std::test::Fail;
@@ -386,5 +387,105 @@ fn reads_as_many_samples_as_may_be(rt: HostRuntime) -> Result<(), Fail> {
             limit: 262_144
         })
     );
+    Ok(())
+}
+
+// The samples of a text that comes in two pieces.
+fn read_in_two(
+    alloc: Global,
+    first: &[u8],
+    second: &[u8],
+    job: &Topology,
+) -> Result<Samples, TextError> {
+    let mut feeder = Feeder::new(alloc, job)?;
+    feeder.feed(first);
+    feeder.feed(second);
+    feeder.finish()
+}
+
+fn samples_in_two(
+    alloc: Global,
+    first: &[u8],
+    second: &[u8],
+    job: &Topology,
+) -> Result<Vec<u8>, TextError> {
+    let samples = read_in_two(alloc, first, second, job)?;
+    let all = samples.lines();
+    Ok(text_of_lines(alloc, all.lines, all.paths)?)
+}
+
+// Texts and their samples: lines that end in both ways, the last one with and without a line feed, and characters of
+// two and of three bytes.
+const WHOLE_OR_CUT: [(&str, &str); 3] = [
+    (
+        "daemon a:0 0\r\ndaemon b:0 1-2\r\n\r\nstack 7 0-2 m\r\nstack 8 1 m;n\r\n",
+        "7 3:[0-2] 0 m\n8 1:[1] 1 m;n\n",
+    ),
+    (
+        "daemon a:0 0\ndaemon b:0 1\nstack 1 0 \u{e9};\u{20ac}\nstack 1 1 \u{e9};\u{20ac}",
+        "1 1:[0] 0 \u{e9};\u{20ac}\n1 1:[1] 0 \u{e9};\u{20ac}\n",
+    ),
+    (
+        "#\n\ndaemon a:0 0\ndaemon b:0 1\nstack 3 1 m \r",
+        "3 1:[1] 0 m \n",
+    ),
+];
+
+#[test]
+fn reads_a_text_wherever_it_is_cut(rt: HostRuntime) -> Result<(), Fail> {
+    let job = job(rt.alloc())?;
+    for (text, want) in WHOLE_OR_CUT {
+        let bytes = text.as_bytes();
+        for at in 0..bytes.len() {
+            let (first, second) = bytes.split_at(at);
+            let samples = samples_in_two(rt.alloc(), first, second, &job)?;
+            assert_eq!(rt; samples.as_slice(), want.as_bytes(), "{text:?} {at}");
+        }
+    }
+    Ok(())
+}
+
+// Texts with an error, and others behind it; the line and the reason of the first.
+const BAD_OR_CUT: [(&[u8], u64, Reason); 5] = [
+    (
+        b"daemon a:0 0\nstack 0 1 m\nstack x 0 m\n",
+        2,
+        Reason::Unplaced,
+    ),
+    (
+        b"#\xc3\ndaemon a:0 0\r\nstack 0 0 m\xc3;\nx",
+        3,
+        Reason::NotUtf8,
+    ),
+    (
+        b"daemon a:0 0\ndaemon b:0 1\nstack 0 0 m\nstack 0 0",
+        4,
+        Reason::BadDirective,
+    ),
+    (
+        b"daemon a:0 0\ndaemon b:0 1\nstack 0 0 m;\r\n",
+        3,
+        Reason::BadPath,
+    ),
+    (
+        b"daemon a:0 0\nstack 0 0 \xc3\xa9\n",
+        0,
+        Reason::DaemonWithoutRank,
+    ),
+];
+
+#[test]
+fn refuses_a_text_wherever_it_is_cut(rt: HostRuntime) -> Result<(), Fail> {
+    let job = job(rt.alloc())?;
+    for (text, line, reason) in BAD_OR_CUT {
+        for at in 0..text.len() {
+            let (first, second) = text.split_at(at);
+            assert_eq!(rt;
+                read_in_two(rt.alloc(), first, second, &job).err(),
+                Some(TextError::Bad { line, reason }),
+                "{at}"
+            );
+        }
+    }
     Ok(())
 }

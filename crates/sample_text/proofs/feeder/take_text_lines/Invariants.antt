@@ -1,21 +1,22 @@
 use denote.Shadow.{shadow}
 use denote.Text.{Utf8}
-use Rattle.std.proofs.Common.{◌≤◌, ◌+◌, length}
+use Rattle.std.proofs.Common.{◌≡◌, ◌+◌, ◌<◌, ◌^◌, length}
 use Rattle.text_lines.specs.Lines.{lines}
 use Rattle.text_lines.specs.Parsing.{TakesLines, RefusesLines}
 use Rattle.text_lines.specs.declared.text_error.TextError.{TextError}
 use Rattle.sample_text.specs.declared.parser.Parser.{Parser}
 use Rattle.sample_text.specs.ParserViews.{IsConsistent}
 use Rattle.sample_text.specs.Taking.{takes_line, refuses_line}
-use Rattle.sample_text.proofs.take_text_lines.Given as goal
+use Rattle.sample_text.proofs.feeder.take_text_lines.Given as goal
 
 abbrev pub invariant-loop-rest : goal.invariant-loop-rest
 invariant-loop-rest l = record {
-  room : l.line_number + length l.rest ≤ 1 + length l.text;
+  room : l.count + length l.rest < 2 ^ 64;
   utf8 : shadow (Utf8 l.rest);
   ready : IsConsistent l.parser;
-  taken : (new : Parser) → TakesLines takes_line l.parser l.line_number (lines l.rest) new → TakesLines takes_line l.fn.parser 1 (lines l.text) new;
-  refused : (e : TextError) → RefusesLines takes_line refuses_line l.parser l.line_number (lines l.rest) e → RefusesLines takes_line refuses_line l.fn.parser 1 (lines l.text) e;
+  counted : l.count + length (lines l.rest) ≡ l.before + length (lines l.text);
+  taken : (new : Parser) → TakesLines takes_line l.parser (l.count + 1) (lines l.rest) new → TakesLines takes_line l.fn.parser (l.before + 1) (lines l.text) new;
+  refused : (e : TextError) → RefusesLines takes_line refuses_line l.parser (l.count + 1) (lines l.rest) e → RefusesLines takes_line refuses_line l.fn.parser (l.before + 1) (lines l.text) e;
 }
 
 abbrev pub decreases-loop-rest : goal.decreases-loop-rest
