@@ -311,12 +311,12 @@ cut_lacks s from to first last q run up lt = sym (in_part s to q (omega (arith, 
 
 -- a run is met where a set has a run within it
 pub is_met : (s t : Ranks) (from first last : ℕ) (o : Option Run) → is_some o ≡ true → IsRun s from first last → IfSome o (λ r. IsRun (up_to last t) first r.first r.last) → is_empty (those (has t) s) ≡ false
-is_met s t from first last None none run met = absurd (true≢false (sym none))
+is_met s t from first last None nothing run met = absurd (true≢false (sym nothing))
 is_met s t from first last (Some r) one run met = out_fails s t from first last r.first r.last run met
 
 -- and else is not
 pub is_unmet : (t : Ranks) (first last : ℕ) (o : Option Run) → is_some o ≡ false → IfNone o ((q : ℕ) → first ≤ q → q ≤ last → has t q ≡ false) → (q : ℕ) → first ≤ q → q ≤ last → has t q ≡ false
-is_unmet t first last None none unmet = unmet
+is_unmet t first last None _ unmet = unmet
 is_unmet t first last (Some r) one unmet = absurd (true≢false one)
 
 -- each set is a subset of itself
@@ -363,7 +363,7 @@ no_rest_of_subset s t all = same_ranks _ _ (λ q. has-those (λ r. not (has t r)
 
 -- a rank in a gap of the second set is not in it
 pub gap_has : (s t : Ranks) (from first last to : ℕ) (o : Option Run) → is_some o ≡ true → IsRun t from first last → to + 1 ≡ first → IfSome o (λ r. IsRun (up_to to s) from r.first r.last) → is_subset s t ≡ false
-gap_has s t from first last to None none run next met = absurd (true≢false (sym none))
+gap_has s t from first last to None nothing run next met = absurd (true≢false (sym nothing))
 gap_has s t from first last to (Some r) one run next met =
     let end = cut_end s from to r.first r.last met in
     not_subset s t r.first (cut_has s from to r.first r.last r.first met (omega arith) met.some) (run.passed r.first met.start (omega (arith, next, end, met.some)))

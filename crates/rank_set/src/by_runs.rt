@@ -1,6 +1,6 @@
 //! What is asked of two sets run by run, however they are held.
 
-ghost use Rattle.std.specs.Prelude.{◌≡◌, ◌≤◌, ◌<◌, not, OnOk, IfOk, [], ◌∷◌};
+ghost use Rattle.std.specs.Prelude.{◌≡◌, ◌≤◌, ◌<◌, ◌↔◌, true, not, OnOk, IfOk, [], ◌∷◌};
 ghost use Rattle.rank_set.specs.Ranks.{has, is_empty, is_subset, those, union};
 ghost use Rattle.rank_set.specs.Runs.{ranks_between, IsRunInRange};
 ghost use Rattle.rank_set.specs.Words.{ranks_in};
@@ -32,7 +32,18 @@ pub(crate) fn covers_word(set: &RankSet, index: u32, word: u64) -> bool
 }
 
 /// Whether each rank of the first set is in the second.
+#[inline(never)]
 pub(crate) fn is_subset(set: &RankSet, other: &RankSet) -> bool
+    ensures { result ≡ is_subset set.now other.now }
+{
+    match &set.held {
+        Held::Words(_) => has_no_rank_in_gaps(set, other),
+        Held::Runs(_) => has_runs_in(set, other),
+    }
+}
+
+// The same, by the runs of the first set: whether the second has each of them.
+fn has_runs_in(set: &RankSet, other: &RankSet) -> bool
     ensures { result ≡ is_subset set.now other.now }
 {
     let (mut hint, mut other_hint) = (0, 0);
@@ -46,8 +57,8 @@ pub(crate) fn is_subset(set: &RankSet, other: &RankSet) -> bool
     true
 }
 
-/// The same, by the gaps of the second set: whether the first has no rank in them.
-pub(crate) fn lies_in(set: &RankSet, other: &RankSet) -> bool
+// The same, by the gaps of the second set: whether the first has no rank in them.
+fn has_no_rank_in_gaps(set: &RankSet, other: &RankSet) -> bool
     ensures { result ≡ is_subset set.now other.now }
 {
     let end = set.end();
@@ -62,8 +73,30 @@ pub(crate) fn lies_in(set: &RankSet, other: &RankSet) -> bool
     set.run_within(from, end, &mut hint).is_none()
 }
 
-/// Whether no rank of the first set is in the second.
+/// Whether the two sets have the same ranks.
+#[inline(never)]
+pub(crate) fn equals(set: &RankSet, other: &RankSet) -> bool
+    ensures { (result ≡ true) ↔ (set.now ≡ other.now) }
+{
+    if let (Held::Runs(runs), Held::Runs(others)) = (&set.held, &other.held) {
+        return runs.equals(others);
+    }
+    is_subset(set, other) && is_subset(other, set)
+}
+
+/// Whether no rank of the first set is in the second. The one with runs goes first: it has fewer of them.
+#[inline(never)]
 pub(crate) fn is_disjoint(set: &RankSet, other: &RankSet) -> bool
+    ensures { result ≡ is_empty (those (λ r. has other.now r) set.now) }
+{
+    match &set.held {
+        Held::Words(_) => meets_no_run(other, set),
+        Held::Runs(_) => meets_no_run(set, other),
+    }
+}
+
+// The same, by the runs of the first set: whether the second has no rank in any of them.
+fn meets_no_run(set: &RankSet, other: &RankSet) -> bool
     ensures { result ≡ is_empty (those (λ r. has other.now r) set.now) }
 {
     let (mut hint, mut other_hint) = (0, 0);

@@ -17,8 +17,8 @@ pub(crate) enum Held {
     Runs(RunSet),
 }
 
-/// A set that spans fewer words, 1 KiB of them, is held as words: they are united and compared much faster than runs.
-pub(crate) const FEW_WORDS: u32 = 128;
+/// A set that spans fewer words is held as words: they are united and compared much faster than runs.
+pub(crate) const FEW_WORDS: u32 = 16;
 
 // Words that span at least so many, 8 KiB of them, are made runs where these take a quarter of the room.
 const MANY_WORDS: u32 = 1_024;
@@ -34,6 +34,7 @@ fn fitting_runs(span: u32) -> u32 {
 
 impl Held {
     // How many words the ranks span.
+    #[inline(always)]
     fn span(&self) -> u32 {
         match self {
             Held::Words(words) => words.span(),
@@ -56,7 +57,8 @@ impl Held {
                 }
             }
             Held::Runs(runs) => {
-                if runs.len() / 2 <= fitting_runs(runs.span()) {
+                let span = runs.span();
+                if span >= FEW_WORDS && runs.len() / 2 <= fitting_runs(span) {
                     return;
                 }
                 if let Ok(words) = runs.to_words() {
@@ -66,12 +68,14 @@ impl Held {
         }
     }
 
-    /// Does so if the ranks span more words than before, past a power of two: so the runs of words that grow are seldom
-    /// counted.
+    /// Does so if the ranks span many words, past a power of two that they did not span before: so the runs of words
+    /// that grow are seldom counted.
+    #[inline(always)]
     pub(crate) fn settle_if_wider(&mut self, before: u32)
         ensures { ranks_held self.new ≡ ranks_held self.old }
     {
-        if self.span().leading_zeros() < before.leading_zeros() {
+        let span = self.span();
+        if span >= MANY_WORDS && span.leading_zeros() < before.leading_zeros() {
             self.settle();
         }
     }
@@ -133,7 +137,10 @@ impl Held {
     {
         let before = self.span();
         self.join(other)?;
-        self.settle_if_wider(before);
+        match self {
+            Held::Words(_) => self.settle_if_wider(before),
+            Held::Runs(_) => self.settle(),
+        }
         Ok(())
     }
 }

@@ -268,42 +268,40 @@ impl RankSet {
     }
 
     /// Whether each rank of the set is in the other.
+    #[inline(always)]
     pub fn is_subset(&self, other: &RankSet) -> bool
         ensures { result ≡ is_subset self.now other.now }
     {
-        match (&self.held, &other.held) {
-            (Held::Words(words), Held::Words(others)) => words.is_subset(others),
-            (Held::Words(_), Held::Runs(_)) => by_runs::lies_in(self, other),
-            (Held::Runs(_), _) => by_runs::is_subset(self, other),
+        if let (Held::Words(words), Held::Words(others)) = (&self.held, &other.held) {
+            return words.is_subset(others);
         }
+        by_runs::is_subset(self, other)
     }
 
     /// Whether no rank of the set is in the other.
+    #[inline(always)]
     pub fn is_disjoint(&self, other: &RankSet) -> bool
         ensures { result ≡ is_empty (those (λ r. has other.now r) self.now) }
     {
         if let (Held::Words(words), Held::Words(others)) = (&self.held, &other.held) {
             return words.is_disjoint(others);
         }
-        // The one with runs goes first: it has fewer of them.
-        if let Held::Words(_) = &self.held {
-            return by_runs::is_disjoint(other, self);
-        }
         by_runs::is_disjoint(self, other)
     }
 
     /// Whether the two sets have the same ranks.
+    #[inline(always)]
     pub fn equals(&self, other: &RankSet) -> bool
         ensures { (result ≡ true) ↔ (self.now ≡ other.now) }
     {
-        match (&self.held, &other.held) {
-            (Held::Words(words), Held::Words(others)) => words.equals(others),
-            (Held::Runs(runs), Held::Runs(others)) => runs.equals(others),
-            _ => self.is_subset(other) && other.is_subset(self),
+        if let (Held::Words(words), Held::Words(others)) = (&self.held, &other.held) {
+            return words.equals(others);
         }
+        by_runs::equals(self, other)
     }
 
     /// Whether the set has no ranks.
+    #[inline(always)]
     pub fn is_empty(&self) -> bool
         ensures { result ≡ is_empty self.now }
     {

@@ -27,6 +27,7 @@ fn write_number(n: u32, out: &mut Vec<u8>) -> Result<(), AllocError>
 const RUN_BYTES: usize = 15;
 
 // Appends a run's text: a number, or `a-b` for two ranks or more. It is written from its end.
+#[inline(always)]
 fn write_run(first: u32, last: u32, out: &mut Vec<u8>) -> Result<(), AllocError>
     requires { (first ≤ last) × (last < RANK_LIMIT) }
     ensures ok { OnOk result (out.new.items ≡ out.old.items ++ run_text (first, last)) }

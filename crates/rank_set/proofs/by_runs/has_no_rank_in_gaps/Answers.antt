@@ -2,7 +2,7 @@ use Rattle.std.proofs.Common.{◌≡◌, ◌+◌, ◌-◌, ◌<◌, ◌≤◌, �
 use Rattle.std.specs.Prelude.{is_some}
 use Rattle.rank_set.specs.Ranks.{has}
 use Rattle.rank_set.proofs.RunWalks.{gap_has, last_gap}
-use Rattle.rank_set.proofs.by_runs.lies_in.Goals as goal
+use Rattle.rank_set.proofs.by_runs.has_no_rank_in_gaps.Goals as goal
 
 pub returns-then-is_some : goal.returns-then-is_some
 returns-then-is_some c = sym (gap_has c.args.set.now c.args.other.now c.loop-run.from c.in-Some.run'.first c.in-Some.run'.last (c.in-Some.run'.first - 1) c.run_within.result (sym c.is_some.ensures ∙ c.if-is_some.true) c.in-Some.ensures.run (omega (arith, c.if-from-run.true)) c.run_within.ensures.run)

@@ -1,7 +1,7 @@
 use Rattle.std.proofs.Common.{◌≤◌, ◌-◌}
 use Rattle.rank_set.specs.declared.TheConstants.{RANK_LIMIT}
 use Rattle.rank_set.proofs.RunWalks.{IsOutBelow}
-use Rattle.rank_set.proofs.by_runs.is_disjoint.Given as goal
+use Rattle.rank_set.proofs.by_runs.meets_no_run.Given as goal
 
 abbrev pub invariant-loop-run : goal.invariant-loop-run
 invariant-loop-run l = record {

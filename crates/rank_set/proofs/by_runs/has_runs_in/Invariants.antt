@@ -1,7 +1,7 @@
 use Rattle.std.proofs.Common.{◌≤◌, ◌-◌}
 use Rattle.rank_set.specs.declared.TheConstants.{RANK_LIMIT}
 use Rattle.rank_set.proofs.RunWalks.{IsInBelow}
-use Rattle.rank_set.proofs.by_runs.is_subset.Given as goal
+use Rattle.rank_set.proofs.by_runs.has_runs_in.Given as goal
 
 abbrev pub invariant-loop-run : goal.invariant-loop-run
 invariant-loop-run l = record {

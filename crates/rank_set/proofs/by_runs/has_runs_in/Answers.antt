@@ -1,6 +1,6 @@
 use Rattle.std.proofs.Common.{◌≡◌, false, true, ◌∙◌, sym, arith}
 use Rattle.rank_set.proofs.RunWalks.{in_step, in_all, in_fails}
-use Rattle.rank_set.proofs.by_runs.is_subset.Goals as goal
+use Rattle.rank_set.proofs.by_runs.has_runs_in.Goals as goal
 
 pub returns-then-not-has_run : goal.returns-then-not-has_run
 returns-then-not-has_run c = sym (in_fails c.args.set.now c.args.other.now c.loop-run.from c.in-Some.run'.first c.in-Some.run'.last c.in-Some.ensures.run (sym c.has_run.ensures ∙ c.if-not-has_run.true))

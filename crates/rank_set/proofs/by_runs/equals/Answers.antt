@@ -2,11 +2,11 @@ use Rattle.std.proofs.Common.{◌≡◌, true, sym, ap, ◌∙◌}
 use Rattle.std.proofs.lemmas.Bool.{true≢false}
 use Rattle.rank_set.specs.Ranks.{Ranks, is_subset}
 use Rattle.rank_set.proofs.RunWalks.{subset_itself, same_by_subsets}
-use Rattle.rank_set.proofs.RankSet.equals.Goals as goal
+use Rattle.rank_set.proofs.by_runs.equals.Goals as goal
 
 pub returns-then-is_subset : goal.returns-then-is_subset
 returns-then-is_subset c = (
-  (λ e. same_by_subsets c.args.self.now c.args.other.now (sym c.is_subset.ensures ∙ c.if-is_subset.true) (sym c.is_subset-then-is_subset.ensures ∙ e)),
+  (λ e. same_by_subsets c.args.set.now c.args.other.now (sym c.is_subset.ensures ∙ c.if-is_subset.true) (sym c.is_subset-then-is_subset.ensures ∙ e)),
   (λ e. c.is_subset-then-is_subset.ensures ∙ ap (λ (s : Ranks). is_subset c.args.other.now s) e ∙ subset_itself c.args.other.now),
 )
 
