@@ -155,9 +155,8 @@ extended xs n first last y e h touches some small is =
     let was : run_pairs xs ≡ run_pairs parts.before ++ run_pair old ∷ [] = pairs_push parts.before xs old parts.is in
     let now : run_pairs (set xs n y) ≡ run_pairs parts.before ++ (old.first, last) ∷ [] = pairs_push parts.before (set xs n y) y parts.changed ∙ ap (λ (r : Run). run_pairs parts.before ++ run_pair r ∷ []) is in
     let good : AreRuns 0 (run_pairs parts.before ++ (old.first, old.last) ∷ []) = subst (AreRuns 0) was h in
-    let run = last_good 0 (run_pairs parts.before) old.first old.last good in
-    (
+    let run = last_good 0 (run_pairs parts.before) old.first old.last good in (
       subst (AreRuns 0) (sym now) (last_longer 0 (run_pairs parts.before) old.first old.last last good (omega (arith, touches, some)) small),
       ap ranks_of_runs now ∙ ranks_longer (run_pairs parts.before) old.first old.last first last last run.0 some (omega (arith, touches, run.0)) (omega (arith, touches)) (omega (arith, touches, some))
-      ∙ ap (λ rs. union (ranks_of_runs rs) (ranks_between first last)) (sym was),
+          ∙ ap (λ rs. union (ranks_of_runs rs) (ranks_between first last)) (sym was),
     )

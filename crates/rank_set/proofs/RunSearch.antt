@@ -6,7 +6,7 @@ use Rattle.rank_set.specs.declared.TheConstants.{RANK_LIMIT}
 use Rattle.rank_set.specs.Ranks.{Ranks, has, has-none, has-union, has-those}
 use Rattle.rank_set.specs.declared.Run.{Run}
 use Rattle.rank_set.specs.Runs.{ranks_between, ranks_of_runs, AreRuns, IsRun, run_pair, run_pairs, up_to}
-use Rattle.rank_set.proofs.RunSets.{between_in, between_low, between_high}
+use Rattle.rank_set.proofs.RunSets.{between_in, between_high}
 use Rattle.rank_set.proofs.RunLists.{runs_above, runs_later}
 
 -- the run at an index, none of ranks 0 to 0 behind the last

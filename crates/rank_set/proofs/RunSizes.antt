@@ -1,5 +1,5 @@
 -- How many ranks runs have, and the least of them.
-use Rattle.std.proofs.Common.{◌≡◌, ℕ, zero, suc, ◌+◌, ◌-◌, ◌<◌, ◌≤◌, nat_lt, Bool, true, ◌&&◌, ◌||◌, List, [], ◌∷◌, ◌++◌, length, Option, Some, sym, ap, ◌∙◌, refl, inl, inr, arith}
+use Rattle.std.proofs.Common.{◌≡◌, ℕ, zero, suc, ◌+◌, ◌-◌, ◌≤◌, nat_lt, Bool, true, ◌&&◌, ◌||◌, List, [], ◌∷◌, ◌++◌, length, Some, sym, ap, ◌∙◌, inl, inr, arith}
 use Rattle.std.specs.Prelude.{slice_get}
 use Rattle.std.specs.List.{range_with_len, list_any, list_all}
 use Rattle.std.specs.Ordering.{nat_cmp, eq_by_cmp}
@@ -8,11 +8,10 @@ use Rattle.std.proofs.lemmas.List.{length-append}
 use Rattle.std.proofs.lemmas.List.Folds.{list_all-append, list_any-append}
 use Rattle.std.proofs.lemmas.List.FromFn.{length-range_with_len}
 use Rattle.rank_set.specs.declared.TheConstants.{RANK_LIMIT}
-use Rattle.rank_set.specs.Ranks.{Ranks, none, has, in_order, size, set_of, union, is_strictly_increasing, from_T, has-set_of, has-union, has-in_order, same_ranks, in_order-increasing, all_pass}
+use Rattle.rank_set.specs.Ranks.{Ranks, has, in_order, size, set_of, union, is_strictly_increasing, from_T, has-set_of, has-union, has-in_order, same_ranks, in_order-increasing, all_pass}
 use Rattle.rank_set.specs.Runs.{ranks_between, ranks_of_runs, AreRuns}
 use Rattle.rank_set.proofs.Ordered.{range_increases}
-use Rattle.rank_set.proofs.RunSets.{between_low}
-use Rattle.rank_set.proofs.RunLists.{runs_above, runs_small}
+use Rattle.rank_set.proofs.RunLists.{runs_above}
 
 mem : ℕ → List ℕ → Bool
 mem r xs = list_any (eq_by_cmp nat_cmp r) xs

@@ -35,8 +35,8 @@ module _ (t : Ranks) (first last : ℕ) where
   has_run_is a b some run = elim (cases_eq a first) [
     | inl same ↦ elim (cases_eq b last) [
       | inl all ↦ (λ i. eq-eqb a first same i && eq-eqb b last all i) ∙ sym (subset_from (ranks_between first last) t (λ q one.
-        let in_it = between_parts first last q one in
-        sym (in_part t last q in_it.1) ∙ run.within q (omega (arith, same, in_it.0)) (omega (arith, all, in_it.1))))
+          let in_it = between_parts first last q one in
+          sym (in_part t last q in_it.1) ∙ run.within q (omega (arith, same, in_it.0)) (omega (arith, all, in_it.1))))
       | inr other ↦
           let lt : b < last = elim (cases_lt last b) [
             | inl past ↦ absurd (true≢false (sym (run.within b run.some (omega arith)) ∙ past_part t last b past))
@@ -112,7 +112,7 @@ module _ (s t : Ranks) where
         | inr le ↦ omega (arith, le)
       ] in
       elim (cases_Bool (is_empty (those (has t) s))) [
-        | inl e ↦ absurd (true≢false (sym ((λ i. run.within a met.start to i && (sym (in_part t last a to) ∙ met.within a (omega arith) met.some) i) ) ∙ sym (has-those (has t) s a) ∙ ap (λ u. has u a) (none_from_size (those (has t) s) (eqb-true _ 0 e)) ∙ has-none a))
+        | inl e ↦ absurd (true≢false (sym ((λ i. run.within a met.start to i && (sym (in_part t last a to) ∙ met.within a (omega arith) met.some) i)) ∙ sym (has-those (has t) s a) ∙ ap (λ u. has u a) (none_from_size (those (has t) s) (eqb-true _ 0 e)) ∙ has-none a))
         | inr e ↦ e
       ]
 

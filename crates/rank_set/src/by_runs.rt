@@ -102,7 +102,10 @@ fn meets_no_run(set: &RankSet, other: &RankSet) -> bool
     let (mut hint, mut other_hint) = (0, 0);
     let mut from = 0;
     while let Some(run) = set.next_run_near(from, &mut hint) {
-        if other.run_within(run.first, run.last, &mut other_hint).is_some() {
+        if other
+            .run_within(run.first, run.last, &mut other_hint)
+            .is_some()
+        {
             return false;
         }
         from = run.last + 1;

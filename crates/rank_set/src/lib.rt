@@ -17,7 +17,6 @@ mod held;
 pub mod laws;
 mod one_word;
 mod read;
-
 mod run_list;
 mod run_set;
 mod sorted_runs;
@@ -25,13 +24,12 @@ mod text;
 mod word_set;
 mod words;
 
+use held::{FEW_WORDS, Held};
 pub use one_word::word_is_below;
 pub use read::{RanksError, read_ranks};
-
+use run_set::RunSet;
 use std::alloc::{AllocError, Global};
 use std::marker::Model;
-use held::{FEW_WORDS, Held};
-use run_set::RunSet;
 use word_set::WordSet;
 
 /// The most words that a set spans.

@@ -76,12 +76,7 @@ fn join_all(done: &mut Runs, pending: Run, rest: &[Run]) -> Result<Run, AllocErr
 }
 
 // Joins the runs of two lists, which begin no earlier than the pending one, in the order of their first ranks.
-fn join_both(
-    done: &mut Runs,
-    pending: Run,
-    runs: &[Run],
-    others: &[Run],
-) -> Result<Run, AllocError>
+fn join_both(done: &mut Runs, pending: Run, runs: &[Run], others: &[Run]) -> Result<Run, AllocError>
     requires done { AreRuns 0 (run_pairs done.old.items ++ run_pair pending ∷ []) }
     requires runs { AreRuns pending.first (run_pairs runs.now) }
     requires others { AreRuns pending.first (run_pairs others.now) }

@@ -7,9 +7,9 @@ ghost use Rattle.rank_set.specs.Words.{ranks_in, AreWords, offset_of};
 ghost use Rattle.rank_set.specs.WordLists.{words_of};
 ghost use Rattle.rank_set.specs.Text.{text_of, BeginsWith};
 
+use crate::run_set::RunSet;
 use crate::text::write_ranks;
 use crate::words::Words;
-use crate::run_set::RunSet;
 use crate::{RANK_LIMIT, Run, one_word, run_list, words};
 use std::alloc::{AllocError, Global};
 use std::marker::Model;
@@ -115,7 +115,9 @@ impl WordSet {
         ensures left { result ≡ false → self.new ≡ self.old }
     {
         let others = other.words.as_slice();
-        if others.len() != 1 || !words::spans(self.offset, self.words.as_slice(), other.offset, others) {
+        if others.len() != 1
+            || !words::spans(self.offset, self.words.as_slice(), other.offset, others)
+        {
             return false;
         }
         words::or_within(self.words.as_mut_slice(), self.offset, other.offset, others);

@@ -1,6 +1,5 @@
-use Rattle.std.proofs.Common.{◌≡◌, ◌+◌, ◌-◌, ◌<◌, ◌≤◌, ℕ, Bool, false, true, not, ap, sym, ◌∙◌, arith}
+use Rattle.std.proofs.Common.{◌≡◌, ◌-◌, Bool, false, true, not, ap, sym, ◌∙◌, arith}
 use Rattle.std.specs.Prelude.{is_some}
-use Rattle.rank_set.specs.Ranks.{has}
 use Rattle.rank_set.proofs.RunWalks.{gap_has, last_gap}
 use Rattle.rank_set.proofs.by_runs.has_no_rank_in_gaps.Goals as goal
 

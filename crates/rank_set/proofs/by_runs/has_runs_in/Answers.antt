@@ -1,4 +1,4 @@
-use Rattle.std.proofs.Common.{◌≡◌, false, true, ◌∙◌, sym, arith}
+use Rattle.std.proofs.Common.{◌∙◌, sym, arith}
 use Rattle.rank_set.proofs.RunWalks.{in_step, in_all, in_fails}
 use Rattle.rank_set.proofs.by_runs.has_runs_in.Goals as goal
 

@@ -1,4 +1,4 @@
-use Rattle.std.proofs.Common.{◌≡◌, false, true, sym, ◌∙◌, arith}
+use Rattle.std.proofs.Common.{sym, ◌∙◌, arith}
 use Rattle.rank_set.proofs.RunWalks.{out_step, out_all, is_met, is_unmet}
 use Rattle.rank_set.proofs.by_runs.meets_no_run.Goals as goal
 

@@ -1,5 +1,4 @@
 use Rattle.std.proofs.Common.{◌≤◌, ◌-◌, ◌+◌}
-use Rattle.rank_set.specs.declared.TheConstants.{RANK_LIMIT}
 use Rattle.rank_set.proofs.RunWalks.{AreGapsBelow}
 use Rattle.rank_set.proofs.by_runs.put_gaps.Given as goal
 

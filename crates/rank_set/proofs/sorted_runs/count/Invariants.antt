@@ -1,5 +1,4 @@
-use Rattle.std.proofs.Common.{◌≡◌, ◌≤◌, ◌+◌, ℕ, drop}
-use Rattle.rank_set.specs.declared.TheConstants.{RANK_LIMIT}
+use Rattle.std.proofs.Common.{◌≡◌, ◌+◌, drop}
 use Rattle.rank_set.specs.Ranks.{size}
 use Rattle.rank_set.specs.Runs.{ranks_of_runs, AreRuns, run_pairs}
 use Rattle.rank_set.proofs.sorted_runs.count.Given as goal

@@ -1,7 +1,7 @@
 use Rattle.std.proofs.Common.{◌≡◌, ℕ, ◌<◌, ◌≤◌, ◌+◌, ◌-◌, List, length, get_or, false, sym, ap, subst, ◌∙◌, arith}
 use Rattle.std.proofs.lemmas.Bool.{true≢false, eqb-true, eqb-false}
 use Rattle.rank_set.specs.declared.Run.{Run}
-use Rattle.rank_set.specs.Runs.{run_pair, run_pairs}
+use Rattle.rank_set.specs.Runs.{run_pairs}
 use Rattle.rank_set.proofs.RunSearch.{run_at, run_good, pair_at, pairs_length, last_ends, none_behind}
 use Rattle.rank_set.proofs.sorted_runs.end.Goals as goal
 

@@ -1,4 +1,4 @@
-use Rattle.std.proofs.Common.{◌≡◌, ◌+◌, ◌-◌, suc, length, ap, sym, ◌∙◌, arith, refl}
+use Rattle.std.proofs.Common.{◌≡◌, ◌-◌, suc, length, ap, arith, refl}
 use Rattle.rank_set.proofs.RunMerging.{extended}
 use Rattle.rank_set.proofs.RunSearch.{pair_at}
 use Rattle.rank_set.proofs.sorted_runs.extend_last.Goals as goal

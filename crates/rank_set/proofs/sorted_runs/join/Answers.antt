@@ -1,9 +1,6 @@
-use Rattle.std.proofs.Common.{◌≡◌, ◌≤◌, ◌++◌, [], ◌∷◌, map, ℕ, ◌+◌, ◌<◌, List, ap, sym, subst, ◌∙◌, arith}
+use Rattle.std.proofs.Common.{◌≡◌, ◌++◌, [], ◌∷◌, map, ℕ, List, ap, sym, subst, ◌∙◌, arith}
 use Rattle.std.proofs.lemmas.List.{map-append}
-use Rattle.rank_set.specs.declared.Run.{Run}
-use Rattle.rank_set.specs.declared.TheConstants.{RANK_LIMIT}
-use Rattle.rank_set.specs.Ranks.{union}
-use Rattle.rank_set.specs.Runs.{ranks_between, ranks_of_runs, AreRuns, run_pair, run_pairs}
+use Rattle.rank_set.specs.Runs.{ranks_of_runs, AreRuns, run_pair, run_pairs}
 use Rattle.rank_set.proofs.RunMerging.{last_good, last_longer, another_run, ranks_longer, ranks_with}
 use Rattle.rank_set.proofs.sorted_runs.join.Goals as goal
 

@@ -1,4 +1,3 @@
-use Rattle.std.proofs.Common.{◌≡◌, ◌+◌, ◌++◌, [], ◌∷◌, arith}
 use Rattle.rank_set.proofs.RunMerging.{next_step, next_rest, no_rest}
 use Rattle.rank_set.proofs.sorted_runs.join_all.Goals as goal
 

@@ -1,4 +1,4 @@
-use Rattle.std.proofs.Common.{◌≡◌, ◌≤◌, ◌+◌, ◌++◌, [], ◌∷◌, length, ap, ◌∙◌, arith}
+use Rattle.std.proofs.Common.{◌≤◌, ◌++◌, [], ◌∷◌, length, ap, ◌∙◌, arith}
 use Rattle.rank_set.specs.Ranks.{union}
 use Rattle.rank_set.specs.Runs.{ranks_of_runs, run_pair, run_pairs}
 use Rattle.rank_set.proofs.sorted_runs.join_both.Goals.{then-loop-i-test+else-j-others, else-loop-i-test}

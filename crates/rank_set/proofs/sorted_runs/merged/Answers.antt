@@ -1,4 +1,4 @@
-use Rattle.std.proofs.Common.{◌≡◌, ◌≤◌, ◌++◌, [], ◌∷◌, ap, sym, ◌∙◌}
+use Rattle.std.proofs.Common.{ap, ◌∙◌}
 use Rattle.rank_set.specs.Runs.{ranks_of_runs, run_pairs}
 use Rattle.rank_set.proofs.RunMerging.{tail_runs, left_whole, right_whole, left_none, right_none, pairs_push, start_empty}
 use Rattle.rank_set.proofs.sorted_runs.merged.Goals as goal

@@ -1,4 +1,4 @@
-use Rattle.std.proofs.Common.{◌≡◌, ◌+◌, ap, ◌∙◌, arith}
+use Rattle.std.proofs.Common.{ap, ◌∙◌}
 use Rattle.rank_set.specs.Ranks.{union, union-none}
 use Rattle.rank_set.specs.Runs.{run_pairs, ranks_of_runs}
 use Rattle.rank_set.proofs.RunMerging.{next_step, no_rest}

@@ -2,7 +2,7 @@ use Rattle.std.proofs.Common.{◌≡◌, ℕ, ◌+◌, ◌++◌, true, false, Bo
 use Rattle.std.proofs.lemmas.List.{append-nil, drop_more, drop_all}
 use Rattle.rank_set.specs.declared.Run.{Run}
 use Rattle.rank_set.specs.Runs.{run_pair, run_pairs}
-use Rattle.rank_set.specs.Text.{run_text, runs_text, BeginsWith}
+use Rattle.rank_set.specs.Text.{run_text, BeginsWith}
 use Rattle.rank_set.proofs.Runs.{begins_more, begins_through, more_text, more_none, more_first, more_step}
 use Rattle.rank_set.proofs.RunSearch.{runs_behind}
 use Rattle.rank_set.proofs.text.write_each_run.Goals.{then-follows+in_ok-push, else-follows}

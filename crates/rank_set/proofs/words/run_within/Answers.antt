@@ -1,8 +1,8 @@
-use Rattle.std.proofs.Common.{rules, ◌≡◌, ℕ, ◌<◌, ◌≤◌, ◌+◌, ◌-◌, ◌/◌, ◌%◌, List, length, take, min, get_or, sym, ap, ◌∙◌, inl, inr, arith}
+use Rattle.std.proofs.Common.{rules, ◌≡◌, ℕ, ◌≤◌, ◌+◌, ◌-◌, ◌/◌, ◌%◌, List, length, take, min, get_or, sym, ap, ◌∙◌, inl, inr, arith}
 use Rattle.std.proofs.lemmas.Bool.{cases_lt}
 use Rattle.std.proofs.lemmas.List.{get_or-take, take_all}
 use Rattle.rank_set.specs.Ranks.{has}
-use Rattle.rank_set.specs.Words.{ranks_in, bit_in, word_at, is_bit}
+use Rattle.rank_set.specs.Words.{ranks_in, word_at, is_bit}
 use Rattle.rank_set.proofs.WordSets.{has-ranks_in, word_at-below, word_at-from}
 use Rattle.rank_set.proofs.RunSearch.{cut_run, no_run, late_run}
 use Rattle.rank_set.proofs.words.run_within.Goals as goal

@@ -1,10 +1,10 @@
 use Rattle.std.proofs.Common.{◌≡◌, ℕ, suc, ◌<◌, ◌≤◌, ◌-◌, List, length, get_or, false, nat_le, sym, ap, subst, ◌∙◌, inl, inr, arith}
 use Rattle.std.proofs.lemmas.Bool.{cases_lt, le-leb, lt-leb}
 use Rattle.rank_set.specs.declared.Run.{Run}
-use Rattle.rank_set.specs.Ranks.{Ranks, has, is_subset, subset_from}
-use Rattle.rank_set.specs.Runs.{run_pair, run_pairs, ranks_between, ranks_of_runs, AreRuns}
+use Rattle.rank_set.specs.Ranks.{Ranks, is_subset, subset_from}
+use Rattle.rank_set.specs.Runs.{run_pairs, ranks_between, ranks_of_runs, AreRuns}
 use Rattle.rank_set.proofs.RunSets.{between_in}
-use Rattle.rank_set.proofs.RunSearch.{run_at, run_good, pair_at, pairs_length, none_behind, in_run, in_gap, run_ends}
+use Rattle.rank_set.proofs.RunSearch.{run_at, pair_at, pairs_length, none_behind, in_run, in_gap, run_ends}
 use Rattle.rank_set.proofs.RunWalks.{between_parts, lacks_first, not_subset}
 use Rattle.rank_set.proofs.run_set.RunSet.has_run.Goals as goal
 

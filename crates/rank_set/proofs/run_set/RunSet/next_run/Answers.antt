@@ -1,7 +1,7 @@
 use Rattle.std.proofs.Common.{◌≡◌, ℕ, ◌<◌, ◌≤◌, ◌-◌, List, length, get_or, max, false, sym, ap, subst, ◌∙◌, arith}
 use Rattle.rank_set.specs.declared.Run.{Run}
 use Rattle.rank_set.specs.Ranks.{Ranks, has}
-use Rattle.rank_set.specs.Runs.{run_pair, run_pairs, ranks_of_runs, AreRuns, IsRun}
+use Rattle.rank_set.specs.Runs.{run_pairs, ranks_of_runs, AreRuns, IsRun}
 use Rattle.rank_set.proofs.RunSearch.{run_at, run_good, pair_at, pairs_length, none_behind, found_run}
 use Rattle.rank_set.proofs.run_set.RunSet.next_run.Goals as goal
 

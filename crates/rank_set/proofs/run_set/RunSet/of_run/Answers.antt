@@ -1,4 +1,4 @@
-use Rattle.std.proofs.Common.{◌≡◌, List, ap, sym, ◌∙◌}
+use Rattle.std.proofs.Common.{List, ap, sym, ◌∙◌}
 use Rattle.rank_set.specs.declared.Run.{Run}
 use Rattle.rank_set.specs.Ranks.{union-none}
 use Rattle.rank_set.specs.Runs.{run_pairs, ranks_between, ranks_of_runs}

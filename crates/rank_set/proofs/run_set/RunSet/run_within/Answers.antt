@@ -1,4 +1,4 @@
-use Rattle.std.proofs.Common.{refl, arith}
+use Rattle.std.proofs.Common.{refl}
 use Rattle.rank_set.proofs.RunSearch.{cut_run}
 use Rattle.rank_set.proofs.run_set.RunSet.run_within.Goals as goal
 

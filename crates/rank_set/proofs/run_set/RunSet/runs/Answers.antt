@@ -1,5 +1,4 @@
-use Rattle.std.proofs.Common.{◌≡◌, List, map, sym, ap, ◌∙◌}
-use Rattle.rank_set.specs.declared.Run.{Run}
+use Rattle.std.proofs.Common.{sym, ap, ◌∙◌}
 use Rattle.rank_set.specs.Ranks.{Ranks, in_order}
 use Rattle.rank_set.specs.Runs.{run_pairs, runs_of}
 use Rattle.rank_set.proofs.RunLists.{runs_of_ranks}
