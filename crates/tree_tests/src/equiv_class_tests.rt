@@ -3,7 +3,9 @@ ghost use Rattle.std.specs.Prelude.{IsTrue};
 ghost use Rattle.call_path.specs.Good.{is_good_frame};
 
 use call_path::{CallPath, PathBuilder};
-use equiv_class::{TreeClasses, classes, classes_part_ranks, equivalent_by_paths, paths_of_classes};
+use equiv_class::{
+    TreeClasses, classes, classes_part_ranks, equivalent_by_paths, paths_of_classes,
+};
 use prefix_tree::{OwnedTree, PrefixTree};
 use rank_set::RankSet;
 use std::alloc::{AllocError, Global};

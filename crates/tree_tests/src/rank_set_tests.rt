@@ -14,7 +14,7 @@ struct Pair {
     common: &'static str,
 }
 
-const PAIRS: [Pair; 9] = [
+const PAIRS: [Pair; 13] = [
     Pair {
         left: "0-1",
         right: "1-2",
@@ -78,6 +78,34 @@ const PAIRS: [Pair; 9] = [
         difference: "128:[0-63,1048512-1048575]",
         common: "1048448:[64-1048511]",
     },
+    Pair {
+        left: "0,2,4,70",
+        right: "1-1048575",
+        union: "1048576:[0-1048575]",
+        difference: "1:[0]",
+        common: "3:[2,4,70]",
+    },
+    Pair {
+        left: "5-1048570",
+        right: "0,7,64,9000",
+        union: "1048567:[0,5-1048570]",
+        difference: "1048563:[5-6,8-63,65-8999,9001-1048570]",
+        common: "3:[7,64,9000]",
+    },
+    Pair {
+        left: "3-2000,70000-80000",
+        right: "100,75000,900000",
+        union: "12000:[3-2000,70000-80000,900000]",
+        difference: "11997:[3-99,101-2000,70000-74999,75001-80000]",
+        common: "2:[100,75000]",
+    },
+    Pair {
+        left: "0-99999",
+        right: "100000-199999",
+        union: "200000:[0-199999]",
+        difference: "100000:[0-99999]",
+        common: "0:[]",
+    },
 ];
 
 fn assert_text(rt: &impl Abort, alloc: Global, set: &RankSet, text: &str) -> Result<(), Fail> {
@@ -97,7 +125,7 @@ fn assert_union(
     let mut set = left.copy()?;
     assert!(rt; set.equals(left));
     set.union_into(right)?;
-    assert!(rt; left.united(right)?.equals(&set) && set.spans(right));
+    assert!(rt; left.united(right)?.equals(&set) && set.equals(&left.united(right)?));
     assert!(rt; left.is_subset(&set) && right.is_subset(&set));
     assert_text(rt, alloc, &set, text)
 }
@@ -275,15 +303,36 @@ fn gives_all_runs(rt: HostRuntime) -> Result<(), Fail> {
     Ok(())
 }
 
+// Ranks so far apart that each is a run of its own, put in from the least on or from the greatest.
+fn far_apart(alloc: Global, rising: bool) -> Result<RankSet, Fail> {
+    let mut set = RankSet::new(alloc);
+    for i in 0..1_000 {
+        let place = if rising { i } else { 999 - i };
+        set.insert(1_000 * place)?;
+    }
+    Ok(set)
+}
+
 #[test]
-fn unites_within_its_words(rt: HostRuntime) -> Result<(), Fail> {
+fn is_the_same_set_in_whatever_order_ranks_come(rt: HostRuntime) -> Result<(), Fail> {
     let alloc = rt.alloc();
-    let mut set = read_ranks(alloc, b"70,1048575")?;
-    let other = read_ranks(alloc, b"64,1048512")?;
-    assert!(rt; set.spans(&other));
-    assert!(rt; !set.spans(&read_ranks(alloc, b"63,64")?));
-    set.unite_within(&other);
-    assert_text(&rt, alloc, &set, "4:[64,70,1048512,1048575]")
+    let set = far_apart(alloc, true)?;
+    let other = far_apart(alloc, false)?;
+    assert!(rt; set.equals(&other) && other.equals(&set));
+    assert_eq!(rt; set.count(), 1_000);
+    assert_eq!(rt; set.end(), 999_001);
+    assert!(rt; set.contains(500_000) && !set.contains(500_001));
+    Ok(())
+}
+
+#[test]
+fn is_the_same_set_after_its_gaps_are_filled(rt: HostRuntime) -> Result<(), Fail> {
+    let alloc = rt.alloc();
+    let mut set = far_apart(alloc, true)?;
+    for i in 0..999 {
+        set.insert_run(1_000 * i + 1, 1_000 * i + 999)?;
+    }
+    assert_text(&rt, alloc, &set, "999001:[0-999000]")
 }
 
 const TEXTS: [(&str, &str); 7] = [
