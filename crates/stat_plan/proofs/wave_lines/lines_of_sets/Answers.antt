@@ -15,6 +15,14 @@ pub loop-ranks-preserved-else-not-is_empty : goal.loop-ranks-preserved-else-not-
 loop-ranks-preserved-else-not-is_empty c =
     lines_from_skip c.args.sets.items c.args.time c.loop-ranks.left.items c.pop.new.self.items c.loop-ranks.lines.items c.in-Some.ranks c.loop-ranks.invariant c.in-Some.ensures.items (sym c.is_empty.ensures ∙ c.if-not-is_empty.false)
 
+pub loop-ranks-preserved-else-not-is_empty-2 : goal.loop-ranks-preserved-else-not-is_empty-2
+loop-ranks-preserved-else-not-is_empty-2 c =
+    lines_from_skip c.args.sets.items c.args.time c.loop-ranks.left.items c.pop.new.self.items c.loop-ranks.lines.items c.in-Some.ranks c.loop-ranks.invariant c.in-Some.ensures.items (sym c.is_empty.ensures ∙ c.if-not-is_empty.false)
+
+pub loop-ranks-preserved-else-not-is_empty-3 : goal.loop-ranks-preserved-else-not-is_empty-3
+loop-ranks-preserved-else-not-is_empty-3 c =
+    lines_from_skip c.args.sets.items c.args.time c.loop-ranks.left.items c.pop.new.self.items c.loop-ranks.lines.items c.in-Some.ranks c.loop-ranks.invariant c.in-Some.ensures.items (sym c.is_empty.ensures ∙ c.if-not-is_empty.false)
+
 pub loop-ranks-preserved : goal.loop-ranks-preserved
 loop-ranks-preserved c =
     lines_from_skip c.args.sets.items c.args.time c.loop-ranks.left.items c.pop.new.self.items c.loop-ranks.lines.items c.in-Some.ranks c.loop-ranks.invariant c.in-Some.ensures.items (sym c.is_empty.ensures ∙ c.if-not-is_empty.false)
