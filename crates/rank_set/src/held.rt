@@ -23,6 +23,9 @@ pub(crate) const FEW_WORDS: u32 = 16;
 // Words that span at least so many, 8 KiB of them, are made runs where these take a quarter of the room.
 const MANY_WORDS: u32 = 1_024;
 
+// So many runs take ranks between them without being made words. More of them would be copied for each.
+const FEW_RUNS: u32 = 16;
+
 // How many runs are better than so many words, at most.
 fn fitting_runs(span: u32) -> u32 {
     if span < MANY_WORDS {
@@ -92,6 +95,38 @@ impl Held {
         }
     }
 
+    // Takes the form of words where many runs would be copied for a run among them: then ranks in no order cost no more
+    // than others.
+    fn make_words_among_runs(&mut self, first: u32) -> Result<(), AllocError>
+        ensures { ranks_held self.new ≡ ranks_held self.old }
+    {
+        if let Held::Runs(runs) = self && runs.len() > FEW_RUNS && first < runs.end() {
+            let words = runs.to_words()?;
+            *self = Held::Words(words);
+        }
+        Ok(())
+    }
+
+    /// Adds the ranks of a run that is not empty and within the limit, in the form that is held while the runs come in
+    /// order: `settle` is for the caller. On failure the ranks stay.
+    pub(crate) fn collect_run(&mut self, first: u32, last: u32) -> Result<(), AllocError>
+        requires not_empty { first ≤ last }
+        requires below_limit { last < RANK_LIMIT }
+        ensures ok { OnOk result (ranks_held self.new ≡ union (ranks_held self.old) (ranks_between first last)) }
+        ensures err { OnErr result (ranks_held self.new ≡ ranks_held self.old) }
+    {
+        self.make_words_among_runs(first)?;
+        match self {
+            Held::Words(words) => {
+                let before = words.span();
+                words.put_run(first, last)?;
+                self.settle_if_wider(before);
+            }
+            Held::Runs(runs) => runs.put_run(first, last)?,
+        }
+        Ok(())
+    }
+
     /// Adds the ranks of a run that is not empty and within the limit. On failure the ranks stay.
     pub(crate) fn put_run(&mut self, first: u32, last: u32) -> Result<(), AllocError>
         requires not_empty { first ≤ last }
@@ -99,31 +134,29 @@ impl Held {
         ensures ok { OnOk result (ranks_held self.new ≡ union (ranks_held self.old) (ranks_between first last)) }
         ensures err { OnErr result (ranks_held self.new ≡ ranks_held self.old) }
     {
-        match self {
-            Held::Words(words) => {
-                let before = words.span();
-                words.put_run(first, last)?;
-                self.settle_if_wider(before);
-            }
-            Held::Runs(runs) => {
-                let before = runs.len();
-                runs.put_run(first, last)?;
-                if before < runs.len() {
-                    self.settle();
-                }
-            }
+        self.collect_run(first, last)?;
+        if let Held::Runs(_) = self {
+            self.settle();
         }
         Ok(())
     }
 
-    // Adds the other ranks, in the form that is held.
+    // Adds the other ranks, in the form that is held, or in that of wider runs.
     fn join(&mut self, other: &Held) -> Result<(), AllocError>
         ensures ok { OnOk result (ranks_held self.new ≡ union (ranks_held self.old) (ranks_held other.now)) }
         ensures err { OnErr result (ranks_held self.new ≡ ranks_held self.old) }
     {
-        match (self, other) {
+        match (&mut *self, other) {
             (Held::Words(words), Held::Words(others)) => words.union_into(others),
-            (Held::Words(words), Held::Runs(others)) => words.union_into(&others.to_words()?),
+            (Held::Words(words), Held::Runs(others)) => {
+                if others.span() <= words.span() {
+                    return words.union_into(&others.to_words()?);
+                }
+                let mut runs = words.to_runs()?;
+                runs.union_into(others)?;
+                *self = Held::Runs(runs);
+                Ok(())
+            }
             (Held::Runs(runs), Held::Words(others)) => runs.union_into(&others.to_runs()?),
             (Held::Runs(runs), Held::Runs(others)) => runs.union_into(others),
         }

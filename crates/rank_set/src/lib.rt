@@ -199,6 +199,32 @@ impl RankSet {
         self.held.put_run(first, last)
     }
 
+    /// The empty set, in the form of runs: for ranks that are collected in order.
+    pub(crate) fn of_no_runs(alloc: Global) -> RankSet
+        ensures { result ≡ none }
+    {
+        RankSet {
+            held: Held::Runs(RunSet::new(alloc)),
+        }
+    }
+
+    /// Adds the ranks of a run as `put_run` does. The form is chosen by `settle`, after the last of them.
+    pub(crate) fn collect_run(&mut self, first: u32, last: u32) -> Result<(), AllocError>
+        requires not_empty { first ≤ last }
+        requires below_limit { last < RANK_LIMIT }
+        ensures ok { OnOk result (self.new ≡ union self.old (ranks_between first last)) }
+        ensures err { OnErr result (self.new ≡ self.old) }
+    {
+        self.held.collect_run(first, last)
+    }
+
+    /// Takes the other form where that takes less room.
+    pub(crate) fn settle(&mut self)
+        ensures { self.new ≡ self.old }
+    {
+        self.held.settle();
+    }
+
     /// Adds the ranks of the other set. On failure the set is unchanged.
     #[inline(always)]
     pub fn union_into(&mut self, other: &RankSet) -> Result<(), AllocError>
@@ -219,6 +245,16 @@ impl RankSet {
         if let (Held::Words(words), Held::Words(others)) = (&self.held, &other.held) {
             let mut held = Held::Words(words.united(others)?);
             held.settle_if_wider(words.span());
+            return Ok(RankSet { held });
+        }
+        if let (Held::Runs(runs), Held::Runs(others)) = (&self.held, &other.held) {
+            let mut held = Held::Runs(runs.united(others)?);
+            held.settle();
+            return Ok(RankSet { held });
+        }
+        if let (Held::Runs(runs), Held::Words(others)) = (&self.held, &other.held) {
+            let mut held = Held::Runs(runs.united(&others.to_runs()?)?);
+            held.settle();
             return Ok(RankSet { held });
         }
         let mut all = self.copy()?;

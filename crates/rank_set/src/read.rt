@@ -105,7 +105,7 @@ fn add_run(ranks: &mut RankSet, pending: &mut Option<Run>, run: Run) -> Result<(
         return Ok(());
     };
     if old.last + 1 < run.first || run.last + 1 < old.first {
-        ranks.put_run(old.first, old.last)?;
+        ranks.collect_run(old.first, old.last)?;
         *pending = Some(run);
         return Ok(());
     }
@@ -122,7 +122,7 @@ fn put_pending(ranks: &mut RankSet, pending: Option<Run>) -> Result<(), AllocErr
     ensures { OnOk result (ranks.new ≡ with_pending ranks.old pending) }
 {
     match pending {
-        Some(run) => ranks.put_run(run.first, run.last),
+        Some(run) => ranks.collect_run(run.first, run.last),
         None => Ok(()),
     }
 }
@@ -174,7 +174,8 @@ pub fn read_ranks(alloc: Global, text: &[u8]) -> Result<RankSet, RanksError>
     if let Some(ranks) = read_one_item(alloc, text) {
         return Ok(ranks);
     }
-    let mut ranks = RankSet::new(alloc);
+    let mut ranks = RankSet::of_no_runs(alloc);
     read_items(text, &mut ranks)?;
+    ranks.settle();
     Ok(ranks)
 }

@@ -105,7 +105,48 @@ fn join_both(done: &mut Runs, pending: Run, runs: &[Run], others: &[Run]) -> Res
     Ok(all)
 }
 
-/// The runs of the ranks of both lists.
+// Joins two lists behind the runs that are done.
+fn join_behind(done: &mut Runs, runs: &[Run], others: &[Run]) -> Result<(), AllocError>
+    requires runs { AreRuns 0 (run_pairs (done.old.items ++ runs.now)) }
+    requires others { AreRuns 0 (run_pairs (done.old.items ++ others.now)) }
+    ensures runs { OnOk result (AreRuns 0 (run_pairs done.new.items)) }
+    ensures ranks { OnOk result (ranks_of_runs (run_pairs done.new.items)
+        ≡ union (ranks_of_runs (run_pairs done.old.items))
+        (union (ranks_of_runs (run_pairs runs.now)) (ranks_of_runs (run_pairs others.now)))) }
+{
+    let Some((first, later)) = runs.split_first() else {
+        done.extend_from_slice(others)?;
+        return Ok(());
+    };
+    let Some((other, others_later)) = others.split_first() else {
+        done.extend_from_slice(runs)?;
+        return Ok(());
+    };
+    let last = if first.first <= other.first {
+        join_both(done, *first, later, others)?
+    } else {
+        join_both(done, *other, runs, others_later)?
+    };
+    done.push(last)?;
+    Ok(())
+}
+
+// How many runs begin at a number or below it.
+fn begun(runs: &[Run], at: u32) -> usize
+    requires runs { AreRuns 0 (run_pairs runs.now) }
+    requires limit { at ≤ RANK_LIMIT }
+    ensures within { result ≤ length runs.now }
+    ensures behind { result < length runs.now → at < (get_or (run_pairs runs.now) result (0, 0)).0 }
+{
+    let index = find(runs, 0, at + 1);
+    if index < runs.len() && runs[index].first <= at {
+        return index + 1;
+    }
+    index
+}
+
+/// The runs of the ranks of both lists. Those of the first list that lie before or behind all of the second are copied
+/// as they stand.
 pub(crate) fn merged(alloc: Global, runs: &[Run], others: &[Run]) -> Result<Runs, AllocError>
     requires runs { AreRuns 0 (run_pairs runs.now) }
     requires others { AreRuns 0 (run_pairs others.now) }
@@ -113,22 +154,16 @@ pub(crate) fn merged(alloc: Global, runs: &[Run], others: &[Run]) -> Result<Runs
     ensures ranks { IfOk result (λ all. ranks_of_runs (run_pairs all.items)
         ≡ union (ranks_of_runs (run_pairs runs.now)) (ranks_of_runs (run_pairs others.now))) }
 {
-    let Some((first, later)) = runs.split_first() else {
-        let all = Runs::from_slice(alloc, others)?;
-        return Ok(all);
-    };
-    let Some((other, others_later)) = others.split_first() else {
+    let Some(other) = others.first() else {
         let all = Runs::from_slice(alloc, runs)?;
         return Ok(all);
     };
-    let mut done = Runs::with_capacity(alloc, runs.len().max(others.len()))?;
-    if first.first <= other.first {
-        let last = join_both(&mut done, *first, later, others)?;
-        done.push(last)?;
-        return Ok(done);
-    }
-    let last = join_both(&mut done, *other, runs, others_later)?;
-    done.push(last)?;
+    let (before, rest) = runs.split_at(find(runs, 0, other.first.saturating_sub(1)));
+    let (among, behind) = rest.split_at(begun(rest, end(others)));
+    let mut done = Runs::with_capacity(alloc, (runs.len() + 1).max(others.len()))?;
+    done.extend_from_slice(before)?;
+    join_behind(&mut done, among, others)?;
+    done.extend_from_slice(behind)?;
     Ok(done)
 }
 
@@ -199,6 +234,11 @@ pub(crate) fn words_of_runs(alloc: Global, runs: &[Run]) -> Result<WordSet, Allo
     ensures { IfOk result (λ words. words ≡ ranks_of_runs (run_pairs runs.now)) }
 {
     let mut words = WordSet::new(alloc);
+    // All room is made at once.
+    if let (Some(first), Some(last)) = (runs.first(), runs.last()) {
+        words.put_run(first.first, first.first)?;
+        words.put_run(last.last, last.last)?;
+    }
     for run in runs {
         words.put_run(run.first, run.last)?;
     }

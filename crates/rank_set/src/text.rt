@@ -1,11 +1,11 @@
 //! The text of a rank set, as `4:[0-2,7]`.
 
-ghost use Rattle.std.specs.Prelude.{◌≡◌, ◌<◌, ◌≤◌, ◌+◌, ◌++◌, length, drop, OnOk, OnErr};
+ghost use Rattle.std.specs.Prelude.{◌≡◌, ◌<◌, ◌≤◌, ◌+◌, ◌++◌, [], ◌∷◌, cond, length, drop, OnOk, OnErr};
 ghost use Rattle.std.specs.Fmt.{decimal};
 ghost use Rattle.rank_set.specs.Ranks.{in_order};
 ghost use Rattle.rank_set.specs.Words.{ranks_in};
-ghost use Rattle.rank_set.specs.Runs.{runs_of, ranks_of_runs, AreRuns, run_pairs};
-ghost use Rattle.rank_set.specs.Text.{run_text, runs_text, text_of, BeginsWith};
+ghost use Rattle.rank_set.specs.Runs.{runs_of, ranks_of_runs, AreRuns, run_pair, run_pairs};
+ghost use Rattle.rank_set.specs.Text.{comma, run_text, runs_text, text_of, BeginsWith};
 
 use crate::sorted_runs::count;
 use crate::words::{next_run, ones};
@@ -23,18 +23,24 @@ fn write_number(n: u32, out: &mut Vec<u8>) -> Result<(), AllocError>
     Ok(())
 }
 
-// The most bytes of a run's text: a rank has seven digits at most.
-const RUN_BYTES: usize = 15;
+// The most bytes of a run's text behind a comma: a rank has seven digits at most.
+const RUN_BYTES: usize = 16;
 
-// Appends a run's text: a number, or `a-b` for two ranks or more. It is written from its end.
+// Appends a run's text, a number, or `a-b` for two ranks or more, behind a comma where it follows others. It is written
+// from its end.
 #[inline(always)]
-fn write_run(first: u32, last: u32, out: &mut Vec<u8>) -> Result<(), AllocError>
-    requires { (first ≤ last) × (last < RANK_LIMIT) }
-    ensures ok { OnOk result (out.new.items ≡ out.old.items ++ run_text (first, last)) }
+fn write_run(run: Run, follows: bool, out: &mut Vec<u8>) -> Result<(), AllocError>
+    requires { (run.first ≤ run.last) × (run.last < RANK_LIMIT) }
+    ensures ok { OnOk result (out.new.items
+        ≡ out.old.items ++ (cond follows (comma ∷ []) [] ++ run_text (run_pair run))) }
     ensures kept { BeginsWith out.new.items out.old.items }
 {
     let mut text = [0; RUN_BYTES];
-    let start = write_run_before(first, last, &mut text);
+    let mut start = write_run_before(run.first, run.last, &mut text);
+    if follows {
+        start -= 1;
+        text[start] = b',';
+    }
     out.extend_from_slice(&text[start..])?;
     Ok(())
 }
@@ -43,7 +49,7 @@ fn write_run(first: u32, last: u32, out: &mut Vec<u8>) -> Result<(), AllocError>
 #[inline(always)]
 fn write_run_before(first: u32, last: u32, text: &mut [u8; RUN_BYTES]) -> usize
     requires { (first ≤ last) × (last < RANK_LIMIT) }
-    ensures within { result ≤ RUN_BYTES }
+    ensures within { (1 ≤ result) × (result ≤ RUN_BYTES) }
     ensures text { drop result text.new ≡ run_text (first, last) }
 {
     let start = write_digits(u64::from(last), text, RUN_BYTES);
@@ -63,10 +69,7 @@ fn write_runs(offset: u32, words: &[u64], out: &mut Vec<u8>) -> Result<(), Alloc
 {
     let mut from = 0;
     while let Some(run) = next_run(offset, words, from) {
-        if from > 0 {
-            out.push(b',')?;
-        }
-        write_run(run.first, run.last, out)?;
+        write_run(run, from > 0, out)?;
         from = run.last + 1;
     }
     Ok(())
@@ -93,10 +96,7 @@ fn write_each_run(runs: &[Run], out: &mut Vec<u8>) -> Result<(), AllocError>
 {
     let mut follows = false;
     for run in runs {
-        if follows {
-            out.push(b',')?;
-        }
-        write_run(run.first, run.last, out)?;
+        write_run(*run, follows, out)?;
         follows = true;
     }
     Ok(())

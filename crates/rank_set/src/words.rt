@@ -545,21 +545,23 @@ pub(crate) fn words_in(alloc: Global, offset: u32, words: &[u64]) -> Result<Vec<
     Ok(all)
 }
 
-// The first number from the given one on, within the words, that is a rank, or with `gap` is not.
+// The first number from the given one on, within the words, that is a rank, or with `gap` is not. The number is in one of
+// the words or behind them.
+#[inline(always)]
 fn next_bit(offset: u32, words: &[u64], from: u32, gap: bool) -> Option<u32>
-    requires { offset + length words.now ≤ WORD_LIMIT }
+    requires within { offset + length words.now ≤ WORD_LIMIT }
+    requires begins { 64 * offset ≤ from }
     ensures run { IfSome result (IsNext offset words.now gap from) }
     ensures none { IfNone result
         ((q : ℕ) → from ≤ q → q < 64 * (offset + length words.now) → bit_in offset words.now q ≡ gap) }
 {
-    let end = offset + words.len() as u32;
     let mut mask = u64::MAX << (from % 64);
-    for k in from / 64..end {
-        let word = word_of(offset, words, k);
+    for i in (from / 64 - offset) as usize..words.len() {
+        let word = words[i];
         let seen = if gap { !word } else { word };
         let left = seen & mask;
         if left != 0 {
-            return Some(64 * k + left.trailing_zeros());
+            return Some(64 * (offset + i as u32) + left.trailing_zeros());
         }
         mask = u64::MAX;
     }
@@ -567,7 +569,7 @@ fn next_bit(offset: u32, words: &[u64], from: u32, gap: bool) -> Option<u32>
 }
 
 // The longest run of neighbours that begins with the least rank at or above `from`.
-#[inline]
+#[inline(always)]
 pub(crate) fn next_run(offset: u32, words: &[u64], from: u32) -> Option<Run>
     requires { offset + length words.now ≤ WORD_LIMIT }
     ensures none { IfNone result ((q : ℕ) → from ≤ q → has (ranks_in offset words.now) q ≡ false) }
