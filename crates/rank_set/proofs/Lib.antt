@@ -21,3 +21,4 @@ pub mod RunMerging
 pub mod RunSearch
 pub mod RunWalks
 pub mod RunSizes
+mod RunStretches

@@ -97,6 +97,7 @@ impl Held {
 
     // Takes the form of words where many runs would be copied for a run among them: then ranks in no order cost no more
     // than others.
+    #[inline(always)]
     fn make_words_among_runs(&mut self, first: u32) -> Result<(), AllocError>
         ensures { ranks_held self.new ≡ ranks_held self.old }
     {
@@ -109,6 +110,7 @@ impl Held {
 
     /// Adds the ranks of a run that is not empty and within the limit, in the form that is held while the runs come in
     /// order: `settle` is for the caller. On failure the ranks stay.
+    #[inline(always)]
     pub(crate) fn collect_run(&mut self, first: u32, last: u32) -> Result<(), AllocError>
         requires not_empty { first ≤ last }
         requires below_limit { last < RANK_LIMIT }

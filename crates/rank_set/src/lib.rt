@@ -209,6 +209,7 @@ impl RankSet {
     }
 
     /// Adds the ranks of a run as `put_run` does. The form is chosen by `settle`, after the last of them.
+    #[inline(always)]
     pub(crate) fn collect_run(&mut self, first: u32, last: u32) -> Result<(), AllocError>
         requires not_empty { first ≤ last }
         requires below_limit { last < RANK_LIMIT }

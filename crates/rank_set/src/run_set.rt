@@ -96,6 +96,7 @@ impl RunSet {
     }
 
     /// Adds the ranks of a run that is not empty and within the limit. On failure the set is unchanged.
+    #[inline(always)]
     pub(crate) fn put_run(&mut self, first: u32, last: u32) -> Result<(), AllocError>
         requires not_empty { first ≤ last }
         requires below_limit { last < RANK_LIMIT }

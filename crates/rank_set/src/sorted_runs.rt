@@ -1,6 +1,6 @@
 //! Rank sets as lists of their longest runs, in order.
 
-ghost use Rattle.std.specs.Prelude.{◌≡◌, ℕ, ◌<◌, ◌≤◌, ◌+◌, ◌-◌, ◌++◌, [], ◌∷◌, ◌↔◌, true, IfOk, length, get_or};
+ghost use Rattle.std.specs.Prelude.{◌≡◌, ℕ, ◌<◌, ◌≤◌, ◌+◌, ◌-◌, ◌++◌, [], ◌∷◌, ◌↔◌, true, OnOk, IfOk, length, get_or};
 ghost use Rattle.rank_set.specs.Ranks.{has, union, size};
 ghost use Rattle.rank_set.specs.Runs.{ranks_between, ranks_of_runs, AreRuns, IsRunInRange, run_pair, run_pairs};
 
@@ -147,6 +147,7 @@ fn begun(runs: &[Run], at: u32) -> usize
 
 /// The runs of the ranks of both lists. Those of the first list that lie before or behind all of the second are copied
 /// as they stand.
+#[inline(never)]
 pub(crate) fn merged(alloc: Global, runs: &[Run], others: &[Run]) -> Result<Runs, AllocError>
     requires runs { AreRuns 0 (run_pairs runs.now) }
     requires others { AreRuns 0 (run_pairs others.now) }
@@ -154,7 +155,7 @@ pub(crate) fn merged(alloc: Global, runs: &[Run], others: &[Run]) -> Result<Runs
     ensures ranks { IfOk result (λ all. ranks_of_runs (run_pairs all.items)
         ≡ union (ranks_of_runs (run_pairs runs.now)) (ranks_of_runs (run_pairs others.now))) }
 {
-    let Some(other) = others.first() else {
+    let Some((other, _)) = others.split_first() else {
         let all = Runs::from_slice(alloc, runs)?;
         return Ok(all);
     };
@@ -168,6 +169,7 @@ pub(crate) fn merged(alloc: Global, runs: &[Run], others: &[Run]) -> Result<Runs
 }
 
 /// The number behind the last rank, 0 for no runs.
+#[inline(always)]
 pub(crate) fn end(runs: &[Run]) -> u32
     requires { AreRuns 0 (run_pairs runs.now) }
     ensures above { (r : ℕ) → has (ranks_of_runs (run_pairs runs.now)) r ≡ true → r < result }
@@ -228,17 +230,29 @@ pub(crate) fn count(runs: &[Run]) -> u32
     total
 }
 
+// Adds the first and the last rank of runs to words, so that there is room for all between them.
+fn make_room(words: &mut WordSet, runs: &[Run]) -> Result<(), AllocError>
+    requires { AreRuns 0 (run_pairs runs.now) }
+    ensures { OnOk result (union words.new (ranks_of_runs (run_pairs runs.now))
+        ≡ union words.old (ranks_of_runs (run_pairs runs.now))) }
+{
+    let Some((first, _)) = runs.split_first() else {
+        return Ok(());
+    };
+    words.put_run(first.first, first.first)?;
+    let last = end(runs) - 1;
+    words.put_run(last, last)?;
+    Ok(())
+}
+
 /// The ranks of the runs as words.
+#[inline(never)]
 pub(crate) fn words_of_runs(alloc: Global, runs: &[Run]) -> Result<WordSet, AllocError>
     requires { AreRuns 0 (run_pairs runs.now) }
     ensures { IfOk result (λ words. words ≡ ranks_of_runs (run_pairs runs.now)) }
 {
     let mut words = WordSet::new(alloc);
-    // All room is made at once.
-    if let (Some(first), Some(last)) = (runs.first(), runs.last()) {
-        words.put_run(first.first, first.first)?;
-        words.put_run(last.last, last.last)?;
-    }
+    make_room(&mut words, runs)?;
     for run in runs {
         words.put_run(run.first, run.last)?;
     }

@@ -103,9 +103,10 @@ fn reaching(
     Ok((start, all))
 }
 
-// Extends the words to reach from one index up to another. On failure they are unchanged. At the end they grow with
-// room for more.
-fn extend_to(offset: &mut u32, words: &mut Words, low: u32, high: u32) -> Result<(), AllocError>
+// Extends the words to reach from one index up to another, which they don't yet. On failure they are unchanged. At the
+// end they grow with room for more.
+#[inline(never)]
+fn grow_to(offset: &mut u32, words: &mut Words, low: u32, high: u32) -> Result<(), AllocError>
     requires trimmed { AreWords offset.old words.old.items }
     requires not_empty { low < high }
     requires within_limit { high ≤ WORD_LIMIT }
@@ -129,6 +130,22 @@ fn extend_to(offset: &mut u32, words: &mut Words, low: u32, high: u32) -> Result
         pad(words, len)?;
     }
     Ok(())
+}
+
+// The same, where most often they reach that far.
+#[inline(always)]
+fn extend_to(offset: &mut u32, words: &mut Words, low: u32, high: u32) -> Result<(), AllocError>
+    requires trimmed { AreWords offset.old words.old.items }
+    requires not_empty { low < high }
+    requires within_limit { high ≤ WORD_LIMIT }
+    ensures ok { OnOk result (ExtendsTo offset.old words.old.items low high offset.new words.new.items) }
+    ensures err_offset { OnErr result (offset.new ≡ offset.old) }
+    ensures err_words { OnErr result (words.new.items ≡ words.old.items) }
+{
+    if *offset <= low && high <= *offset + words.len() as u32 {
+        return Ok(());
+    }
+    grow_to(offset, words, low, high)
 }
 
 // Sets the bits of the other words.
@@ -177,6 +194,7 @@ pub(crate) fn one_word(alloc: Global, first: u32, last: u32) -> Words
 }
 
 // Sets the bits of the ranks from the first to the last.
+#[inline(always)]
 fn or_run(words: &mut [u64], offset: u32, first: u32, last: u32)
     requires not_empty { first ≤ last }
     requires begins { offset ≤ first / 64 }

@@ -8,7 +8,7 @@ use Rattle.rank_set.proofs.sorted_runs.words_of_runs.Goals as goal
 pub loop-run-init : goal.loop-run-init
 loop-run-init c = record {
   rest = c.requires;
-  ranks = ap (λ s. union s (ranks_of_runs (run_pairs c.args.runs.now))) c.new-words.ensures ∙ union-none (ranks_of_runs (run_pairs c.args.runs.now));
+  ranks = c.in_ok-make_room.ensures ∙ ap (λ s. union s (ranks_of_runs (run_pairs c.args.runs.now))) c.new-words.ensures ∙ union-none (ranks_of_runs (run_pairs c.args.runs.now));
 }
 
 pub loop-run-preserved : goal.loop-run-preserved

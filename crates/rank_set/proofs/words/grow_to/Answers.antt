@@ -1,7 +1,7 @@
 use Rattle.std.proofs.Common.{◌<◌, length, inl, inr, sym, arith}
 use Rattle.std.proofs.lemmas.Bool.{cases_lt, eqb-false, eqb-true}
 use Rattle.rank_set.proofs.Trimming.{covers_itself, covers_longer, covers_new}
-use Rattle.rank_set.proofs.words.extend_to.Goals as goal
+use Rattle.rank_set.proofs.words.grow_to.Goals as goal
 
 pub returns-then-is_empty-clause-ok : goal.returns-then-is_empty-clause-ok
 returns-then-is_empty-clause-ok c =
