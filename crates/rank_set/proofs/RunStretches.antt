@@ -165,8 +165,8 @@ gap_to xs F k from first within is good before ends q one = elim (cases_lt 0 k) 
           ap (λ n. run_at (run_pairs F) (n - 1)) count ∙ pair_at F (k - 1) ∙ ap (λ ys. run_pair (get_or ys (k - 1) none)) is
           ∙ ap run_pair (get_or-take k xs (k - 1) none (omega (arith, some))) ∙ sym (pair_at xs (k - 1)) in
       omega (arith, last_ends 0 (run_pairs F) good (omega (arith, count, some)) q one, ap (λ p. p.1) at, ends some, before)
-  | inr no ↦
-      let empty : F ≡ [] = is ∙ ap (λ n. take n xs) (let z : k ≡ 0 = omega (arith, no) in z) in
+  | inr nothing ↦
+      let empty : F ≡ [] = is ∙ ap (λ n. take n xs) (let z : k ≡ 0 = omega (arith, nothing) in z) in
       absurd (true≢false (sym one ∙ ap (λ ys. has (ranks_of_runs (run_pairs ys)) q) empty ∙ has-none q))
 ]
 

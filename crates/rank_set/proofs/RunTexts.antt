@@ -13,9 +13,9 @@ pub some_digit : (n : ℕ) → n < 1048576 → 1 ≤ length (decimal n)
 some_digit n few = decimal_nonempty n (omega (arith, few))
 
 -- the last rank's digits stand at the end of a buffer
-module _ (first last : ℕ) (old one : List ℕ) (at : ℕ) (len : length old ≡ 15) (written : drop at one ≡ decimal last ++ drop 15 old) where
+module _ (first last : ℕ) (old one : List ℕ) (at : ℕ) (len : length old ≡ 16) (written : drop at one ≡ decimal last ++ drop 16 old) where
   digits : drop at one ≡ decimal last
-  digits = written ∙ ap (λ t. decimal last ++ t) (drop_all 15 old (omega (arith, len))) ∙ append-nil (decimal last)
+  digits = written ∙ ap (λ t. decimal last ++ t) (drop_all 16 old (omega (arith, len))) ∙ append-nil (decimal last)
 
   -- it ends behind where they start
   pub inside : 1 ≤ length (decimal last) → at ≤ length one

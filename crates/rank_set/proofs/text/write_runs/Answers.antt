@@ -1,14 +1,13 @@
 use Rattle.std.proofs.Common.{◌≡◌, ℕ, ◌+◌, ◌-◌, ◌*◌, ◌<◌, ◌++◌, nat_lt, Bool, true, cond, List, [], ◌∷◌, length, sym, ap, ◌∙◌, suc, append_assoc, arith}
 use Rattle.std.specs.List.{range_with_len, filter}
-use Rattle.std.proofs.lemmas.Bool.{lt-ltb, le-ltb}
+use Rattle.std.proofs.lemmas.Bool.{lt-ltb}
 use Rattle.std.proofs.lemmas.List.{append-nil}
 use Rattle.rank_set.specs.Words.{bit_in}
 use Rattle.rank_set.specs.Runs.{runs_of}
 use Rattle.rank_set.specs.Text.{run_text, runs_text}
 use Rattle.rank_set.proofs.WordSets.{has-ranks_in}
 use Rattle.rank_set.proofs.Members.{members}
-use Rattle.rank_set.proofs.Runs.{begins_more, begins_through, members_from, first_run, no_runs, more_text, more_none, more_first, more_step}
-use Rattle.rank_set.proofs.text.write_runs.Goals.{then-from-gt0+in_ok-push, else-from-gt0}
+use Rattle.rank_set.proofs.Runs.{begins_through, members_from, first_run, no_runs, more_text, more_none, more_first, more_step}
 use Rattle.rank_set.proofs.text.write_runs.Goals as goal
 
 pub loop-run-preserved : goal.loop-run-preserved
@@ -24,18 +23,14 @@ loop-run-preserved c =
     let runs : runs_of (members_from t from n) ≡ (first, last) ∷ later =
     first_run t from first last n found.start found.some small (λ q le lt. sym (has-ranks_in c.args.offset c.args.words.now q) ∙ found.passed q le lt) (λ q le lt. sym (has-ranks_in c.args.offset c.args.words.now q) ∙ found.within q le lt)
     (sym (has-ranks_in c.args.offset c.args.words.now (suc last)) ∙ found.ends) in
-    let comma : List ℕ = cond (nat_lt 0 from) (44 ∷ []) [] in
-    let begun : c.if-from-gt0.out.items ≡ c.loop-run.out.items ++ comma = elim c.if-from-gt0.branch [
-      | then-from-gt0+in_ok-push w ↦ (λ k. (w.out-is k).items) ∙ w.in_ok-push.ensures.items ∙ ap (λ b. c.loop-run.out.items ++ cond b (44 ∷ []) []) (sym (lt-ltb 0 from w.if-from-gt0.true))
-      | else-from-gt0 w ↦ (λ k. (w.out-is k).items) ∙ sym (append-nil c.loop-run.out.items) ∙ ap (λ b. c.loop-run.out.items ++ cond b (44 ∷ []) []) (sym (le-ltb 0 from w.if-from-gt0.false))
-    ] in
+    let text : List ℕ = cond (nat_lt 0 from) (44 ∷ []) [] ++ run_text (first, last) in
     record {
       within = omega arith;
-      kept = begins_through c.args.out.now.items c.if-from-gt0.out.items c.write_run.new.out.items (begins_more c.args.out.now.items c.loop-run.out.items c.if-from-gt0.out.items comma c.loop-run.invariant.kept begun) c.in_ok-write_run.ensures.kept;
+      kept = begins_through c.args.out.now.items c.loop-run.out.items c.write_run.new.out.items c.loop-run.invariant.kept c.in_ok-write_run.ensures.kept;
       text =
-          (λ k. (c.in_ok-write_run.ensures.ok ∙ ap (λ xs. xs ++ run_text (first, last)) begun) k ++ more_text (lt-ltb 0 (last + 1) (omega arith) k) later)
-          ∙ append_assoc (c.loop-run.out.items ++ comma) (run_text (first, last)) (more_text true later) ∙ append_assoc c.loop-run.out.items comma (run_text (first, last) ++ more_text true later)
-          ∙ ap (λ xs. c.loop-run.out.items ++ xs) (sym (append_assoc comma (run_text (first, last)) (more_text true later)) ∙ sym (more_step (nat_lt 0 from) (runs_of (members_from t from n)) later (first, last) runs))
+          (λ k. c.in_ok-write_run.ensures.ok k ++ more_text (lt-ltb 0 (last + 1) (omega arith) k) later)
+          ∙ append_assoc c.loop-run.out.items text (more_text true later)
+          ∙ ap (λ xs. c.loop-run.out.items ++ xs) (sym (more_step (nat_lt 0 from) (runs_of (members_from t from n)) later (first, last) runs))
           ∙ c.loop-run.invariant.text;
     }
 
