@@ -1,18 +1,19 @@
 -- Texts that are one item, and ranks that lie in one word.
-use Rattle.std.proofs.Common.{rules, ◌≡◌, ℕ, suc, ◌+◌, ◌-◌, ◌/◌, ◌<◌, ◌≤◌, Bool, true, false, not, cond, nat_eq, nat_lt, List, [], ◌∷◌, length, get_or, take, drop, Ok, Err, Result, refl, sym, ap, ◌∙◌, subst, inl, inr, arith}
+use Rattle.std.proofs.Common.{rules, ◌≡◌, ℕ, suc, ◌+◌, ◌-◌, ◌/◌, ◌<◌, ◌≤◌, Bool, true, false, not, cond, nat_eq, nat_lt, List, [], ◌∷◌, length, get_or, take, drop, min, Ok, Err, Result, refl, sym, ap, ◌∙◌, subst, inl, inr, arith}
 use Rattle.std.specs.Prelude.{bit_or}
 use Rattle.std.specs.Char.{is_ascii_digit}
 use Rattle.std.specs.Int.Bits.{or_zero_l}
-use Rattle.std.proofs.lemmas.Bool.{cases_lt, cases_Bool, true≢false, eqb-true, ne_eqb}
+use Rattle.std.proofs.lemmas.Bool.{cases_lt, cases_Bool, true≢false, eqb-true, eq-eqb, ne_eqb, lt-leb}
+use Rattle.std.proofs.lemmas.List.{drop_all, take_all, length-take}
 use Rattle.rank_set.specs.declared.TheConstants.{RANK_LIMIT}
 use Rattle.rank_set.specs.declared.read.RanksError.{RanksError}
-use Rattle.rank_set.specs.declared.read.RanksError.TheVariants.{BadNumber, Backward}
-use Rattle.rank_set.specs.Digits.{digits_len}
+use Rattle.rank_set.specs.declared.read.RanksError.TheVariants.{BadNumber, Backward, OverLimit}
+use Rattle.rank_set.specs.Digits.{digits_len, value_after}
 use Rattle.rank_set.specs.Ranks.{none, union}
 use Rattle.rank_set.specs.RanksText.{number_at, ends_at, second_at, after_first, item_from, item_at, item_len, ranks_text}
 use Rattle.rank_set.specs.Runs.{ranks_between}
 use Rattle.rank_set.specs.Words.{word_at, run_word, ranks_in, AreWords}
-use Rattle.rank_set.proofs.Reading.{last_good}
+use Rattle.rank_set.proofs.Reading.{last_good, item_alone}
 use Rattle.rank_set.proofs.RunSets.{no_run_word, some_run_word, ranks_in-run}
 use Rattle.rank_set.proofs.WordSets.{word_at-below, word_at-from, word_at-beyond, ranks_in-none}
 
@@ -63,6 +64,25 @@ digits_are_item (b ∷ rest) e = elim (cases_Bool (is_ascii_digit b)) [
       ap (λ t. cond t (1 + item_len rest) 0) (digit_no_comma b digit) ∙ ap (λ n. 1 + n) (digits_are_item rest less) ∙ all
   | inr other ↦ absurd (let stops : digits_len (b ∷ rest) ≡ 0 = ap (λ t. cond t (1 + digits_len rest) 0) other in omega (arith, stops, e))
 ]
+
+-- the digits of the digits that a text begins with
+digits_of_digits : (text : List ℕ) → digits_len (take (digits_len text) text) ≡ digits_len text
+digits_of_digits [] = refl
+digits_of_digits (b ∷ rest) = elim (cases_Bool (is_ascii_digit b)) [
+  | inl digit ↦
+      let n : ℕ = digits_len rest in
+      let more : digits_len (b ∷ rest) ≡ suc n = ap (λ t. cond t (1 + n) 0) digit ∙ (let e : 1 + n ≡ suc n = omega arith in e) in
+      ap (λ m. digits_len (take m (b ∷ rest))) more ∙ ap (λ t. cond t (1 + digits_len (take n rest)) 0) digit
+      ∙ ap (λ m. 1 + m) (digits_of_digits rest) ∙ (let e : 1 + n ≡ suc n = omega arith in e) ∙ sym more
+  | inr other ↦
+      let none : digits_len (b ∷ rest) ≡ 0 = ap (λ t. cond t (1 + digits_len rest) 0) other in
+      ap (λ m. digits_len (take m (b ∷ rest))) none ∙ sym none
+]
+
+-- a number that is below the limit is read
+number_read : (offset : ℕ) (item : List ℕ) (number : ℕ) → 0 < digits_len item → value_after 0 (take (digits_len item) item) ≡ number → number < RANK_LIMIT → number_at offset item ≡ Ok number
+number_read offset item number some is small =
+    (λ i. cond (ne_eqb (digits_len item) 0 (λ e. omega (arith, e, some)) i) (Err (BadNumber offset)) (cond (lt-leb RANK_LIMIT (value_after 0 (take (digits_len item) item)) (omega (arith, is, small)) i) (Err (OverLimit offset)) (Ok (is i))))
 
 -- the item goes on after its digits: what is left of it, and of the text
 after_digits : (text : List ℕ) → (item_len text ≡ digits_len text + item_len (drop (digits_len text) text)) × (length text ≡ digits_len text + length (drop (digits_len text) text))
@@ -142,3 +162,35 @@ item_is_text [] first last some good = absurd (omega (arith, some))
 item_is_text (b ∷ rest) first last some good =
     let text : List ℕ = b ∷ rest in
     last_good 0 (length text) none text text [] (sym (item_whole 0 text (first, last) good)) (all_taken text) (sym (all_dropped text)) (first, last) good refl
+
+-- a number at the front of a text, at whose end or before a comma it ends
+module _ (text rest : List ℕ) (number len : ℕ) (value : number ≡ min RANK_LIMIT (value_after 0 (take (digits_len text) text))) (is : len ≡ digits_len text)
+    (some : 0 < len) (small : number < RANK_LIMIT) (back : rest ≡ drop len text) (ends : item_len rest ≡ 0) where
+  -- is the first item
+  pub number_len : len ≡ item_len text
+  number_len =
+      let split = (after_digits text).0 in
+      omega (arith, split, is, ap item_len (back ∙ ap (λ n. drop n text) is), ends)
+
+  -- and its only rank
+  pub number_alone : (offset : ℕ) → item_at offset (take (item_len text) text) ≡ Ok (number, number)
+  number_alone offset =
+      let n : ℕ = digits_len text in
+      let item : List ℕ = take n text in
+      let own : digits_len item ≡ n = digits_of_digits text in
+      let short : length item ≤ n = omega (arith, length-take n text) in
+      let same : take (digits_len item) item ≡ item = ap (λ m. take m item) own ∙ take_all n item short in
+      let v : ℕ = value_after 0 item in
+      let exact : v ≡ number = omega (arith, value, small) in
+      let read : number_at offset item ≡ Ok number = number_read offset item number (omega (arith, own, is, some)) (ap (value_after 0) same ∙ exact) small in
+      ap (λ m. item_at offset (take m text)) (sym number_len ∙ is)
+      ∙ item_alone offset item number read (ap (λ m. drop m item) own ∙ drop_all n item short)
+
+-- no item is left before the end of a text, nor before a comma
+pub none_at_end : (text : List ℕ) → length text ≡ 0 → item_len text ≡ 0
+none_at_end [] e = refl
+none_at_end (b ∷ text) e = absurd (omega (arith, e))
+
+pub none_at_comma : (text : List ℕ) → 0 < length text → get_or text 0 0 ≡ 44 → item_len text ≡ 0
+none_at_comma [] some is = absurd (omega (arith, some))
+none_at_comma (b ∷ text) some is = ap (λ t. cond (not t) (1 + item_len text) 0) (eq-eqb b 44 is)

@@ -5,7 +5,7 @@ ghost use Rattle.rank_set.specs.Runs.{ranks_between, IsRunInRange, with_pending}
 ghost use Rattle.rank_set.specs.Digits.{digits_len};
 ghost use Rattle.rank_set.specs.RanksText.{number_at, ends_at, after_first, item_at, item_len, items, ranks_at, ranks_text};
 ghost use Rattle.rank_set.specs.declared.read.RanksError.TheVariants.{OutOfMemory};
-ghost use Rattle.std.specs.Prelude.{◌≡◌, ◌<◌, ◌≤◌, ◌+◌, ◌-◌, ◌^◌, ◌≢◌, length, IfOk, IfErr, IfSome, OnOk, Ok, Err};
+ghost use Rattle.std.specs.Prelude.{◌≡◌, ◌<◌, ◌≤◌, ◌+◌, ◌-◌, ◌^◌, ◌≢◌, ℕ, length, take, IfOk, IfErr, IfSome, OnOk, Ok, Err};
 
 use crate::digits::capped_number;
 use crate::{RANK_LIMIT, RankSet, Run};
@@ -82,6 +82,51 @@ fn item_at(offset: usize, item: &[u8]) -> Result<Run, RanksError>
     Ok(Run { first, last })
 }
 
+// The first item of a text and its length, if it is a number alone.
+#[inline(always)]
+fn number_item(text: &[u8]) -> Option<(u32, usize)>
+    ensures len { IfSome result (λ n. n.1 ≡ item_len text.now) }
+    ensures item { IfSome result (λ n. (offset : ℕ)
+        → item_at offset (take (item_len text.now) text.now) ≡ Ok (n.0, n.0)) }
+    ensures below_limit { IfSome result (λ n. n.0 < RANK_LIMIT) }
+{
+    let (number, len) = capped_number(text, RANK_LIMIT);
+    if len == 0 || number >= RANK_LIMIT {
+        return None;
+    }
+    let (_, rest) = text.split_at(len);
+    if rest.is_empty() {
+        return Some((number, len));
+    }
+    if rest[0] != b',' {
+        return None;
+    }
+    Some((number, len))
+}
+
+// The ranks of the first item of a text, which begins at an offset, and its length.
+#[inline(always)]
+fn first_item(offset: usize, text: &[u8]) -> Result<(Run, usize), RanksError>
+    requires { offset + length text.now < 2 ^ 64 }
+    ensures len { IfOk result (λ item. item.1 ≡ item_len text.now) }
+    ensures ok { IfOk result (λ item. item_at offset (take (item_len text.now) text.now)
+        ≡ Ok (item.0.first, item.0.last)) }
+    ensures in_range { IfOk result (λ item. IsRunInRange item.0.first item.0.last) }
+    ensures err { IfErr result (λ e. item_at offset (take (item_len text.now) text.now) ≡ Err e) }
+{
+    if let Some((rank, len)) = number_item(text) {
+        let run = Run {
+            first: rank,
+            last: rank,
+        };
+        return Ok((run, len));
+    }
+    let len = item_len(text);
+    let (item, _) = text.split_at(len);
+    let run = item_at(offset, item)?;
+    Ok((run, len))
+}
+
 // The number of bytes before the next comma.
 fn item_len(text: &[u8]) -> usize
     ensures value { result ≡ item_len text.now }
@@ -148,9 +193,8 @@ fn read_items(text: &[u8], ranks: &mut RankSet) -> Result<(), RanksError>
     let mut rest = text;
     let mut pending = None;
     loop {
-        let len = item_len(rest);
-        let (item, after) = rest.split_at(len);
-        let run = item_at(offset, item)?;
+        let (run, len) = first_item(offset, rest)?;
+        let (_, after) = rest.split_at(len);
         add_run(ranks, &mut pending, run)?;
         let Some((_, next)) = after.split_first() else {
             put_pending(ranks, pending)?;
