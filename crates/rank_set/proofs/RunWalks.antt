@@ -18,6 +18,13 @@ between_parts first last q one = elim (cases_lt q first) [
   ]
 ]
 
+-- sets that have a rank in common meet
+pub meet : (s t : Ranks) (q : ℕ) → has s q ≡ true → has t q ≡ true → is_empty (those (has t) s) ≡ false
+meet s t q one two = elim (cases_Bool (is_empty (those (has t) s))) [
+  | inl e ↦ absurd (true≢false (sym (λ i. one i && two i) ∙ sym (has-those (has t) s q) ∙ ap (λ u. has u q) (none_from_size (those (has t) s) (eqb-true _ 0 e)) ∙ has-none q))
+  | inr e ↦ e
+]
+
 -- a set with a rank that the other lacks is no subset of it
 pub not_subset : (s t : Ranks) (q : ℕ) → has s q ≡ true → has t q ≡ false → is_subset s t ≡ false
 not_subset s t q one other = elim (cases_Bool (is_subset s t)) [
@@ -111,10 +118,7 @@ module _ (s t : Ranks) where
         | inl past ↦ absurd (true≢false (sym (met.within a (omega arith) met.some) ∙ past_part t last a past))
         | inr le ↦ omega (arith, le)
       ] in
-      elim (cases_Bool (is_empty (those (has t) s))) [
-        | inl e ↦ absurd (true≢false (sym ((λ i. run.within a met.start to i && (sym (in_part t last a to) ∙ met.within a (omega arith) met.some) i)) ∙ sym (has-those (has t) s a) ∙ ap (λ u. has u a) (none_from_size (those (has t) s) (eqb-true _ 0 e)) ∙ has-none a))
-        | inr e ↦ e
-      ]
+      meet s t a (run.within a met.start to) (sym (in_part t last a to) ∙ met.within a (omega arith) met.some)
 
   -- the ranks of the first set below a number that are not in the second
   abbrev pub IsRestBelow : Ranks → ℕ → Type 0

@@ -1,6 +1,6 @@
 //! What is asked of two sets run by run, however they are held.
 
-ghost use Rattle.std.specs.Prelude.{◌≡◌, ◌≤◌, ◌<◌, ◌↔◌, true, not, OnOk, IfOk, [], ◌∷◌};
+ghost use Rattle.std.specs.Prelude.{◌≡◌, ◌≤◌, ◌<◌, ◌↔◌, true, false, not, OnOk, IfOk, [], ◌∷◌};
 ghost use Rattle.rank_set.specs.Ranks.{has, is_empty, is_subset, those, union};
 ghost use Rattle.rank_set.specs.Runs.{ranks_between, IsRunInRange};
 ghost use Rattle.rank_set.specs.Words.{ranks_in};
@@ -84,11 +84,25 @@ pub(crate) fn equals(set: &RankSet, other: &RankSet) -> bool
     is_subset(set, other) && is_subset(other, set)
 }
 
+// Whether the first set has the least rank of the second.
+fn has_least_of(set: &RankSet, other: &RankSet) -> bool
+    ensures { result ≡ true → is_empty (those (λ r. has other.now r) set.now) ≡ false }
+{
+    let Some(least) = other.first() else {
+        return false;
+    };
+    set.contains(least)
+}
+
 /// Whether no rank of the first set is in the second. The one with runs goes first: it has fewer of them.
 #[inline(never)]
 pub(crate) fn is_disjoint(set: &RankSet, other: &RankSet) -> bool
     ensures { result ≡ is_empty (those (λ r. has other.now r) set.now) }
 {
+    // Most sets that meet are those of a line and of a node of its ranks.
+    if has_least_of(set, other) {
+        return false;
+    }
     match &set.held {
         Held::Words(_) => meets_no_run(other, set),
         Held::Runs(_) => meets_no_run(set, other),
