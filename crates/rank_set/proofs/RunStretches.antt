@@ -1,5 +1,5 @@
 -- Lists of runs, one behind the other.
-use Rattle.std.proofs.Common.{◌≡◌, ◌∙◌, ℕ, zero, suc, ◌+◌, ◌-◌, ◌<◌, ◌≤◌, true, ◌||◌, List, [], ◌∷◌, ◌++◌, length, take, drop, get_or, append_assoc, sym, ap, subst, inl, inr, arith, refl}
+use Rattle.std.proofs.Common.{◌≡◌, ◌∙◌, ℕ, zero, suc, ◌+◌, ◌-◌, ◌<◌, ◌≤◌, true, ◌||◌, List, [], ◌∷◌, ◌++◌, length, take, drop, get_or, append_assoc, sym, ap, subst, inl, inr, arith}
 use Rattle.std.proofs.lemmas.Bool.{cases_lt, true≢false, or_right, or_cases}
 use Rattle.std.proofs.lemmas.List.{append-nil, map-append, take-append-drop, get_or-take, drop_more, drop_all, length-take-le}
 use Rattle.rank_set.specs.declared.Run.{Run}
@@ -33,7 +33,9 @@ pub runs_joined : (least b : ℕ) (xs ys : List (ℕ × ℕ)) → least ≤ b �
 runs_joined least b [] ys le h g each = runs_later least b ys le g
 runs_joined least b (x ∷ xs) ys le h g each =
     let own : has (ranks_of_runs (x ∷ xs)) x.1 ≡ true = has-union (ranks_between x.0 x.1) (ranks_of_runs xs) x.1 ∙ ap (λ b. b || has (ranks_of_runs xs) x.1) (between_in x.0 x.1 x.1 h.1 (omega arith)) in (
-      h.0, h.1, h.2,
+      h.0,
+      h.1,
+      h.2,
       runs_joined (x.1 + 2) b xs ys (each x.1 own) h.3 g (λ q one. each q (has-union (ranks_between x.0 x.1) (ranks_of_runs xs) q ∙ or_right (has (ranks_between x.0 x.1) q) (has (ranks_of_runs xs) q) one)),
     )
 
@@ -118,11 +120,11 @@ module _ (xs F A B O : List Run) (parts : xs ≡ F ++ (A ++ B)) (h : AreRuns 0 (
         gap : (y : ℕ × ℕ) (ys : List (ℕ × ℕ)) → AreRuns 0 ((run_pairs F ++ run_pairs A) ++ y ∷ ys) → e < y.0 → (q : ℕ) → has (ranks_of_runs (run_pairs J)) q ≡ true → q + 2 ≤ y.0
         gap y ys w lt q one =
             let split : (has (ranks_of_runs (run_pairs F)) q || (has (ranks_of_runs (run_pairs A)) q || has (ranks_of_runs (run_pairs O)) q)) ≡ true =
-                sym (ap (λ s. has s q) ranks ∙ has-union (ranks_of_runs (run_pairs F)) (union (ranks_of_runs (run_pairs A)) (ranks_of_runs (run_pairs O))) q
-                ∙ ap (λ b. has (ranks_of_runs (run_pairs F)) q || b) (has-union (ranks_of_runs (run_pairs A)) (ranks_of_runs (run_pairs O)) q)) ∙ one in
+            sym (ap (λ s. has s q) ranks ∙ has-union (ranks_of_runs (run_pairs F)) (union (ranks_of_runs (run_pairs A)) (ranks_of_runs (run_pairs O))) q
+            ∙ ap (λ b. has (ranks_of_runs (run_pairs F)) q || b) (has-union (ranks_of_runs (run_pairs A)) (ranks_of_runs (run_pairs O)) q)) ∙ one in
             let own : has (ranks_of_runs (run_pairs F ++ run_pairs A)) q ≡ true → q + 2 ≤ y.0 = gap_before 0 (run_pairs F ++ run_pairs A) y ys w q in
             let both : has (ranks_of_runs (run_pairs F ++ run_pairs A)) q ≡ (has (ranks_of_runs (run_pairs F)) q || has (ranks_of_runs (run_pairs A)) q) =
-                ap (λ s. has s q) (ranks_append (run_pairs F) (run_pairs A)) ∙ has-union (ranks_of_runs (run_pairs F)) (ranks_of_runs (run_pairs A)) q in
+            ap (λ s. has s q) (ranks_append (run_pairs F) (run_pairs A)) ∙ has-union (ranks_of_runs (run_pairs F)) (ranks_of_runs (run_pairs A)) q in
             elim (or_cases (has (ranks_of_runs (run_pairs F)) q) (has (ranks_of_runs (run_pairs A)) q || has (ranks_of_runs (run_pairs O)) q) split) [
               | inl front ↦ own (both ∙ ap (λ b. b || has (ranks_of_runs (run_pairs A)) q) front)
               | inr later ↦ elim (or_cases (has (ranks_of_runs (run_pairs A)) q) (has (ranks_of_runs (run_pairs O)) q) later) [
@@ -145,7 +147,7 @@ module _ (xs F A B O : List Run) (parts : xs ≡ F ++ (A ++ B)) (h : AreRuns 0 (
         let b : Ranks = ranks_of_runs (run_pairs B) in
         let o : Ranks = ranks_of_runs (run_pairs O) in
         let own : ranks_of_runs (run_pairs xs) ≡ union (union f a) b =
-            ap ranks_of_runs all_pairs ∙ ranks_append (run_pairs F ++ run_pairs A) (run_pairs B) ∙ ap (λ s. union s b) (ranks_append (run_pairs F) (run_pairs A)) in
+        ap ranks_of_runs all_pairs ∙ ranks_append (run_pairs F ++ run_pairs A) (run_pairs B) ∙ ap (λ s. union s b) (ranks_append (run_pairs F) (run_pairs A)) in
         ranks_behind J B zs is ∙ ap (λ s. union s b) ranks
         ∙ ap (λ s. union s b) (sym (union_assoc f a o)) ∙ union_assoc (union f a) o b ∙ ap (union (union f a)) (union_swap o b)
         ∙ sym (union_assoc (union f a) b o) ∙ ap (λ s. union s o) (sym own)
@@ -162,8 +164,8 @@ gap_to xs F k from first within is good before ends q one = elim (cases_lt 0 k) 
       let none : Run = record { first = 0; last = 0 } in
       let count : length (run_pairs F) ≡ k = pairs_length F ∙ ap length is ∙ length-take-le k xs within in
       let at : run_at (run_pairs F) (length (run_pairs F) - 1) ≡ run_at (run_pairs xs) (k - 1) =
-          ap (λ n. run_at (run_pairs F) (n - 1)) count ∙ pair_at F (k - 1) ∙ ap (λ ys. run_pair (get_or ys (k - 1) none)) is
-          ∙ ap run_pair (get_or-take k xs (k - 1) none (omega (arith, some))) ∙ sym (pair_at xs (k - 1)) in
+      ap (λ n. run_at (run_pairs F) (n - 1)) count ∙ pair_at F (k - 1) ∙ ap (λ ys. run_pair (get_or ys (k - 1) none)) is
+      ∙ ap run_pair (get_or-take k xs (k - 1) none (omega (arith, some))) ∙ sym (pair_at xs (k - 1)) in
       omega (arith, last_ends 0 (run_pairs F) good (omega (arith, count, some)) q one, ap (λ p. p.1) at, ends some, before)
   | inr nothing ↦
       let empty : F ≡ [] = is ∙ ap (λ n. take n xs) (let z : k ≡ 0 = omega (arith, nothing) in z) in

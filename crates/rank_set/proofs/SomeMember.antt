@@ -27,13 +27,10 @@ least_member s r least = has-in_order s r ∙ in_front (in_order s) least
     rank None = 0
     rank (Some k) = k
 
-    is_some≢is_none : None {A = ℕ} ≡ Some r → ⊥
-    is_some≢is_none e = true≢false (sym (ap told e))
-      where
-        told : Option ℕ → Bool
-        told None = false
-        told (Some k) = true
+    told : Option ℕ → Bool
+    told None = false
+    told (Some k) = true
 
     in_front : (xs : List ℕ) → slice_get xs 0 ≡ Some r → list_any (eq_by_cmp nat_cmp r) xs ≡ true
-    in_front [] e = absurd (is_some≢is_none e)
+    in_front [] e = absurd (true≢false (sym (ap told e)))
     in_front (k ∷ ks) e = ap (λ q. list_any (eq_by_cmp nat_cmp q) (k ∷ ks)) (sym (ap rank e)) ∙ ap (λ b. b || list_any (eq_by_cmp nat_cmp k) ks) (ap is_eq (tied_itself nat_cmp_total k))

@@ -1,5 +1,5 @@
 -- Runs of neighbouring ranks in a set.
-use Rattle.std.specs.Prelude.{⊤, ℕ, suc, ◌+◌, ◌-◌, ◌≤◌, ◌<◌, ◌≡◌, true, false, cond, nat_eq, nat_le, Option, None, Some, List, [], ◌∷◌, map}
+use Rattle.std.specs.Prelude.{⊤, ℕ, suc, ◌+◌, ◌-◌, ◌≤◌, ◌<◌, ◌≡◌, true, false, cond, nat_eq, nat_le, Option, None, Some, List, [], ◌∷◌, ◌++◌, map}
 use Rattle.std.specs.List.{range_with_len}
 use Rattle.rank_set.specs.declared.TheConstants.{RANK_LIMIT}
 use Rattle.rank_set.specs.declared.Run.{Run}
@@ -54,6 +54,10 @@ run_pair run = (run.first, run.last)
 -- the same of each run
 abbrev pub run_pairs : List Run → List (ℕ × ℕ)
 run_pairs runs = map run_pair runs
+
+-- runs, and one more behind them
+abbrev pub runs_with : List Run → Run → List (ℕ × ℕ)
+runs_with runs run = run_pairs runs ++ run_pair run ∷ []
 
 -- the ranks of a set that are no greater than a number
 abbrev pub up_to : ℕ → Ranks → Ranks

@@ -101,7 +101,10 @@ impl Held {
     fn make_words_among_runs(&mut self, first: u32) -> Result<(), AllocError>
         ensures { ranks_held self.new ≡ ranks_held self.old }
     {
-        if let Held::Runs(runs) = self && runs.len() > FEW_RUNS && first < runs.end() {
+        if let Held::Runs(runs) = self
+            && runs.len() > FEW_RUNS
+            && first < runs.end()
+        {
             let words = runs.to_words()?;
             *self = Held::Words(words);
         }

@@ -1,8 +1,8 @@
 //! Rank sets as lists of their longest runs, in order.
 
-ghost use Rattle.std.specs.Prelude.{◌≡◌, ℕ, ◌<◌, ◌≤◌, ◌+◌, ◌-◌, ◌++◌, [], ◌∷◌, ◌↔◌, true, OnOk, IfOk, length, get_or};
+ghost use Rattle.std.specs.Prelude.{◌≡◌, ℕ, ◌<◌, ◌≤◌, ◌+◌, ◌-◌, ◌++◌, ◌↔◌, true, OnOk, IfOk, length, get_or};
 ghost use Rattle.rank_set.specs.Ranks.{has, union, size};
-ghost use Rattle.rank_set.specs.Runs.{ranks_between, ranks_of_runs, AreRuns, IsRunInRange, run_pair, run_pairs};
+ghost use Rattle.rank_set.specs.Runs.{ranks_between, ranks_of_runs, AreRuns, IsRunInRange, run_pairs, runs_with};
 
 use crate::word_set::WordSet;
 use crate::{RANK_LIMIT, Run};
@@ -40,13 +40,13 @@ pub(crate) fn find(runs: &[Run], hint: usize, from: u32) -> usize
 // Joins the next run, which begins no earlier, to the pending one where they overlap or touch; else the pending run is
 // put behind the others, and the next one is pending.
 fn join(done: &mut Runs, pending: Run, next: Run) -> Result<Run, AllocError>
-    requires runs { AreRuns 0 (run_pairs done.old.items ++ run_pair pending ∷ []) }
+    requires runs { AreRuns 0 (runs_with done.old.items pending) }
     requires next { IsRunInRange next.first next.last }
     requires order { pending.first ≤ next.first }
-    ensures runs { IfOk result (λ p. AreRuns 0 (run_pairs done.new.items ++ run_pair p ∷ [])) }
+    ensures runs { IfOk result (λ p. AreRuns 0 (runs_with done.new.items p)) }
     ensures order { IfOk result (λ p. p.first ≤ next.first) }
-    ensures ranks { IfOk result (λ p. ranks_of_runs (run_pairs done.new.items ++ run_pair p ∷ [])
-        ≡ union (ranks_of_runs (run_pairs done.old.items ++ run_pair pending ∷ []))
+    ensures ranks { IfOk result (λ p. ranks_of_runs (runs_with done.new.items p)
+        ≡ union (ranks_of_runs (runs_with done.old.items pending))
         (ranks_between next.first next.last)) }
 {
     if next.first <= pending.last + 1 {
@@ -61,11 +61,11 @@ fn join(done: &mut Runs, pending: Run, next: Run) -> Result<Run, AllocError>
 
 // Joins all runs of a list, which begin no earlier than the pending one. It gives the run that is pending then.
 fn join_all(done: &mut Runs, pending: Run, rest: &[Run]) -> Result<Run, AllocError>
-    requires runs { AreRuns 0 (run_pairs done.old.items ++ run_pair pending ∷ []) }
+    requires runs { AreRuns 0 (runs_with done.old.items pending) }
     requires rest { AreRuns pending.first (run_pairs rest.now) }
-    ensures runs { IfOk result (λ p. AreRuns 0 (run_pairs done.new.items ++ run_pair p ∷ [])) }
-    ensures ranks { IfOk result (λ p. ranks_of_runs (run_pairs done.new.items ++ run_pair p ∷ [])
-        ≡ union (ranks_of_runs (run_pairs done.old.items ++ run_pair pending ∷ []))
+    ensures runs { IfOk result (λ p. AreRuns 0 (runs_with done.new.items p)) }
+    ensures ranks { IfOk result (λ p. ranks_of_runs (runs_with done.new.items p)
+        ≡ union (ranks_of_runs (runs_with done.old.items pending))
         (ranks_of_runs (run_pairs rest.now))) }
 {
     let mut last = pending;
@@ -77,12 +77,12 @@ fn join_all(done: &mut Runs, pending: Run, rest: &[Run]) -> Result<Run, AllocErr
 
 // Joins the runs of two lists, which begin no earlier than the pending one, in the order of their first ranks.
 fn join_both(done: &mut Runs, pending: Run, runs: &[Run], others: &[Run]) -> Result<Run, AllocError>
-    requires done { AreRuns 0 (run_pairs done.old.items ++ run_pair pending ∷ []) }
+    requires done { AreRuns 0 (runs_with done.old.items pending) }
     requires runs { AreRuns pending.first (run_pairs runs.now) }
     requires others { AreRuns pending.first (run_pairs others.now) }
-    ensures done { IfOk result (λ p. AreRuns 0 (run_pairs done.new.items ++ run_pair p ∷ [])) }
-    ensures ranks { IfOk result (λ p. ranks_of_runs (run_pairs done.new.items ++ run_pair p ∷ [])
-        ≡ union (ranks_of_runs (run_pairs done.old.items ++ run_pair pending ∷ []))
+    ensures done { IfOk result (λ p. AreRuns 0 (runs_with done.new.items p)) }
+    ensures ranks { IfOk result (λ p. ranks_of_runs (runs_with done.new.items p)
+        ≡ union (ranks_of_runs (runs_with done.old.items pending))
         (union (ranks_of_runs (run_pairs runs.now)) (ranks_of_runs (run_pairs others.now)))) }
 {
     let mut last = pending;

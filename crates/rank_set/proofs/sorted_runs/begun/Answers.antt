@@ -1,4 +1,4 @@
-use Rattle.std.proofs.Common.{◌<◌, ◌+◌, length, sym, arith}
+use Rattle.std.proofs.Common.{arith}
 use Rattle.rank_set.specs.Runs.{run_pairs}
 use Rattle.rank_set.proofs.RunSearch.{pairs_length}
 use Rattle.rank_set.proofs.RunStretches.{next_begins}

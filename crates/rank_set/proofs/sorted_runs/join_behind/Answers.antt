@@ -1,4 +1,4 @@
-use Rattle.std.proofs.Common.{◌≡◌, ◌∙◌, [], ◌∷◌, ◌++◌, ap, refl, sym, arith}
+use Rattle.std.proofs.Common.{◌∙◌, [], ◌∷◌, ◌++◌, ap, refl, arith}
 use Rattle.rank_set.specs.Ranks.{Ranks, union}
 use Rattle.rank_set.specs.Runs.{ranks_of_runs, run_pair, run_pairs}
 use Rattle.rank_set.proofs.RunLists.{runs_later}

@@ -1,4 +1,4 @@
-use Rattle.std.proofs.Common.{◌≡◌, ◌∙◌, ℕ, [], ◌++◌, List, ap, sym, subst, arith}
+use Rattle.std.proofs.Common.{◌≡◌, ◌∙◌, [], ◌++◌, List, ap, sym, subst}
 use Rattle.std.proofs.lemmas.List.{map-append}
 use Rattle.rank_set.specs.declared.Run.{Run}
 use Rattle.rank_set.specs.Ranks.{union}

@@ -1,7 +1,7 @@
 use Rattle.std.proofs.Common.{◌≡◌, ℕ, zero, suc, ◌<◌, ◌≤◌, ◌+◌, ◌-◌, ◌*◌, ◌/◌, ◌%◌, ◌^◌, List, get_or, refl, sym, ap, ◌∙◌, subst, arith, w64}
 use Rattle.std.specs.Prelude.{bit_and}
 use Rattle.std.specs.Int.{trailing_zeros}
-use Rattle.rank_set.specs.Words.{word_at, bit_in, IsNext}
+use Rattle.rank_set.specs.Words.{word_at, IsNext}
 use Rattle.rank_set.proofs.NextBits.{IsMask, IsMaskFrom, turned, nothing_here, found_here, first_mask, first_mask_from, whole_mask}
 use Rattle.rank_set.proofs.WordSets.{word_at-from}
 use Rattle.std.proofs.lemmas.Nat.{and_le_r}
