@@ -199,13 +199,13 @@ impl RankSet {
         self.held.put_run(first, last)
     }
 
-    /// The empty set, in the form of runs: for ranks that are collected in order.
-    pub(crate) fn of_no_runs(alloc: Global) -> RankSet
-        ensures { result ≡ none }
+    /// The empty set, in the form of runs and with room for so many: for ranks that are collected in order.
+    pub(crate) fn with_run_capacity(alloc: Global, runs: usize) -> Result<RankSet, AllocError>
+        ensures { IfOk result (λ set. set ≡ none) }
     {
-        RankSet {
-            held: Held::Runs(RunSet::new(alloc)),
-        }
+        Ok(RankSet {
+            held: Held::Runs(RunSet::with_capacity(alloc, runs)?),
+        })
     }
 
     /// Adds the ranks of a run as `put_run` does. The form is chosen by `settle`, after the last of them.

@@ -37,6 +37,9 @@ impl From<AllocError> for RanksError {
     }
 }
 
+// How many bytes of a text an item takes with its comma, about: so much room is made for the runs at once.
+const ITEM_BYTES: usize = 6;
+
 // The number that must stand at an offset, and how many digits it has.
 fn number_at(offset: usize, text: &[u8]) -> Result<(u32, usize), RanksError>
     ensures ok { IfOk result (λ n. number_at offset text.now ≡ Ok n.0) }
@@ -218,7 +221,7 @@ pub fn read_ranks(alloc: Global, text: &[u8]) -> Result<RankSet, RanksError>
     if let Some(ranks) = read_one_item(alloc, text) {
         return Ok(ranks);
     }
-    let mut ranks = RankSet::of_no_runs(alloc);
+    let mut ranks = RankSet::with_run_capacity(alloc, text.len() / ITEM_BYTES)?;
     read_items(text, &mut ranks)?;
     ranks.settle();
     Ok(ranks)

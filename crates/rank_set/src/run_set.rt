@@ -42,6 +42,15 @@ impl RunSet {
         }
     }
 
+    /// The empty set, with room for so many runs.
+    pub(crate) fn with_capacity(alloc: Global, runs: usize) -> Result<RunSet, AllocError>
+        ensures { IfOk result (λ set. set ≡ none) }
+    {
+        Ok(RunSet {
+            runs: Runs::with_capacity(alloc, runs)?,
+        })
+    }
+
     /// The set of runs that are in order, with gaps.
     pub(crate) fn from_runs(runs: Vec<Run>) -> RunSet
         requires { AreRuns 0 (run_pairs runs.items) }
