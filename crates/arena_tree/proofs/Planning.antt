@@ -29,7 +29,7 @@ pub record Reads (cs : List NodeView) (at : ℕ) (c : NodeView) : Type 0 where
   pub first : LeadsToForest cs c.first
   pub next : LeadsToForest cs c.next
 
-reads_at : (cs : List NodeView) (at : ℕ) (c : NodeView) (k : RunForest) → forest_at cs at ≡ k → first_place k ≡ at → AreNodesOf cs k → count_nodes k ≤ length cs → length cs ≤ 2048 → slice_get cs at ≡ Some c → Reads cs at c
+reads_at : (cs : List NodeView) (at : ℕ) (c : NodeView) (k : RunForest) → forest_at cs at ≡ k → first_place k ≡ at → AreNodesOf cs k → count_nodes k ≤ length cs → length cs ≤ 4096 → slice_get cs at ≡ Some c → Reads cs at c
 reads_at cs at c no_runs is from nodes_hold fits few there =
     absurd (none_some c (sym (slice_get_past cs at (omega (arith, few, from))) ∙ there))
 reads_at cs at c (run_node a f fs m b s) is from nodes_hold fits few there =
@@ -54,7 +54,7 @@ pub record ReadsBehind (cs : List NodeView) (node place skip : ℕ) (c : NodeVie
   pub first : LeadsToForest cs c.first
   pub next : LeadsToForest cs (next_of skip c.next)
 
-pub target_few : (cs : List NodeView) (node place skip : ℕ) → LeadsBehind cs node place skip → length cs ≤ 2048
+pub target_few : (cs : List NodeView) (node place skip : ℕ) → LeadsBehind cs node place skip → length cs ≤ 4096
 target_few cs node place zero to = to.0.within_limit
 target_few cs node place (suc i) to = to.4
 

@@ -120,7 +120,7 @@ module _ (cs : List NodeView) (into0 into rest below : Target) (p : Path) (skip 
     (node : NodeView) (node_is : node ≡ view_of (drop skip p) w 4294967295 into.place) (place : ℕ) (place_is : place ≡ next_place old) (planned : new ≡ plan_with old (New into.link node ∷ []))
     (rest_is : rest ≡ record { link = NextOf place; node = into.node; skip = into.skip; place = into.place })
     (below_is : below ≡ record { link = FirstOf place; node = 4294967295; skip = 0; place = 4294967295 }) where
-  few : length cs ≤ 2048
+  few : length cs ≤ 4096
   few = target_few cs into.node into.place into.skip to
 
   abbrev n : ℕ

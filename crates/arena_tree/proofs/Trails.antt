@@ -30,7 +30,7 @@ siblings_from t (run_node a f fs m b s) (inl e) = run_node a f fs m b s
 siblings_from t (run_node a f fs m b s) (inr i) = siblings_from t s i
 
 -- they are what the place leads to
-module _ (cs : List NodeView) (few : length cs ≤ 2048) where
+module _ (cs : List NodeView) (few : length cs ≤ 4096) where
   at_siblings : (t : ℕ) (k : RunForest) (i : IsAmong t k) → AreNodesOf cs k → count_nodes k ≤ length cs → forest_at cs t ≡ siblings_from t k i
   at_siblings t no_runs i nodes_hold fits = absurd i
   at_siblings t (run_node a f fs m b s) (inl e) nodes_hold fits = ap (forest_at cs) e ∙ leads_to cs (run_node a f fs m b s) nodes_hold fits few
@@ -96,7 +96,7 @@ module _ (cs : List NodeView) where
   later_inside (run_node a f fs m b s) x t nodes_hold (inr (inl i)) = later_inside b x t nodes_hold.1 i
   later_inside (run_node a f fs m b s) x t nodes_hold (inr (inr i)) = later_inside s x t nodes_hold.2 i
 
-module _ (cs : List NodeView) (few : length cs ≤ 2048) where
+module _ (cs : List NodeView) (few : length cs ≤ 4096) where
   pub later_leads : (k : RunForest) (x t : ℕ) → AreNodesOf cs k → count_nodes k ≤ length cs → IsLaterSibling k x t → LeadsToForest cs t
   later_leads no_runs x t nodes_hold fits i = absurd i
   later_leads (run_node a f fs m b s) x t nodes_hold fits (inl i) = among_leads cs few t (run_node a f fs m b s) i.1 nodes_hold fits

@@ -14,3 +14,4 @@ pub mod TreeView
 pub mod ReadingOrder
 pub mod Cursors
 pub mod Trail
+pub mod Growth

@@ -32,7 +32,7 @@ pub record LeadsToForest (cs : List NodeView) (at : ℕ) : Type 0 where
   pub begins : first_place (forest_at cs at) ≡ at
   pub nodes_hold : AreNodesOf cs (forest_at cs at)
   pub no_more_nodes : count_nodes (forest_at cs at) ≤ length cs
-  pub within_limit : length cs ≤ 2048
+  pub within_limit : length cs ≤ 4096
 
 -- where a frame is, seen from the first node of a forest
 abbrev pub frame_side : List ℕ → RunForest → Ordering

@@ -26,7 +26,7 @@ target_forest cs t = forest_behind cs t.node t.place t.skip
 abbrev pub LeadsBehind : List NodeView → ℕ → ℕ → ℕ → Type 0
 LeadsBehind cs node place zero = LeadsToForest cs node × (place ≡ node)
 LeadsBehind cs node place (suc i) =
-    (c : NodeView) × (slice_get cs node ≡ Some c) × (suc i < length c.frames) × LeadsToForest cs c.first × (length cs ≤ 2048)
+    (c : NodeView) × (slice_get cs node ≡ Some c) × (suc i < length c.frames) × LeadsToForest cs c.first × (length cs ≤ 4096)
 
 -- a target that can be read
 abbrev pub IsTarget : List NodeView → Target → Type 0

@@ -1,12 +1,14 @@
 //! Steps done in an arena of nodes, which can't fail.
 
-ghost use Rattle.std.specs.Prelude.{◌≡◌, ◌≤◌, ◌<◌, ◌+◌, length};
+ghost use Rattle.std.specs.Prelude.{◌≡◌, ◌≤◌, ◌<◌, ◌+◌, OnOk, Some, slice_get, length};
+ghost use Rattle.arena_tree.specs.NodeViews.{NodeView};
 ghost use Rattle.arena_tree.specs.Links.{with_change, with_first, with_next, relink, first_after, linked};
-ghost use Rattle.arena_tree.specs.Steps.{with_more_marks, with_frames, apply_step, apply_steps, nodes_added, nodes_added_by};
+ghost use Rattle.arena_tree.specs.Steps.{more_for, with_more_marks, with_frames, apply_step, apply_steps, nodes_added, nodes_added_by};
 
 use crate::node::{Link, Node, Step};
 use node_arena::{Arena, Place};
 use rank_set::RankSet;
+use std::alloc::AllocError;
 use std::collections::VecDeque;
 
 // Gives the node at a place more marks, if there is one.
@@ -19,8 +21,23 @@ fn mark(nodes: &mut Arena<Node>, at: Place, label: RankSet, ends: RankSet)
     }
 }
 
+/// Unites ranks into the marks of the node at a place. Where it fails, a part of them may be there.
+pub(crate) fn unite(
+    nodes: &mut Arena<Node>,
+    at: Place,
+    label: &RankSet,
+    ends: &RankSet,
+) -> Result<(), AllocError>
+    requires { at < length nodes.old.items }
+    ensures { (c : NodeView) → slice_get nodes.old.items at ≡ Some c → OnOk result (nodes.new.items
+        ≡ with_change at (with_more_marks (more_for c.label label.now) (more_for c.ends ends.now)) nodes.old.items) }
+{
+    nodes.get_mut(at).unite(label, ends)?;
+    Ok(())
+}
+
 // Leaves the node at a place its first frame and so many more, if there is one, above the node at another.
-fn cut(nodes: &mut Arena<Node>, at: Place, more: u32, label: RankSet, ends: RankSet, below: Place)
+pub(crate) fn cut(nodes: &mut Arena<Node>, at: Place, more: u32, label: RankSet, ends: RankSet, below: Place)
     ensures items { nodes.new.items ≡ with_change at (with_frames more label ends below) nodes.old.items }
     ensures spare { nodes.new.spare ≡ nodes.old.spare }
 {
@@ -48,7 +65,7 @@ fn set_next(nodes: &mut Arena<Node>, at: Place, to: Place)
 }
 
 // Leads a link to a place.
-fn relink(first: &mut Place, nodes: &mut Arena<Node>, link: Link, to: Place)
+pub(crate) fn relink(first: &mut Place, nodes: &mut Arena<Node>, link: Link, to: Place)
     ensures first { first.new ≡ first_after link to first.old }
     ensures items { nodes.new.items ≡ relink link to nodes.old.items }
     ensures spare { nodes.new.spare ≡ nodes.old.spare }

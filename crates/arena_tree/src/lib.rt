@@ -13,6 +13,7 @@ ghost use Rattle.arena_tree.specs.Laws.{CutShowsSameRows, MergeUnitesRows, Steps
 ghost use Rattle.arena_tree.specs.ReadingOrder.{ReadsInOrder};
 
 mod apply;
+mod grow;
 mod merge;
 mod node;
 mod plan;

@@ -1,10 +1,10 @@
 //! Nodes by first child and next sibling, each for a run of rows.
 
-ghost use Rattle.std.specs.Prelude.{◌≡◌, ◌<◌, slice_get, Some, IfOk, IsTrue, length, drop};
+ghost use Rattle.std.specs.Prelude.{◌≡◌, ◌<◌, slice_get, Some, IfOk, OnOk, IsTrue, length, drop};
 ghost use Rattle.call_path.specs.Good.{is_good_frame};
 ghost use Rattle.arena_tree.specs.NodeViews.{view_of, view_behind};
 ghost use Rattle.arena_tree.specs.Links.{with_first, with_next};
-ghost use Rattle.arena_tree.specs.Steps.{with_more, with_more_marks, with_frames};
+ghost use Rattle.arena_tree.specs.Steps.{more_for, with_more, with_more_marks, with_frames};
 
 use call_path::CallPath;
 use node_arena::Place;
@@ -131,6 +131,19 @@ impl Node {
     {
         put_more(&mut self.label, label);
         put_more(&mut self.ends, ends);
+    }
+
+    /// Unites ranks into its marks. Where it fails, a part of them may be there.
+    pub(crate) fn unite(&mut self, label: &RankSet, ends: &RankSet) -> Result<(), AllocError>
+        ensures { OnOk result (self.new ≡ with_more_marks
+            (more_for self.old.label label.now) (more_for self.old.ends ends.now) self.old) }
+    {
+        self.label.union_into(label)?;
+        // Most often no path ends at the node.
+        if !ends.is_empty() {
+            self.ends.union_into(ends)?;
+        }
+        Ok(())
     }
 
     /// Keeps its first frame and so many more, above the node at a place. It allocates nothing.

@@ -5,6 +5,7 @@ ghost use Rattle.arena_tree.specs.Steps.{nodes_added, rows_added};
 ghost use Rattle.arena_tree.specs.Cursors.{IsCursor};
 
 use crate::apply::apply;
+use crate::grow::{Growth, Source};
 use crate::merge::{Run, plan_merge, plan_path};
 use crate::node::{Link, NO_PLACE, Node, Step};
 use crate::plan::Plan;
@@ -148,6 +149,61 @@ impl PrefixTree for ArenaTree {
         Ok(())
     }
 
+    fn add_or_clear(&mut self, ranks: &RankSet, path: &CallPath) -> Result<(), TreeError> {
+        let mut growth = Growth {
+            first: self.first,
+            nodes: mem::replace(&mut self.nodes, Arena::new(self.alloc)),
+            rows: self.rows,
+        };
+        let run = Run {
+            path,
+            skip: 0,
+            label: ranks,
+            ends: ranks,
+            nobody: &self.nobody,
+        };
+        match grow_path(&mut growth, run, &mut self.trail) {
+            Ok(()) => {
+                self.first = growth.first;
+                self.nodes = growth.nodes;
+                self.rows = growth.rows;
+                Ok(())
+            }
+            Err(error) => {
+                *self = ArenaTree::empty(self.alloc);
+                Err(error)
+            }
+        }
+    }
+
+    fn merge_or_clear(&mut self, other: &ArenaTree) -> Result<(), TreeError> {
+        let mut growth = Growth {
+            first: self.first,
+            nodes: mem::replace(&mut self.nodes, Arena::new(self.alloc)),
+            rows: self.rows,
+        };
+        let from = Source {
+            nodes: &other.nodes,
+            nobody: &self.nobody,
+        };
+        match grow_tree(&mut growth, from, other.first) {
+            Ok(()) => {}
+            Err(error) => {
+                *self = ArenaTree::empty(self.alloc);
+                return Err(error);
+            }
+        }
+        if self.coverage.union_into(&other.coverage).is_err() {
+            *self = ArenaTree::empty(self.alloc);
+            return Err(TreeError::OutOfMemory);
+        }
+        self.trail.clear();
+        self.first = growth.first;
+        self.nodes = growth.nodes;
+        self.rows = growth.rows;
+        Ok(())
+    }
+
     fn copy(&self) -> Result<ArenaTree, AllocError> {
         Ok(ArenaTree {
             coverage: self.coverage.copy()?,
@@ -203,6 +259,40 @@ impl PrefixTree for ArenaTree {
             }
         }
     }
+}
+
+/// The target that begins at a place.
+fn all_from(first: Place) -> Target {
+    Target {
+        link: Link::Top,
+        node: first,
+        skip: 0,
+        place: first,
+    }
+}
+
+/// Merges the nodes of another tree, from a place on, into those of a tree.
+fn grow_tree(growth: &mut Growth, from: Source<'_>, other: Place) -> Result<(), TreeError> {
+    let into = all_from(growth.first);
+    growth.merge_in(into, from, all_from(other))?;
+    if growth.rows as usize > PREFIX_LIMIT {
+        return Err(TreeError::TooManyPrefixes);
+    }
+    Ok(())
+}
+
+/// Adds a path to the nodes of a tree.
+fn grow_path(
+    growth: &mut Growth,
+    run: Run<'_>,
+    trail: &mut Vec<Hint>,
+) -> Result<(), TreeError> {
+    let into = all_from(growth.first);
+    growth.add_path(into, run, trail, 0)?;
+    if growth.rows as usize > PREFIX_LIMIT {
+        return Err(TreeError::TooManyPrefixes);
+    }
+    Ok(())
 }
 
 /// Makes room for the nodes that the steps add to a tree with so many rows.

@@ -121,6 +121,26 @@ pub trait PrefixTree: Sized + Drop + Send {
             → PREFIX_LIMIT < count_below (merged (tree self.old) (tree other.now)) }
         ensures err { OnErr result (tree self.new ≡ tree self.old) };
 
+    /// Adds a path as `add` does, in one pass. On failure the tree is the root alone, with no ranks.
+    fn add_or_clear(&mut self, ranks: &RankSet, path: &CallPath) -> Result<(), TreeError>
+        requires not_empty { ranks.now ≢ none }
+        requires in_coverage { IsTrue (is_subset ranks.now (tree self.old).coverage) }
+        ensures ok { OnOk result (tree self.new ≡ added (tree self.old) ranks.now path.now) }
+        ensures pairs { OnOk result (Adds (tree self.old) ranks.now path.now (tree self.new)) }
+        ensures fits { OnOk result (count_below (added (tree self.old) ranks.now path.now) ≤ PREFIX_LIMIT) }
+        ensures full { result ≡ Err TreeError.TooManyPrefixes
+            → PREFIX_LIMIT < count_below (added (tree self.old) ranks.now path.now) }
+        ensures err { OnErr result (tree self.new ≡ tree_of [] none) };
+
+    /// Unites another tree into it as `merge` does, in one pass. On failure the tree is the root alone, with no ranks.
+    fn merge_or_clear(&mut self, other: &Self) -> Result<(), TreeError>
+        ensures ok { OnOk result (tree self.new ≡ merged (tree self.old) (tree other.now)) }
+        ensures pairs { OnOk result (Unites (tree self.old) (tree other.now) (tree self.new)) }
+        ensures fits { OnOk result (count_below (merged (tree self.old) (tree other.now)) ≤ PREFIX_LIMIT) }
+        ensures full { result ≡ Err TreeError.TooManyPrefixes
+            → PREFIX_LIMIT < count_below (merged (tree self.old) (tree other.now)) }
+        ensures err { OnErr result (tree self.new ≡ tree_of [] none) };
+
     /// The same tree once more.
     fn copy(&self) -> Result<Self, AllocError>
         ensures { IfOk result (λ copy. tree copy ≡ tree self.now) };

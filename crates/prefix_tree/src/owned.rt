@@ -94,6 +94,26 @@ impl PrefixTree for OwnedTree {
         Ok(())
     }
 
+    fn add_or_clear(&mut self, ranks: &RankSet, path: &CallPath) -> Result<(), TreeError> {
+        match self.add(ranks, path) {
+            Ok(()) => Ok(()),
+            Err(error) => {
+                *self = OwnedTree::empty(*self.rows.allocator());
+                Err(error)
+            }
+        }
+    }
+
+    fn merge_or_clear(&mut self, other: &OwnedTree) -> Result<(), TreeError> {
+        match self.merge(other) {
+            Ok(()) => Ok(()),
+            Err(error) => {
+                *self = OwnedTree::empty(*self.rows.allocator());
+                Err(error)
+            }
+        }
+    }
+
     fn copy(&self) -> Result<OwnedTree, AllocError> {
         Ok(OwnedTree {
             coverage: self.coverage.copy()?,

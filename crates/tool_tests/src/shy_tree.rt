@@ -10,6 +10,7 @@ use std::alloc::{AllocError, Global};
 #[derive(Drop)]
 pub struct ShyTree {
     tree: OwnedTree,
+    alloc: Global,
 }
 
 impl PrefixTree for ShyTree {
@@ -20,6 +21,7 @@ impl PrefixTree for ShyTree {
     fn empty(alloc: Global) -> ShyTree {
         ShyTree {
             tree: OwnedTree::empty(alloc),
+            alloc,
         }
     }
 
@@ -39,9 +41,24 @@ impl PrefixTree for ShyTree {
         self.tree.merge(&other.tree)
     }
 
+    fn add_or_clear(&mut self, ranks: &RankSet, path: &CallPath) -> Result<(), TreeError> {
+        self.tree.add_or_clear(ranks, path)
+    }
+
+    fn merge_or_clear(&mut self, other: &ShyTree) -> Result<(), TreeError> {
+        match self.merge(other) {
+            Ok(()) => Ok(()),
+            Err(error) => {
+                self.tree = OwnedTree::empty(self.alloc);
+                Err(error)
+            }
+        }
+    }
+
     fn copy(&self) -> Result<ShyTree, AllocError> {
         Ok(ShyTree {
             tree: self.tree.copy()?,
+            alloc: self.alloc,
         })
     }
 

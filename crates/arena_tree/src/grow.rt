@@ -1,0 +1,218 @@
+//! A change of a tree in one pass: nodes are changed and added as soon as they are found.
+//!
+//! Where it fails, a part of the change is done, and the nodes are of no more use.
+
+ghost use Rattle.std.specs.Prelude.{◌≡◌, ◌+◌, ◌<◌, ◌≤◌, ◌-◌, [], IfOk, OnOk, length, drop};
+ghost use Rattle.rank_set.specs.Ranks.{none};
+ghost use Rattle.arena_tree.specs.NodeViews.{NodeView};
+ghost use Rattle.arena_tree.specs.Links.{linked};
+ghost use Rattle.arena_tree.specs.RunForest.{RunForest, no_runs, count_rows};
+ghost use Rattle.arena_tree.specs.Reading.{run_of};
+ghost use Rattle.arena_tree.specs.Targets.{IsTarget, target_forest};
+ghost use Rattle.arena_tree.specs.Plans.{BeginsAt};
+ghost use Rattle.arena_tree.specs.Growth.{CanGrow, grown, rows_grown, Enters, IsBehind};
+
+use crate::apply::{cut, relink, unite};
+use crate::merge::{Run, ends_at};
+use crate::node::{Link, NO_PLACE, Node};
+use crate::shared::common_behind;
+use crate::target::{Target, seek};
+use crate::trail::{Hint, follow};
+use node_arena::{Arena, Place};
+use rank_set::RankSet;
+use std::alloc::AllocError;
+
+/// The nodes of a tree that grows, where it begins, and how many rows it has.
+#[derive(Drop)]
+pub(crate) struct Growth {
+    pub(crate) first: Place,
+    pub(crate) nodes: Arena<Node>,
+    pub(crate) rows: u32,
+}
+
+/// The nodes of another tree, and the empty set.
+#[derive(Clone, Copy)]
+pub(crate) struct Source<'a> {
+    pub(crate) nodes: &'a Arena<Node>,
+    pub(crate) nobody: &'a RankSet,
+}
+
+impl Growth {
+    /// Adds a node for a run before the node of the target, leads the target to what comes after it, and returns the
+    /// target below it.
+    fn put(&mut self, into: &mut Target, run: Run<'_>) -> Result<Target, AllocError> {
+        let node = Node::new(
+            run.path, run.skip, run.label, run.ends, NO_PLACE, into.place,
+        )?;
+        let rows = node.frames().len() as u32;
+        self.nodes.reserve(1)?;
+        let place = self.nodes.len();
+        relink(&mut self.first, &mut self.nodes, into.link, place);
+        self.nodes.put(node);
+        self.rows += rows;
+        into.link = Link::NextOf(place);
+        Ok(Target {
+            link: Link::FirstOf(place),
+            node: NO_PLACE,
+            skip: 0,
+            place: NO_PLACE,
+        })
+    }
+
+    /// Leaves a node its first `shared` frames, with more ranks, above a new node with the frames behind them. Returns
+    /// the place of that one.
+    fn cut(
+        &mut self,
+        at: Place,
+        shared: usize,
+        label: &RankSet,
+        ends: &RankSet,
+    ) -> Result<Place, AllocError> {
+        let node = self.nodes.get(at);
+        // For the proof: no more than `FRAME_LIMIT` frames.
+        let _len = node.frames().len();
+        let more = (shared - 1) as u32;
+        let lower = node.behind(shared, node.first(), NO_PLACE)?;
+        let label = node.label().united(label)?;
+        let ends = ends.copy()?;
+        self.nodes.reserve(1)?;
+        let place = self.nodes.len();
+        cut(&mut self.nodes, at, more, label, ends, place);
+        self.nodes.put(lower);
+        Ok(place)
+    }
+
+    /// Gives the first `shared` frames of a node more ranks, and returns the target below them.
+    fn share(
+        &mut self,
+        at: Place,
+        shared: usize,
+        label: &RankSet,
+        ends: &RankSet,
+    ) -> Result<Target, AllocError> {
+        let node = self.nodes.get(at);
+        if shared == node.frames().len() {
+            let first = node.first();
+            unite(&mut self.nodes, at, label, ends)?;
+            return Ok(Target {
+                link: Link::FirstOf(at),
+                node: first,
+                skip: 0,
+                place: first,
+            });
+        }
+        let place = self.cut(at, shared, label, ends)?;
+        Ok(Target {
+            link: Link::FirstOf(at),
+            node: place,
+            skip: 0,
+            place,
+        })
+    }
+
+    /// Merges the first frames of a run, which are also those of the node of the target. Leads the target to what comes
+    /// after that one, and returns the target below and how many of the path's frames are merged then.
+    fn meet(&mut self, into: &mut Target, run: Run<'_>) -> Result<(Target, usize), AllocError> {
+        let node = self.nodes.get(into.node);
+        // For the proof: no more than `FRAME_LIMIT` frames.
+        let _lens = (node.frames().len(), run.path.len());
+        let next = node.next();
+        let shared = 1 + common_behind(node.frames(), 0, run.path, run.skip);
+        let kept = run.skip + shared;
+        let ends = ends_at(run.path, kept, run.ends, run.nobody);
+        let below = self.share(into.node, shared, run.label, ends)?;
+        *into = into.after(next);
+        Ok((below, kept))
+    }
+
+    /// Merges the first frames of a run, or all of them as a new node. Leads the target to what comes after them, and
+    /// returns the target below and how many of the path's frames are merged then.
+    fn enter(&mut self, into: &mut Target, run: Run<'_>) -> Result<(Target, usize), AllocError> {
+        if seek(&self.nodes, into, run.path.frame(run.skip)) {
+            let (below, kept) = self.meet(into, run)?;
+            return Ok((below, kept));
+        }
+        let below = self.put(into, run)?;
+        Ok((below, run.path.len()))
+    }
+
+    /// Merges the nodes of another target into a target.
+    pub(crate) fn merge_in(
+        &mut self,
+        mut into: Target,
+        from: Source<'_>,
+        mut other: Target,
+    ) -> Result<(), AllocError> {
+        while other.node != NO_PLACE {
+            let node = from.nodes.get(other.node);
+            let run = Run {
+                path: node.frames(),
+                skip: other.skip,
+                label: node.label(),
+                ends: node.ends(),
+                nobody: from.nobody,
+            };
+            let (below, kept) = self.enter(&mut into, run)?;
+            self.merge_in(below, from, behind(other, node, kept))?;
+            other = other.after(node.next());
+        }
+        Ok(())
+    }
+
+    /// Adds a run.
+    fn add_run(&mut self, mut into: Target, run: Run<'_>) -> Result<(), AllocError> {
+        let (below, kept) = self.enter(&mut into, run)?;
+        if kept < run.path.len() {
+            self.add_run(below, Run { skip: kept, ..run })?;
+        }
+        Ok(())
+    }
+
+    /// Adds a run as `add_run` does. The trail's hints, from that of the level on, say where to look for its frames, and
+    /// then where they were found.
+    pub(crate) fn add_path(
+        &mut self,
+        mut into: Target,
+        run: Run<'_>,
+        trail: &mut Vec<Hint>,
+        level: usize,
+    ) -> Result<(), AllocError> {
+        let root = into.node;
+        let frame = run.path.frame(run.skip);
+        if follow(&self.nodes, root, &mut into, frame, trail, level)? {
+            let before = self.nodes.len();
+            let (below, kept) = self.meet(&mut into, run)?;
+            if kept == run.path.len() {
+                return Ok(());
+            }
+            let run = Run { skip: kept, ..run };
+            if self.nodes.len() == before {
+                self.add_path(below, run, trail, level + 1)?;
+                return Ok(());
+            }
+            self.add_run(below, run)?;
+            return Ok(());
+        }
+        self.add_run(into, run)?;
+        Ok(())
+    }
+}
+
+/// What the node of a target has behind its first `kept` frames: more frames, or the nodes below it.
+fn behind(at: Target, node: &Node, kept: usize) -> Target {
+    if kept == node.frames().len() {
+        let first = node.first();
+        return Target {
+            link: Link::FirstOf(at.place),
+            node: first,
+            skip: 0,
+            place: first,
+        };
+    }
+    Target {
+        link: Link::FirstOf(at.place),
+        node: at.node,
+        skip: kept,
+        place: at.place,
+    }
+}
