@@ -47,12 +47,11 @@ module _ (l : Link) (n : ℕ) (g : List ℕ) (gs : Path) (w : Marks) (k c' t' : 
   h1 = apply_step h (New l x)
 
   module _ (len : length h.nodes ≡ n) (nodes_hold : AreNodesOf h.nodes k) (no_common : HasDistinctPlaces k) (off : IsOutside l k) (to : LeadsTo l h (first_place k))
-      (ih_c : Premises (FirstOf n) (suc n) no_runs h1 (Becomes (FirstOf n) no_runs c' mc h1 h2))
-      (ih_t : Premises (NextOf n) (suc n + mc) k h2 (Becomes (NextOf n) k t' mt h2 h3)) where
+      (ih_c : Premises (FirstOf n) (suc n) no_runs h1 (Becomes (FirstOf n) no_runs c' mc h1 h2)) where
     len0 : length (relink l (length h.nodes) h.nodes) ≡ n
     len0 = length-relink l (length h.nodes) h.nodes ∙ len
 
-    len1 : length h1.nodes ≡ suc n
+    pub len1 : length h1.nodes ≡ suc n
     len1 = let e = length-append (relink l (length h.nodes) h.nodes) (x ∷ []) in omega (arith, e, len0)
 
     at_n : slice_get h1.nodes n ≡ Some x
@@ -73,50 +72,51 @@ module _ (l : Link) (n : ℕ) (g : List ℕ) (gs : Path) (w : Marks) (k c' t' : 
     below2 : (y : ℕ) → y < n → slice_get h2.nodes y ≡ slice_get (relink l n h.nodes) y
     below2 y lt = rest1 y (omega (arith, lt)) ∙ change_other h1.nodes n y (with_first (first_place c')) (λ e. omega (arith, e, lt)) ∙ below1 y lt
 
-    len2 : length h2.nodes ≡ suc n + mc
+    pub len2 : length h2.nodes ≡ suc n + mc
     len2 = let e = b1.count in omega (arith, e, len1)
 
-    lies_k : AreNodesOf h2.nodes k
+    pub lies_k : AreNodesOf h2.nodes k
     lies_k = nodes_still_hold h.nodes h2.nodes k (λ y some. below2 y (below_all h.nodes k n y len nodes_hold some) ∙ relink_other l n h.nodes y (off_else l k y off some)) nodes_hold
 
-    off_n : (y : ℕ) → n ≤ y → count_place y k ≡ 0
+    pub off_n : (y : ℕ) → n ≤ y → count_place y k ≡ 0
     off_n y ge = inside h.nodes k y nodes_hold (omega (arith, len, ge))
 
-    b2 : Becomes (NextOf n) k t' mt h2 h3
-    b2 = ih_t len2 lies_k no_common (off_n n (omega arith)) (with_first (first_place c') x, at_n2, refl)
+    module _ (ih_t : Premises (NextOf n) (suc n + mc) k h2 (Becomes (NextOf n) k t' mt h2 h3)) where
+      b2 : Becomes (NextOf n) k t' mt h2 h3
+      b2 = ih_t len2 lies_k no_common (off_n n (omega arith)) (with_first (first_place c') x, at_n2, refl)
 
-    rest2 : (y : ℕ) → y < suc n + mc → count_place y k ≡ 0 → slice_get h3.nodes y ≡ slice_get (with_change n (with_next (first_place t')) h2.nodes) y
-    rest2 y lt out = b2.rest y (omega (arith, lt, len2)) out
+      rest2 : (y : ℕ) → y < suc n + mc → count_place y k ≡ 0 → slice_get h3.nodes y ≡ slice_get (with_change n (with_next (first_place t')) h2.nodes) y
+      rest2 y lt out = b2.rest y (omega (arith, lt, len2)) out
 
-    at_n3 : slice_get h3.nodes n ≡ Some (node_view g gs w c' t')
-    at_n3 = rest2 n (omega arith) (off_n n (omega arith)) ∙ change_same h2.nodes n (with_next (first_place t')) (with_first (first_place c') x) at_n2
+      at_n3 : slice_get h3.nodes n ≡ Some (node_view g gs w c' t')
+      at_n3 = rest2 n (omega arith) (off_n n (omega arith)) ∙ change_same h2.nodes n (with_next (first_place t')) (with_first (first_place c') x) at_n2
 
-    places_c : (y : ℕ) → count_place y c' ≡ count_among y (suc n) mc
-    places_c y = let e = b1.places y in let s : count_among y (length h1.nodes) mc ≡ count_among y (suc n) mc = ap (λ v. count_among y v mc) len1 in omega (arith, e, s)
+      places_c : (y : ℕ) → count_place y c' ≡ count_among y (suc n) mc
+      places_c y = let e = b1.places y in let s : count_among y (length h1.nodes) mc ≡ count_among y (suc n) mc = ap (λ v. count_among y v mc) len1 in omega (arith, e, s)
 
-    kept_c : (y : ℕ) → 1 ≤ count_place y c' → slice_get h3.nodes y ≡ slice_get h2.nodes y
-    kept_c y some =
-        let e = places_c y in
-        let there : (suc n ≤ y) × (y < suc n + mc) = span_in y (suc n) mc (omega (arith, e, some)) in
-        rest2 y there.1 (off_n y (omega (arith, there.0))) ∙ change_other h2.nodes n y (with_next (first_place t')) (λ e. omega (arith, e, there.0))
+      kept_c : (y : ℕ) → 1 ≤ count_place y c' → slice_get h3.nodes y ≡ slice_get h2.nodes y
+      kept_c y some =
+          let e = places_c y in
+          let there : (suc n ≤ y) × (y < suc n + mc) = span_in y (suc n) mc (omega (arith, e, some)) in
+          rest2 y there.1 (off_n y (omega (arith, there.0))) ∙ change_other h2.nodes n y (with_next (first_place t')) (λ e. omega (arith, e, there.0))
 
-    pub new_case : Becomes l k (run_node n g gs w c' t') (suc (mc + mt)) h h3
-    new_case = record {
-      nodes_hold = (at_n3, nodes_still_hold h2.nodes h3.nodes c' kept_c b1.nodes_hold, b2.nodes_hold);
-      count = let e = b2.count in omega (arith, e, len, len2);
-      rest = λ y lt out.
-          let lt' : y < n = omega (arith, lt, len) in
-          rest2 y (omega (arith, lt')) out ∙ change_other h2.nodes n y (with_next (first_place t')) (λ e. omega (arith, e, lt')) ∙ below2 y lt';
-      first = b2.first ∙ b1.first ∙ ap (λ v. first_after l v h.first) len;
-      places = λ y.
-          let one = places_c y in
-          let two = b2.places y in
-          let at : count_among y (length h2.nodes) mt ≡ count_among y (suc n + mc) mt = ap (λ v. count_among y v mt) len2 in
-          let all : count_among y (length h.nodes) (suc (mc + mt)) ≡ count_among y n (suc (mc + mt)) = ap (λ v. count_among y v (suc (mc + mt))) len in
-          let add = count_among-add y (suc n) mc mt (mc + mt) refl in
-          omega (arith, one, two, at, all, add);
-      size = let one = b1.size in let two = b2.size in omega (arith, one, two);
-    }
+      pub new_case : Becomes l k (run_node n g gs w c' t') (suc (mc + mt)) h h3
+      new_case = record {
+        nodes_hold = (at_n3, nodes_still_hold h2.nodes h3.nodes c' kept_c b1.nodes_hold, b2.nodes_hold);
+        count = let e = b2.count in omega (arith, e, len, len2);
+        rest = λ y lt out.
+            let lt' : y < n = omega (arith, lt, len) in
+            rest2 y (omega (arith, lt')) out ∙ change_other h2.nodes n y (with_next (first_place t')) (λ e. omega (arith, e, lt')) ∙ below2 y lt';
+        first = b2.first ∙ b1.first ∙ ap (λ v. first_after l v h.first) len;
+        places = λ y.
+            let one = places_c y in
+            let two = b2.places y in
+            let at : count_among y (length h2.nodes) mt ≡ count_among y (suc n + mc) mt = ap (λ v. count_among y v mt) len2 in
+            let all : count_among y (length h.nodes) (suc (mc + mt)) ≡ count_among y n (suc (mc + mt)) = ap (λ v. count_among y v (suc (mc + mt))) len in
+            let add = count_among-add y (suc n) mc mt (mc + mt) refl in
+            omega (arith, one, two, at, all, add);
+        size = let one = b1.size in let two = b2.size in omega (arith, one, two);
+      }
 
 -- the first frame of a run and those that it has in common
 first_frames : (f : List ℕ) (fs common mine : Path) → fs ≡ common ++ mine → take (length common + 1) (f ∷ fs) ≡ f ∷ common
@@ -177,30 +177,29 @@ module _ (n a : ℕ) (f : List ℕ) (fs common : Path) (w m : Marks) (b s : RunF
 
 -- two nodes that begin with one frame
 module _ (l : Link) (n a : ℕ) (f : List ℕ) (fs common : Path) (m v : Marks) (b s kb b' s' : RunForest) (mo mb ms : ℕ) (h h1 h2 h3 : LinkedNodes) where
-  module _ (len : length h.nodes ≡ n) (nodes_hold : AreNodesOf h.nodes (run_node a f fs m b s)) (no_common : HasDistinctPlaces (run_node a f fs m b s)) (to : LeadsTo l h a)
+  module _ (len : length h.nodes ≡ n) (nodes_hold : AreNodesOf h.nodes (run_node a f fs m b s)) (no_common : HasDistinctPlaces (run_node a f fs m b s))
       (cut_in : Opened h h1 n a f common v kb b s mo)
-      (ih_b : Premises (FirstOf a) (mo + n) kb h1 (Becomes (FirstOf a) kb b' mb h1 h2))
-      (ih_s : Premises (NextOf a) (mo + n + mb) s h2 (Becomes (NextOf a) s s' ms h2 h3)) where
+      (ih_b : Premises (FirstOf a) (mo + n) kb h1 (Becomes (FirstOf a) kb b' mb h1 h2)) where
     a_in : a < n
     a_in = let e = slice_get_within h.nodes a (node_view f fs m b s) nodes_hold.0 in omega (arith, e, len)
 
     off_b : count_place a b ≡ 0
     off_b = let e = no_common a in let o = agrees a a refl in omega (arith, e, o)
 
-    off_s : count_place a s ≡ 0
+    pub off_s : count_place a s ≡ 0
     off_s = let e = no_common a in let o = agrees a a refl in omega (arith, e, o)
 
     -- below the node stands nothing new with a place before n
     old_kb : (y : ℕ) → y < n → count_place y kb ≡ count_place y b
     old_kb y lt = let e = cut_in.places y in let none = count_among-below y n mo lt in omega (arith, e, none)
 
-    apart_kb : HasDistinctPlaces kb
+    pub apart_kb : HasDistinctPlaces kb
     apart_kb y = elim (cases_lt y n) [
       | inl lt ↦ (let e = old_kb y lt in let one = no_common y in omega (arith, e, one))
       | inr ge ↦ (let e = cut_in.places y in let none = inside h.nodes b y nodes_hold.1 (omega (arith, ge, len)) in let one = count_among-one y n mo in omega (arith, e, none, one))
     ]
 
-    off_kb : count_place a kb ≡ 0
+    pub off_kb : count_place a kb ≡ 0
     off_kb = old_kb a a_in ∙ off_b
 
     long1 : length h1.nodes ≡ mo + n
@@ -212,7 +211,7 @@ module _ (l : Link) (n a : ℕ) (f : List ℕ) (fs common : Path) (m v : Marks) 
     in_2 : slice_get h2.nodes a ≡ Some (node_view f common v b' s)
     in_2 = e1.rest a (omega (arith, a_in, long1)) off_kb ∙ change_same h1.nodes a (with_first (first_place b')) (node_view f common v kb s) cut_in.here
 
-    long2 : length h2.nodes ≡ mo + n + mb
+    pub long2 : length h2.nodes ≡ mo + n + mb
     long2 = let e = e1.count in omega (arith, e, long1)
 
     -- what is not below the node, nor it
@@ -222,57 +221,58 @@ module _ (l : Link) (n a : ℕ) (f : List ℕ) (fs common : Path) (m v : Marks) 
     other_s : (y : ℕ) → 1 ≤ count_place y s → y ≢ a
     other_s y some e = let z : count_place y s ≡ 0 = ap (λ u. count_place u s) e ∙ off_s in omega (arith, some, z)
 
-    lies_s : AreNodesOf h2.nodes s
+    pub lies_s : AreNodesOf h2.nodes s
     lies_s = nodes_still_hold h.nodes h2.nodes s (λ y some. kept2 y (below_all h.nodes s n y len nodes_hold.2 some) (let e = no_common y in omega (arith, e, some)) (other_s y some)) nodes_hold.2
 
-    e2 : Becomes (NextOf a) s s' ms h2 h3
-    e2 = ih_s long2 lies_s (λ y. let e = no_common y in omega (arith, e)) off_s (node_view f common v b' s, in_2, refl)
+    module _ (to : LeadsTo l h a) (ih_s : Premises (NextOf a) (mo + n + mb) s h2 (Becomes (NextOf a) s s' ms h2 h3)) where
+      e2 : Becomes (NextOf a) s s' ms h2 h3
+      e2 = ih_s long2 lies_s (λ y. let e = no_common y in omega (arith, e)) off_s (node_view f common v b' s, in_2, refl)
 
-    in_3 : slice_get h3.nodes a ≡ Some (node_view f common v b' s')
-    in_3 = e2.rest a (omega (arith, a_in, long2)) off_s ∙ change_same h2.nodes a (with_next (first_place s')) (node_view f common v b' s) in_2
+      in_3 : slice_get h3.nodes a ≡ Some (node_view f common v b' s')
+      in_3 = e2.rest a (omega (arith, a_in, long2)) off_s ∙ change_same h2.nodes a (with_next (first_place s')) (node_view f common v b' s) in_2
 
-    old_b : (y : ℕ) → y < n → count_place y b' ≡ count_place y b
-    old_b y lt = let e = e1.places y in let none = count_among-below y (length h1.nodes) mb (omega (arith, lt, long1)) in let o = old_kb y lt in omega (arith, e, none, o)
+      old_b : (y : ℕ) → y < n → count_place y b' ≡ count_place y b
+      old_b y lt = let e = e1.places y in let none = count_among-below y (length h1.nodes) mb (omega (arith, lt, long1)) in let o = old_kb y lt in omega (arith, e, none, o)
 
-    other_b : (y : ℕ) → 1 ≤ count_place y b' → y ≢ a
-    other_b y some e =
-        let z : count_place y b' ≡ count_place a b' = ap (λ u. count_place u b') e in
-        let o = old_b a a_in in
-        omega (arith, some, z, o, off_b)
+      other_b : (y : ℕ) → 1 ≤ count_place y b' → y ≢ a
+      other_b y some e =
+          let z : count_place y b' ≡ count_place a b' = ap (λ u. count_place u b') e in
+          let o = old_b a a_in in
+          omega (arith, some, z, o, off_b)
 
-    off_new : (y : ℕ) → 1 ≤ count_place y b' → count_place y s ≡ 0
-    off_new y some = elim (cases_lt y n) [
-      | inl lt ↦ (let o = old_b y lt in let e = no_common y in omega (arith, some, o, e))
-      | inr ge ↦ inside h.nodes s y nodes_hold.2 (omega (arith, ge, len))
-    ]
+      off_new : (y : ℕ) → 1 ≤ count_place y b' → count_place y s ≡ 0
+      off_new y some = elim (cases_lt y n) [
+        | inl lt ↦ (let o = old_b y lt in let e = no_common y in omega (arith, some, o, e))
+        | inr ge ↦ inside h.nodes s y nodes_hold.2 (omega (arith, ge, len))
+      ]
 
-    kept_b : (y : ℕ) → 1 ≤ count_place y b' → slice_get h3.nodes y ≡ slice_get h2.nodes y
-    kept_b y some =
-        let lt : y < mo + n + mb = below_all h2.nodes b' (mo + n + mb) y long2 e1.nodes_hold some in
-        e2.rest y (omega (arith, lt, long2)) (off_new y some) ∙ change_other h2.nodes a y (with_next (first_place s')) (other_b y some)
+      kept_b : (y : ℕ) → 1 ≤ count_place y b' → slice_get h3.nodes y ≡ slice_get h2.nodes y
+      kept_b y some =
+          let lt : y < mo + n + mb = below_all h2.nodes b' (mo + n + mb) y long2 e1.nodes_hold some in
+          e2.rest y (omega (arith, lt, long2)) (off_new y some) ∙ change_other h2.nodes a y (with_next (first_place s')) (other_b y some)
 
-    pub same_case : Becomes l (run_node a f fs m b s) (run_node a f common v b' s') (mo + mb + ms) h h3
-    same_case = record {
-      nodes_hold = (in_3, nodes_still_hold h2.nodes h3.nodes b' kept_b e1.nodes_hold, e2.nodes_hold);
-      count = let e = e2.count in omega (arith, e, len, long2);
-      rest = λ y lt out.
-          let ne : y ≢ a = (λ e. let o = agrees y a e in omega (arith, out, o)) in
-          let lt' : y < n = omega (arith, lt, len) in
-          e2.rest y (omega (arith, lt', long2)) (omega (arith, out)) ∙ change_other h2.nodes a y (with_next (first_place s')) ne
-          ∙ kept2 y lt' (omega (arith, out)) ne ∙ sym (relink_same l h a y to);
-      first = e2.first ∙ e1.first ∙ cut_in.first ∙ begins_same l h a to;
-      places = λ y.
-          let o = cut_in.places y in
-          let one = e1.places y in
-          let two = e2.places y in
-          let at1 : count_among y (length h1.nodes) mb ≡ count_among y (n + mo) mb = ap (λ u. count_among y u mb) (omega (arith, long1)) in
-          let at2 : count_among y (length h2.nodes) ms ≡ count_among y (n + (mo + mb)) ms = ap (λ u. count_among y u ms) (omega (arith, long2)) in
-          let all : count_among y (length h.nodes) (mo + mb + ms) ≡ count_among y n (mo + mb + ms) = ap (λ u. count_among y u (mo + mb + ms)) len in
-          let add1 = count_among-add y n mo mb (mo + mb) refl in
-          let add2 = count_among-add y n (mo + mb) ms (mo + mb + ms) refl in
-          omega (arith, o, one, two, at1, at2, all, add1, add2);
-      size = let o = cut_in.size in let one = e1.size in let two = e2.size in omega (arith, o, one, two);
-    }
+      pub same_case : Becomes l (run_node a f fs m b s) (run_node a f common v b' s') (mo + mb + ms) h h3
+      same_case = record {
+        nodes_hold = (in_3, nodes_still_hold h2.nodes h3.nodes b' kept_b e1.nodes_hold, e2.nodes_hold);
+        count = let e = e2.count in omega (arith, e, len, long2);
+        rest = λ y lt out.
+            let ne : y ≢ a = (λ e. let o = agrees y a e in omega (arith, out, o)) in
+            let lt' : y < n = omega (arith, lt, len) in
+            e2.rest y (omega (arith, lt', long2)) (omega (arith, out)) ∙ change_other h2.nodes a y (with_next (first_place s')) ne
+            ∙ kept2 y lt' (omega (arith, out)) ne ∙ sym (relink_same l h a y to);
+        first = e2.first ∙ e1.first ∙ cut_in.first ∙ begins_same l h a to;
+        places = λ y.
+            let o = cut_in.places y in
+            let one = e1.places y in
+            let two = e2.places y in
+            let at1 : count_among y (length h1.nodes) mb ≡ count_among y (n + mo) mb = ap (λ u. count_among y u mb) (omega (arith, long1)) in
+            let at2 : count_among y (length h2.nodes) ms ≡ count_among y (n + (mo + mb)) ms = ap (λ u. count_among y u ms) (omega (arith, long2)) in
+            let all : count_among y (length h.nodes) (mo + mb + ms) ≡ count_among y n (mo + mb + ms) = ap (λ u. count_among y u (mo + mb + ms)) len in
+            let add1 = count_among-add y n mo mb (mo + mb) refl in
+            let add2 = count_among-add y n (mo + mb) ms (mo + mb + ms) refl in
+            omega (arith, o, one, two, at1, at2, all, add1, add2);
+        size = let o = cut_in.size in let one = e1.size in let two = e2.size in omega (arith, o, one, two);
+      }
 
 -- a node is passed
 module _ (l : Link) (n a : ℕ) (f : List ℕ) (fs : Path) (m : Marks) (b s s' : RunForest) (ms : ℕ) (h h1 : LinkedNodes) where

@@ -24,3 +24,5 @@ pub mod Views
 pub mod Walking
 pub mod Trails
 pub mod KeptSiblings
+pub mod GrowingPlaces
+pub mod Entering

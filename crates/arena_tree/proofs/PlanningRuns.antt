@@ -98,7 +98,7 @@ module _ (cs : List NodeView) (into0 into rest below0 rest0 below : Target) (fs 
   }
 
 -- a new node
-new_turn : (l : Link) (n x : ℕ) (g : List ℕ) (gs : Path) (w : Marks) (k c t : RunForest) → frame_side g k ≡ Less
+pub new_turn : (l : Link) (n x : ℕ) (g : List ℕ) (gs : Path) (w : Marks) (k c t : RunForest) → frame_side g k ≡ Less
     → merge_steps l n k (run_node x g gs w c t) ≡ New l (new_view g gs w (first_place k)) ∷ merge_steps (FirstOf n) (suc n) no_runs c ++ merge_steps (NextOf n) (suc n + count_nodes c) k t
 new_turn l n x g gs w no_runs c t e = refl
 new_turn l n x g gs w (run_node a f fs m b s) c t e = steps_new l n a x f g fs gs m w b s c t e

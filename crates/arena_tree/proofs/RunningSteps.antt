@@ -91,9 +91,10 @@ met l n a f fs gs m w b c s s' ms later h ih_b ih_s len nodes_hold no_common to 
     let h2 : LinkedNodes = apply_steps h1 below in
     subst (Becomes l (run_node a f fs m b s) (run_node a f z.common (shared_marks z m w) (merge_sides (cut_count z.own + n) n z.own m b z.other w c) s') (cut_count z.own + new_nodes z.own b z.other c + ms) h)
     (sym (apply_steps-append h1 below later))
-    (same_case l n a f fs z.common m (shared_marks z m w) b s (rest_over n z.own m b) (merge_sides (cut_count z.own + n) n z.own m b z.other w c) s' (cut_count z.own) (new_nodes z.own b z.other c) ms h h1 h2 (apply_steps h2 later) len nodes_hold no_common to
+    (same_case l n a f fs z.common m (shared_marks z m w) b s (rest_over n z.own m b) (merge_sides (cut_count z.own + n) n z.own m b z.other w c) s' (cut_count z.own) (new_nodes z.own b z.other c) ms h h1 h2 (apply_steps h2 later) len nodes_hold no_common
     (node_shared n a f fs z.common (added_marks z w) m b s h len nodes_hold no_common z.own (split_own fs gs))
     ih_b
+    to
     (ih_s h2))
 
 pub sides_merged : (l : Link) (n p : ℕ) (fs : Path) (m : Marks) (b : RunForest) (gs : Path) (w : Marks) (c : RunForest) (h : LinkedNodes) → IsParted fs gs

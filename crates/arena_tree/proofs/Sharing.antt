@@ -64,11 +64,11 @@ nodes_at : (a more : ℕ) (own : Path) (w m : Marks) (first : ℕ) → nodes_add
 nodes_at a more [] w m first = refl
 nodes_at a more (g ∷ gs) w m first = refl
 
-few_cuts : (own : Path) → cut_count own ≤ 1
+pub few_cuts : (own : Path) → cut_count own ≤ 1
 few_cuts [] = omega arith
 few_cuts (g ∷ gs) = omega arith
 
-rows_at : (a more : ℕ) (own : Path) (w m : Marks) (first : ℕ) → rows_added_by (step_at a more own w m first) ≡ 0
+pub rows_at : (a more : ℕ) (own : Path) (w m : Marks) (first : ℕ) → rows_added_by (step_at a more own w m first) ≡ 0
 rows_at a more [] w m first = refl
 rows_at a more (g ∷ gs) w m first = refl
 
@@ -100,7 +100,7 @@ leads_below cs into c (g ∷ gs) kept place is lt there to few =
     leads_behind cs into.node place kept c lt there (omega (arith, long, same)) to few
 
 -- the steps of a node that begins with the same frame, where the parts of both runs are known
-parts_known : (l : Link) (n a x : ℕ) (f g : List ℕ) (fs gs : Path) (m w : Marks) (b s c t : RunForest) (z : FrameSplit) → split_frames fs gs ≡ z → frame_cmp g f ≡ Equal
+pub parts_known : (l : Link) (n a x : ℕ) (f g : List ℕ) (fs gs : Path) (m w : Marks) (b s c t : RunForest) (z : FrameSplit) → split_frames fs gs ≡ z → frame_cmp g f ≡ Equal
     → merge_steps l n (run_node a f fs m b s) (run_node x g gs w c t)
     ≡ shared_step a z.own z.common (added_marks z w) m b ∷ merge_steps (FirstOf a) (n + cut_count z.own) (rest_over n z.own m b) (rest_over 0 z.other w c)
     ++ merge_steps (NextOf a) (n + cut_count z.own + new_nodes [] (rest_over n z.own m b) [] (rest_over 0 z.other w c)) s t
@@ -120,15 +120,11 @@ parts_known l n a x f g fs gs m w b s c t z is e =
     counted = new_nodes_rest n 0 (split_frames fs gs).own m b (split_frames fs gs).other w c (parted fs gs)
 
 -- the first frames of a run are shared with a node
-module _ (cs : List NodeView) (into after below : Target) (c : NodeView) (to : IsTarget cs into) (there : slice_get cs into.node ≡ Some c)
+module _ (cs : List NodeView) (into : Target) (c : NodeView) (to : IsTarget cs into) (there : slice_get cs into.node ≡ Some c)
     (p : Path) (skip n0 : ℕ) (begins : BeginsAt cs into p skip)
     (is_split : split_frames (drop (into.skip + 1) c.frames) (drop (skip + 1) p) ≡ split_parts (take n0 (drop (into.skip + 1) c.frames)) (drop (into.skip + 1 + n0) c.frames) (drop (skip + 1 + n0) p))
     (within : into.skip + 1 + n0 ≤ length c.frames)
-    (label ends more : Ranks) (more_is : more ≡ row_ends (drop (skip + (1 + n0)) p) ends) (old new : PlanView)
-    (planned : new ≡ plan_with old (step_at into.place (1 + n0 - 1) (drop (into.skip + (1 + n0)) c.frames)
-    (label, more) (c.label, c.ends) c.first ∷ []))
-    (below_is : below ≡ target_below into (drop (into.skip + (1 + n0)) c.frames) (into.skip + (1 + n0)) (next_place old) c.first)
-    (after_is : IsAfter into c.next after) where
+    (label ends more : Ranks) (more_is : more ≡ row_ends (drop (skip + (1 + n0)) p) ends) where
   abbrev k : ℕ
   k = into.skip + (1 + n0)
 
@@ -153,19 +149,19 @@ module _ (cs : List NodeView) (into after below : Target) (c : NodeView) (to : I
   abbrev step : Step
   step = step_at into.place (1 + n0 - 1) own w m c.first
 
-  f_at : (f : List ℕ) × (slice_get c.frames into.skip ≡ Some f)
+  pub f_at : (f : List ℕ) × (slice_get c.frames into.skip ≡ Some f)
   f_at = some_at c.frames into.skip (target_frame cs into.node into.place into.skip c to there)
 
   abbrev f : List ℕ
   f = f_at.0
 
-  it : ReadsBehind cs into.node into.place into.skip c f
+  pub it : ReadsBehind cs into.node into.place into.skip c f
   it = reads_behind cs into.node into.place into.skip c f to there f_at.1
 
   abbrev s : RunForest
   s = forest_at cs (next_of into.skip c.next)
 
-  equal : frame_cmp g f ≡ Equal
+  pub equal : frame_cmp g f ≡ Equal
   equal = sym (side_at cs into.node into.place into.skip c f it g) ∙ begins.side
 
   kept_same : into.skip + 1 + n0 ≡ k
@@ -177,7 +173,7 @@ module _ (cs : List NodeView) (into after below : Target) (c : NodeView) (to : I
   abbrev common : Path
   common = take n0 (drop (into.skip + 1) c.frames)
 
-  parts : split_frames (drop (into.skip + 1) c.frames) (drop (skip + 1) p) ≡ split_parts common own other
+  pub parts : split_frames (drop (into.skip + 1) c.frames) (drop (skip + 1) p) ≡ split_parts common own other
   parts = is_split ∙ (λ i. split_parts common (drop (kept_same i) c.frames) (drop (other_same i) p))
 
   common_long : length common ≡ 1 + n0 - 1
@@ -185,7 +181,7 @@ module _ (cs : List NodeView) (into after below : Target) (c : NodeView) (to : I
       let long = length-drop (into.skip + 1) c.frames in
       length-take-le n0 (drop (into.skip + 1) c.frames) (omega (arith, long, within)) ∙ omega arith
 
-  step_is : shared_step into.place own common (added_marks (split_parts common own other) (label, ends)) m b ≡ step
+  pub step_is : shared_step into.place own common (added_marks (split_parts common own other) (label, ends)) m b ≡ step
   step_is =
       step_shared into.place own common (added_marks (split_parts common own other) (label, ends)) m b
       ∙ (λ i. step_at into.place (common_long i) own (label, sym more_is i) m (it.first.begins i))
@@ -193,34 +189,39 @@ module _ (cs : List NodeView) (into after below : Target) (c : NodeView) (to : I
   positive : 0 < k
   positive = omega arith
 
-  below_forest : rest_over (next_place old) own m b ≡ target_forest cs below
-  below_forest = sym (ap (target_forest cs) below_is ∙ forest_below cs into c own k (next_place old) refl positive there)
+  module _ (after below : Target) (old new : PlanView)
+      (planned : new ≡ plan_with old (step_at into.place (1 + n0 - 1) (drop (into.skip + (1 + n0)) c.frames)
+      (label, more) (c.label, c.ends) c.first ∷ []))
+      (below_is : below ≡ target_below into (drop (into.skip + (1 + n0)) c.frames) (into.skip + (1 + n0)) (next_place old) c.first)
+      (after_is : IsAfter into c.next after) where
+    below_forest : rest_over (next_place old) own m b ≡ target_forest cs below
+    below_forest = sym (ap (target_forest cs) below_is ∙ forest_below cs into c own k (next_place old) refl positive there)
 
-  added : cut_count own ≡ nodes_added_by step
-  added = sym (nodes_at into.place (1 + n0 - 1) own w m c.first)
+    added : cut_count own ≡ nodes_added_by step
+    added = sym (nodes_at into.place (1 + n0 - 1) own w m c.first)
 
-  link_is : FirstOf into.place ≡ below.link
-  link_is = sym (ap (λ (t : Target). t.link) below_is ∙ link_below into own k (next_place old) c.first)
+    link_is : FirstOf into.place ≡ below.link
+    link_is = sym (ap (λ (t : Target). t.link) below_is ∙ link_below into own k (next_place old) c.first)
 
-  same : (x : ℕ) (u t : RunForest) → merge_steps into.link (next_place old) (target_forest cs into) (run_of x (drop skip p) (label, ends) u t)
-      ≡ step ∷ merge_steps below.link (next_place old + nodes_added_by step) (target_forest cs below) (rest_over 0 other (label, ends) u)
-      ++ merge_steps after.link (next_place old + nodes_added_by step + new_nodes [] (target_forest cs below) [] (rest_over 0 other (label, ends) u)) (target_forest cs after) t
-  same x u t =
-      (λ i. merge_steps into.link (next_place old) (it.is i) (run_of x (drop_at p skip g begins.is i) (label, ends) u t))
-      ∙ parts_known into.link (next_place old) into.place x f g (drop (into.skip + 1) c.frames) (drop (skip + 1) p) m (label, ends) b s u t (split_parts common own other) parts equal
-      ∙ (λ i. step_is i ∷ merge_steps (link_is i) (next_place old + added i) (below_forest i) (rest_over 0 other (label, ends) u)
-      ++ merge_steps (sym after_is.link i) (next_place old + added i + new_nodes [] (below_forest i) [] (rest_over 0 other (label, ends) u)) (sym (after_forest cs into after c.next after_is) i) t)
+    same : (x : ℕ) (u t : RunForest) → merge_steps into.link (next_place old) (target_forest cs into) (run_of x (drop skip p) (label, ends) u t)
+        ≡ step ∷ merge_steps below.link (next_place old + nodes_added_by step) (target_forest cs below) (rest_over 0 other (label, ends) u)
+        ++ merge_steps after.link (next_place old + nodes_added_by step + new_nodes [] (target_forest cs below) [] (rest_over 0 other (label, ends) u)) (target_forest cs after) t
+    same x u t =
+        (λ i. merge_steps into.link (next_place old) (it.is i) (run_of x (drop_at p skip g begins.is i) (label, ends) u t))
+        ∙ parts_known into.link (next_place old) into.place x f g (drop (into.skip + 1) c.frames) (drop (skip + 1) p) m (label, ends) b s u t (split_parts common own other) parts equal
+        ∙ (λ i. step_is i ∷ merge_steps (link_is i) (next_place old + added i) (below_forest i) (rest_over 0 other (label, ends) u)
+        ++ merge_steps (sym after_is.link i) (next_place old + added i + new_nodes [] (below_forest i) [] (rest_over 0 other (label, ends) u)) (sym (after_forest cs into after c.next after_is) i) t)
 
-  pub shares : SharesRun cs into after below (drop skip p) other (label, ends) old new
-  shares = record {
-    step = step;
-    plan = planned;
-    rest_leads = after_target cs into after c.next after_is it.next;
-    below_leads = subst (IsTarget cs) (sym below_is) (leads_below cs into c own k (next_place old) refl positive there it.first (target_few cs into.node into.place into.skip to));
-    places = let few = few_cuts own in omega (arith, few, added);
-    rows = rows_at into.place (1 + n0 - 1) own w m c.first;
-    steps_split = same;
-  }
+    pub shares : SharesRun cs into after below (drop skip p) other (label, ends) old new
+    shares = record {
+      step = step;
+      plan = planned;
+      rest_leads = after_target cs into after c.next after_is it.next;
+      below_leads = subst (IsTarget cs) (sym below_is) (leads_below cs into c own k (next_place old) refl positive there it.first (target_few cs into.node into.place into.skip to));
+      places = let few = few_cuts own in omega (arith, few, added);
+      rows = rows_at into.place (1 + n0 - 1) own w m c.first;
+      steps_split = same;
+    }
 
 -- the frame that a target begins with is the path's
 pub frames_same : (cs : List NodeView) (into : Target) (c : NodeView) → IsTarget cs into → slice_get cs into.node ≡ Some c → (p : Path) (skip : ℕ) → BeginsAt cs into p skip → slice_get c.frames into.skip ≡ slice_get p skip

@@ -1,8 +1,9 @@
 -- A tree that grows in one pass.
 -- No clause of a public call cites this file: it says how a change is done.
-use Rattle.std.specs.Prelude.{◌≡◌, ℕ, suc, ◌+◌, ◌≤◌, List, length}
+use Rattle.std.specs.Prelude.{◌≡◌, ℕ, ◌+◌, ◌≤◌, List, [], ◌∷◌, length}
 use Rattle.call_path.specs.Path.{Path}
 use Rattle.prefix_tree.specs.Tree.{Marks}
+use Rattle.arena_tree.specs.declared.node.Link.{Link}
 use Rattle.arena_tree.specs.declared.target.Target.{Target}
 use Rattle.arena_tree.specs.NodeViews.{NodeView}
 use Rattle.arena_tree.specs.RunForest.{RunForest}
@@ -11,6 +12,19 @@ use Rattle.arena_tree.specs.Links.{LinkedNodes, IsOutside}
 use Rattle.arena_tree.specs.Steps.{rows_added, merge_steps, apply_steps, rest_over}
 use Rattle.arena_tree.specs.Reading.{run_of}
 use Rattle.arena_tree.specs.Targets.{IsTarget, target_forest}
+
+-- the nodes from a place on
+abbrev pub all_at : Link → ℕ → Target
+all_at l at = record { link = l; node = at; skip = 0; place = at }
+
+-- what follows a new node: the nodes before which it was put
+abbrev pub led_by : Link → Target → Target
+led_by l t = record { link = l; node = t.node; skip = t.skip; place = t.place }
+
+-- where the nodes below a node begin: with the new node that has its lower frames, if it has any
+abbrev pub place_below : Path → ℕ → ℕ → ℕ
+place_below [] new first = first
+place_below (g ∷ gs) new first = new
 
 -- a target whose nodes may be changed: whole nodes, each once, and the link is of none of them
 pub record CanGrow (cs : List NodeView) (into : Target) : Type 0 where
@@ -27,15 +41,16 @@ grown h into o = apply_steps h (merge_steps into.link (length h.nodes) (target_f
 abbrev pub rows_grown : LinkedNodes → Target → RunForest → ℕ
 rows_grown h into o = rows_added (merge_steps into.link (length h.nodes) (target_forest h.nodes into) o)
 
--- a run, with what is below it, is merged, and so many rows are added; then come its siblings
-pub record GoesOn (h h2 : LinkedNodes) (into rest : Target) (fs : Path) (w : Marks) (c : RunForest) (more : ℕ) : Type 0 where
+-- a run is merged with what is below it, where there were r rows and are r2; then come its siblings
+pub record GoesOn (h h2 : LinkedNodes) (into rest : Target) (fs : Path) (w : Marks) (c : RunForest) (r r2 : ℕ) : Type 0 where
   pub rest_grows : CanGrow h2.nodes rest
   pub same : (x : ℕ) (t : RunForest) → grown h into (run_of x fs w c t) ≡ grown h2 rest t
-  pub rows : (x : ℕ) (t : RunForest) → rows_grown h into (run_of x fs w c t) ≡ more + rows_grown h2 rest t
+  pub rows : (x : ℕ) (t : RunForest) → r + rows_grown h into (run_of x fs w c t) ≡ r2 + rows_grown h2 rest t
 
--- the first frames of a run are merged, and so many rows are added; then come the frames behind them, below, with what is below the run
-pub record Enters (h h1 : LinkedNodes) (into rest below : Target) (fs gs : Path) (w : Marks) (more : ℕ) : Type 0 where
+-- the first frames of a run are merged, where there were r rows and are r1; then come the frames behind them, below, with what is below the run
+pub record Enters (h h1 : LinkedNodes) (into rest below : Target) (fs gs : Path) (w : Marks) (r r1 : ℕ) : Type 0 where
   pub below_grows : CanGrow h1.nodes below
   pub places : length h1.nodes + length gs ≤ length h.nodes + length fs
-  pub rows : more + length gs ≤ length fs
-  pub goes_on : (c : RunForest) (h2 : LinkedNodes) → h2 ≡ grown h1 below (rest_over 0 gs w c) → length h2.nodes ≤ 4096 → GoesOn h h2 into rest fs w c (more + rows_grown h1 below (rest_over 0 gs w c))
+  pub rows : r1 + length gs ≤ r + length fs
+  pub goes_on : (y : ℕ) (c : RunForest) (h2 : LinkedNodes) (r2 : ℕ) → h2 ≡ grown h1 below (rest_over y gs w c) → r2 ≡ r1 + rows_grown h1 below (rest_over y gs w c) → length h2.nodes ≤ 4096
+      → GoesOn h h2 into rest fs w c r r2

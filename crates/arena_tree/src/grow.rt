@@ -2,15 +2,18 @@
 //!
 //! Where it fails, a part of the change is done, and the nodes are of no more use.
 
-ghost use Rattle.std.specs.Prelude.{◌≡◌, ◌+◌, ◌<◌, ◌≤◌, ◌-◌, [], IfOk, OnOk, length, drop};
-ghost use Rattle.rank_set.specs.Ranks.{none};
-ghost use Rattle.arena_tree.specs.NodeViews.{NodeView};
+ghost use Rattle.std.specs.Prelude.{◌≡◌, ◌+◌, ◌-◌, ◌<◌, ◌≤◌, ◌∷◌, Some, IfOk, OnOk, length, drop, slice_get};
+ghost use Rattle.rank_set.specs.Ranks.{none, union};
+ghost use Rattle.arena_tree.specs.declared.node.Link.TheVariants.{FirstOf, NextOf};
+ghost use Rattle.arena_tree.specs.declared.node.Step.TheVariants.{Cut, New};
+ghost use Rattle.arena_tree.specs.NodeViews.{NodeView, view_of, view_behind};
 ghost use Rattle.arena_tree.specs.Links.{linked};
-ghost use Rattle.arena_tree.specs.RunForest.{RunForest, no_runs, count_rows};
+ghost use Rattle.arena_tree.specs.RunForest.{no_runs, count_rows};
+ghost use Rattle.arena_tree.specs.Steps.{apply_step};
 ghost use Rattle.arena_tree.specs.Reading.{run_of};
 ghost use Rattle.arena_tree.specs.Targets.{IsTarget, target_forest};
-ghost use Rattle.arena_tree.specs.Plans.{BeginsAt};
-ghost use Rattle.arena_tree.specs.Growth.{CanGrow, grown, rows_grown, Enters, IsBehind};
+ghost use Rattle.arena_tree.specs.Plans.{BeginsAt, step_at, target_below};
+ghost use Rattle.arena_tree.specs.Growth.{all_at, led_by, place_below, CanGrow, grown, rows_grown, Enters};
 
 use crate::apply::{cut, relink, unite};
 use crate::merge::{Run, ends_at};
@@ -40,7 +43,19 @@ pub(crate) struct Source<'a> {
 impl Growth {
     /// Adds a node for a run before the node of the target, leads the target to what comes after it, and returns the
     /// target below it.
-    fn put(&mut self, into: &mut Target, run: Run<'_>) -> Result<Target, AllocError> {
+    fn put(&mut self, into: &mut Target, run: Run<'_>) -> Result<Target, AllocError>
+        requires skip { run.skip < length run.path.now }
+        requires room { length self.old.nodes.items < 4096 }
+        requires rows { self.old.rows ≤ 4096 }
+        ensures made { OnOk result (linked self.new.first self.new.nodes.items
+            ≡ apply_step (linked self.old.first self.old.nodes.items) (New into.old.link
+            (view_of (drop run.entry.skip run.entry.path.now) (run.entry.label.now, run.entry.ends.now) NO_PLACE
+            into.old.place))) }
+        ensures rows { OnOk result (self.new.rows
+            ≡ self.old.rows + length (drop run.entry.skip run.entry.path.now)) }
+        ensures below { IfOk result (λ below. below ≡ all_at (FirstOf (length self.old.nodes.items)) NO_PLACE) }
+        ensures rest { OnOk result (into.new ≡ led_by (NextOf (length self.old.nodes.items)) into.old) }
+    {
         let node = Node::new(
             run.path, run.skip, run.label, run.ends, NO_PLACE, into.place,
         )?;
@@ -63,47 +78,76 @@ impl Growth {
     /// the place of that one.
     fn cut(
         &mut self,
-        at: Place,
+        into: Target,
         shared: usize,
         label: &RankSet,
         ends: &RankSet,
-    ) -> Result<Place, AllocError> {
-        let node = self.nodes.get(at);
+    ) -> Result<Place, AllocError>
+        requires at { into.node < length self.old.nodes.items }
+        requires whole { into.place ≡ into.node }
+        requires not_empty { 0 < shared }
+        requires within { (c : NodeView) → slice_get self.old.nodes.items into.node ≡ Some c
+            → into.skip + shared < length c.frames }
+        requires room { length self.old.nodes.items < 4096 }
+        ensures made { (c : NodeView) → slice_get self.old.nodes.items into.node ≡ Some c → OnOk result
+            (linked self.new.first self.new.nodes.items
+            ≡ apply_step (linked self.old.first self.old.nodes.items) (Cut into.place (shared - 1)
+            (union c.label label.now) ends.now (view_behind (into.skip + shared) c.first NO_PLACE c))) }
+        ensures rows { self.new.rows ≡ self.old.rows }
+        ensures place { IfOk result (λ place. place ≡ length self.old.nodes.items) }
+    {
+        let node = self.nodes.get(into.node);
         // For the proof: no more than `FRAME_LIMIT` frames.
         let _len = node.frames().len();
         let more = (shared - 1) as u32;
-        let lower = node.behind(shared, node.first(), NO_PLACE)?;
+        let lower = node.behind(into.skip + shared, node.first(), NO_PLACE)?;
         let label = node.label().united(label)?;
         let ends = ends.copy()?;
         self.nodes.reserve(1)?;
         let place = self.nodes.len();
-        cut(&mut self.nodes, at, more, label, ends, place);
+        cut(&mut self.nodes, into.node, more, label, ends, place);
         self.nodes.put(lower);
         Ok(place)
     }
 
-    /// Gives the first `shared` frames of a node more ranks, and returns the target below them.
+    /// Gives the first `shared` frames of the target's node more ranks, and returns the target below them.
     fn share(
         &mut self,
-        at: Place,
+        into: Target,
         shared: usize,
         label: &RankSet,
         ends: &RankSet,
-    ) -> Result<Target, AllocError> {
-        let node = self.nodes.get(at);
-        if shared == node.frames().len() {
+    ) -> Result<Target, AllocError>
+        requires at { into.node < length self.old.nodes.items }
+        requires whole { into.place ≡ into.node }
+        requires not_empty { 0 < shared }
+        requires within { (c : NodeView) → slice_get self.old.nodes.items into.node ≡ Some c
+            → into.skip + shared ≤ length c.frames }
+        requires room { length self.old.nodes.items < 4096 }
+        ensures made { (c : NodeView) → slice_get self.old.nodes.items into.node ≡ Some c → OnOk result
+            (linked self.new.first self.new.nodes.items
+            ≡ apply_step (linked self.old.first self.old.nodes.items) (step_at into.place (shared - 1)
+            (drop (into.skip + shared) c.frames) (label.now, ends.now) (c.label, c.ends) c.first)) }
+        ensures rows { self.new.rows ≡ self.old.rows }
+        ensures below { (c : NodeView) → slice_get self.old.nodes.items into.node ≡ Some c
+            → IfOk result (λ below. below ≡ all_at (FirstOf into.place)
+            (place_below (drop (into.skip + shared) c.frames) (length self.old.nodes.items) c.first)) }
+    {
+        let node = self.nodes.get(into.node);
+        let len = node.frames().len();
+        if into.skip + shared == len {
             let first = node.first();
-            unite(&mut self.nodes, at, label, ends)?;
+            unite(&mut self.nodes, into.node, label, ends)?;
             return Ok(Target {
-                link: Link::FirstOf(at),
+                link: Link::FirstOf(into.place),
                 node: first,
                 skip: 0,
                 place: first,
             });
         }
-        let place = self.cut(at, shared, label, ends)?;
+        let place = self.cut(into, shared, label, ends)?;
         Ok(Target {
-            link: Link::FirstOf(at),
+            link: Link::FirstOf(into.place),
             node: place,
             skip: 0,
             place,
@@ -112,22 +156,44 @@ impl Growth {
 
     /// Merges the first frames of a run, which are also those of the node of the target. Leads the target to what comes
     /// after that one, and returns the target below and how many of the path's frames are merged then.
-    fn meet(&mut self, into: &mut Target, run: Run<'_>) -> Result<(Target, usize), AllocError> {
+    fn meet(&mut self, into: &mut Target, run: Run<'_>) -> Result<(Target, usize), AllocError>
+        requires into { CanGrow self.old.nodes.items into.old }
+        requires skip { run.skip < length run.path.now }
+        requires begins { BeginsAt self.old.nodes.items into.old run.path.now run.skip }
+        requires nobody { run.nobody.now ≡ none }
+        requires room { length self.old.nodes.items < 4096 }
+        ensures kept { IfOk result (λ r. (run.entry.skip < r.1) × (r.1 ≤ length run.entry.path.now)) }
+        ensures enters { IfOk result (λ r. Enters (linked self.old.first self.old.nodes.items)
+            (linked self.new.first self.new.nodes.items) into.old into.new r.0
+            (drop run.entry.skip run.entry.path.now) (drop r.1 run.entry.path.now)
+            (run.entry.label.now, run.entry.ends.now) self.old.rows self.new.rows) }
+    {
         let node = self.nodes.get(into.node);
         // For the proof: no more than `FRAME_LIMIT` frames.
         let _lens = (node.frames().len(), run.path.len());
         let next = node.next();
-        let shared = 1 + common_behind(node.frames(), 0, run.path, run.skip);
+        let shared = 1 + common_behind(node.frames(), into.skip, run.path, run.skip);
         let kept = run.skip + shared;
         let ends = ends_at(run.path, kept, run.ends, run.nobody);
-        let below = self.share(into.node, shared, run.label, ends)?;
+        let below = self.share(*into, shared, run.label, ends)?;
         *into = into.after(next);
         Ok((below, kept))
     }
 
     /// Merges the first frames of a run, or all of them as a new node. Leads the target to what comes after them, and
     /// returns the target below and how many of the path's frames are merged then.
-    fn enter(&mut self, into: &mut Target, run: Run<'_>) -> Result<(Target, usize), AllocError> {
+    fn enter(&mut self, into: &mut Target, run: Run<'_>) -> Result<(Target, usize), AllocError>
+        requires into { CanGrow self.old.nodes.items into.old }
+        requires skip { run.skip < length run.path.now }
+        requires nobody { run.nobody.now ≡ none }
+        requires room { length self.old.nodes.items < 4096 }
+        requires rows { self.old.rows ≤ 4096 }
+        ensures kept { IfOk result (λ r. (run.entry.skip < r.1) × (r.1 ≤ length run.entry.path.now)) }
+        ensures enters { IfOk result (λ r. Enters (linked self.old.first self.old.nodes.items)
+            (linked self.new.first self.new.nodes.items) into.old into.new r.0
+            (drop run.entry.skip run.entry.path.now) (drop r.1 run.entry.path.now)
+            (run.entry.label.now, run.entry.ends.now) self.old.rows self.new.rows) }
+    {
         if seek(&self.nodes, into, run.path.frame(run.skip)) {
             let (below, kept) = self.meet(into, run)?;
             return Ok((below, kept));
@@ -142,7 +208,23 @@ impl Growth {
         mut into: Target,
         from: Source<'_>,
         mut other: Target,
-    ) -> Result<(), AllocError> {
+    ) -> Result<(), AllocError>
+        requires into { CanGrow self.old.nodes.items into }
+        requires other { IsTarget from.nodes.now.items other }
+        requires nobody { from.nobody.now ≡ none }
+        requires room { length self.old.nodes.items + count_rows (target_forest from.nodes.now.items other) ≤ 4096 }
+        requires rows { self.old.rows + count_rows (target_forest from.nodes.now.items other) ≤ 4096 }
+        ensures made { OnOk result (linked self.new.first self.new.nodes.items
+            ≡ grown (linked self.old.first self.old.nodes.items) into
+            (target_forest from.entry.nodes.now.items other)) }
+        ensures rows { OnOk result (self.new.rows ≡ self.old.rows
+            + rows_grown (linked self.old.first self.old.nodes.items) into
+            (target_forest from.entry.nodes.now.items other)) }
+        ensures few_nodes { OnOk result (length self.new.nodes.items ≤ length self.old.nodes.items
+            + count_rows (target_forest from.entry.nodes.now.items other)) }
+        ensures few_rows { OnOk result (self.new.rows ≤ self.old.rows
+            + count_rows (target_forest from.entry.nodes.now.items other)) }
+    {
         while other.node != NO_PLACE {
             let node = from.nodes.get(other.node);
             let run = Run {
@@ -199,7 +281,10 @@ impl Growth {
 }
 
 /// What the node of a target has behind its first `kept` frames: more frames, or the nodes below it.
-fn behind(at: Target, node: &Node, kept: usize) -> Target {
+fn behind(at: Target, node: &Node, kept: usize) -> Target
+    requires { kept ≤ length node.now.frames }
+    ensures { result ≡ target_below at (drop kept node.now.frames) kept at.place node.now.first }
+{
     if kept == node.frames().len() {
         let first = node.first();
         return Target {

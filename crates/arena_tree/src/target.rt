@@ -8,6 +8,7 @@ ghost use Rattle.arena_tree.specs.RunForest.{RunForest, run_node};
 ghost use Rattle.arena_tree.specs.Steps.{merge_steps};
 ghost use Rattle.arena_tree.specs.Reading.{frame_side};
 ghost use Rattle.arena_tree.specs.Targets.{IsTarget, target_forest, IsAfter};
+ghost use Rattle.arena_tree.specs.Growth.{CanGrow};
 
 use crate::node::{Link, NO_PLACE, Node};
 use node_arena::{Arena, Place};
@@ -46,6 +47,7 @@ impl Target {
 pub(crate) fn seek(nodes: &Arena<Node>, into: &mut Target, frame: &str) -> bool
     requires { IsTarget nodes.now.items into.old }
     ensures target { IsTarget nodes.now.items into.new }
+    ensures grows { CanGrow nodes.now.items into.old → CanGrow nodes.now.items into.new }
     ensures side { frame_side frame.now (target_forest nodes.now.items into.new) ≡ cond result Equal Less }
     ensures steps { (n x : ℕ) (gs : Path) (w : Marks) (c t : RunForest)
         → merge_steps into.old.link n (target_forest nodes.now.items into.old) (run_node x frame.now gs w c t)

@@ -7,6 +7,7 @@ use Rattle.arena_tree.specs.Steps.{merge_steps}
 use Rattle.arena_tree.specs.Reading.{frame_side}
 use Rattle.arena_tree.specs.Targets.{target_forest}
 use Rattle.arena_tree.proofs.Planning.{ReadsBehind, reads_behind, target_none, side_at, passes_on, shorter, after_forest, after_target}
+use Rattle.arena_tree.proofs.GrowingPlaces.{after_grows}
 use Rattle.arena_tree.proofs.Orders.{cmp_itself}
 use Rattle.arena_tree.proofs.target.seek.Goals as goal
 
@@ -56,6 +57,7 @@ loop-into-preserved c =
     let greater : frame_cmp c.args.frame.now c.frame-own.result.now ≡ Greater = sym c.cmp.ensures ∙ c.in-Greater.is in
     record {
       target = after_target cs t c.after.result c.get-node.result.now.next after it.next;
+      grows = λ grows. after_grows cs t c.after.result c.get-node.result.now c.get-node.ensures after (c.loop-into.invariant.grows grows);
       same = λ n x gs w u v. c.loop-into.invariant.same n x gs w u v
           ∙ passes_on cs t.node t.place t.skip c.get-node.result.now c.frame-own.result.now it c.args.frame.now greater t.link n x gs w u v
           ∙ (λ i. merge_steps (sym after.link i) n (sym (after_forest cs t c.after.result c.get-node.result.now.next after) i) (run_node x c.args.frame.now gs w u v));
