@@ -46,7 +46,7 @@ module _ (l : Link) (n : ℕ) (g : List ℕ) (gs : Path) (w : Marks) (k c' t' : 
   abbrev h1 : LinkedNodes
   h1 = apply_step h (New l x)
 
-  module _ (len : length h.nodes ≡ n) (nodes_hold : AreNodesOf h.nodes k) (no_common : HasDistinctPlaces k) (off : IsOutside l k) (to : LeadsTo l h (first_place k))
+  module _ (len : length h.nodes ≡ n) (nodes_hold : AreNodesOf h.nodes k) (no_common : HasDistinctPlaces k) (off : IsOutside l k)
       (ih_c : Premises (FirstOf n) (suc n) no_runs h1 (Becomes (FirstOf n) no_runs c' mc h1 h2)) where
     len0 : length (relink l (length h.nodes) h.nodes) ≡ n
     len0 = length-relink l (length h.nodes) h.nodes ∙ len

@@ -30,7 +30,6 @@ use Rattle.arena_tree.proofs.RunningSteps.{apply_steps-append, split_own, merge_
 use Rattle.arena_tree.proofs.SharedFrames.{drop_at, some_at}
 use Rattle.arena_tree.proofs.Totals.{rows_added-append, merge_nodes}
 use Rattle.arena_tree.proofs.Planning.{ReadsBehind, reads_behind, side_at, target_frame}
-use Rattle.arena_tree.proofs.PlanningRuns.{new_turn, target_place}
 use Rattle.arena_tree.proofs.Sharing.{parts, step_is, parts_known, few_cuts, rows_at}
 use Rattle.arena_tree.proofs.GrowingPlaces.{holds_at, fits_at, place_at, Stands, stands}
 

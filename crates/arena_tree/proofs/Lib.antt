@@ -26,3 +26,4 @@ pub mod Trails
 pub mod KeptSiblings
 pub mod GrowingPlaces
 pub mod Entering
+pub mod EnteringNew

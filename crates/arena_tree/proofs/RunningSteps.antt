@@ -38,7 +38,7 @@ copies_made l n (run_node x g gs w c t) h len nodes_hold no_common off to =
     let h2 : LinkedNodes = apply_steps h1 (copy_steps (FirstOf n) (suc n) c) in
     subst (Becomes l no_runs (renumbered n (run_node x g gs w c t)) (suc (count_nodes c + count_nodes t)) h)
     (sym (apply_steps-append h1 (copy_steps (FirstOf n) (suc n) c) (copy_steps (NextOf n) (suc n + count_nodes c) t)))
-    (new_case l n g gs w no_runs (renumbered (suc n) c) (renumbered (suc n + count_nodes c) t) (count_nodes c) (count_nodes t) h h2 (apply_steps h2 (copy_steps (NextOf n) (suc n + count_nodes c) t)) len nodes_hold no_common off to
+    (new_case l n g gs w no_runs (renumbered (suc n) c) (renumbered (suc n + count_nodes c) t) (count_nodes c) (count_nodes t) h h2 (apply_steps h2 (copy_steps (NextOf n) (suc n + count_nodes c) t)) len nodes_hold no_common off
     (copies_made (FirstOf n) (suc n) c h1)
     (copies_made (NextOf n) (suc n + count_nodes c) t h2))
 
@@ -49,7 +49,7 @@ one_new l n g gs w c k h len nodes_hold no_common off to =
     let h2 : LinkedNodes = apply_steps h1 (copy_steps (FirstOf n) (suc n) c) in
     let no_more : suc (count_nodes c + 0) ≡ suc (count_nodes c) = omega arith in
     subst (λ m. Becomes l k (run_node n g gs w (renumbered (suc n) c) k) m h h2) no_more
-    (new_case l n g gs w k (renumbered (suc n) c) k (count_nodes c) 0 h h2 h2 len nodes_hold no_common off to
+    (new_case l n g gs w k (renumbered (suc n) c) k (count_nodes c) 0 h h2 h2 len nodes_hold no_common off
     (copies_made (FirstOf n) (suc n) c h1)
     (λ len2 lies2 apart2 off2 to2. nothing_new (NextOf n) k h2 lies2 to2))
 
@@ -111,7 +111,7 @@ sides_merged l n p [] m0 (run_node a f fs m b s) [] w0 (run_node x g gs w c t) h
     (subst (Becomes l (run_node a f fs m b s) (run_node n g gs w (renumbered (suc n) c) (merge_sides (suc n + count_nodes c) 0 [] (none, none) (run_node a f fs m b s) [] (none, none) t)) (suc (count_nodes c + new_nodes [] (run_node a f fs m b s) [] t)) h)
     (sym (apply_steps-append h1 (copy_steps (FirstOf n) (suc n) c) (side_steps (NextOf n) (suc n + count_nodes c) 0 [] (none, none) (run_node a f fs m b s) [] (none, none) t)))
     (new_case l n g gs w (run_node a f fs m b s) (renumbered (suc n) c) (merge_sides (suc n + count_nodes c) 0 [] (none, none) (run_node a f fs m b s) [] (none, none) t) (count_nodes c) (new_nodes [] (run_node a f fs m b s) [] t) h h2
-    (apply_steps h2 (side_steps (NextOf n) (suc n + count_nodes c) 0 [] (none, none) (run_node a f fs m b s) [] (none, none) t)) len nodes_hold no_common off to
+    (apply_steps h2 (side_steps (NextOf n) (suc n + count_nodes c) 0 [] (none, none) (run_node a f fs m b s) [] (none, none) t)) len nodes_hold no_common off
     (copies_made (FirstOf n) (suc n) c h1)
     (sides_merged (NextOf n) (suc n + count_nodes c) 0 [] (none, none) (run_node a f fs m b s) [] (none, none) t h2 tt)))
     (λ e. met l n a f fs gs m w b c s (merge_sides (cut_count z.own + n + new_nodes z.own b z.other c) 0 [] (none, none) s [] (none, none) t) (new_nodes [] s [] t) (side_steps (NextOf a) (cut_count z.own + n + new_nodes z.own b z.other c) 0 [] (none, none) s [] (none, none) t) h
@@ -145,7 +145,7 @@ sides_merged l n p (f ∷ fs) m b [] w0 (run_node x g gs w c t) h parting len no
     (subst (Becomes l (run_node p f fs m b no_runs) (run_node n g gs w (renumbered (suc n) c) (merge_sides (suc n + count_nodes c) p (f ∷ fs) m b [] (none, none) t)) (suc (count_nodes c + new_nodes (f ∷ fs) b [] t)) h)
     (sym (apply_steps-append h1 (copy_steps (FirstOf n) (suc n) c) (side_steps (NextOf n) (suc n + count_nodes c) p (f ∷ fs) m b [] (none, none) t)))
     (new_case l n g gs w (run_node p f fs m b no_runs) (renumbered (suc n) c) (merge_sides (suc n + count_nodes c) p (f ∷ fs) m b [] (none, none) t) (count_nodes c) (new_nodes (f ∷ fs) b [] t) h h2
-    (apply_steps h2 (side_steps (NextOf n) (suc n + count_nodes c) p (f ∷ fs) m b [] (none, none) t)) len nodes_hold no_common off to
+    (apply_steps h2 (side_steps (NextOf n) (suc n + count_nodes c) p (f ∷ fs) m b [] (none, none) t)) len nodes_hold no_common off
     (copies_made (FirstOf n) (suc n) c h1)
     (sides_merged (NextOf n) (suc n + count_nodes c) p (f ∷ fs) m b [] (none, none) t h2 tt)))
     (λ e. met l n p f fs gs m w b c no_runs (renumbered (cut_count z.own + n + new_nodes z.own b z.other c) t) (count_nodes t) (copy_steps (NextOf p) (cut_count z.own + n + new_nodes z.own b z.other c) t) h
