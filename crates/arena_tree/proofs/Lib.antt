@@ -27,3 +27,4 @@ pub mod KeptSiblings
 pub mod GrowingPlaces
 pub mod Entering
 pub mod EnteringNew
+pub mod MergingIn

@@ -85,13 +85,13 @@ leads_behind : (cs : List NodeView) (node place k : ℕ) (c : NodeView) → 0 < 
 leads_behind cs node place zero c lt there within to few = absurd (omega (arith, lt))
 leads_behind cs node place (suc k) c lt there within to few = (c, there, within, to, few)
 
-forest_below : (cs : List NodeView) (into : Target) (c : NodeView) (own : Path) (kept place : ℕ) → drop kept c.frames ≡ own → 0 < kept → slice_get cs into.node ≡ Some c
+pub forest_below : (cs : List NodeView) (into : Target) (c : NodeView) (own : Path) (kept place : ℕ) → drop kept c.frames ≡ own → 0 < kept → slice_get cs into.node ≡ Some c
     → target_forest cs (target_below into own kept place c.first) ≡ rest_over place own (c.label, c.ends) (forest_at cs c.first)
 forest_below cs into c [] kept place is lt there = refl
 forest_below cs into c (g ∷ gs) kept place is lt there =
     behind_some cs into.node place kept lt ∙ ap (rest_of cs place kept) there ∙ ap (λ p. run_of place p (c.label, c.ends) (forest_at cs c.first) no_runs) is
 
-leads_below : (cs : List NodeView) (into : Target) (c : NodeView) (own : Path) (kept place : ℕ) → drop kept c.frames ≡ own → 0 < kept → slice_get cs into.node ≡ Some c → LeadsToForest cs c.first → length cs ≤ 4096
+pub leads_below : (cs : List NodeView) (into : Target) (c : NodeView) (own : Path) (kept place : ℕ) → drop kept c.frames ≡ own → 0 < kept → slice_get cs into.node ≡ Some c → LeadsToForest cs c.first → length cs ≤ 4096
     → IsTarget cs (target_below into own kept place c.first)
 leads_below cs into c [] kept place is lt there to few = (to, refl)
 leads_below cs into c (g ∷ gs) kept place is lt there to few =
