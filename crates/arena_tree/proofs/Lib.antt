@@ -28,3 +28,4 @@ pub mod GrowingPlaces
 pub mod Entering
 pub mod EnteringNew
 pub mod MergingIn
+pub mod MakingInPlace

@@ -1,7 +1,13 @@
 //! A tree as nodes in an arena.
 
 ghost use Rattle.std.specs.Prelude.{◌≡◌, ◌+◌, ◌<◌, ◌≤◌, ◌^◌, IfOk, OnOk, length};
+ghost use Rattle.rank_set.specs.Ranks.{none};
+ghost use Rattle.arena_tree.specs.declared.node.Link.TheVariants.{Top};
+ghost use Rattle.arena_tree.specs.Links.{linked};
+ghost use Rattle.arena_tree.specs.RunForest.{count_rows};
+ghost use Rattle.arena_tree.specs.Reading.{forest_at, LeadsToForest};
 ghost use Rattle.arena_tree.specs.Steps.{nodes_added, rows_added};
+ghost use Rattle.arena_tree.specs.Growth.{all_at, CanGrow, grown, rows_grown};
 ghost use Rattle.arena_tree.specs.Cursors.{IsCursor};
 
 use crate::apply::apply;
@@ -193,9 +199,12 @@ impl PrefixTree for ArenaTree {
                 return Err(error);
             }
         }
-        if self.coverage.union_into(&other.coverage).is_err() {
-            *self = ArenaTree::empty(self.alloc);
-            return Err(TreeError::OutOfMemory);
+        match self.coverage.union_into(&other.coverage) {
+            Ok(()) => {}
+            Err(error) => {
+                *self = ArenaTree::empty(self.alloc);
+                return Err(error.into());
+            }
         }
         self.trail.clear();
         self.first = growth.first;
@@ -262,7 +271,9 @@ impl PrefixTree for ArenaTree {
 }
 
 /// The target that begins at a place.
-fn all_from(first: Place) -> Target {
+fn all_from(first: Place) -> Target
+    ensures { result ≡ all_at Top first }
+{
     Target {
         link: Link::Top,
         node: first,
@@ -272,7 +283,23 @@ fn all_from(first: Place) -> Target {
 }
 
 /// Merges the nodes of another tree, from a place on, into those of a tree.
-fn grow_tree(growth: &mut Growth, from: Source<'_>, other: Place) -> Result<(), TreeError> {
+fn grow_tree(growth: &mut Growth, from: Source<'_>, other: Place) -> Result<(), TreeError>
+    requires into { CanGrow growth.old.nodes.items (all_at Top growth.old.first) }
+    requires other { LeadsToForest from.nodes.now.items other }
+    requires nobody { from.nobody.now ≡ none }
+    requires room { length growth.old.nodes.items + count_rows (forest_at from.nodes.now.items other) ≤ 4096 }
+    requires rows { growth.old.rows + count_rows (forest_at from.nodes.now.items other) ≤ 4096 }
+    ensures made { OnOk result (linked growth.new.first growth.new.nodes.items
+        ≡ grown (linked growth.old.first growth.old.nodes.items) (all_at Top growth.old.first)
+        (forest_at from.entry.nodes.now.items other)) }
+    ensures rows { OnOk result (growth.new.rows ≡ growth.old.rows
+        + rows_grown (linked growth.old.first growth.old.nodes.items) (all_at Top growth.old.first)
+        (forest_at from.entry.nodes.now.items other)) }
+    ensures fits { OnOk result (growth.new.rows ≤ PREFIX_LIMIT) }
+    ensures full { result ≡ Err TreeError.TooManyPrefixes → PREFIX_LIMIT < growth.old.rows
+        + rows_grown (linked growth.old.first growth.old.nodes.items) (all_at Top growth.old.first)
+        (forest_at from.entry.nodes.now.items other) }
+{
     let into = all_from(growth.first);
     growth.merge_in(into, from, all_from(other))?;
     if growth.rows as usize > PREFIX_LIMIT {
