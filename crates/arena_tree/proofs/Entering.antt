@@ -24,6 +24,7 @@ use Rattle.arena_tree.specs.Steps.{new_view, apply_step, apply_steps, shared_ste
 use Rattle.arena_tree.specs.Reading.{run_of, forest_at, frame_side}
 use Rattle.arena_tree.specs.Targets.{target_forest, IsAfter, next_of}
 use Rattle.arena_tree.specs.Plans.{BeginsAt, step_at}
+use Rattle.arena_tree.specs.Trail.{below_first}
 use Rattle.arena_tree.specs.Growth.{all_at, led_by, place_below, CanGrow, grown, rows_grown, GoesOn, Enters}
 use Rattle.arena_tree.proofs.Cases.{Premises, Opened, node_shared, apart_kb, off_kb, off_s, lies_s, long2, len1, len2, lies_k, off_n}
 use Rattle.arena_tree.proofs.RunningSteps.{apply_steps-append, split_own, merge_done}
@@ -31,7 +32,7 @@ use Rattle.arena_tree.proofs.SharedFrames.{drop_at, some_at}
 use Rattle.arena_tree.proofs.Totals.{rows_added-append, merge_nodes}
 use Rattle.arena_tree.proofs.Planning.{ReadsBehind, reads_behind, side_at, target_frame}
 use Rattle.arena_tree.proofs.Sharing.{parts, step_is, parts_known, few_cuts, rows_at}
-use Rattle.arena_tree.proofs.GrowingPlaces.{holds_at, fits_at, place_at, Stands, stands}
+use Rattle.arena_tree.proofs.GrowingPlaces.{holds_at, fits_at, Stands, stands, whole_forest}
 
 -- the place of a run that is merged is of no account
 by_three : (r : Ordering) (s1 s2 s3 t3 : List Step) → s3 ≡ t3 → by_order r s1 s2 s3 ≡ by_order r s1 s2 t3
@@ -200,6 +201,15 @@ module _ (h : LinkedNodes) (into : Target) (c : NodeView) (grows : CanGrow h.nod
         (apart_kb Top n a f fs common m v b s kb (merge_runs (mo + n) kb no_runs) s mo (new_nodes [] kb [] no_runs) 0 h h1 h_none h_none refl nodes_hold distinct opened (becomes no_runs))
         (off_kb Top n a f fs common m v b s kb (merge_runs (mo + n) kb no_runs) s mo (new_nodes [] kb [] no_runs) 0 h h1 h_none h_none refl nodes_hold distinct opened (becomes no_runs))
         below_is
+
+    -- where no node is cut
+    pub below_uncut : length h1.nodes ≡ n → forest_at h1.nodes below.node ≡ below_first (target_forest cs into)
+    below_uncut same =
+        sym (whole_forest h1.nodes below below_stands.grows.whole) ∙ below_stands.is ∙ uncut own (let e = opened.len in omega (arith, e, same)) ∙ ap below_first (sym read.is)
+      where
+        uncut : (own : Path) → cut_count own ≡ 0 → rest_over n own m b ≡ b
+        uncut [] e = refl
+        uncut (g ∷ gs) e = absurd (omega (arith, e))
 
     module _ (after : Target) (after_is : IsAfter into c.next after) (r r1 : ℕ) (rows : r1 ≡ r) where
       module _ (y : ℕ) (u : RunForest) (h2 : LinkedNodes) (r2 : ℕ) (h2_is : h2 ≡ grown h1 below (rest_over y other w u)) (r2_is : r2 ≡ r1 + rows_grown h1 below (rest_over y other w u)) (few2 : length h2.nodes ≤ 4096) where

@@ -2,12 +2,13 @@
 use Rattle.std.proofs.Common.{◌≡◌, ℕ, zero, suc, ◌≤◌, List, length, refl, sym, ap, ◌∙◌, subst, arith}
 use Rattle.std.specs.Prelude.{slice_get, Some}
 use Rattle.arena_tree.specs.declared.node.Link.{Link}
+use Rattle.arena_tree.specs.declared.node.Link.TheVariants.{Top, FirstOf, NextOf}
 use Rattle.arena_tree.specs.declared.target.Target.{Target}
 use Rattle.arena_tree.specs.NodeViews.{NodeView}
 use Rattle.arena_tree.specs.RunForest.{RunForest, count_nodes}
 use Rattle.arena_tree.specs.Placement.{first_place, count_place, HasDistinctPlaces, AreNodesOf}
 use Rattle.arena_tree.specs.Links.{IsOutside}
-use Rattle.arena_tree.specs.Reading.{LeadsToForest}
+use Rattle.arena_tree.specs.Reading.{forest_at, LeadsToForest}
 use Rattle.arena_tree.specs.Targets.{forest_behind, target_forest, LeadsBehind, IsTarget, IsAfter}
 use Rattle.arena_tree.specs.Growth.{all_at, CanGrow}
 use Rattle.arena_tree.proofs.Counting.{agrees}
@@ -59,3 +60,30 @@ stands cs l k q t from nodes_hold fits few distinct outside is =
       };
       is = there;
     })
+
+-- a part of the nodes
+outside_less : (l : Link) (k j : RunForest) → ((y : ℕ) → count_place y j ≤ count_place y k) → IsOutside l k → IsOutside l j
+outside_less Top k j less off = tt
+outside_less (FirstOf a) k j less off = let le = less a in omega (arith, le, off)
+outside_less (NextOf a) k j less off = let le = less a in omega (arith, le, off)
+
+pub grows_later : (cs : List NodeView) (t new : Target) → LeadsToForest cs new.node → new.place ≡ new.node → new.skip ≡ t.skip → new.link ≡ t.link → ((y : ℕ) → count_place y (forest_at cs new.node) ≤ count_place y (forest_at cs t.node)) → CanGrow cs t → CanGrow cs new
+grows_later cs t new to place skip link less grows =
+    let zero : new.skip ≡ 0 = skip ∙ grows.whole in
+    let from : target_forest cs t ≡ forest_at cs t.node = ap (forest_behind cs t.node t.place) grows.whole in
+    let there : target_forest cs new ≡ forest_at cs new.node = ap (forest_behind cs new.node new.place) zero in
+    let fewer : (y : ℕ) → count_place y (target_forest cs new) ≤ count_place y (target_forest cs t) = (λ y. let one = ap (count_place y) from in let two = ap (count_place y) there in let le = less y in omega (arith, one, two, le)) in
+    record {
+      whole = zero;
+      leads = subst (LeadsBehind cs new.node new.place) (sym zero) (to, place);
+      distinct = λ y. let le = fewer y in let one = grows.distinct y in omega (arith, le, one);
+      outside = subst (λ l. IsOutside l (target_forest cs new)) (sym link) (outside_less t.link (target_forest cs t) (target_forest cs new) fewer grows.outside);
+    }
+
+-- where whole nodes begin
+pub leads_at : (cs : List NodeView) (node place skip : ℕ) → skip ≡ 0 → LeadsBehind cs node place skip → LeadsToForest cs node
+leads_at cs node place zero e to = to.0
+leads_at cs node place (suc k) e to = absurd (omega (arith, e))
+
+pub whole_forest : (cs : List NodeView) (t : Target) → t.skip ≡ 0 → target_forest cs t ≡ forest_at cs t.node
+whole_forest cs t e = ap (forest_behind cs t.node t.place) e

@@ -29,3 +29,4 @@ pub mod Entering
 pub mod EnteringNew
 pub mod MergingIn
 pub mod MakingInPlace
+pub mod AddingRuns

@@ -1,5 +1,5 @@
 -- Later siblings, and what may be skipped before them.
-use Rattle.std.proofs.Common.{◌≡◌, ◌≢◌, inl, inr, ℕ, zero, suc, ◌<◌, ◌≤◌, false, true≢false, List, [], ◌∷◌, length, refl, sym, ap, ◌∙◌, subst, arith}
+use Rattle.std.proofs.Common.{◌≡◌, ◌≢◌, inl, inr, ℕ, zero, suc, ◌+◌, ◌<◌, ◌≤◌, false, true≢false, List, [], ◌∷◌, length, refl, sym, ap, ◌∙◌, subst, arith}
 use Rattle.std.specs.Prelude.{slice_get, Some}
 use Rattle.std.specs.declared.cmp.Ordering.{Ordering}
 use Rattle.std.specs.declared.cmp.Ordering.TheVariants.{Less, Equal, Greater}
@@ -13,7 +13,7 @@ use Rattle.arena_tree.specs.declared.node.Link.TheVariants.{NextOf}
 use Rattle.arena_tree.specs.NodeViews.{NodeView}
 use Rattle.arena_tree.specs.RowForest.{RowForest, frame_cmp, IsBefore, HasIncreasingRows}
 use Rattle.arena_tree.specs.RunForest.{RunForest, no_runs, run_node, rows_below, rows_of_runs, HasIncreasingRuns, count_nodes}
-use Rattle.arena_tree.specs.Placement.{first_place, node_view, AreNodesOf}
+use Rattle.arena_tree.specs.Placement.{first_place, count_place, node_view, AreNodesOf}
 use Rattle.arena_tree.specs.Steps.{merge_steps}
 use Rattle.arena_tree.specs.Reading.{forest_at, LeadsToForest, frame_side}
 use Rattle.arena_tree.specs.declared.target.Target.{Target}
@@ -24,14 +24,19 @@ use Rattle.arena_tree.proofs.Reading.{leads_to, leads_from}
 use Rattle.arena_tree.proofs.Planning.{reads, ReadsBehind, reads_behind, side_at, shorter}
 
 -- the siblings from one of them on
-abbrev siblings_from : (t : ℕ) (k : RunForest) → IsAmong t k → RunForest
+abbrev pub siblings_from : (t : ℕ) (k : RunForest) → IsAmong t k → RunForest
 siblings_from t no_runs i = no_runs
 siblings_from t (run_node a f fs m b s) (inl e) = run_node a f fs m b s
 siblings_from t (run_node a f fs m b s) (inr i) = siblings_from t s i
 
+siblings_within : (t : ℕ) (k : RunForest) (i : IsAmong t k) (y : ℕ) → count_place y (siblings_from t k i) ≤ count_place y k
+siblings_within t no_runs i y = omega arith
+siblings_within t (run_node a f fs m b s) (inl e) y = omega arith
+siblings_within t (run_node a f fs m b s) (inr i) y = let less = siblings_within t s i y in omega (arith, less)
+
 -- they are what the place leads to
 module _ (cs : List NodeView) (few : length cs ≤ 4096) where
-  at_siblings : (t : ℕ) (k : RunForest) (i : IsAmong t k) → AreNodesOf cs k → count_nodes k ≤ length cs → forest_at cs t ≡ siblings_from t k i
+  pub at_siblings : (t : ℕ) (k : RunForest) (i : IsAmong t k) → AreNodesOf cs k → count_nodes k ≤ length cs → forest_at cs t ≡ siblings_from t k i
   at_siblings t no_runs i nodes_hold fits = absurd i
   at_siblings t (run_node a f fs m b s) (inl e) nodes_hold fits = ap (forest_at cs) e ∙ leads_to cs (run_node a f fs m b s) nodes_hold fits few
   at_siblings t (run_node a f fs m b s) (inr i) nodes_hold fits = at_siblings t s i nodes_hold.2 (omega (arith, fits))
@@ -116,6 +121,17 @@ module _ (cs : List NodeView) (few : length cs ≤ 4096) where
   later_steps l n y g gs w c u (run_node a f fs m b s) x t nodes_hold fits up (inr (inl i)) off = later_steps l n y g gs w c u b x t nodes_hold.1 (omega (arith, fits)) (increasing_below a fs m (rows_of_runs b) up.1) i off
   later_steps l n y g gs w c u (run_node a f fs m b s) x t nodes_hold fits up (inr (inr i)) off = later_steps l n y g gs w c u s x t nodes_hold.2 (omega (arith, fits)) up.2 i off
 
+  -- what a later sibling leads to is a part of what an earlier one leads to
+  pub later_within : (k : RunForest) (x t : ℕ) → AreNodesOf cs k → count_nodes k ≤ length cs → IsLaterSibling k x t → (y : ℕ) → count_place y (forest_at cs t) ≤ count_place y (forest_at cs x)
+  later_within no_runs x t nodes_hold fits i y = absurd i
+  later_within (run_node a f fs m b s) x t nodes_hold fits (inl i) y =
+      let there = ap (count_place y) (at_siblings cs few t (run_node a f fs m b s) i.1 nodes_hold fits) in
+      let here = ap (count_place y) (ap (forest_at cs) i.0 ∙ leads_to cs (run_node a f fs m b s) nodes_hold fits few) in
+      let less = siblings_within t (run_node a f fs m b s) i.1 y in
+      omega (arith, there, here, less)
+  later_within (run_node a f fs m b s) x t nodes_hold fits (inr (inl i)) y = later_within b x t nodes_hold.1 (omega (arith, fits)) i y
+  later_within (run_node a f fs m b s) x t nodes_hold fits (inr (inr i)) y = later_within s x t nodes_hold.2 (omega (arith, fits)) i y
+
 first_among : (k : RunForest) (x : ℕ) → x ≡ first_place k → x ≢ 4294967295 → IsAmong x k
 first_among no_runs x e off = absurd (off e)
 first_among (run_node a f fs m b s) x e off = inl e
@@ -177,6 +193,9 @@ module _ (cs : List NodeView) (root : ℕ) (tree : LeadsToOrdered cs root) where
 
   pub leads_there : (x t : ℕ) → IsLaterSibling all x t → LeadsToForest cs t
   leads_there x t i = later_leads cs tree.leads.within_limit all x t tree.leads.nodes_hold tree.leads.no_more_nodes i
+
+  pub within_there : (x t : ℕ) → IsLaterSibling all x t → (y : ℕ) → count_place y (forest_at cs t) ≤ count_place y (forest_at cs x)
+  within_there x t i y = later_within cs tree.leads.within_limit all x t tree.leads.nodes_hold tree.leads.no_more_nodes i y
 
   pub inside_there : (x t : ℕ) → IsLaterSibling all x t → t < length cs
   inside_there x t i = later_inside cs all x t tree.leads.nodes_hold i

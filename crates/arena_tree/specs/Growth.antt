@@ -6,7 +6,7 @@ use Rattle.prefix_tree.specs.Tree.{Marks}
 use Rattle.arena_tree.specs.declared.node.Link.{Link}
 use Rattle.arena_tree.specs.declared.target.Target.{Target}
 use Rattle.arena_tree.specs.NodeViews.{NodeView}
-use Rattle.arena_tree.specs.RunForest.{RunForest}
+use Rattle.arena_tree.specs.RunForest.{RunForest, no_runs}
 use Rattle.arena_tree.specs.Placement.{HasDistinctPlaces}
 use Rattle.arena_tree.specs.Links.{LinkedNodes, IsOutside}
 use Rattle.arena_tree.specs.Steps.{rows_added, merge_steps, apply_steps, rest_over}
@@ -54,3 +54,10 @@ pub record Enters (h h1 : LinkedNodes) (into rest below : Target) (fs gs : Path)
   pub rows : r1 + length gs ≤ r + length fs
   pub goes_on : (y : ℕ) (c : RunForest) (h2 : LinkedNodes) (r2 : ℕ) → h2 ≡ grown h1 below (rest_over y gs w c) → r2 ≡ r1 + rows_grown h1 below (rest_over y gs w c) → length h2.nodes ≤ 4096
       → GoesOn h h2 into rest fs w c r r2
+
+-- a run was added, and so were its rows, where there were r and are r2
+pub record GrowsBy (h h2 : LinkedNodes) (into : Target) (fs : Path) (w : Marks) (r r2 : ℕ) : Type 0 where
+  pub made : h2 ≡ grown h into (run_of 0 fs w no_runs no_runs)
+  pub rows : r2 ≡ r + rows_grown h into (run_of 0 fs w no_runs no_runs)
+  pub few_nodes : length h2.nodes ≤ length h.nodes + length fs
+  pub few_rows : r2 ≤ r + length fs

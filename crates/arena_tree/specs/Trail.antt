@@ -24,6 +24,19 @@ IsLaterSibling (run_node a f fs m b s) x t = ((x ≡ a) × IsAmong t (run_node a
 abbrev pub AreHints : RunForest → List Hint → Type 0
 AreHints k hs = All (λ h. IsLaterSibling k h.first h.later) hs
 
+-- each hint for siblings of a forest is right
+abbrev pub AreOwnHints : RunForest → List Hint → Type 0
+AreOwnHints k hs = All (λ h. IsLaterSibling k h.first h.first → IsLaterSibling k h.first h.later) hs
+
+-- the siblings of the second forest are siblings in the first
+abbrev pub HasSiblings : RunForest → RunForest → Type 0
+HasSiblings k j = (x t : ℕ) → IsLaterSibling j x t → IsLaterSibling k x t
+
+-- what is below the first node of a forest
+abbrev pub below_first : RunForest → RunForest
+below_first no_runs = no_runs
+below_first (run_node a f fs m b s) = b
+
 -- a place leads to a forest in which siblings rise
 pub record LeadsToOrdered (cs : List NodeView) (at : ℕ) : Type 0 where
   pub leads : LeadsToForest cs at

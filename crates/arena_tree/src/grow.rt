@@ -8,12 +8,13 @@ ghost use Rattle.arena_tree.specs.declared.node.Link.TheVariants.{FirstOf, NextO
 ghost use Rattle.arena_tree.specs.declared.node.Step.TheVariants.{Cut, New};
 ghost use Rattle.arena_tree.specs.NodeViews.{NodeView, view_of, view_behind};
 ghost use Rattle.arena_tree.specs.Links.{linked};
-ghost use Rattle.arena_tree.specs.RunForest.{no_runs, count_rows};
+ghost use Rattle.arena_tree.specs.RunForest.{RunForest, count_rows};
 ghost use Rattle.arena_tree.specs.Steps.{apply_step};
-ghost use Rattle.arena_tree.specs.Reading.{run_of};
+ghost use Rattle.arena_tree.specs.Reading.{forest_at};
 ghost use Rattle.arena_tree.specs.Targets.{IsTarget, target_forest};
 ghost use Rattle.arena_tree.specs.Plans.{BeginsAt, step_at, target_below};
-ghost use Rattle.arena_tree.specs.Growth.{all_at, led_by, place_below, CanGrow, grown, rows_grown, Enters};
+ghost use Rattle.arena_tree.specs.Growth.{all_at, led_by, place_below, CanGrow, grown, rows_grown, Enters, GrowsBy};
+ghost use Rattle.arena_tree.specs.Trail.{AreHints, AreOwnHints, HasSiblings, below_first, LeadsToOrdered};
 
 use crate::apply::{cut, relink, unite};
 use crate::merge::{Run, ends_at};
@@ -163,6 +164,8 @@ impl Growth {
         requires nobody { run.nobody.now ≡ none }
         requires room { length self.old.nodes.items < 4096 }
         ensures kept { IfOk result (λ r. (run.entry.skip < r.1) × (r.1 ≤ length run.entry.path.now)) }
+        ensures uncut { IfOk result (λ r. length self.new.nodes.items ≡ length self.old.nodes.items
+            → forest_at self.new.nodes.items r.0.node ≡ below_first (target_forest self.old.nodes.items into.old)) }
         ensures enters { IfOk result (λ r. Enters (linked self.old.first self.old.nodes.items)
             (linked self.new.first self.new.nodes.items) into.old into.new r.0
             (drop run.entry.skip run.entry.path.now) (drop r.1 run.entry.path.now)
@@ -242,7 +245,16 @@ impl Growth {
     }
 
     /// Adds a run.
-    fn add_run(&mut self, mut into: Target, run: Run<'_>) -> Result<(), AllocError> {
+    fn add_run(&mut self, mut into: Target, run: Run<'_>) -> Result<(), AllocError>
+        requires into { CanGrow self.old.nodes.items into }
+        requires skip { run.skip < length run.path.now }
+        requires nobody { run.nobody.now ≡ none }
+        requires room { length self.old.nodes.items + length (drop run.skip run.path.now) ≤ 4096 }
+        requires rows { self.old.rows + length (drop run.skip run.path.now) ≤ 4096 }
+        ensures { OnOk result (GrowsBy (linked self.old.first self.old.nodes.items)
+            (linked self.new.first self.new.nodes.items) into (drop run.entry.skip run.entry.path.now)
+            (run.entry.label.now, run.entry.ends.now) self.old.rows self.new.rows) }
+    {
         let (below, kept) = self.enter(&mut into, run)?;
         if kept < run.path.len() {
             self.add_run(below, Run { skip: kept, ..run })?;
@@ -258,7 +270,21 @@ impl Growth {
         run: Run<'_>,
         trail: &mut Vec<Hint>,
         level: usize,
-    ) -> Result<(), AllocError> {
+    ) -> Result<(), AllocError>
+        requires into { CanGrow self.old.nodes.items into }
+        requires tree { LeadsToOrdered self.old.nodes.items into.node }
+        requires skip { run.skip < length run.path.now }
+        requires level { level ≤ run.skip }
+        requires nobody { run.nobody.now ≡ none }
+        requires room { length self.old.nodes.items + length (drop run.skip run.path.now) ≤ 4096 }
+        requires rows { self.old.rows + length (drop run.skip run.path.now) ≤ 4096 }
+        requires hints { AreOwnHints (forest_at self.old.nodes.items into.node) trail.old.items }
+        ensures hints { OnOk result ((k : RunForest) → HasSiblings k (forest_at self.old.nodes.items into.node)
+            → AreHints k trail.old.items → AreHints k trail.new.items) }
+        ensures grows { OnOk result (GrowsBy (linked self.old.first self.old.nodes.items)
+            (linked self.new.first self.new.nodes.items) into (drop run.entry.skip run.entry.path.now)
+            (run.entry.label.now, run.entry.ends.now) self.old.rows self.new.rows) }
+    {
         let root = into.node;
         let frame = run.path.frame(run.skip);
         if follow(&self.nodes, root, &mut into, frame, trail, level)? {
@@ -272,6 +298,7 @@ impl Growth {
                 self.add_path(below, run, trail, level + 1)?;
                 return Ok(());
             }
+            // A node was cut: its lower part is the only node there, and the path leaves it.
             self.add_run(below, run)?;
             return Ok(());
         }

@@ -7,7 +7,8 @@ ghost use Rattle.arena_tree.specs.RunForest.{RunForest, run_node};
 ghost use Rattle.arena_tree.specs.Steps.{merge_steps};
 ghost use Rattle.arena_tree.specs.Reading.{forest_at};
 ghost use Rattle.arena_tree.specs.Targets.{IsTarget, target_forest};
-ghost use Rattle.arena_tree.specs.Trail.{IsLaterSibling, AreHints, LeadsToOrdered, IsInTree, IsStart, IsFound};
+ghost use Rattle.arena_tree.specs.Trail.{IsLaterSibling, AreHints, AreOwnHints, HasSiblings, LeadsToOrdered, IsInTree, IsStart, IsFound};
+ghost use Rattle.arena_tree.specs.Growth.{CanGrow};
 
 use crate::node::{NO_PLACE, Node};
 use crate::target::Target;
@@ -68,7 +69,7 @@ fn find_start(
 ) -> Option<Place>
     requires tree { LeadsToOrdered nodes.now.items root }
     requires first { IsLaterSibling (forest_at nodes.now.items root) first first }
-    requires hints { AreHints (forest_at nodes.now.items root) trail.now.items }
+    requires hints { AreOwnHints (forest_at nodes.now.items root) trail.now.items }
     ensures { IfSome result (λ at. IsStart nodes.now.items root first frame.now at) }
 {
     if let Some(&hint) = trail.get(level) {
@@ -84,8 +85,10 @@ fn find_start(
 
 /// Makes a hint that of a level, and drops those of the levels below it unless it was that already.
 fn remember(trail: &mut Vec<Hint>, level: usize, hint: Hint) -> Result<(), AllocError>
-    ensures { (k : RunForest) → AreHints k trail.old.items → IsLaterSibling k hint.first hint.later
+    ensures hints { (k : RunForest) → AreHints k trail.old.items → IsLaterSibling k hint.first hint.later
         → AreHints k trail.new.items }
+    ensures own { (k : RunForest) → AreOwnHints k trail.old.items → IsLaterSibling k hint.first hint.later
+        → AreOwnHints k trail.new.items }
 {
     if let Some(&known) = trail.get(level) {
         if known.first == hint.first && known.later == hint.later {
@@ -110,8 +113,13 @@ pub(crate) fn follow(
     requires target { IsTarget nodes.now.items into.old }
     requires tree { LeadsToOrdered nodes.now.items root }
     requires inside { IsInTree nodes.now.items root into.old }
-    requires hints { AreHints (forest_at nodes.now.items root) trail.old.items }
-    ensures hints { AreHints (forest_at nodes.now.items root) trail.new.items }
+    requires hints { AreOwnHints (forest_at nodes.now.items root) trail.old.items }
+    ensures hints { (k : RunForest) → HasSiblings k (forest_at nodes.now.items root)
+        → AreHints k trail.old.items → AreHints k trail.new.items }
+    ensures own { AreOwnHints (forest_at nodes.now.items root) trail.new.items }
+    ensures grows { CanGrow nodes.now.items into.old → CanGrow nodes.now.items into.new }
+    ensures later { IfOk result (λ found. found ≡ true
+        → IsLaterSibling (forest_at nodes.now.items root) into.old.node into.new.node) }
     ensures target { IsTarget nodes.now.items into.new }
     ensures found { IfOk result (λ found. found ≡ true → IsFound nodes.now.items root frame.now into.new) }
     ensures steps { (n x : ℕ) (gs : Path) (w : Marks) (c t : RunForest)

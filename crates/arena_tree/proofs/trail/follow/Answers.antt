@@ -6,7 +6,8 @@ use Rattle.arena_tree.specs.Steps.{merge_steps}
 use Rattle.arena_tree.specs.Reading.{frame_side}
 use Rattle.arena_tree.specs.Targets.{LeadsBehind, forest_behind}
 use Rattle.arena_tree.proofs.Orders.{cmp_itself}
-use Rattle.arena_tree.proofs.Trails.{later_itself, leads_there, inside_there, steps_there, side_there}
+use Rattle.arena_tree.proofs.GrowingPlaces.{grows_later}
+use Rattle.arena_tree.proofs.Trails.{later_itself, leads_there, within_there, inside_there, steps_there, side_there}
 use Rattle.arena_tree.proofs.trail.follow.Goals as goal
 
 pub get-requires : goal.get-requires
@@ -42,3 +43,10 @@ returns-clause-steps c n x gs w u t =
     ap (λ skip. merge_steps into.link n (forest_behind cs into.node into.place skip) one) c.if-into-ne0.false
     ∙ steps_there cs c.args.root c.requires.tree into.link into.node at c.in-Some.ensures.later c.args.frame.now c.in-Some.ensures.side n x gs w u t
     ∙ ap (λ skip. merge_steps into.link n (forest_behind cs at at skip) one) (sym c.if-into-ne0.false)
+
+pub returns-clause-grows : goal.returns-clause-grows
+returns-clause-grows c grows =
+    let cs = c.args.nodes.now.items in
+    let later = c.in-Some.ensures.later in
+    grows_later cs c.args.into.now (record { link = c.args.into.now.link; node = c.in-Some.at; skip = c.args.into.now.skip; place = c.in-Some.at })
+    (leads_there cs c.args.root c.requires.tree c.args.into.now.node c.in-Some.at later) refl refl refl (within_there cs c.args.root c.requires.tree c.args.into.now.node c.in-Some.at later) grows

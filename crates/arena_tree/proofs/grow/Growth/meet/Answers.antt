@@ -6,7 +6,7 @@ use Rattle.arena_tree.specs.RunForest.{split_frames, split_parts}
 use Rattle.arena_tree.specs.Targets.{IsAfter}
 use Rattle.arena_tree.specs.Links.{linked}
 use Rattle.arena_tree.proofs.Sharing.{frames_same}
-use Rattle.arena_tree.proofs.Entering.{enters_shared}
+use Rattle.arena_tree.proofs.Entering.{enters_shared, below_uncut}
 use Rattle.arena_tree.proofs.grow.Growth.meet.Goals as goal
 
 pub common_behind-shared-requires-clause-same : goal.common_behind-shared-requires-clause-same
@@ -32,3 +32,16 @@ returns-clause-enters c =
     c.after.result (subst (λ next. IsAfter into next c.after.result) c.next-next.ensures c.after.ensures)
     c.args.self.now.rows c.share.new.self.rows c.share.ensures.rows
     (omega (arith, c.common_behind-shared.ensures.within_other))
+
+pub returns-clause-uncut : goal.returns-clause-uncut
+returns-clause-uncut c =
+    let into = c.args.into.now in
+    let p = c.args.run.path.now in
+    let k = c.args.run.skip in
+    let n = c.common_behind-shared.result in
+    below_uncut (linked c.args.self.now.first c.args.self.now.nodes.items) into c.get-node.result.now c.requires.into c.get-node.ensures p k n c.requires.begins
+    (subst (λ (q : Path). split_frames (drop (into.skip + 1) q) (drop (k + 1) p) ≡ split_parts (take n (drop (into.skip + 1) q)) (drop (into.skip + 1 + n) q) (drop (k + 1 + n) p)) c.frames-2.ensures c.common_behind-shared.ensures.split)
+    (subst (λ (q : Path). into.skip + 1 + n ≤ length q) c.frames-2.ensures c.common_behind-shared.ensures.within_own)
+    c.args.run.label.now c.args.run.ends.now c.ends_at-ends.result.now c.ends_at-ends.ensures c.requires.room
+    (linked c.share.new.self.first c.share.new.self.nodes.items) (c.in_ok-below.ensures.made c.get-node.result.now c.get-node.ensures)
+    c.in_ok-below.below (c.in_ok-below.ensures.below c.get-node.result.now c.get-node.ensures)
