@@ -5,9 +5,10 @@ use Rattle.prefix_tree.specs.Tree.{Marks}
 use Rattle.arena_tree.specs.declared.target.Target.{Target}
 use Rattle.arena_tree.specs.RunForest.{RunForest, no_runs}
 use Rattle.arena_tree.specs.Links.{LinkedNodes}
-use Rattle.arena_tree.specs.Steps.{rest_over}
+use Rattle.arena_tree.specs.Steps.{rest_over, rows_added, apply_steps}
 use Rattle.arena_tree.specs.Reading.{run_of}
 use Rattle.arena_tree.specs.Growth.{grown, rows_grown, GoesOn, Enters, GrowsBy}
+use Rattle.arena_tree.proofs.PlanningRuns.{Sought}
 use Rattle.arena_tree.proofs.MergingIn.{grown_none, rows_grown_none}
 
 alone : (gs : Path) (w : Marks) → run_of 0 gs w no_runs no_runs ≡ rest_over 0 gs w no_runs
@@ -41,3 +42,12 @@ nothing_more h into gs w r none = record {
 -- all its frames are merged
 pub grows_all : (h h1 : LinkedNodes) (into rest below : Target) (fs gs : Path) (w : Marks) (r r1 : ℕ) → Enters h h1 into rest below fs gs w r r1 → gs ≡ [] → length h.nodes + length fs ≤ 4096 → GrowsBy h h1 into fs w r r1
 grows_all h h1 into rest below fs gs w r r1 enters none few = grows_more h h1 h1 into rest below fs gs w r r1 r1 enters (nothing_more h1 below gs w r1 none) few
+
+-- a run that was looked for from an earlier node on
+pub grows_sought : (h h2 : LinkedNodes) (into0 into : Target) (fs : Path) (w : Marks) (r r2 : ℕ) → Sought h.nodes into0 into fs w (length h.nodes) → GrowsBy h h2 into fs w r r2 → GrowsBy h h2 into0 fs w r r2
+grows_sought h h2 into0 into fs w r r2 sought it = record {
+  made = it.made ∙ ap (apply_steps h) (sym (sought 0 no_runs no_runs));
+  rows = it.rows ∙ ap (λ ss. r + rows_added ss) (sym (sought 0 no_runs no_runs));
+  few_nodes = it.few_nodes;
+  few_rows = it.few_rows;
+}

@@ -30,3 +30,4 @@ pub mod EnteringNew
 pub mod MergingIn
 pub mod MakingInPlace
 pub mod AddingRuns
+pub mod Parts

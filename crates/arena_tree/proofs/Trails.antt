@@ -29,7 +29,7 @@ siblings_from t no_runs i = no_runs
 siblings_from t (run_node a f fs m b s) (inl e) = run_node a f fs m b s
 siblings_from t (run_node a f fs m b s) (inr i) = siblings_from t s i
 
-siblings_within : (t : ℕ) (k : RunForest) (i : IsAmong t k) (y : ℕ) → count_place y (siblings_from t k i) ≤ count_place y k
+pub siblings_within : (t : ℕ) (k : RunForest) (i : IsAmong t k) (y : ℕ) → count_place y (siblings_from t k i) ≤ count_place y k
 siblings_within t no_runs i y = omega arith
 siblings_within t (run_node a f fs m b s) (inl e) y = omega arith
 siblings_within t (run_node a f fs m b s) (inr i) y = let less = siblings_within t s i y in omega (arith, less)
@@ -84,7 +84,7 @@ steps_from l n x g gs w c u t (run_node a f fs m b s) (inr i) up off =
     ∙ steps_from (NextOf a) n x g gs w c u t s i up.2 off
     ∙ any_link (NextOf a) l n x g gs w (siblings_from t s i) c u off
 
-increasing_below : (a : ℕ) (fs : Path) (m : Marks) (k : RowForest) → HasIncreasingRows (rows_below a fs m k) → HasIncreasingRows k
+pub increasing_below : (a : ℕ) (fs : Path) (m : Marks) (k : RowForest) → HasIncreasingRows (rows_below a fs m k) → HasIncreasingRows k
 increasing_below a [] m k up = up
 increasing_below a (f ∷ fs) m k up = increasing_below a fs m k up.1
 
