@@ -1,5 +1,5 @@
 -- What a tree is after a change in place.
-use Rattle.std.proofs.Common.{◌≡◌, ◌≢◌, true, ℕ, ◌+◌, ◌≤◌, List, [], length, refl, sym, ap, ◌∙◌, subst, arith}
+use Rattle.std.proofs.Common.{◌≡◌, ◌≢◌, true, ℕ, ◌+◌, ◌≤◌, List, [], ◌∷◌, length, refl, sym, ap, ◌∙◌, subst, arith}
 use Rattle.rank_set.specs.Ranks.{Ranks, none, union, is_subset}
 use Rattle.call_path.specs.Path.{Path}
 use Rattle.call_path.specs.Good.{IsGoodPath}
@@ -7,10 +7,10 @@ use Rattle.prefix_tree.specs.Tree.{Tree, merged, added, count_below}
 use Rattle.arena_tree.specs.declared.node.Link.TheVariants.{Top}
 use Rattle.arena_tree.specs.declared.trail.Hint.{Hint}
 use Rattle.arena_tree.specs.NodeViews.{NodeView}
-use Rattle.arena_tree.specs.RunForest.{RunForest, count_rows}
+use Rattle.arena_tree.specs.RunForest.{RunForest, no_runs, count_rows}
 use Rattle.arena_tree.specs.RunMerge.{new_rows}
 use Rattle.arena_tree.specs.Links.{LinkedNodes, linked}
-use Rattle.arena_tree.specs.Reading.{forest_at}
+use Rattle.arena_tree.specs.Reading.{run_of, forest_at}
 use Rattle.arena_tree.specs.TreeView.{tree_view, IsArenaTree, path_forest}
 use Rattle.arena_tree.specs.Trail.{AreHints}
 use Rattle.arena_tree.specs.Growth.{all_at, CanGrow, grown, rows_grown}
@@ -75,3 +75,8 @@ module _ (A : Ranks) (cs : List NodeView) (first : ℕ) (holds : IsArenaTree A c
 
       pub grown_add_rows : (rows1 : ℕ) → rows1 ≡ rows + more one → rows1 ≡ count_rows (forest_at h.nodes h.first)
       grown_add_rows rows1 is = let all = rows_made A h.nodes h.first (added t C path) grown_add_made in omega (arith, all, grown_add_counted, is)
+
+-- a path as a forest
+pub path_run : (C : Ranks) (path : Path) → run_of 0 path (C, C) no_runs no_runs ≡ path_forest C path
+path_run C [] = refl
+path_run C (f ∷ fs) = refl

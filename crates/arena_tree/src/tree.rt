@@ -4,8 +4,9 @@ ghost use Rattle.std.specs.Prelude.{◌≡◌, ◌+◌, ◌<◌, ◌≤◌, ◌^
 ghost use Rattle.rank_set.specs.Ranks.{none};
 ghost use Rattle.arena_tree.specs.declared.node.Link.TheVariants.{Top};
 ghost use Rattle.arena_tree.specs.Links.{linked};
-ghost use Rattle.arena_tree.specs.RunForest.{count_rows};
-ghost use Rattle.arena_tree.specs.Reading.{forest_at, LeadsToForest};
+ghost use Rattle.arena_tree.specs.RunForest.{no_runs, count_rows};
+ghost use Rattle.arena_tree.specs.Reading.{run_of, forest_at, LeadsToForest};
+ghost use Rattle.arena_tree.specs.Trail.{AreHints, AreOwnHints, LeadsToOrdered};
 ghost use Rattle.arena_tree.specs.Steps.{nodes_added, rows_added};
 ghost use Rattle.arena_tree.specs.Growth.{all_at, CanGrow, grown, rows_grown};
 ghost use Rattle.arena_tree.specs.Cursors.{IsCursor};
@@ -156,6 +157,8 @@ impl PrefixTree for ArenaTree {
     }
 
     fn add_or_clear(&mut self, ranks: &RankSet, path: &CallPath) -> Result<(), TreeError> {
+        // For the proof: the frames are good.
+        let _len = path.len();
         let mut growth = Growth {
             first: self.first,
             nodes: mem::replace(&mut self.nodes, Arena::new(self.alloc)),
@@ -309,11 +312,29 @@ fn grow_tree(growth: &mut Growth, from: Source<'_>, other: Place) -> Result<(), 
 }
 
 /// Adds a path to the nodes of a tree.
-fn grow_path(
-    growth: &mut Growth,
-    run: Run<'_>,
-    trail: &mut Vec<Hint>,
-) -> Result<(), TreeError> {
+fn grow_path(growth: &mut Growth, run: Run<'_>, trail: &mut Vec<Hint>) -> Result<(), TreeError>
+    requires into { CanGrow growth.old.nodes.items (all_at Top growth.old.first) }
+    requires tree { LeadsToOrdered growth.old.nodes.items growth.old.first }
+    requires skip { run.skip ≡ 0 }
+    requires nobody { run.nobody.now ≡ none }
+    requires room { length growth.old.nodes.items ≤ 2048 }
+    requires rows { growth.old.rows ≤ 2048 }
+    requires hints { AreOwnHints (forest_at growth.old.nodes.items growth.old.first) trail.old.items }
+    ensures made { OnOk result (linked growth.new.first growth.new.nodes.items
+        ≡ grown (linked growth.old.first growth.old.nodes.items) (all_at Top growth.old.first)
+        (run_of 0 run.entry.path.now (run.entry.label.now, run.entry.ends.now) no_runs no_runs)) }
+    ensures rows { OnOk result (growth.new.rows ≡ growth.old.rows
+        + rows_grown (linked growth.old.first growth.old.nodes.items) (all_at Top growth.old.first)
+        (run_of 0 run.entry.path.now (run.entry.label.now, run.entry.ends.now) no_runs no_runs)) }
+    ensures hints { OnOk result (AreHints (forest_at growth.old.nodes.items growth.old.first) trail.old.items
+        → AreHints (forest_at growth.old.nodes.items growth.old.first) trail.new.items) }
+    ensures fits { OnOk result (growth.new.rows ≤ PREFIX_LIMIT) }
+    ensures full { result ≡ Err TreeError.TooManyPrefixes → PREFIX_LIMIT < growth.old.rows
+        + rows_grown (linked growth.old.first growth.old.nodes.items) (all_at Top growth.old.first)
+        (run_of 0 run.entry.path.now (run.entry.label.now, run.entry.ends.now) no_runs no_runs) }
+{
+    // For the proof: no more than `FRAME_LIMIT` frames.
+    let _len = run.path.len();
     let into = all_from(growth.first);
     growth.add_path(into, run, trail, 0)?;
     if growth.rows as usize > PREFIX_LIMIT {

@@ -28,7 +28,7 @@ grow_tree-requires-clause-room c =
 
 pub returns-in-Err-clause-full : goal.returns-in-Err-clause-full
 returns-in-Err-clause-full c e =
-    let over = c.in-Err.ensures.full (ap (λ r. r) e) in
+    let over = c.in-Err.ensures.full e in
     let all = grown_merge_counted c.self.inside.coverage c.self.inside.nodes.items c.self.inside.first c.self.invariant.tree
     c.other.inside.coverage c.other.inside.nodes.items c.other.inside.first c.args.self.now.tree c.args.other.now.tree (tree_is c.self.view_is) (tree_is c.other.view_is) c.other.invariant.tree c.self.inside.rows c.self.invariant.rows in
     let same = ap (λ a. rows_grown (linked c.self.inside.first a.items) (all_at Top c.self.inside.first) (forest_at c.other.inside.nodes.items c.other.inside.first)) c.replace.ensures.value in
