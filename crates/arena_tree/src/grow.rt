@@ -1,6 +1,6 @@
 //! A change of a tree in one pass: nodes are changed and added as soon as they are found.
 //!
-//! Where it fails, a part of the change is done, and the nodes are of no more use.
+//! Where it fails, a part of the change is done, and the nodes are to be dropped.
 
 ghost use Rattle.std.specs.Prelude.{◌≡◌, ◌+◌, ◌-◌, ◌<◌, ◌≤◌, ◌∷◌, Some, IfOk, OnOk, length, drop, slice_get};
 ghost use Rattle.rank_set.specs.Ranks.{none, union};
@@ -262,8 +262,8 @@ impl Growth {
         Ok(())
     }
 
-    /// Adds a run as `add_run` does. The trail's hints, from that of the level on, say where to look for its frames, and
-    /// then where they were found.
+    /// Adds a run as `add_run` does. The trail's hints, from that of the level on, say where to look for its frames,
+    /// and then where they were found.
     pub(crate) fn add_path(
         &mut self,
         mut into: Target,

@@ -7,6 +7,9 @@
 //! A change has two passes. The first one only reads: it plans the steps of the change, and makes all
 //! sets, frames and room that they need. The second one does the steps and cannot fail, so a change
 //! that is refused leaves the tree as it was.
+//!
+//! A change that may leave an empty tree where it fails has one pass: nodes are changed and added as
+//! soon as they are found. It makes what the steps make.
 #![tactic(auto)]
 
 ghost use Rattle.arena_tree.specs.Laws.{CutShowsSameRows, MergeUnitesRows, StepsMakeMerge};

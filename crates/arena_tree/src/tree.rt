@@ -174,8 +174,8 @@ impl PrefixTree for ArenaTree {
         match grow_path(&mut growth, run, &mut self.trail) {
             Ok(()) => {
                 self.first = growth.first;
-                self.nodes = growth.nodes;
                 self.rows = growth.rows;
+                self.nodes = growth.nodes;
                 Ok(())
             }
             Err(error) => {
@@ -211,8 +211,8 @@ impl PrefixTree for ArenaTree {
         }
         self.trail.clear();
         self.first = growth.first;
-        self.nodes = growth.nodes;
         self.rows = growth.rows;
+        self.nodes = growth.nodes;
         Ok(())
     }
 

@@ -1,6 +1,7 @@
 use Rattle.std.proofs.Common.{◌∙◌, ◌-◌, ◌<◌, arith, length, drop}
 use Rattle.std.proofs.lemmas.List.{length-drop}
 use Rattle.prefix_tree.specs.Tree.{Marks}
+use Rattle.arena_tree.specs.Reading.{forest_at}
 use Rattle.arena_tree.specs.Plans.{next_place}
 use Rattle.arena_tree.proofs.Sharing.{drop_all, drop_some}
 use Rattle.arena_tree.proofs.PlanningRuns.{sought_all, plans_one, plans_more, plans_sought, room_left}
@@ -27,7 +28,7 @@ plan_path-requires t c =
     c.in_ok-below.ensures.shares c.requires.room (omega (arith, kept.0, within)) in
     let found = c.in_ok-follow.ensures.found c.if-branch.true in
     let inside = below_there cs c.args.root c.requires.tree c.follow.new.into.node c.in_ok-below.below found.node c.in_ok-below.ensures.below in
-    (falls, (c.in_ok-below.ensures.shares.below_leads, (c.requires.tree, (inside, (within, (omega (arith, c.requires.level, kept.0), (c.requires.nobody, (room, c.follow.ensures.hints))))))))
+    (falls, (c.in_ok-below.ensures.shares.below_leads, (c.requires.tree, (inside, (within, (omega (arith, c.requires.level, kept.0), (c.requires.nobody, (room, c.follow.ensures.hints (forest_at cs c.args.root) (λ x t i. i) c.requires.hints))))))))
 
 pub returns-then-branch-clause-plans : goal.returns-then-branch-clause-plans
 returns-then-branch-clause-plans t c =

@@ -13,7 +13,7 @@ use Rattle.arena_tree.specs.Growth.{all_at, CanGrow, grown, rows_grown}
 use Rattle.arena_tree.proofs.Views.{tree_is}
 use Rattle.arena_tree.proofs.Trees.{Makes, leads_first}
 use Rattle.arena_tree.proofs.MakingInPlace.{tree_grows, tree_few, grown_add_counted, grown_add_made, grown_add_hints, grown_add_rows, path_run}
-use Rattle.arena_tree.proofs.tree.ArenaTreePrefixTree.add_or_clear.Goals.{After-self-in-Ok-1}
+use Rattle.arena_tree.proofs.tree.ArenaTreePrefixTree.add_or_clear.Goals.{After-drop-self-inside}
 use Rattle.arena_tree.proofs.tree.ArenaTreePrefixTree.add_or_clear.Goals as goal
 
 pub grow_path-requires-clause-into : goal.grow_path-requires-clause-into
@@ -27,19 +27,19 @@ grow_path-requires-clause-tree c =
 pub grow_path-requires-clause-room : goal.grow_path-requires-clause-room
 grow_path-requires-clause-room c = let same = ap (λ a. length a.items) c.replace.ensures.value in let few = tree_few c.self.inside.coverage c.self.inside.nodes.items c.self.inside.first c.self.invariant.tree in omega (arith, same, few)
 
-abbrev after : (c : After-self-in-Ok-1) → LinkedNodes
+abbrev after : (c : After-drop-self-inside) → LinkedNodes
 after c = linked c.grow_path.new.growth.first c.grow_path.new.growth.nodes.items
 
-rows_so : (c : After-self-in-Ok-1) → c.grow_path.new.growth.rows ≡ c.self.inside.rows + rows_grown (linked c.self.inside.first c.self.inside.nodes.items) (all_at Top c.self.inside.first) (path_forest c.args.ranks.now c.args.path.now)
+rows_so : (c : After-drop-self-inside) → c.grow_path.new.growth.rows ≡ c.self.inside.rows + rows_grown (linked c.self.inside.first c.self.inside.nodes.items) (all_at Top c.self.inside.first) (path_forest c.args.ranks.now c.args.path.now)
 rows_so c = c.in-Ok.ensures.rows ∙ (λ i. c.self.inside.rows + rows_grown (linked c.self.inside.first (c.replace.ensures.value i).items) (all_at Top c.self.inside.first) (path_run c.args.ranks.now c.args.path.now i))
 
-made_so : (c : After-self-in-Ok-1) → after c ≡ grown (linked c.self.inside.first c.self.inside.nodes.items) (all_at Top c.self.inside.first) (path_forest c.args.ranks.now c.args.path.now)
+made_so : (c : After-drop-self-inside) → after c ≡ grown (linked c.self.inside.first c.self.inside.nodes.items) (all_at Top c.self.inside.first) (path_forest c.args.ranks.now c.args.path.now)
 made_so c = c.in-Ok.ensures.made ∙ (λ i. grown (linked c.self.inside.first (c.replace.ensures.value i).items) (all_at Top c.self.inside.first) (path_run c.args.ranks.now c.args.path.now i))
 
-fits_so : (c : After-self-in-Ok-1) → c.self.inside.rows + rows_grown (linked c.self.inside.first c.self.inside.nodes.items) (all_at Top c.self.inside.first) (path_forest c.args.ranks.now c.args.path.now) ≤ 2048
+fits_so : (c : After-drop-self-inside) → c.self.inside.rows + rows_grown (linked c.self.inside.first c.self.inside.nodes.items) (all_at Top c.self.inside.first) (path_forest c.args.ranks.now c.args.path.now) ≤ 2048
 fits_so c = let fits = c.in-Ok.ensures.fits in omega (arith, fits, rows_so c)
 
-makes : (c : After-self-in-Ok-1) → Makes c.self.inside.coverage c.grow_path.new.growth.nodes.items c.grow_path.new.growth.first (added c.args.self.now.tree c.args.ranks.now c.args.path.now)
+makes : (c : After-drop-self-inside) → Makes c.self.inside.coverage c.grow_path.new.growth.nodes.items c.grow_path.new.growth.first (added c.args.self.now.tree c.args.ranks.now c.args.path.now)
 makes c = grown_add_made c.self.inside.coverage c.self.inside.nodes.items c.self.inside.first c.self.invariant.tree
     c.args.ranks.now c.args.path.now c.args.self.now.tree (tree_is c.self.view_is) c.requires.not_empty c.requires.in_coverage c.len-len.ensures.good c.self.inside.rows c.self.invariant.rows (after c) (made_so c) (fits_so c)
 

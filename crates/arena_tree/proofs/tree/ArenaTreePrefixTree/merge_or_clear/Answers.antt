@@ -11,7 +11,7 @@ use Rattle.arena_tree.specs.Growth.{all_at, CanGrow, grown, rows_grown}
 use Rattle.arena_tree.proofs.Views.{tree_is}
 use Rattle.arena_tree.proofs.Trees.{Makes, leads_first}
 use Rattle.arena_tree.proofs.MakingInPlace.{tree_grows, tree_few, grown_merge_counted, grown_merge_made, grown_merge_rows}
-use Rattle.arena_tree.proofs.tree.ArenaTreePrefixTree.merge_or_clear.Goals.{After-self-2-1}
+use Rattle.arena_tree.proofs.tree.ArenaTreePrefixTree.merge_or_clear.Goals.{After-drop-self-inside-2}
 use Rattle.arena_tree.proofs.tree.ArenaTreePrefixTree.merge_or_clear.Goals as goal
 
 pub grow_tree-requires-clause-into : goal.grow_tree-requires-clause-into
@@ -34,13 +34,13 @@ returns-in-Err-clause-full c e =
     let same = ap (λ a. rows_grown (linked c.self.inside.first a.items) (all_at Top c.self.inside.first) (forest_at c.other.inside.nodes.items c.other.inside.first)) c.replace.ensures.value in
     omega (arith, all, over, same)
 
-abbrev after : (c : After-self-2-1) → Rattle.arena_tree.specs.Links.LinkedNodes
+abbrev after : (c : After-drop-self-inside-2) → Rattle.arena_tree.specs.Links.LinkedNodes
 after c = linked c.grow_tree.new.growth.first c.grow_tree.new.growth.nodes.items
 
-rows_so : (c : After-self-2-1) → c.grow_tree.new.growth.rows ≡ c.self.inside.rows + rows_grown (linked c.self.inside.first c.self.inside.nodes.items) (all_at Top c.self.inside.first) (forest_at c.other.inside.nodes.items c.other.inside.first)
+rows_so : (c : After-drop-self-inside-2) → c.grow_tree.new.growth.rows ≡ c.self.inside.rows + rows_grown (linked c.self.inside.first c.self.inside.nodes.items) (all_at Top c.self.inside.first) (forest_at c.other.inside.nodes.items c.other.inside.first)
 rows_so c = c.in-Ok.ensures.rows ∙ ap (λ a. c.self.inside.rows + rows_grown (linked c.self.inside.first a.items) (all_at Top c.self.inside.first) (forest_at c.other.inside.nodes.items c.other.inside.first)) c.replace.ensures.value
 
-makes : (c : After-self-2-1) → Makes c.union_into.new.self c.grow_tree.new.growth.nodes.items c.grow_tree.new.growth.first (merged c.args.self.now.tree c.args.other.now.tree)
+makes : (c : After-drop-self-inside-2) → Makes c.union_into.new.self c.grow_tree.new.growth.nodes.items c.grow_tree.new.growth.first (merged c.args.self.now.tree c.args.other.now.tree)
 makes c =
     grown_merge_made c.self.inside.coverage c.self.inside.nodes.items c.self.inside.first c.self.invariant.tree
     c.other.inside.coverage c.other.inside.nodes.items c.other.inside.first c.args.self.now.tree c.args.other.now.tree (tree_is c.self.view_is) (tree_is c.other.view_is) c.other.invariant.tree c.self.inside.rows c.self.invariant.rows c.union_into.new.self (after c)
