@@ -3,7 +3,7 @@ use Rattle.std.proofs.Common.{◌≡◌, ℕ, ◌+◌, ◌≤◌, [], ◌∷◌,
 use Rattle.call_path.specs.Path.{Path}
 use Rattle.prefix_tree.specs.Tree.{Marks}
 use Rattle.arena_tree.specs.declared.target.Target.{Target}
-use Rattle.arena_tree.specs.RunForest.{RunForest, no_runs}
+use Rattle.arena_tree.specs.RunForest.{no_runs}
 use Rattle.arena_tree.specs.Links.{LinkedNodes}
 use Rattle.arena_tree.specs.Steps.{rest_over, rows_added, apply_steps}
 use Rattle.arena_tree.specs.Reading.{run_of}

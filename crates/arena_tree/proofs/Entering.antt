@@ -4,29 +4,28 @@ use Rattle.std.specs.Prelude.{slice_get, Some}
 use Rattle.std.specs.declared.cmp.Ordering.{Ordering}
 use Rattle.std.specs.declared.cmp.Ordering.TheVariants.{Less, Equal, Greater}
 use Rattle.std.proofs.lemmas.List.{length-drop}
-use Rattle.rank_set.specs.Ranks.{Ranks, none}
+use Rattle.rank_set.specs.Ranks.{Ranks}
 use Rattle.call_path.specs.Path.{Path}
 use Rattle.prefix_tree.specs.Tree.{Marks}
 use Rattle.prefix_tree.specs.Owned.{by_order}
 use Rattle.arena_tree.specs.declared.node.Link.{Link}
 use Rattle.arena_tree.specs.declared.node.Link.TheVariants.{Top, FirstOf, NextOf}
 use Rattle.arena_tree.specs.declared.node.Step.{Step}
-use Rattle.arena_tree.specs.declared.node.Step.TheVariants.{New}
 use Rattle.arena_tree.specs.declared.target.Target.{Target}
-use Rattle.arena_tree.specs.NodeViews.{NodeView, view_of}
+use Rattle.arena_tree.specs.NodeViews.{NodeView}
 use Rattle.arena_tree.specs.RowForest.{frame_cmp}
 use Rattle.arena_tree.specs.RowMerge.{united_marks}
 use Rattle.arena_tree.specs.RunForest.{RunForest, no_runs, run_node, row_ends, row_marks, count_nodes, split_frames, split_parts, cut_count}
 use Rattle.arena_tree.specs.RunMerge.{added_marks, new_nodes, merge_runs}
-use Rattle.arena_tree.specs.Placement.{first_place, count_place, HasDistinctPlaces, AreNodesOf, node_view}
-use Rattle.arena_tree.specs.Links.{LinkedNodes, LeadsTo}
-use Rattle.arena_tree.specs.Steps.{new_view, apply_step, apply_steps, shared_step, rest_over, nodes_added, rows_added, rows_added_by, merge_steps, Becomes}
-use Rattle.arena_tree.specs.Reading.{run_of, forest_at, frame_side}
+use Rattle.arena_tree.specs.Placement.{first_place, HasDistinctPlaces, AreNodesOf}
+use Rattle.arena_tree.specs.Links.{LinkedNodes}
+use Rattle.arena_tree.specs.Steps.{apply_step, apply_steps, shared_step, rest_over, nodes_added, rows_added, rows_added_by, merge_steps, Becomes}
+use Rattle.arena_tree.specs.Reading.{run_of, forest_at}
 use Rattle.arena_tree.specs.Targets.{target_forest, IsAfter, next_of}
 use Rattle.arena_tree.specs.Plans.{BeginsAt, step_at}
 use Rattle.arena_tree.specs.Trail.{below_first}
-use Rattle.arena_tree.specs.Growth.{all_at, led_by, place_below, CanGrow, grown, rows_grown, GoesOn, Enters}
-use Rattle.arena_tree.proofs.Cases.{Premises, Opened, node_shared, apart_kb, off_kb, off_s, lies_s, long2, len1, len2, lies_k, off_n}
+use Rattle.arena_tree.specs.Growth.{all_at, place_below, CanGrow, grown, rows_grown, GoesOn, Enters}
+use Rattle.arena_tree.proofs.Cases.{Premises, Opened, node_shared, apart_kb, off_kb, off_s, lies_s, long2}
 use Rattle.arena_tree.proofs.RunningSteps.{apply_steps-append, split_own, merge_done}
 use Rattle.arena_tree.proofs.SharedFrames.{drop_at, some_at}
 use Rattle.arena_tree.proofs.Totals.{rows_added-append, merge_nodes}

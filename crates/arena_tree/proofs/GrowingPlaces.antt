@@ -9,7 +9,7 @@ use Rattle.arena_tree.specs.RunForest.{RunForest, count_nodes}
 use Rattle.arena_tree.specs.Placement.{first_place, count_place, HasDistinctPlaces, AreNodesOf}
 use Rattle.arena_tree.specs.Links.{IsOutside}
 use Rattle.arena_tree.specs.Reading.{forest_at, LeadsToForest}
-use Rattle.arena_tree.specs.Targets.{forest_behind, target_forest, LeadsBehind, IsTarget, IsAfter}
+use Rattle.arena_tree.specs.Targets.{forest_behind, target_forest, LeadsBehind, IsAfter}
 use Rattle.arena_tree.specs.Growth.{all_at, CanGrow}
 use Rattle.arena_tree.proofs.Counting.{agrees}
 use Rattle.arena_tree.proofs.Reading.{leads_to, leads_from}

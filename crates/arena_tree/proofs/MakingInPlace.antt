@@ -1,5 +1,5 @@
 -- What a tree is after a change in place.
-use Rattle.std.proofs.Common.{◌≡◌, ◌≢◌, true, ℕ, ◌+◌, ◌≤◌, List, [], ◌∷◌, length, refl, sym, ap, ◌∙◌, subst, arith}
+use Rattle.std.proofs.Common.{◌≡◌, ◌≢◌, true, ℕ, ◌+◌, ◌≤◌, List, [], ◌∷◌, length, refl, sym, ◌∙◌, subst, arith}
 use Rattle.rank_set.specs.Ranks.{Ranks, none, union, is_subset}
 use Rattle.call_path.specs.Path.{Path}
 use Rattle.call_path.specs.Good.{IsGoodPath}

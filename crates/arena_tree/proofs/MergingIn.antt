@@ -1,5 +1,5 @@
 -- A turn of a merge in place: a node of the other tree is merged, with all that is below it.
-use Rattle.std.proofs.Common.{◌≡◌, ℕ, suc, ◌+◌, ◌<◌, ◌≤◌, List, [], ◌∷◌, length, drop, refl, sym, ap, ◌∙◌, subst, arith}
+use Rattle.std.proofs.Common.{◌≡◌, ℕ, ◌+◌, ◌<◌, ◌≤◌, List, [], ◌∷◌, length, drop, refl, sym, ap, ◌∙◌, subst, arith}
 use Rattle.std.specs.Prelude.{slice_get, Some}
 use Rattle.std.proofs.lemmas.List.{length-drop}
 use Rattle.rank_set.specs.Ranks.{Ranks}
@@ -7,7 +7,7 @@ use Rattle.call_path.specs.Path.{Path}
 use Rattle.prefix_tree.specs.Tree.{Marks}
 use Rattle.arena_tree.specs.declared.target.Target.{Target}
 use Rattle.arena_tree.specs.NodeViews.{NodeView}
-use Rattle.arena_tree.specs.RunForest.{RunForest, no_runs, run_node, count_rows}
+use Rattle.arena_tree.specs.RunForest.{RunForest, no_runs, count_rows}
 use Rattle.arena_tree.specs.Links.{LinkedNodes}
 use Rattle.arena_tree.specs.Steps.{rest_over, rows_added, apply_steps}
 use Rattle.arena_tree.specs.Reading.{run_of, forest_at}

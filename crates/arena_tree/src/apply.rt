@@ -37,7 +37,14 @@ pub(crate) fn unite(
 }
 
 // Leaves the node at a place its first frame and so many more, if there is one, above the node at another.
-pub(crate) fn cut(nodes: &mut Arena<Node>, at: Place, more: u32, label: RankSet, ends: RankSet, below: Place)
+pub(crate) fn cut(
+    nodes: &mut Arena<Node>,
+    at: Place,
+    more: u32,
+    label: RankSet,
+    ends: RankSet,
+    below: Place,
+)
     ensures items { nodes.new.items ≡ with_change at (with_frames more label ends below) nodes.old.items }
     ensures spare { nodes.new.spare ≡ nodes.old.spare }
 {

@@ -1,4 +1,4 @@
-use Rattle.std.proofs.Common.{◌≡◌, ◌+◌, ◌-◌, ◌<◌, ◌≤◌, ◌∙◌, sym, arith, length, drop}
+use Rattle.std.proofs.Common.{◌-◌, ◌<◌, ◌∙◌, sym, arith, length, drop}
 use Rattle.arena_tree.specs.Links.{linked}
 use Rattle.arena_tree.proofs.Sharing.{drop_all}
 use Rattle.arena_tree.proofs.PlanningRuns.{sought_all}
@@ -20,11 +20,33 @@ add_path-requires t c =
     let kept = c.in_ok-below.ensures.kept in
     let within : c.in_ok-below.kept < length p = omega (arith, kept.1, c.if-kept-len.false, c.len.ensures.len) in
     let falls : length p - c.in_ok-below.kept < t = omega (arith, c.decreases, kept.0, within) in
-    let enters = c.in_ok-below.ensures.enters in
-    (falls, (enters.below_grows, (below_ordered c.args.self.now.nodes.items c.args.into c.follow.new.into c.requires.into c.requires.tree (c.in_ok-follow.ensures.found c.if-branch.true).whole_node (c.in_ok-follow.ensures.later c.if-branch.true)
-    c.meet.new.self.nodes.items c.in_ok-below.below (c.in_ok-below.ensures.uncut (sym c.len-then-branch.ensures ∙ c.if-len-before.true ∙ c.len-before.ensures)) enters.below_grows, (within, (omega (arith, c.requires.level, kept.0), (c.requires.nobody, (omega (arith, enters.places, c.requires.room), (omega (arith, enters.rows, c.requires.rows),
-    below_hints c.args.self.now.nodes.items c.args.into c.follow.new.into c.requires.into c.requires.tree (c.in_ok-follow.ensures.found c.if-branch.true).whole_node (c.in_ok-follow.ensures.later c.if-branch.true)
-    c.meet.new.self.nodes.items c.in_ok-below.below (c.in_ok-below.ensures.uncut (sym c.len-then-branch.ensures ∙ c.if-len-before.true ∙ c.len-before.ensures)) c.follow.new.trail.items c.in_ok-follow.ensures.own))))))))
+    let enters = c.in_ok-below.ensures.enters in (
+      falls,
+      (
+        enters.below_grows,
+        (
+          below_ordered c.args.self.now.nodes.items c.args.into c.follow.new.into c.requires.into c.requires.tree (c.in_ok-follow.ensures.found c.if-branch.true).whole_node (c.in_ok-follow.ensures.later c.if-branch.true)
+              c.meet.new.self.nodes.items c.in_ok-below.below (c.in_ok-below.ensures.uncut (sym c.len-then-branch.ensures ∙ c.if-len-before.true ∙ c.len-before.ensures)) enters.below_grows,
+          (
+            within,
+            (
+              omega (arith, c.requires.level, kept.0),
+              (
+                c.requires.nobody,
+                (
+                  omega (arith, enters.places, c.requires.room),
+                  (
+                    omega (arith, enters.rows, c.requires.rows),
+                    below_hints c.args.self.now.nodes.items c.args.into c.follow.new.into c.requires.into c.requires.tree (c.in_ok-follow.ensures.found c.if-branch.true).whole_node (c.in_ok-follow.ensures.later c.if-branch.true)
+                        c.meet.new.self.nodes.items c.in_ok-below.below (c.in_ok-below.ensures.uncut (sym c.len-then-branch.ensures ∙ c.if-len-before.true ∙ c.len-before.ensures)) c.follow.new.trail.items c.in_ok-follow.ensures.own,
+                  ),
+                ),
+              ),
+            ),
+          ),
+        ),
+      ),
+    )
 
 pub returns-then-len-before-clause-hints : goal.returns-then-len-before-clause-hints
 returns-then-len-before-clause-hints t c k all old =

@@ -1,4 +1,4 @@
-use Rattle.std.proofs.Common.{◌+◌, ◌-◌, ◌<◌, ◌≤◌, arith, length, drop}
+use Rattle.std.proofs.Common.{◌-◌, ◌<◌, arith, length, drop}
 use Rattle.arena_tree.specs.Links.{linked}
 use Rattle.arena_tree.proofs.Sharing.{drop_all}
 use Rattle.arena_tree.proofs.AddingRuns.{grows_more, grows_all}

@@ -1,7 +1,7 @@
-use Rattle.std.proofs.Common.{◌≡◌, ◌+◌, ◌<◌, ◌≤◌, ◌∙◌, ap, sym, subst, arith, refl, length}
+use Rattle.std.proofs.Common.{◌≡◌, ◌<◌, ◌≤◌, ◌∙◌, ap, sym, subst, arith, refl, length}
 use Rattle.call_path.specs.Path.{Path}
 use Rattle.arena_tree.specs.Links.{linked}
-use Rattle.arena_tree.specs.RunForest.{no_runs, count_rows}
+use Rattle.arena_tree.specs.RunForest.{no_runs}
 use Rattle.arena_tree.specs.Targets.{target_forest, IsAfter}
 use Rattle.arena_tree.specs.Growth.{grown, rows_grown}
 use Rattle.arena_tree.proofs.Planning.{target_inside, target_none}

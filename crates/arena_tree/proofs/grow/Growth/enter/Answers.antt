@@ -1,4 +1,4 @@
-use Rattle.std.proofs.Common.{◌≡◌, ◌+◌, ◌≤◌, ◌∙◌, ap, sym, arith, refl, length, drop}
+use Rattle.std.proofs.Common.{length, drop}
 use Rattle.prefix_tree.specs.Tree.{Marks}
 use Rattle.arena_tree.specs.Links.{linked}
 use Rattle.arena_tree.proofs.Sharing.{drop_all}

@@ -1,5 +1,4 @@
 use Rattle.std.proofs.Common.{◌≡◌, ◌+◌, ◌≤◌, ◌∙◌, ap, sym, subst, arith, List, length}
-use Rattle.std.proofs.lemmas.List.Elements.{All-weaker}
 use Rattle.prefix_tree.specs.Tree.{added, Adds}
 use Rattle.prefix_tree.proofs.TreeLaws.{added_adds}
 use Rattle.arena_tree.specs.declared.node.Link.TheVariants.{Top}
@@ -8,7 +7,7 @@ use Rattle.arena_tree.specs.RunForest.{no_runs}
 use Rattle.arena_tree.specs.Links.{LinkedNodes, linked}
 use Rattle.arena_tree.specs.Reading.{run_of, forest_at}
 use Rattle.arena_tree.specs.TreeView.{path_forest}
-use Rattle.arena_tree.specs.Trail.{IsLaterSibling, AreHints, AreOwnHints, LeadsToOrdered}
+use Rattle.arena_tree.specs.Trail.{AreHints, LeadsToOrdered}
 use Rattle.arena_tree.specs.Growth.{all_at, CanGrow, grown, rows_grown}
 use Rattle.arena_tree.proofs.Views.{tree_is}
 use Rattle.arena_tree.proofs.Trees.{Makes, leads_first}

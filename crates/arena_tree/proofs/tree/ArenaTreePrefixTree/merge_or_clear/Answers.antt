@@ -1,4 +1,4 @@
-use Rattle.std.proofs.Common.{◌≡◌, ◌+◌, ◌≤◌, ◌∙◌, ap, sym, subst, arith, List, length}
+use Rattle.std.proofs.Common.{◌≡◌, ◌+◌, ◌∙◌, ap, sym, subst, arith, List, length}
 use Rattle.std.proofs.lemmas.List.Elements.{All-nil}
 use Rattle.prefix_tree.specs.Tree.{merged, Unites}
 use Rattle.prefix_tree.proofs.TreeLemmas.{merged_unites}
