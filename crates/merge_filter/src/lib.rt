@@ -144,6 +144,28 @@ impl<T: PrefixTree> Contribution<T> {
         Ok(())
     }
 
+    /// Unites another part of the wave into it, as `absorb` does, in one pass. On failure nothing is left of it: it is that
+    /// of no ranks.
+    pub fn absorb_or_clear(&mut self, plan: &Plan, other: &Contribution<T>) -> Result<(), AllocError>
+        requires partial_merge { IsPartialMerge plan.now self.old }
+        requires other { IsPartialMerge plan.now other.now }
+        requires stream { other.now.stream ≡ self.old.stream }
+        requires wave { other.now.wave ≡ self.old.wave }
+        ensures stream { self.new.stream ≡ self.old.stream }
+        ensures wave { self.new.wave ≡ self.old.wave }
+        ensures partial_merge { OnOk result (IsPartialMerge plan.now self.new) }
+        ensures coverage { OnOk result (coverage_of self.new ≡ union (coverage_of self.old) (coverage_of other.now)) }
+        ensures err { OnErr result (self.new.tree ≡ tree_of [] none) }
+    {
+        plan.invariant();
+        match self.tree.merge_or_clear(&other.tree) {
+            Ok(()) => {}
+            Err(TreeError::OutOfMemory) => return Err(AllocError),
+            Err(TreeError::TooManyPrefixes) => unreachable!(),
+        }
+        Ok(())
+    }
+
     /// The same contribution once more.
     pub fn copy(&self) -> Result<Contribution<T>, AllocError>
         ensures { IfOk result (λ c. c ≡ self.now) }

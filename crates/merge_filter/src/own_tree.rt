@@ -38,7 +38,7 @@ fn add_pending<T: PrefixTree>(
         return Ok(());
     }
     let path = &paths[pending.path as usize];
-    match tree.add(&pending.ranks, path) {
+    match tree.add_or_clear(&pending.ranks, path) {
         Ok(()) => Ok(()),
         Err(TreeError::OutOfMemory) => Err(AllocError),
         Err(TreeError::TooManyPrefixes) => unreachable!(),

@@ -76,7 +76,7 @@ fn unite<T: PrefixTree>(
         *part = received;
         return Ok(());
     }
-    part.absorb(plan, &received)
+    part.absorb_or_clear(plan, &received)
 }
 
 // Unites what was received of an open wave with what has come in of it, and does what is due then.

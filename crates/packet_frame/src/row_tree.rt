@@ -77,7 +77,7 @@ impl<T: PrefixTree> RowTree<T> {
         requires room { count_below (added self.old ends.now path.now) ≤ 2048 }
         ensures { OnOk result (self.new ≡ added self.old ends.now path.now) }
     {
-        match self.tree.add(ends, path) {
+        match self.tree.add_or_clear(ends, path) {
             Ok(()) => Ok(()),
             Err(TreeError::OutOfMemory) => Err(AllocError),
             Err(TreeError::TooManyPrefixes) => unreachable!(),
