@@ -159,11 +159,10 @@ impl<T: PrefixTree> Contribution<T> {
     {
         plan.invariant();
         match self.tree.merge_or_clear(&other.tree) {
-            Ok(()) => {}
-            Err(TreeError::OutOfMemory) => return Err(AllocError),
+            Ok(()) => Ok(()),
+            Err(TreeError::OutOfMemory) => Err(AllocError),
             Err(TreeError::TooManyPrefixes) => unreachable!(),
         }
-        Ok(())
     }
 
     /// The same contribution once more.
