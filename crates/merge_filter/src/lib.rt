@@ -144,9 +144,13 @@ impl<T: PrefixTree> Contribution<T> {
         Ok(())
     }
 
-    /// Unites another part of the wave into it, as `absorb` does, in one pass. On failure nothing is left of it: it is that
-    /// of no ranks.
-    pub fn absorb_or_clear(&mut self, plan: &Plan, other: &Contribution<T>) -> Result<(), AllocError>
+    /// Unites another part of the wave into it as `absorb` does, in one pass. On failure its tree is empty: the root
+    /// alone, with no ranks.
+    pub fn absorb_or_clear(
+        &mut self,
+        plan: &Plan,
+        other: &Contribution<T>,
+    ) -> Result<(), AllocError>
         requires partial_merge { IsPartialMerge plan.now self.old }
         requires other { IsPartialMerge plan.now other.now }
         requires stream { other.now.stream ≡ self.old.stream }

@@ -81,7 +81,14 @@ fn picked_tree<T: PrefixTree>(
     let mut seed = seed;
     for i in 0..9u32 {
         let text = picked(alloc, seed)?;
-        add(rt, alloc, &mut tree, first.wrapping_add(i % 3) % 4096, &text, once)?;
+        add(
+            rt,
+            alloc,
+            &mut tree,
+            first.wrapping_add(i % 3) % 4096,
+            &text,
+            once,
+        )?;
         seed = after(seed);
     }
     Ok(tree)
@@ -142,7 +149,10 @@ fn clears_a_tree_that_would_be_too_long(rt: HostRuntime) -> Result<(), Fail> {
     let mut tree = full(&rt, alloc)?;
     let mut other = ArenaTree::empty(alloc);
     add(&rt, alloc, &mut other, 1, "f0000;g", true)?;
-    assert_eq!(&rt; tree.merge_or_clear(&other), Err(TreeError::TooManyPrefixes));
+    assert_eq!(&rt;
+        tree.merge_or_clear(&other),
+        Err(TreeError::TooManyPrefixes)
+    );
     assert_eq!(&rt; tree.rows(), 1);
     Ok(())
 }
