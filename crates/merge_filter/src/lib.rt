@@ -5,7 +5,7 @@
 //! number of times: the result is a partial merge that covers the ranks of all.
 #![tactic(auto)]
 
-ghost use Rattle.std.specs.Prelude.{◌≡◌, ◌≤◌, IfOk, IsSome, OnOk, OnErr};
+ghost use Rattle.std.specs.Prelude.{◌≡◌, ◌≤◌, [], IfOk, IsSome, OnOk, OnErr};
 ghost use Rattle.rank_set.specs.Ranks.{Ranks, none, union};
 ghost use Rattle.call_path.specs.Pairs.{Pairs};
 ghost use Rattle.prefix_tree.specs.Pairs.{IsWithin};
@@ -163,10 +163,11 @@ impl<T: PrefixTree> Contribution<T> {
     {
         plan.invariant();
         match self.tree.merge_or_clear(&other.tree) {
-            Ok(()) => Ok(()),
-            Err(TreeError::OutOfMemory) => Err(AllocError),
+            Ok(()) => {}
+            Err(TreeError::OutOfMemory) => return Err(AllocError),
             Err(TreeError::TooManyPrefixes) => unreachable!(),
         }
+        Ok(())
     }
 
     /// The same contribution once more.

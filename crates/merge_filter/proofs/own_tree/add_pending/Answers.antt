@@ -10,8 +10,8 @@ use Rattle.merge_filter.proofs.own_tree.add_pending.Goals as goal
 pub bounds-paths-pending : goal.bounds-paths-pending
 bounds-paths-pending g c = let one = some_member c.args.pending.now.ranks (some_ranks c.args.pending.now.ranks (sym c.if-is_empty.ensures)) in c.requires.path one.0 one.1
 
-pub add-requires-clause-in_coverage : goal.add-requires-clause-in_coverage
-add-requires-clause-in_coverage g c = room_lies (g.T.PrefixTree.tree c.args.tree.now) c.args.paths.now c.args.pending.now c.requires
+pub add_or_clear-requires-clause-in_coverage : goal.add_or_clear-requires-clause-in_coverage
+add_or_clear-requires-clause-in_coverage g c = room_lies (g.T.PrefixTree.tree c.args.tree.now) c.args.paths.now c.args.pending.now c.requires
 
 pub unreachable-requires : goal.unreachable-requires
 unreachable-requires g c =
