@@ -94,6 +94,28 @@ fn picked_tree<T: PrefixTree>(
     Ok(tree)
 }
 
+fn merge<T: PrefixTree>(tree: &mut T, other: &T, once: bool) -> Result<(), TreeError> {
+    if once {
+        return tree.merge_or_clear(other);
+    }
+    tree.merge(other)
+}
+
+// Merges a tree that numbers pick, and adds a path.
+fn change<T: PrefixTree>(
+    rt: &impl Abort,
+    alloc: Global,
+    tree: &mut T,
+    seed: u32,
+    i: u32,
+    once: bool,
+) -> Result<(), TreeError> {
+    let other = picked_tree::<T>(rt, alloc, 60 * (i % 8), after(seed.wrapping_add(i)), once)?;
+    merge(tree, &other, once)?;
+    let text = picked(alloc, seed.wrapping_add(i))?;
+    add(rt, alloc, tree, 0, &text, once)
+}
+
 // The rows of a tree after the changes that numbers pick.
 fn picked_rows<T: PrefixTree>(
     rt: &impl Abort,
@@ -103,14 +125,7 @@ fn picked_rows<T: PrefixTree>(
 ) -> Result<Vec<u8>, TreeError> {
     let mut tree = picked_tree::<T>(rt, alloc, 0, seed, once)?;
     for i in 1..5u32 {
-        let other = picked_tree::<T>(rt, alloc, 60 * (i % 8), after(seed.wrapping_add(i)), once)?;
-        if once {
-            tree.merge_or_clear(&other)?;
-        } else {
-            tree.merge(&other)?;
-        }
-        let text = picked(alloc, seed.wrapping_add(i))?;
-        add(rt, alloc, &mut tree, 0, &text, once)?;
+        change(rt, alloc, &mut tree, seed, i, once)?;
     }
     let text = rows_text(alloc, &tree)?;
     Ok(text)
@@ -118,7 +133,7 @@ fn picked_rows<T: PrefixTree>(
 
 #[test]
 fn makes_the_same_rows_in_one_pass(rt: HostRuntime) -> Result<(), Fail> {
-    for seed in 1..5_001u32 {
+    for seed in 1..2_001u32 {
         let owned = picked_rows::<OwnedTree>(&rt, rt.alloc(), seed, true)?;
         let twice = picked_rows::<ArenaTree>(&rt, rt.alloc(), seed, false)?;
         let once = picked_rows::<ArenaTree>(&rt, rt.alloc(), seed, true)?;
@@ -139,20 +154,22 @@ fn full(rt: &impl Abort, alloc: Global) -> Result<ArenaTree, TreeError> {
 }
 
 #[test]
-fn clears_a_tree_that_would_be_too_long(rt: HostRuntime) -> Result<(), Fail> {
-    let alloc = rt.alloc();
-    let mut tree = full(&rt, alloc)?;
+fn clears_a_tree_that_a_path_makes_too_long(rt: HostRuntime) -> Result<(), Fail> {
+    let mut tree = full(&rt, rt.alloc())?;
     assert_eq!(&rt; tree.rows(), 2_049);
-    let added = add(&rt, alloc, &mut tree, 1, "g", true);
+    let added = add(&rt, rt.alloc(), &mut tree, 1, "g", true);
     assert_eq!(&rt; added, Err(TreeError::TooManyPrefixes));
     assert_eq!(&rt; tree.rows(), 1);
-    let mut tree = full(&rt, alloc)?;
-    let mut other = ArenaTree::empty(alloc);
-    add(&rt, alloc, &mut other, 1, "f0000;g", true)?;
-    assert_eq!(&rt;
-        tree.merge_or_clear(&other),
-        Err(TreeError::TooManyPrefixes)
-    );
+    Ok(())
+}
+
+#[test]
+fn clears_a_tree_that_another_makes_too_long(rt: HostRuntime) -> Result<(), Fail> {
+    let mut tree = full(&rt, rt.alloc())?;
+    let mut other = ArenaTree::empty(rt.alloc());
+    add(&rt, rt.alloc(), &mut other, 1, "f0000;g", true)?;
+    let merged = tree.merge_or_clear(&other);
+    assert_eq!(&rt; merged, Err(TreeError::TooManyPrefixes));
     assert_eq!(&rt; tree.rows(), 1);
     Ok(())
 }
