@@ -6,8 +6,6 @@
 #[cfg(test)]
 mod arena_cost;
 #[cfg(test)]
-mod arena_growth;
-#[cfg(test)]
 mod arena_memory;
 #[cfg(test)]
 mod arena_tree_tests;
