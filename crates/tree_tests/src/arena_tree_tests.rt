@@ -64,7 +64,7 @@ fn add<T: PrefixTree>(
     let path = CallPath::read(alloc, text).expect(rt, "good");
     assert!(rt; ranks.count() > 0);
     assert!(rt; ranks.is_subset(tree.row(0).label));
-    tree.add_or_clear(&ranks, &path)
+    tree.add(&ranks, &path)
 }
 
 // A tree of one rank and the paths that it was seen in.
@@ -101,7 +101,7 @@ fn puts_rows_between_siblings(rt: HostRuntime) -> Result<(), Fail> {
     let alloc = rt.alloc();
     let mut tree = of_paths::<ArenaTree>(&rt, alloc, 0, &["e", "b", "d"])?;
     let other = of_paths::<ArenaTree>(&rt, alloc, 1, &["f", "d;x", "c;y;z", "a"])?;
-    tree.merge_or_clear(&other)?;
+    tree.merge(&other)?;
     let want = b"0 / 2:[0-1] 0:[]\n1 a 1:[1] 1:[1]\n1 b 1:[0] 1:[0]\n\
         1 c 1:[1] 0:[]\n2 y 1:[1] 0:[]\n3 z 1:[1] 1:[1]\n\
         1 d 2:[0-1] 1:[0]\n2 x 1:[1] 1:[1]\n1 e 1:[0] 1:[0]\n1 f 1:[1] 1:[1]\n";
