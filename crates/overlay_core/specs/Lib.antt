@@ -14,3 +14,5 @@ pub mod Pick
 pub mod Independent
 pub mod Counts
 pub mod Rows
+pub mod WaveRows
+pub mod Refused

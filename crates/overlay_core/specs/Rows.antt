@@ -16,6 +16,9 @@ use Rattle.overlay_core.specs.declared.release.Kind.TheVariants.{Partial as Part
 use Rattle.overlay_core.specs.Nodes.{Up, Attach, Down, Release, release, due_at, dones, acted, sampled, after_tick, received_up, received_done, received_attach, received_down}
 use Rattle.overlay_core.specs.Machine.{start, commit, with_link, lose, is_doomed, is_active, enabled_events}
 use Rattle.overlay_core.specs.Runs.{after, is_legal_from}
+use Rattle.overlay_core.specs.Bound.{bound}
+use Rattle.overlay_core.specs.Counts.{sends, growths, moves}
+use Rattle.overlay_core.specs.Independent.{outcome}
 use Rattle.overlay_core.specs.Pick.{next_number, picked_event, picked_from, picked}
 
 -- a plan with one stream of one wave of all its daemons, and without samples
@@ -40,10 +43,10 @@ pub record Gives (p : Plan) (journal : List Event) (given : List Release) (follo
   pub next : enabled_events p (after p journal) ≡ following
 
 -- a release of the one wave
-abbrev partial : Ranks → List ℕ → Release
+abbrev pub partial : Ranks → List ℕ → Release
 partial covered lost = release 0 0 covered PartialRelease lost
 
-abbrev final : Ranks → List ℕ → Release
+abbrev pub final : Ranks → List ℕ → Release
 final covered lost = release 0 0 covered FinalRelease lost
 
 -- one daemon
@@ -268,3 +271,12 @@ slow_ticks = refl
 slow_begins_anew : ((after slow_below (Sample 3 0 0 ∷ Recv 2 3 ∷ Tick 2 ∷ Lose 1 ∷ Recv 2 1 ∷ [])).node 2).book 0 0 ≡ Open (set_of (0 ∷ [])) none (Running 2)
 unfolding next_number picked_event has with_rank union those ancestors is_under is_within is_related front is_front ranks stream_of daemons mode serves waves_at fault complete due_at dones acted sampled after_tick received_up received_done received_attach received_down start commit with_link lose is_doomed is_active enabled_events
 slow_begins_anew = refl
+
+-- how often a daemon sends a wave, what it covers grows, and its parent changes
+sends_growths_moves : (sends lost_early (start lost_early) lost_early_journal 2 0 0 ≡ 2) × (growths lost_early (start lost_early) lost_early_journal 2 0 0 ≡ 1) × (moves lost_early (start lost_early) lost_early_journal 2 ≡ 1)
+unfolding has with_rank union those ancestors is_under is_within is_related front is_front ranks stream_of daemons mode serves waves_at fault complete due_at dones acted sampled after_tick received_up received_done received_attach received_down start commit with_link lose is_doomed is_active enabled_events outcome
+sends_growths_moves = (refl, refl, refl)
+
+-- the bound of three nodes, one wave and a timeout of one tick
+small_bound : bound timed ≡ 252
+small_bound = refl

@@ -1,5 +1,5 @@
 -- What a read of a desk does.
-use Rattle.std.specs.Prelude.{◌≡◌, ◌⊎◌, ℕ, ◌<◌, ◌≤◌, List, [], ◌∷◌, ◌++◌, length, Option, Some, IfSome, Result, Ok, Err}
+use Rattle.std.specs.Prelude.{◌≡◌, ◌⊎◌, ℕ, ◌<◌, ◌≤◌, List, [], ◌∷◌, ◌++◌, length, Option, Some, IfSome, Result, Ok, Err, Vec}
 use Rattle.stat_desk.specs.declared.desk.DeskError.{DeskError}
 use Rattle.stat_desk.specs.declared.desk.DeskError.TheVariants.{Failed, TooLong, OutOfMemory}
 use Rattle.stat_desk.specs.Faults.{Rose}
@@ -34,3 +34,8 @@ IsAsked before now name (Ok bytes) = now ≡ before ++ name ∷ []
 IsAsked before now name (Err Failed) = now ≡ before ++ name ∷ []
 IsAsked before now name (Err TooLong) = now ≡ before ++ name ∷ []
 IsAsked before now name (Err OutOfMemory) = (now ≡ before) ⊎ (now ≡ before ++ name ∷ [])
+
+-- the bytes that reads gave, before and after a read that returned this: those of a whole file come last
+abbrev pub HasGiven : {A : Type 0} → List (List ℕ) → List (List ℕ) → Result (Vec ℕ A) DeskError → Type 0
+HasGiven before now (Ok bytes) = now ≡ before ++ bytes.items ∷ []
+HasGiven before now (Err e) = now ≡ before

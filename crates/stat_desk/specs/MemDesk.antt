@@ -15,6 +15,8 @@ pub record MemDeskView : Type 0 where
   pub failing : List ℕ
   -- the names of the reads so far, in order
   pub reads : List (List ℕ)
+  -- the bytes of the files that they gave
+  pub gave : List (List ℕ)
   -- how many of them were faults, and the name at the last one
   pub faults : ℕ
   pub last_fault : Option (List ℕ)
@@ -44,10 +46,18 @@ Gives answer (Ok bytes) = answer ≡ Ok bytes.items
 Gives answer (Err OutOfMemory) = Unit {0}
 Gives answer (Err e) = answer ≡ Err e
 
--- the desk after a read: the name is the last of its reads, and a fault is counted with it. Out of memory, it is unchanged.
-abbrev pub after_read : {T : Type 0} → MemDeskView → List ℕ → Result T DeskError → MemDeskView
-after_read d name (Ok bytes) = record d { reads = d.reads ++ name ∷ [] }
-after_read d name (Err TooLong) = record d { reads = d.reads ++ name ∷ [] }
-after_read d name (Err Failed) =
+-- the desk after a read to which this is the answer: the name is the last of its reads, and the bytes, or a fault, are
+-- counted with it
+abbrev pub after_answer : MemDeskView → List ℕ → Result (List ℕ) DeskError → MemDeskView
+after_answer d name (Ok bytes) = record d { reads = d.reads ++ name ∷ []; gave = d.gave ++ bytes ∷ [] }
+after_answer d name (Err TooLong) = record d { reads = d.reads ++ name ∷ [] }
+after_answer d name (Err Failed) =
     record d { reads = d.reads ++ name ∷ []; faults = next_count d.faults; last_fault = Some name }
-after_read d name (Err OutOfMemory) = d
+after_answer d name (Err OutOfMemory) = d
+
+-- the desk after a read that returned this: out of memory, it is unchanged
+abbrev pub after_read : {T : Type 0} → MemDeskView → List ℕ → ℕ → Result T DeskError → MemDeskView
+after_read d name max (Ok x) = after_answer d name (read_answer d name max)
+after_read d name max (Err Failed) = after_answer d name (Err Failed)
+after_read d name max (Err TooLong) = after_answer d name (Err TooLong)
+after_read d name max (Err OutOfMemory) = d

@@ -1,7 +1,7 @@
 //! A desk gives files by name, whole or in pieces.
 ghost use Rattle.std.specs.Prelude.{◌≡◌, ◌<◌, ◌^◌, [], ℕ, List, Option, IfOk, OnOk, OnErr, IsErrOf};
-ghost use Rattle.stat_desk.specs.Desk.{CountsAt, FailedAt, IsAsked, IsLonger, IsWhole, SameFaults};
-ghost use Rattle.stat_desk.specs.Feeding.{FeedsNext, FeedsPrefix, FeedsWhole, HasRoomFor};
+ghost use Rattle.stat_desk.specs.Desk.{CountsAt, FailedAt, HasGiven, IsAsked, IsLonger, IsWhole, SameFaults};
+ghost use Rattle.stat_desk.specs.Feeding.{FeedsNext, FeedsPrefix, FeedsWhole, HasFed, HasRoomFor};
 
 /// Why a read returned no bytes.
 #[derive(Clone, Copy, Debug, PartialEq, Eq)]
@@ -37,6 +37,9 @@ pub trait Desk {
     /// The names of the files that were asked for, in order.
     ghost reads: { Self → List (List ℕ) };
 
+    /// The bytes of each file that was read whole, in the order of the reads.
+    ghost gave: { Self → List (List ℕ) };
+
     /// The bytes of the file of a name, where the desk can tell them. `None` says nothing.
     ghost contents: { Self → List ℕ → Option (List ℕ) };
 
@@ -57,6 +60,7 @@ pub trait Desk {
         ensures out_of_memory { IsErrOf result DeskError.OutOfMemory → SameFaults (faults self.old) (faults self.new)
             (last_fault self.old) (last_fault self.new) }
         ensures reads { IsAsked (reads self.old) (reads self.new) name.now result }
+        ensures gave { HasGiven (gave self.old) (gave self.new) result }
         ensures contents { contents self.new ≡ contents self.old };
 
     /// Feeds all bytes of the file of that name, if they are at most `max`, piece by piece to a value that was fed
@@ -78,5 +82,7 @@ pub trait Desk {
         ensures out_of_memory { IsErrOf result DeskError.OutOfMemory → SameFaults (faults self.old) (faults self.new)
             (last_fault self.old) (last_fault self.new) }
         ensures reads { IsAsked (reads self.old) (reads self.new) name.now result }
+        ensures gave { HasFed F.feeds fed.old fed.new (contents self.old name.now) max (gave self.old) (gave self.new)
+            result }
         ensures contents { contents self.new ≡ contents self.old };
 }

@@ -6,6 +6,7 @@
 mod desk;
 mod event;
 mod gate;
+mod history;
 mod journal;
 mod mem_desk;
 mod mem_sink;

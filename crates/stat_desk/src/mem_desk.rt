@@ -2,11 +2,12 @@
 ghost use Rattle.std.specs.Prelude.{◌≡◌, ◌<◌, ◌^◌, ◌∷◌, ◌++◌, [], ℕ, Vec, None, Some, OnOk, OnErr, IfOk, IsErrOf, option_map, string_bytes};
 ghost use Rattle.std.specs.Borrow.{Bor};
 ghost use Rattle.std.specs.declared.alloc.Global.{Global};
-ghost use Rattle.stat_desk.specs.Desk.{CountsAt, FailedAt, IsAsked, IsLonger, IsWhole, SameFaults};
+ghost use Rattle.stat_desk.specs.Desk.{CountsAt, FailedAt, HasGiven, IsAsked, IsLonger, IsWhole, SameFaults};
 ghost use Rattle.stat_desk.specs.Faults.{next_count};
-ghost use Rattle.stat_desk.specs.Feeding.{FeedsAs, FeedsPrefix, FeedsWhole};
+ghost use Rattle.stat_desk.specs.Feeding.{FeedsAs, FeedsPrefix, FeedsWhole, HasFed};
 ghost use Rattle.stat_desk.specs.MemDesk.{Gives, after_read, entries_of, file_of, read_answer};
 
+use crate::history::History;
 use crate::{Desk, DeskError, Feed};
 use std::alloc::{AllocError, Global};
 use std::marker::Model;
@@ -43,6 +44,7 @@ pub struct MemDesk {
     files: Vec<StoredFile>,
     failing: Vec<u64>,
     reads: Vec<String>,
+    gave: Vec<History>,
     faults: u64,
     last_fault: Option<String>,
 }
@@ -59,6 +61,7 @@ impl Model for MemDesk {
       files = entries_of d.files.items;
       failing = d.failing.items;
       reads = map string_bytes d.reads.items;
+      gave = map (λ h. h.bytes) d.gave.items;
       faults = d.faults;
       last_fault = option_map string_bytes d.last_fault;
     } };
@@ -69,13 +72,14 @@ impl Model for MemDesk {
 impl MemDesk {
     /// A desk with no file, no read and no fault.
     pub fn new(alloc: Global) -> MemDesk
-        ensures { result ≡ record { files = []; failing = []; reads = []; faults = 0; last_fault = None } }
+        ensures { result ≡ record { files = []; failing = []; reads = []; gave = []; faults = 0; last_fault = None } }
     {
         MemDesk {
             alloc,
             files: Vec::new(alloc),
             failing: Vec::new(alloc),
             reads: Vec::new(alloc),
+            gave: Vec::new(alloc),
             faults: 0,
             last_fault: None,
         }
@@ -142,6 +146,8 @@ impl Desk for MemDesk {
 
     ghost reads = { λ d. d.reads };
 
+    ghost gave = { λ d. d.gave };
+
     ghost contents = { λ d name. file_of d.files name };
 
     // `exactly` says what each read returns, and `state` what the desk is afterwards. A read that runs out of memory
@@ -156,8 +162,9 @@ impl Desk for MemDesk {
         ensures out_of_memory { IsErrOf result DeskError.OutOfMemory
             → SameFaults self.old.faults self.new.faults self.old.last_fault self.new.last_fault }
         ensures reads { IsAsked self.old.reads self.new.reads name.now result }
+        ensures gave { HasGiven self.old.gave self.new.gave result }
         ensures contents { self.new.files ≡ self.old.files }
-        ensures state { self.new ≡ after_read self.old name.now result }
+        ensures state { self.new ≡ after_read self.old name.now max result }
         ensures exactly { Gives (read_answer self.old name.now max) result }
     {
         let (Ok(asked), Ok(at_fault)) = (
@@ -170,6 +177,12 @@ impl Desk for MemDesk {
             Err(DeskError::OutOfMemory) => Err(DeskError::OutOfMemory),
             answer => {
                 if self.reads.push(asked).is_err() {
+                    return Err(DeskError::OutOfMemory);
+                }
+                if let Ok(bytes) = &answer
+                    && self.gave.push(History::of(bytes)).is_err()
+                {
+                    self.reads.pop();
                     return Err(DeskError::OutOfMemory);
                 }
                 if matches!(answer, Err(DeskError::Failed)) {
@@ -193,8 +206,10 @@ impl Desk for MemDesk {
         ensures out_of_memory { IsErrOf result DeskError.OutOfMemory
             → SameFaults self.old.faults self.new.faults self.old.last_fault self.new.last_fault }
         ensures reads { IsAsked self.old.reads self.new.reads name.now result }
+        ensures gave { HasFed F.feeds fed.old fed.new (file_of self.old.files name.now) max self.old.gave self.new.gave
+            result }
         ensures contents { self.new.files ≡ self.old.files }
-        ensures state { self.new ≡ after_read self.old name.now result }
+        ensures state { self.new ≡ after_read self.old name.now max result }
         ensures exactly { FeedsAs F.feeds fed.old fed.new (read_answer self.old name.now max) result }
     {
         match self.read(name, max) {

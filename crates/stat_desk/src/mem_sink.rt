@@ -2,7 +2,7 @@
 ghost use Rattle.std.specs.Prelude.{◌≡◌, ◌≤◌, ◌<◌, ◌^◌, ◌∷◌, ◌++◌, [], Some, OnOk, OnErr, IfOk};
 ghost use Rattle.stat_desk.specs.Faults.{next_count};
 ghost use Rattle.stat_desk.specs.MemSink.{after_write, new_sink, write_answer};
-ghost use Rattle.stat_desk.specs.Sink.{HasCause, TakesFirst};
+ghost use Rattle.stat_desk.specs.Sink.{HasCause, HasTaken, TakesFirst};
 
 use crate::{Sink, SinkError};
 use std::alloc::{AllocError, Global};
@@ -95,12 +95,15 @@ impl MemSink {
 impl Sink for MemSink {
     ghost faults = { λ s. s.faults };
 
+    ghost took = { λ s. s.bytes };
+
     ghost contents = { λ s. Some s.bytes };
 
     // `exactly` says what each write gives, and `state` what it leaves behind.
     fn write(&mut self, piece: &[u8]) -> Result<usize, SinkError>
         ensures taken { IfOk result (TakesFirst (Some self.old.bytes) (Some self.new.bytes) piece.now) }
         ensures err { OnErr result (self.new.bytes ≡ self.old.bytes) }
+        ensures took { HasTaken self.old.bytes self.new.bytes piece.now result }
         ensures cause { HasCause self.old.faults self.new.faults result }
         ensures fits_u64 { self.new.faults < 2 ^ 64 }
         ensures state { self.new ≡ after_write self.old piece.now result }

@@ -1,7 +1,7 @@
 //! A sink takes bytes, perhaps fewer than it is offered.
-ghost use Rattle.std.specs.Prelude.{◌≡◌, ◌<◌, ◌^◌, [], ℕ, List, Option, IfOk, OnErr, OnOk};
+ghost use Rattle.std.specs.Prelude.{◌≡◌, ◌<◌, ◌^◌, ◌++◌, [], ℕ, List, take, Option, IfOk, OnErr, OnOk};
 ghost use Rattle.std.specs.Io.KnownBytes.{Appends};
-ghost use Rattle.stat_desk.specs.Sink.{AppendsPrefix, HasCause, TakesFirst};
+ghost use Rattle.stat_desk.specs.Sink.{AppendsPrefix, HasCause, HasTaken, TakesFirst};
 
 /// Why a write took nothing.
 #[derive(Clone, Copy, Debug, PartialEq, Eq)]
@@ -15,6 +15,9 @@ pub trait Sink {
     /// How often writes have failed, up to 2^64 - 1.
     ghost faults: { Self → ℕ };
 
+    /// The bytes that it took, in order.
+    ghost took: { Self → List ℕ };
+
     /// The bytes that the sink holds, where it tells them. `None` says nothing.
     ghost contents: { Self → Option (List ℕ) };
 
@@ -23,6 +26,7 @@ pub trait Sink {
     fn write(&mut self, piece: &[u8]) -> Result<usize, SinkError>
         ensures taken { IfOk result (TakesFirst (contents self.old) (contents self.new) piece.now) }
         ensures err { OnErr result (contents self.new ≡ contents self.old) }
+        ensures took { HasTaken (took self.old) (took self.new) piece.now result }
         ensures cause { HasCause (faults self.old) (faults self.new) result }
         ensures fits_u64 { faults self.new < 2 ^ 64 };
 }
@@ -32,6 +36,8 @@ pub trait Sink {
 pub fn write_all_to<S: Sink>(sink: &mut S, bytes: &[u8]) -> Result<(), SinkError>
     ensures ok { OnOk result (Appends (S.contents sink.old) (S.contents sink.new) bytes.now) }
     ensures err { OnErr result (AppendsPrefix (S.contents sink.old) (S.contents sink.new) bytes.now) }
+    ensures took { OnOk result (S.took sink.new ≡ S.took sink.old ++ bytes.now) }
+    ensures took_some { OnErr result ((n : ℕ) × (S.took sink.new ≡ S.took sink.old ++ take n bytes.now)) }
     ensures cause { HasCause (S.faults sink.old) (S.faults sink.new) result }
     ensures nothing { bytes.now ≡ [] → sink.new ≡ sink.old }
 {

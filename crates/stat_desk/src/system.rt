@@ -3,6 +3,7 @@ ghost use Rattle.std.specs.Prelude.{◌≡◌, ◌<◌, ◌≤◌, ◌+◌, ◌^
 ghost use Rattle.stat_desk.specs.Desk.{CountsAt, FailedAt};
 ghost use Rattle.stat_desk.specs.Feeding.{FeedsPrefix};
 
+use crate::history::History;
 use crate::{Desk, DeskError, Feed, Sink, SinkError};
 use std::alloc::{AllocError, Global};
 use std::fs;
@@ -17,6 +18,7 @@ pub struct FileDesk<'a, R: Files> {
     faults: u64,
     last_fault: Option<String>,
     reads: Vec<String>,
+    gave: Vec<History>,
     ghost fits_u64: { faults < 2 ^ 64 },
 }
 
@@ -26,6 +28,7 @@ impl<'a, R: Files> FileDesk<'a, R> {
         ensures faults { ⟦<FileDesk<'a, R> as Desk>⟧.faults result ≡ 0 }
         ensures last_fault { ⟦<FileDesk<'a, R> as Desk>⟧.last_fault result ≡ None }
         ensures reads { ⟦<FileDesk<'a, R> as Desk>⟧.reads result ≡ [] }
+        ensures gave { ⟦<FileDesk<'a, R> as Desk>⟧.gave result ≡ [] }
     {
         FileDesk {
             rt,
@@ -33,6 +36,7 @@ impl<'a, R: Files> FileDesk<'a, R> {
             faults: 0,
             last_fault: None,
             reads: Vec::new(alloc),
+            gave: Vec::new(alloc),
         }
     }
 
@@ -45,6 +49,7 @@ impl<'a, R: Files> FileDesk<'a, R> {
             (string_bytes name) }
         ensures fits_u64 { self.new.faults < 2 ^ 64 }
         ensures reads { self.new.reads ≡ self.old.reads }
+        ensures gave { self.new.gave ≡ self.old.gave }
     {
         self.faults = self.faults.saturating_add(1);
         self.last_fault = Some(name);
@@ -110,16 +115,20 @@ fn read_up_to<F: Read>(alloc: Global, file: &mut F, max: u64) -> Result<Vec<u8>,
 // How many bytes are fed at once.
 const PIECE: usize = 65_536;
 
-// Feeds all bytes that a file gives, if they are at most `max`. It takes at most a piece more from the file.
+// Feeds all bytes that a file gives, if they are at most `max`, and returns them. It takes at most a piece more from the
+// file.
 fn feed_up_to<I: Read, F: Feed>(
     alloc: Global,
     file: &mut I,
     max: u64,
     fed: &mut F,
-) -> Result<(), DeskError>
+) -> Result<History, DeskError>
     requires nothing_fed { F.feeds fed.old [] fed.old }
-    ensures { FeedsPrefix F.feeds fed.old fed.new None max }
+    ensures given { IfOk result (λ given. F.feeds fed.old given.bytes fed.new) }
+    ensures within { IfOk result (λ given. length given.bytes ≤ max) }
+    ensures prefix { FeedsPrefix F.feeds fed.old fed.new None max }
 {
+    let mut given = History::new();
     let mut piece = Vec::new(alloc);
     if make_room(&mut piece, PIECE).is_err() {
         return Err(DeskError::OutOfMemory);
@@ -130,13 +139,14 @@ fn feed_up_to<I: Read, F: Feed>(
             return Err(DeskError::Failed);
         };
         if count == 0 {
-            return Ok(());
+            return Ok(given);
         }
         if count as u64 > left {
             return Err(DeskError::TooLong);
         }
         let (bytes, _) = piece.as_slice().split_at(count);
         fed.feed(bytes);
+        given.note(bytes);
         left -= count as u64;
     }
 }
@@ -147,6 +157,8 @@ impl<R: Files> Desk for FileDesk<'_, R> {
     ghost last_fault = { λ d. option_map string_bytes d.last_fault };
 
     ghost reads = { λ d. map string_bytes d.reads.items };
+
+    ghost gave = { λ d. map (λ h. h.bytes) d.gave.items };
 
     ghost contents = { λ d name. None };
 
@@ -165,7 +177,10 @@ impl<R: Files> Desk for FileDesk<'_, R> {
             return Err(self.refuse(at_fault));
         };
         match read_up_to(self.alloc, &mut file, max) {
-            Ok(bytes) => Ok(bytes),
+            Ok(bytes) => match self.gave.push(History::of(&bytes)) {
+                Ok(()) => Ok(bytes),
+                Err(_) => Err(DeskError::OutOfMemory),
+            },
             Err(DeskError::Failed) => Err(self.refuse(at_fault)),
             Err(other) => Err(other),
         }
@@ -185,7 +200,10 @@ impl<R: Files> Desk for FileDesk<'_, R> {
             return Err(self.refuse(at_fault));
         };
         match feed_up_to(self.alloc, &mut file, max, fed) {
-            Ok(()) => Ok(()),
+            Ok(given) => match self.gave.push(given) {
+                Ok(()) => Ok(()),
+                Err(_) => Err(DeskError::OutOfMemory),
+            },
             Err(DeskError::Failed) => Err(self.refuse(at_fault)),
             Err(other) => Err(other),
         }
@@ -197,26 +215,37 @@ impl<R: Files> Desk for FileDesk<'_, R> {
 pub struct StdSink<'a, R: Print> {
     rt: &'a R,
     faults: u64,
+    took: History,
     ghost fits_u64: { faults < 2 ^ 64 },
 }
 
 impl<'a, R: Print> StdSink<'a, R> {
     /// A sink with no fault.
     pub fn new(rt: &'a R) -> StdSink<'a, R>
-        ensures { ⟦<StdSink<'a, R> as Sink>⟧.faults result ≡ 0 }
+        ensures faults { ⟦<StdSink<'a, R> as Sink>⟧.faults result ≡ 0 }
+        ensures took { ⟦<StdSink<'a, R> as Sink>⟧.took result ≡ [] }
     {
-        StdSink { rt, faults: 0 }
+        StdSink {
+            rt,
+            faults: 0,
+            took: History::new(),
+        }
     }
 }
 
 impl<R: Print> Sink for StdSink<'_, R> {
     ghost faults = { λ s. s.faults };
 
+    ghost took = { λ s. s.took.bytes };
+
     ghost contents = { λ s. None };
 
     fn write(&mut self, piece: &[u8]) -> Result<usize, SinkError> {
         match self.rt.write_some(piece) {
-            Ok(count) if count > 0 || piece.is_empty() => Ok(count),
+            Ok(count) if count > 0 || piece.is_empty() => {
+                self.took.note(piece.split_at(count).0);
+                Ok(count)
+            }
             _ => {
                 self.faults = self.faults.saturating_add(1);
                 Err(SinkError::Failed)
@@ -225,26 +254,29 @@ impl<R: Print> Sink for StdSink<'_, R> {
     }
 }
 
-/// A file of the system. It is made, or emptied, at the first write.
+/// A file of the system. It is made, or emptied, at the first write of a piece that isn't empty.
 #[derive(Drop)]
 pub struct FileSink<'a, R: Files> {
     rt: &'a R,
     name: String,
     file: Option<R::File>,
     faults: u64,
+    took: History,
     ghost fits_u64: { faults < 2 ^ 64 },
 }
 
 impl<'a, R: Files> FileSink<'a, R> {
     /// A sink with no fault, for the file of this name. No file is made yet.
     pub fn new(rt: &'a R, name: String) -> FileSink<'a, R>
-        ensures { ⟦<FileSink<'a, R> as Sink>⟧.faults result ≡ 0 }
+        ensures faults { ⟦<FileSink<'a, R> as Sink>⟧.faults result ≡ 0 }
+        ensures took { ⟦<FileSink<'a, R> as Sink>⟧.took result ≡ [] }
     {
         FileSink {
             rt,
             name,
             file: None,
             faults: 0,
+            took: History::new(),
         }
     }
 
@@ -252,6 +284,7 @@ impl<'a, R: Files> FileSink<'a, R> {
     fn write_some(&mut self, piece: &[u8]) -> Option<usize>
         ensures within { IfSome result (λ count. count ≤ length piece.now) }
         ensures faults { self.new.faults ≡ self.old.faults }
+        ensures took { self.new.took ≡ self.old.took }
     {
         if self.file.is_none() {
             self.file = fs::create(self.rt, self.name.as_str()).ok();
@@ -264,11 +297,19 @@ impl<'a, R: Files> FileSink<'a, R> {
 impl<R: Files> Sink for FileSink<'_, R> {
     ghost faults = { λ s. s.faults };
 
+    ghost took = { λ s. s.took.bytes };
+
     ghost contents = { λ s. None };
 
     fn write(&mut self, piece: &[u8]) -> Result<usize, SinkError> {
+        if piece.is_empty() {
+            return Ok(0);
+        }
         match self.write_some(piece) {
-            Some(count) if count > 0 || piece.is_empty() => Ok(count),
+            Some(count) if count > 0 => {
+                self.took.note(piece.split_at(count).0);
+                Ok(count)
+            }
             _ => {
                 self.faults = self.faults.saturating_add(1);
                 Err(SinkError::Failed)

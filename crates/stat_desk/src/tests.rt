@@ -99,7 +99,7 @@ fn memory_sink_stalls(rt: HostRuntime) -> Result<(), AllocError> {
 fn file_desk_reads_real_files(rt: HostRuntime) -> Result<(), AllocError> {
     let alloc = rt.alloc();
     let mut long = Vec::new(alloc);
-    for number in 0..40_000u32 {
+    for number in 0..100_000u32 {
         long.push((number % 251) as u8)?;
     }
     assert!(rt; fs::write(&rt, "short", "four").is_ok());
@@ -113,8 +113,8 @@ fn file_desk_reads_real_files(rt: HostRuntime) -> Result<(), AllocError> {
         ("empty", 0, Ok(b"")),
         ("short", 0, Err(DeskError::TooLong)),
         ("absent", 4, Err(DeskError::Failed)),
-        ("long", 40_000, Ok(long.as_slice())),
-        ("long", 39_999, Err(DeskError::TooLong)),
+        ("long", 100_000, Ok(long.as_slice())),
+        ("long", 99_999, Err(DeskError::TooLong)),
     ];
     for (name, max, want) in reads {
         match (desk.read(name, max), want) {
@@ -187,6 +187,7 @@ fn file_sink_makes_its_file_at_the_first_write(rt: HostRuntime) -> Result<(), Al
     assert!(rt; fs::write(&rt, "kept", "what was there").is_ok());
     let mut sink = FileSink::new(&rt, text_of(alloc, "kept")?);
     assert_eq!(rt; write_all_to(&mut sink, b""), Ok(()));
+    assert_eq!(rt; sink.write(b""), Ok(0));
     assert!(rt;
         fs::read(&rt, "kept").is_ok_and(|bytes| bytes.as_slice() == b"what was there".as_slice())
     );

@@ -43,3 +43,31 @@ four_by_line = refl
 two_by_function : prefix_count (samples (job Function) 0 0) ≡ 2
 unfolding samples sample_count grain stream_ranks stream_of daemons ranks union with_rank those has
 two_by_function = refl
+
+-- two waves of two sample times each: a rank in another path at each time, of which the last is of no wave
+abbrev timed_lines : List SampleLine
+timed_lines =
+    record { time = 0; ranks = set_of (0 ∷ []); path = codes "a" ∷ [] }
+    ∷ record { time = 1; ranks = set_of (0 ∷ []); path = codes "b" ∷ [] }
+    ∷ record { time = 2; ranks = set_of (0 ∷ []); path = codes "c" ∷ [] }
+    ∷ record { time = 3; ranks = set_of (0 ∷ []); path = codes "d" ∷ [] }
+    ∷ record { time = 4; ranks = set_of (0 ∷ []); path = codes "e" ∷ [] }
+    ∷ []
+
+abbrev two_waves : Plan
+two_waves = record {
+  names = codes "fe:0" ∷ codes "a:0" ∷ [];
+  parents = None ∷ Some 0 ∷ [];
+  placed = set_of [] ∷ set_of (0 ∷ []) ∷ [];
+  lines = timed_lines;
+  streams = stream 0 WaitForAll 2 2 Line (1 ∷ []) ∷ [];
+  faults = [];
+}
+
+first_wave : samples two_waves 0 0 ≡ (0, codes "a" ∷ []) ∷ (0, codes "b" ∷ []) ∷ []
+unfolding samples sample_count grain stream_ranks stream_of daemons ranks union with_rank those has
+first_wave = refl
+
+second_wave : samples two_waves 0 1 ≡ (0, codes "c" ∷ []) ∷ (0, codes "d" ∷ []) ∷ []
+unfolding samples sample_count grain stream_ranks stream_of daemons ranks union with_rank those has
+second_wave = refl

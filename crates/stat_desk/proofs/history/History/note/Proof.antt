@@ -1,0 +1,53 @@
+-- `note` does nothing: what it borrows is opened, and closed at the list with the piece behind it.
+use Rattle.std.proofs.Common.{List, [], ◌∷◌, ◌++◌, length, refl}
+use Rattle.std.proofs.raw_atomic.Walks.{proved}
+use base.Fml.{ftrue, flft}
+use base.Logic.{id⊢}
+use mir.Syntax.{named}
+use mir.Val.{Val, vunit, vptr}
+use types.Kit.{‵, ◌⊛◌, ◌$◌, ◌∵◌, !, qed, done, move, keep, drop, use1, split, join, fsplit, fsplit3, fjoin, fjoin3, feq_i, suffices, frame}
+use types.Run.{enter, of_opd, unit_lit, returns}
+use types.ByLocal.{alloc_all, pass_all, free_all, look_at, sets}
+use denote.Builtin.{u8}
+use denote.Exit.{yes}
+use denote.RattleType.{owns}
+use denote.Ref.{MutRef, mut_vals, mut_Tells}
+use denote.Slice.{ShrSlice, slice_val, shr_slice_vals, shr_slice_Tells}
+use denote.Signature.{plain}
+use denote.Steps.{opens, closes}
+use denote.Triple.Walked.{says, Stays, stay_ref, stay_none_slice, Goes-ref, Goes-none_slice, ends_at}
+use Rattle.stat_desk.specs.declared.history.History.{History}
+use Rattle.stat_desk.specs.contracts.history.History as T
+use Rattle.stat_desk.specs.contracts.history.History.note as f
+use Rattle.stat_desk.proofs.history.History.note.Statement.{statement}
+use Rattle.stat_desk.proofs.history.History.note.Code as code
+
+abbrev stayed : Stays f.ended.signature.params f.ended.kept
+stayed = (stay_ref (0 ∷ []) tt (plain (λ _. T.the_row)), (stay_none_slice (1 ∷ []) tt (plain (λ _. u8)) yes, tt))
+
+pub note_spec : {M : Type 1} → statement M
+note_spec 𝓤 𝓛 𝓜 𝓡 wired =
+    let c = f.clauses 𝓛 𝓜.mem 𝓡.returns in
+    proved 𝓛 f.ended stayed c 𝓜 𝓡
+    (Goes-ref 𝓛 2 0 tt (plain (λ _. T.the_row)), (Goes-none_slice 𝓛 2 (1 ∷ []) tt (plain (λ _. u8)) yes, tt))
+    f.Key.name code.function (code.unfolded 𝓤 𝓛.H 𝓜 𝓡 wired)
+    (λ κs. (mut_vals, (shr_slice_vals, tt)))
+    (λ κs. (mut_Tells (named 0) κs.0 T.the_row, (shr_slice_Tells (named 1) κs.1.0 u8, tt))) (λ κs qs bounds a n are.
+    let r = a.0 in let s = a.1.0 in let b = r.ref_ptr.0 in let o = r.ref_ptr.1 in
+    let after : History = record { bytes = r.now.bytes ++ s.now } in
+    let vss : List Val × (List Val × Unit {0}) = (vptr b o ∷ [], (slice_val s.ref_ptr (length s.now) ∷ [], tt)) in
+    qed 𝓛 (((‵ (flft κs.0 qs.0) ⊛ (‵ (flft κs.1.0 qs.1.0) ⊛ ‵ ftrue))
+    ⊛ ‵ (owns (MutRef (named 0) κs.0 T.the_row ∷ ShrSlice (named 1) κs.1.0 u8 ∷ []) a vss))
+    ∷ ‵ ftrue ∷ []) ∵ split ! $ split ! $
+    -- [the token of the history; that of the piece; both parameters; nothing]
+    move ! (2 ∷ []) $ fsplit ! $ fsplit3 ! $ drop ! $ move ! (0 ∷ 1 ∷ 3 ∷ []) $
+    enter ! _ _ _ _ _ $ alloc_all ! (λ l. pass_all ! refl ((tt, tt), ((tt, (tt, (record { fits = are.1.0.0.1.0 }, tt))), tt)) $
+    opens ! tt T.the_row {h = r.now} b o (λ vs.
+    sets ! (of_opd ! (unit_lit !)) refl (tt, tt) $
+    move ! (1 ∷ []) $ use1 𝓛 (‵ ((T.the_row).own_val after vs)) (id⊢ 𝓤 _) $ move ! (1 ∷ 0 ∷ []) $
+    closes ! tt T.the_row after vs b o $
+    returns ! (look_at ! 0 refl) $ free_all ! refl $ keep ! (0 ∷ 1 ∷ 2 ∷ 3 ∷ 4 ∷ []) $
+    -- [the new list; its borrow; the token of the history; the piece; the token of the piece]
+    suffices ! _ (ends_at 𝓛 f.ended stayed c ((κs, qs, bounds, a, vss), n) vunit tt (after, (tt, tt)) (tt, (tt, tt))) $ says ! refl $
+    move ! (2 ∷ 4 ∷ []) $ join ! $ frame ! $ feq_i ! (List Val) (vptr b o ∷ []) (vptr b o ∷ []) refl $ fjoin3 ! $ fjoin ! $
+    feq_i ! (List Val) (vunit ∷ []) (vunit ∷ []) refl $ move ! (1 ∷ 0 ∷ []) $ done !)))
