@@ -55,16 +55,16 @@ fn put_moved(
 }
 
 // What the numbers of a set become that lie in one run, which is moved by whole words.
-fn moved_words(alloc: Global, set: &RankSet, run: Shift) -> Result<RankSet, AllocError>
+fn moved_words(set: &RankSet, run: Shift) -> Result<RankSet, AllocError>
     requires some { set.now ≢ none }
     requires start { run.first / 64 ≤ offset_of set.now }
     requires below_limit { (x : ℕ) → has set.now x ≡ true → run.target / 64 + (x / 64 - run.first / 64) < WORD_LIMIT }
     ensures { IfOk result
         (λ moved. moved ≡ ranks_in (run.target / 64 + (offset_of set.now - run.first / 64)) (words_of set.now)) }
 {
-    let words = set.words(alloc)?;
-    let offset = run.target / 64 + (set.word_offset() - run.first / 64);
-    RankSet::from_words(alloc, offset, words)
+    // for the proof: the numbers are below the limit of ranks
+    set.invariant();
+    set.at_word(run.target / 64 + (set.word_offset() - run.first / 64))
 }
 
 /// What the numbers of a set become: places of the ranks of the cover, or, with `back`, ranks at places.
@@ -86,7 +86,7 @@ pub(crate) fn moved(
     let at = find(runs, back, 0, first);
     let run = shift_at(runs, back, at, first);
     if at + 1 == runs.len() && run.first % 64 == run.target % 64 {
-        return moved_words(alloc, set, run);
+        return moved_words(set, run);
     }
     if let Some(words) = set.held_words() {
         return moved_bits(alloc, runs, back, run, set, words);

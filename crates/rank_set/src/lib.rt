@@ -474,6 +474,22 @@ impl RankSet {
         }
     }
 
+    /// The set of the same words, the first of which is word `offset` of all: each rank is moved by whole words.
+    ///
+    /// Fails only if memory runs out.
+    pub fn at_word(&self, offset: u32) -> Result<RankSet, AllocError>
+        requires { AreWords offset (words_of self.now) }
+        ensures { IfOk result (λ moved. moved ≡ ranks_in offset (words_of self.now)) }
+    {
+        let words = match &self.held {
+            Held::Words(words) => words.at_word(offset)?,
+            Held::Runs(runs) => runs.to_words()?.at_word(offset)?,
+        };
+        let mut held = Held::Words(words);
+        held.settle();
+        Ok(RankSet { held })
+    }
+
     /// The same words without a copy, if the set holds them.
     pub fn held_words(&self) -> Option<&[u64]>
         ensures trimmed { IfSome result (λ words. AreWords (offset_of self.now) words.now) }

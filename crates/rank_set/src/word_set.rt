@@ -65,6 +65,17 @@ impl WordSet {
         }
     }
 
+    /// The set of the same words, the first of which is word `offset` of all.
+    pub(crate) fn at_word(&self, offset: u32) -> Result<WordSet, AllocError>
+        requires { AreWords offset (words_of self.now) }
+        ensures { IfOk result (λ moved. moved ≡ ranks_in offset (words_of self.now)) }
+    {
+        Ok(WordSet {
+            offset,
+            words: words::copy_of(*self.words.allocator(), self.held_words())?,
+        })
+    }
+
     /// The allocator of the set.
     pub(crate) fn allocator(&self) -> Global {
         *self.words.allocator()
