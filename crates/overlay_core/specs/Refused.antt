@@ -2,7 +2,7 @@
 use Rattle.std.specs.Prelude.{◌≡◌, refl, codes, ℕ, Bool, true, false, List, [], ◌∷◌, ◌++◌}
 use Rattle.std.proofs.Common.{ap, sym, ◌∙◌, inl, inr}
 use Rattle.std.proofs.lemmas.Bool.{true≢false}
-use Rattle.rank_set.specs.Ranks.{has, with_rank, set_of}
+use Rattle.rank_set.specs.Ranks.{has, with_rank, set_of, those, union}
 use Rattle.stat_plan.specs.Plans.{daemons, mode, ranks, stream_of, stream_ranks}
 use Rattle.overlay_core.specs.declared.release.Kind.{Kind}
 use Rattle.overlay_core.specs.declared.release.Kind.TheVariants.{Partial as PartialRelease, Final as FinalRelease}
@@ -69,7 +69,7 @@ two_are_not_one r h = true≢false (ap has_second h.all)
 
 -- one that misses ranks
 one_that_misses : HasOneRelease lost_daemon 0 (final (set_of (0 ∷ 1 ∷ [])) (2 ∷ []) ∷ []) → ⊥
-unfolding has with_rank daemons stream_of stream_ranks ranks
+unfolding has with_rank union those daemons stream_of stream_ranks ranks
 one_that_misses h =
     true≢false (sym (ap (λ c. has c 2) (ap (λ r. r.covered) (ap (head_or h.only) h.all) ∙ h.covers)))
 
