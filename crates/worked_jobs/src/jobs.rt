@@ -179,7 +179,7 @@ end
 
 pub const FUNCTION_SCR: &str = "stream 0 wait-for-all waves 1 samples 1 by function on all\n";
 
-pub const WORKED: [Worked; 17] = [
+pub const WORKED: [Worked; 18] = [
     // functions alone
     Worked {
         topology: ONE_TOP,
@@ -432,6 +432,47 @@ class 3:[0,2-3] paths 1
   main;MPI_Barrier
 class 1:[1] paths 1
   main;compute
+end
+",
+    },
+    // two waves of two samples each: what a rank does at the second time of a wave, and at the first of the next one
+    Worked {
+        topology: ONE_TOP,
+        samples: "daemon a:0 0-1
+stack 0 0-1 main;a
+stack 1 0-1 main;b
+stack 2 0 main;c
+stack 2 1 main;d
+stack 3 0-1 main;e
+stack 4 0-1 main;f
+",
+        script: "stream 0 wait-for-all waves 2 samples 2 on all\n",
+        report: "stream 0 wave 0 release 1 final
+covered 2:[0-1]
+tree
+2:[0-1] - /
+  2:[0-1] - main
+    2:[0-1] 2:[0-1] a
+    2:[0-1] 2:[0-1] b
+classes
+class 2:[0-1] paths 2
+  main;a
+  main;b
+stream 0 wave 1 release 1 final
+covered 2:[0-1]
+tree
+2:[0-1] - /
+  2:[0-1] - main
+    1:[0] 1:[0] c
+    1:[1] 1:[1] d
+    2:[0-1] 2:[0-1] e
+classes
+class 1:[0] paths 2
+  main;c
+  main;e
+class 1:[1] paths 2
+  main;d
+  main;e
 end
 ",
     },
