@@ -2,15 +2,15 @@
 ghost use Rattle.std.specs.Prelude.{◌≡◌, IsTrue};
 ghost use Rattle.call_path.specs.Good.{is_good_frame};
 
-use call_path::PathBuilder;
+use crate::plans::plan_of;
+use call_path::{CallPath, PathBuilder};
 use front_end::{direct_json, direct_text};
 use overlay_core::{Kind, Release};
 use prefix_tree::{OwnedTree, PrefixTree};
 use rank_set::RankSet;
 use stat_plan::Plan;
-use std::alloc::{AllocError, Global};
+use std::alloc::Global;
 use std::process::Abort;
-use std::test::Fail;
 
 // One daemon of rank 0, and no streams but 7.
 const NODES: &[u8] = b"fe:0 => a:0 ;\n";
@@ -19,11 +19,8 @@ const SAMPLES: &[u8] = b"daemon a:0 0\n";
 
 const SCRIPT: &[u8] = b"stream 7 wait-for-all waves 1 samples 1 on all\n";
 
-fn small_plan(alloc: Global) -> Result<Plan, Fail> {
-    let topology = topology_text::read(alloc, NODES)?;
-    let samples = sample_text::read(alloc, SAMPLES, &topology)?;
-    let script = script_text::read(alloc, SCRIPT, &topology)?;
-    Ok(Plan::build(alloc, topology, samples, script)?)
+fn small_plan(rt: &impl Abort, alloc: Global) -> Plan {
+    plan_of(rt, alloc, NODES, SAMPLES, SCRIPT)
 }
 
 // A release of no samples.
@@ -66,18 +63,17 @@ end
 ";
 
 #[test]
-fn puts_releases_in_order(rt: HostRuntime) -> Result<(), Fail> {
+fn puts_releases_in_order(rt: HostRuntime) {
     let alloc = rt.alloc();
-    let plan = small_plan(alloc)?;
+    let plan = small_plan(&rt, alloc);
     let given = [
         release(alloc, 1, 0, 1, Kind::Final),
         release(alloc, 0, 1, 1, Kind::Final),
         release(alloc, 0, 0, 2, Kind::Final),
         release(alloc, 0, 0, 1, Kind::Partial),
     ];
-    let text = direct_text(alloc, &plan, &given)?;
+    let text = direct_text(alloc, &plan, &given).expect(&rt, "memory");
     assert_eq!(rt; text.as_slice(), ORDERED);
-    Ok(())
 }
 
 fn set_of(rt: &impl Abort, alloc: Global, ranks: &[u32]) -> RankSet {
@@ -88,25 +84,29 @@ fn set_of(rt: &impl Abort, alloc: Global, ranks: &[u32]) -> RankSet {
     set
 }
 
-// The ranks were seen in the path of main and this frame.
-fn add(
-    rt: &impl Abort,
-    alloc: Global,
-    tree: &mut OwnedTree,
-    ranks: &[u32],
-    frame: &str,
-) -> Result<(), AllocError>
+fn tree_over(rt: &impl Abort, alloc: Global, ranks: &[u32]) -> OwnedTree {
+    let mut tree = OwnedTree::empty(alloc);
+    let ranks = set_of(rt, alloc, ranks);
+    tree.cover(&ranks).expect(rt, "memory");
+    tree
+}
+
+// The path of main and this frame.
+fn path_of(rt: &impl Abort, alloc: Global, frame: &str) -> CallPath
     requires { IsTrue (is_good_frame frame.now) }
 {
     let mut frames = PathBuilder::new(alloc);
-    frames.push("main")?;
-    frames.push(frame)?;
-    let path = frames.path()?;
+    frames.push("main").expect(rt, "memory");
+    frames.push(frame).expect(rt, "memory");
+    frames.path().expect(rt, "memory")
+}
+
+// The ranks were seen in the path.
+fn add(rt: &impl Abort, alloc: Global, tree: &mut OwnedTree, ranks: &[u32], path: &CallPath) {
     let ranks = set_of(rt, alloc, ranks);
     assert!(rt; ranks.count() > 0);
     assert!(rt; ranks.is_subset(tree.row(0).label));
-    assert!(rt; tree.add(&ranks, &path).is_ok());
-    Ok(())
+    assert!(rt; tree.add(&ranks, path).is_ok());
 }
 
 // The one release of a report.
@@ -136,34 +136,44 @@ class 1:[1] paths 1
 end
 ";
 
+// A tree of three ranks in one frame and one in another.
+fn tree_of_four(rt: &impl Abort, alloc: Global) -> OwnedTree {
+    let mut tree = tree_over(rt, alloc, &[0, 1, 2, 3]);
+    add(
+        rt,
+        alloc,
+        &mut tree,
+        &[0, 2, 3],
+        &path_of(rt, alloc, "MPI_Barrier"),
+    );
+    add(rt, alloc, &mut tree, &[1], &path_of(rt, alloc, "compute"));
+    tree
+}
+
 #[test]
-fn writes_a_tree_and_its_classes(rt: HostRuntime) -> Result<(), Fail> {
+fn writes_a_tree_and_its_classes(rt: HostRuntime) {
     let alloc = rt.alloc();
-    let mut tree = OwnedTree::empty(alloc);
-    tree.cover(&set_of(&rt, alloc, &[0, 1, 2, 3]))?;
-    add(&rt, alloc, &mut tree, &[0, 2, 3], "MPI_Barrier")?;
-    add(&rt, alloc, &mut tree, &[1], "compute")?;
-    let text = direct_text(alloc, &small_plan(alloc)?, &[release_of(tree, alloc)])?;
+    let tree = tree_of_four(&rt, alloc);
+    let plan = small_plan(&rt, alloc);
+    let text = direct_text(alloc, &plan, &[release_of(tree, alloc)]).expect(&rt, "memory");
     assert_eq!(rt; text.as_slice(), TREE);
-    Ok(())
 }
 
 // A tree of rank 0 in one frame with a quotation mark, which JSON escapes.
-fn tree_of_one(rt: &impl Abort, alloc: Global) -> Result<OwnedTree, AllocError> {
-    let mut tree = OwnedTree::empty(alloc);
-    tree.cover(&set_of(rt, alloc, &[0]))?;
-    add(rt, alloc, &mut tree, &[0], "a\"b")?;
-    Ok(tree)
+fn tree_of_one(rt: &impl Abort, alloc: Global) -> OwnedTree {
+    let mut tree = tree_over(rt, alloc, &[0]);
+    add(rt, alloc, &mut tree, &[0], &path_of(rt, alloc, "a\"b"));
+    tree
 }
 
 const JSON: &[u8] =
     b"{\"faults\":[],\"releases\":[{\"classes\":[{\"paths\":[\"main;a\\\"b\"],\"ranks\":\"1:[0]\"}],\"covered\":\"1:[0]\",\"kind\":\"final\",\"missing\":[],\"number\":4,\"stream\":2,\"tree\":[{\"depth\":0,\"ends\":\"0:[]\",\"frame\":\"/\",\"label\":\"1:[0]\"},{\"depth\":1,\"ends\":\"0:[]\",\"frame\":\"main\",\"label\":\"1:[0]\"},{\"depth\":2,\"ends\":\"1:[0]\",\"frame\":\"a\\\"b\",\"label\":\"1:[0]\"}],\"wave\":3}]}\n";
 
 #[test]
-fn writes_a_tree_and_its_classes_as_json(rt: HostRuntime) -> Result<(), Fail> {
+fn writes_a_tree_and_its_classes_as_json(rt: HostRuntime) {
     let alloc = rt.alloc();
-    let tree = tree_of_one(&rt, alloc)?;
-    let text = direct_json(alloc, &small_plan(alloc)?, &[release_of(tree, alloc)])?;
+    let tree = tree_of_one(&rt, alloc);
+    let plan = small_plan(&rt, alloc);
+    let text = direct_json(alloc, &plan, &[release_of(tree, alloc)]).expect(&rt, "memory");
     assert_eq!(rt; text.as_slice(), JSON);
-    Ok(())
 }

@@ -1,11 +1,11 @@
 //! What no clause says: texts as they are written, and that each call succeeds with ample memory.
 
+use crate::plans::plan_of;
 use journal_text::{JournalRead, read_journal};
 use stat_desk::Event;
 use stat_plan::Plan;
 use std::alloc::Global;
 use std::process::Abort;
-use std::test::Fail;
 
 // The nodes `fe:0`, `c:0`, `b:0` and `a:0`, of which the last two are daemons.
 const NODES: &[u8] = b"fe:0 => c:0 b:0 ;\nc:0 => a:0 ;\n";
@@ -14,11 +14,8 @@ const SAMPLES: &[u8] = b"daemon a:0 0\ndaemon b:0 1\n";
 
 const SCRIPT: &[u8] = b"stream 0 wait-for-all waves 12 samples 1 on a:0\n";
 
-fn small_plan(alloc: Global) -> Result<Plan, Fail> {
-    let topology = topology_text::read(alloc, NODES)?;
-    let samples = sample_text::read(alloc, SAMPLES, &topology)?;
-    let script = script_text::read(alloc, SCRIPT, &topology)?;
-    Ok(Plan::build(alloc, topology, samples, script)?)
+fn small_plan(rt: &impl Abort, alloc: Global) -> Plan {
+    plan_of(rt, alloc, NODES, SAMPLES, SCRIPT)
 }
 
 // A text, the events of its good lines, and the number of its first bad line.
@@ -64,20 +61,19 @@ const TEXTS: [(&[u8], &[Event], Option<u64>); 4] = [
 
 fn assert_journal(rt: &impl Abort, read: &JournalRead, events: &[Event], bad: Option<u64>) {
     assert_eq!(rt; read.bad, bad);
-    assert_eq!(rt; read.events.len(), events.len() as u64);
+    assert!(rt; read.events.len() == events.len() as u64);
     for i in 0..read.events.len() {
         assert_eq!(rt; Some(read.events.at(i)), events.get(i as usize).copied());
     }
 }
 
 #[test]
-fn reads_texts_up_to_their_first_bad_line(rt: HostRuntime) -> Result<(), Fail> {
-    let plan = small_plan(rt.alloc())?;
-    for (text, events, bad) in TEXTS {
-        let read = read_journal(rt.alloc(), &plan, text)?;
-        assert_journal(&rt, &read, events, bad);
+fn reads_texts_up_to_their_first_bad_line(rt: HostRuntime) {
+    let plan = small_plan(&rt, rt.alloc());
+    for (text, events, bad) in &TEXTS {
+        let read = read_journal(rt.alloc(), &plan, text).expect(&rt, "memory");
+        assert_journal(&rt, &read, events, *bad);
     }
-    Ok(())
 }
 
 // Lines that say nothing.
@@ -109,11 +105,10 @@ const BAD: [&[u8]; 24] = [
 ];
 
 #[test]
-fn refuses_bad_lines(rt: HostRuntime) -> Result<(), Fail> {
-    let plan = small_plan(rt.alloc())?;
-    for text in BAD {
-        let read = read_journal(rt.alloc(), &plan, text)?;
-        assert_eq!(rt; read.bad, Some(0), "{text:?}");
+fn refuses_bad_lines(rt: HostRuntime) {
+    let plan = small_plan(&rt, rt.alloc());
+    for text in &BAD {
+        let read = read_journal(rt.alloc(), &plan, text).expect(&rt, "memory");
+        assert!(rt; read.bad == Some(0), "{text:?}");
     }
-    Ok(())
 }

@@ -1,4 +1,5 @@
-//! Tests of the texts that are read and written, and nothing else. Each module has the tests of the library with its name.
+//! Tests of the texts that are read and written, and nothing else. Each module has the tests of the library with its
+//! name, and `plans` has what several of them use.
 #![tactic(auto)]
 
 #[cfg(test)]
@@ -7,6 +8,8 @@ mod front_end_tests;
 mod generated_job_tests;
 #[cfg(test)]
 mod journal_text_tests;
+#[cfg(test)]
+mod plans;
 #[cfg(test)]
 mod sample_text_tests;
 #[cfg(test)]

@@ -7,12 +7,11 @@ use stat_desk::Feed;
 use stat_plan::{Samples, StackLine, WaveTimes};
 use std::alloc::{AllocError, Global};
 use std::process::Abort;
-use std::test::Fail;
 use text_lines::{Quantity, Reason, TextError};
 
 // A front end and two daemons.
-fn job(alloc: Global) -> Result<Topology, TextError> {
-    topology_text::read(alloc, "fe:0 => a:0 b:0 ;".as_bytes())
+fn job(rt: &impl Abort, alloc: Global) -> Topology {
+    topology_text::read(alloc, "fe:0 => a:0 b:0 ;".as_bytes()).expect(rt, "a topology")
 }
 
 const ACCEPTED: [&str; 9] = [
@@ -28,39 +27,40 @@ const ACCEPTED: [&str; 9] = [
 ];
 
 #[test]
-fn accepts_samples(rt: HostRuntime) -> Result<(), Fail> {
-    let job = job(rt.alloc())?;
-    for text in ACCEPTED {
+fn accepts_samples(rt: HostRuntime) {
+    let job = job(&rt, rt.alloc());
+    for text in &ACCEPTED {
         assert!(rt; read(rt.alloc(), text.as_bytes(), &job).is_ok(), "{text:?}");
     }
-    Ok(())
 }
 
 // The text of some lines of samples: the last digit of the time, the ranks, and the number and the text of the path.
 fn text_of_lines(
+    rt: &impl Abort,
     alloc: Global,
     lines: &[StackLine],
     paths: &[CallPath],
-) -> Result<Vec<u8>, AllocError> {
+) -> Vec<u8> {
     let mut out = Vec::new(alloc);
     for line in lines {
-        out.push(b'0' + (line.time % 10) as u8)?;
-        out.push(b' ')?;
-        line.ranks.write_text(&mut out)?;
-        out.extend_from_slice(&[b' ', b'0' + (line.path % 10) as u8, b' '])?;
-        if let Some(path) = paths.get(line.path as usize) {
-            path.write_text(&mut out)?;
-        }
-        out.push(b'\n')?;
+        push_line(line, paths, &mut out).expect(rt, "memory");
     }
-    Ok(out)
+    out
 }
 
-// The samples of a text.
-fn samples_in(alloc: Global, text: &str, job: &Topology) -> Result<Vec<u8>, TextError> {
-    let samples = read(alloc, text.as_bytes(), job)?;
+fn push_line(line: &StackLine, paths: &[CallPath], out: &mut Vec<u8>) -> Result<(), AllocError> {
+    out.extend_from_slice(&[b'0' + (line.time % 10) as u8, b' '])?;
+    line.ranks.write_text(out)?;
+    out.extend_from_slice(&[b' ', b'0' + (line.path % 10) as u8, b' '])?;
+    if let Some(path) = paths.get(line.path as usize) {
+        path.write_text(out)?;
+    }
+    out.extend_from_slice(b"\n")
+}
+
+fn text_of(rt: &impl Abort, alloc: Global, samples: &Samples) -> Vec<u8> {
     let all = samples.lines();
-    Ok(text_of_lines(alloc, all.lines, all.paths)?)
+    text_of_lines(rt, alloc, all.lines, all.paths)
 }
 
 // `stack` lines in the usual form and in others, behind lines that place the ranks 0 to 2, and the samples that they
@@ -93,43 +93,40 @@ const FORMS: [(&str, &str); 16] = [
     ),
 ];
 
-fn assert_samples(
-    rt: &impl Abort,
-    alloc: Global,
-    lines: &str,
-    want: &str,
-    job: &Topology,
-) -> Result<(), Fail> {
-    let mut text = String::from_str(alloc, "daemon a:0 0-1\ndaemon b:0 2\n")?;
-    text.push_str(lines)?;
-    let samples = samples_in(alloc, text.as_str(), job)?;
-    assert_eq!(rt; samples.as_slice(), want.as_bytes(), "{lines:?}");
-    Ok(())
+// The samples of lines behind those that place the ranks 0 to 2.
+fn read_lines(rt: &impl Abort, alloc: Global, lines: &str, job: &Topology) -> Samples {
+    let places = "daemon a:0 0-1\ndaemon b:0 2\n";
+    let text = format!(in alloc; "{places}{lines}").expect(rt, "memory");
+    read(alloc, text.as_bytes(), job).expect(rt, "samples")
 }
 
 #[test]
-fn reads_lines_in_any_form(rt: HostRuntime) -> Result<(), Fail> {
-    let job = job(rt.alloc())?;
-    for (lines, want) in FORMS {
-        assert_samples(&rt, rt.alloc(), lines, want, &job)?;
+fn reads_lines_in_any_form(rt: HostRuntime) {
+    let job = job(&rt, rt.alloc());
+    for (lines, want) in &FORMS {
+        let samples = read_lines(&rt, rt.alloc(), lines, &job);
+        let text = text_of(&rt, rt.alloc(), &samples);
+        assert_eq!(rt; text.as_slice(), want.as_bytes(), "{lines:?}");
     }
-    Ok(())
 }
 
-// The samples of a text for one node alone, in a wave of so many sample times.
-fn own_lines_in(
+// The samples for one node alone, in a wave of so many sample times.
+fn own_text(
+    rt: &impl Abort,
     alloc: Global,
-    text: &str,
-    job: &Topology,
+    samples: &Samples,
     n: u32,
     times: WaveTimes,
-) -> Result<Vec<u8>, TextError> {
-    let samples = read(alloc, text.as_bytes(), job)?;
-    if n as usize >= samples.placed().len() {
-        return Ok(Vec::new(alloc));
-    }
-    let own = samples.own_lines(n, times)?;
-    Ok(text_of_lines(alloc, own.lines(), own.paths_by(Grain::Line))?)
+) -> Vec<u8> {
+    assert!(rt; (n as usize) < samples.placed().len());
+    let own = samples.own_lines(n, times).expect(rt, "memory");
+    text_of_lines(rt, alloc, own.lines(), own.paths_by(Grain::Line))
+}
+
+fn own_lines_in(rt: &impl Abort, alloc: Global, text: &str, n: u32, times: WaveTimes) -> Vec<u8> {
+    let job = job(rt, alloc);
+    let samples = read(alloc, text.as_bytes(), &job).expect(rt, "samples");
+    own_text(rt, alloc, &samples, n, times)
 }
 
 // The times of a wave.
@@ -145,22 +142,18 @@ stack 0 2,5-6 main;b
 stack 0 0-6 main;a
 ";
 
+// A node, and its samples.
+const OWN_OF_TWO_PATHS: [(u32, &str); 2] = [
+    (1, "0 4:[0-2,6] 1 main;a\n0 3:[0,2,6] 0 main;b\n"),
+    (2, "0 3:[3-5] 1 main;a\n0 2:[3,5] 0 main;b\n"),
+];
+
 #[test]
-fn gives_each_node_one_line_of_a_path_whose_lines_come_by_turns(
-    rt: HostRuntime,
-) -> Result<(), Fail> {
-    let job = job(rt.alloc())?;
-    let a = own_lines_in(rt.alloc(), TWO_PATHS_BY_TURNS, &job, 1, wave(1, 0))?;
-    assert_eq!(rt;
-        a.as_slice(),
-        b"0 4:[0-2,6] 1 main;a\n0 3:[0,2,6] 0 main;b\n".as_slice()
-    );
-    let b = own_lines_in(rt.alloc(), TWO_PATHS_BY_TURNS, &job, 2, wave(1, 0))?;
-    assert_eq!(rt;
-        b.as_slice(),
-        b"0 3:[3-5] 1 main;a\n0 2:[3,5] 0 main;b\n".as_slice()
-    );
-    Ok(())
+fn gives_each_node_one_line_of_a_path_whose_lines_come_by_turns(rt: HostRuntime) {
+    for (node, want) in &OWN_OF_TWO_PATHS {
+        let own = own_lines_in(&rt, rt.alloc(), TWO_PATHS_BY_TURNS, *node, wave(1, 0));
+        assert_eq!(rt; own.as_slice(), want.as_bytes());
+    }
 }
 
 const TWO_TIMES_BY_TURNS: &str = "daemon a:0 0-2
@@ -171,22 +164,20 @@ stack 7 2-3 m
 stack 8 0 m
 ";
 
-#[test]
-fn unites_no_lines_of_two_times(rt: HostRuntime) -> Result<(), Fail> {
-    let job = job(rt.alloc())?;
-    let b = own_lines_in(rt.alloc(), TWO_TIMES_BY_TURNS, &job, 2, wave(16, 0))?;
-    assert_eq!(rt; b.as_slice(), b"7 1:[3] 0 m\n8 1:[3] 0 m\n".as_slice());
-    Ok(())
+fn assert_times(rt: &impl Abort, alloc: Global, times: WaveTimes, want: &str) {
+    let own = own_lines_in(rt, alloc, TWO_TIMES_BY_TURNS, 2, times);
+    assert_eq!(rt; own.as_slice(), want.as_bytes());
 }
 
 #[test]
-fn cuts_a_line_for_its_own_wave_alone(rt: HostRuntime) -> Result<(), Fail> {
-    let job = job(rt.alloc())?;
-    let b = own_lines_in(rt.alloc(), TWO_TIMES_BY_TURNS, &job, 2, wave(4, 1))?;
-    assert_eq!(rt; b.as_slice(), b"7 1:[3] 0 m\n".as_slice());
-    let none = own_lines_in(rt.alloc(), TWO_TIMES_BY_TURNS, &job, 2, wave(7, 0))?;
-    assert_eq!(rt; none.as_slice(), b"".as_slice());
-    Ok(())
+fn unites_no_lines_of_two_times(rt: HostRuntime) {
+    assert_times(&rt, rt.alloc(), wave(16, 0), "7 1:[3] 0 m\n8 1:[3] 0 m\n");
+}
+
+#[test]
+fn cuts_a_line_for_its_own_wave_alone(rt: HostRuntime) {
+    assert_times(&rt, rt.alloc(), wave(4, 1), "7 1:[3] 0 m\n");
+    assert_times(&rt, rt.alloc(), wave(7, 0), "");
 }
 
 // A text, and the line and reason of its first fault.
@@ -282,16 +273,16 @@ const FAULTS: [(&str, u64, Reason); 68] = [
 ];
 
 #[test]
-fn refuses_texts_at_the_first_fault(rt: HostRuntime) -> Result<(), Fail> {
-    let job = job(rt.alloc())?;
-    for (text, line, reason) in FAULTS {
-        assert_eq!(rt;
-            read(rt.alloc(), text.as_bytes(), &job).err(),
-            Some(TextError::Bad { line, reason }),
-            "{text:?}"
-        );
+fn refuses_texts_at_the_first_fault(rt: HostRuntime) {
+    let job = job(&rt, rt.alloc());
+    for (text, line, reason) in &FAULTS {
+        let found = read(rt.alloc(), text.as_bytes(), &job).err();
+        let want = TextError::Bad {
+            line: *line,
+            reason: *reason,
+        };
+        assert_eq!(rt; found, Some(want), "{text:?}");
     }
-    Ok(())
 }
 
 // A text with a rank past the last, and the line of it.
@@ -306,88 +297,77 @@ const TOO_MANY_RANKS: [(&str, u64); 4] = [
 ];
 
 #[test]
-fn refuses_ranks_past_the_last(rt: HostRuntime) -> Result<(), Fail> {
-    let job = job(rt.alloc())?;
-    for (text, line) in TOO_MANY_RANKS {
-        assert_eq!(rt;
-            read(rt.alloc(), text.as_bytes(), &job).err(),
-            Some(TextError::Over {
-                line,
-                what: Quantity::Ranks,
-                limit: 1_048_576
-            }),
-            "{text:?}"
-        );
+fn refuses_ranks_past_the_last(rt: HostRuntime) {
+    let job = job(&rt, rt.alloc());
+    for (text, line) in &TOO_MANY_RANKS {
+        let found = read(rt.alloc(), text.as_bytes(), &job).err();
+        let want = TextError::Over {
+            line: *line,
+            what: Quantity::Ranks,
+            limit: 1_048_576,
+        };
+        assert_eq!(rt; found, Some(want), "{text:?}");
     }
-    Ok(())
 }
 
 #[test]
-fn takes_any_bytes_in_comments(rt: HostRuntime) -> Result<(), Fail> {
-    let job = job(rt.alloc())?;
+fn takes_any_bytes_in_comments(rt: HostRuntime) {
+    let job = job(&rt, rt.alloc());
     let text = b"#\xff\xfe\n# \xc3\r\ndaemon a:0 0\ndaemon b:0 1\nstack 0 0 m\n#\x80\nstack 0 1 m";
     assert!(rt; read(rt.alloc(), text, &job).is_ok());
-    Ok(())
 }
 
-fn assert_not_utf8(rt: &impl Abort, alloc: Global, text: &[u8], line: u64, job: &Topology) {
-    assert_eq!(rt;
-        read(alloc, text, job).err(),
-        Some(TextError::Bad {
-            line,
-            reason: Reason::NotUtf8
-        })
-    );
-}
+// A text, and the line of its first bytes that are no UTF-8.
+const NOT_UTF8: [(&[u8], u64); 5] = [
+    (b"#\xff\nx\xff\n", 2),
+    (b"\n #\xff", 2),
+    (b"daemon a:0 0\nstack 0 0 \xc3;", 2),
+    (b"daemon a:0 0\nstack 0 0 m\nstack 0 0 m\xff", 3),
+    (b"daemon a:0 0\nstack 0 0 m\nstack 0 0\xff m", 3),
+];
 
 #[test]
-fn refuses_other_bytes_elsewhere(rt: HostRuntime) -> Result<(), Fail> {
-    let job = job(rt.alloc())?;
-    assert_not_utf8(&rt, rt.alloc(), b"#\xff\nx\xff\n", 2, &job);
-    assert_not_utf8(&rt, rt.alloc(), b"\n #\xff", 2, &job);
-    assert_not_utf8(&rt, rt.alloc(), b"daemon a:0 0\nstack 0 0 \xc3;", 2, &job);
-    assert_not_utf8(
-        &rt,
-        rt.alloc(),
-        b"daemon a:0 0\nstack 0 0 m\nstack 0 0 m\xff",
-        3,
-        &job,
-    );
-    assert_not_utf8(
-        &rt,
-        rt.alloc(),
-        b"daemon a:0 0\nstack 0 0 m\nstack 0 0\xff m",
-        3,
-        &job,
-    );
-    Ok(())
+fn refuses_other_bytes_elsewhere(rt: HostRuntime) {
+    let job = job(&rt, rt.alloc());
+    for (text, line) in &NOT_UTF8 {
+        let found = read(rt.alloc(), text, &job).err();
+        let want = TextError::Bad {
+            line: *line,
+            reason: Reason::NotUtf8,
+        };
+        assert_eq!(rt; found, Some(want), "{text:?}");
+    }
 }
 
 // Two lines that place ranks, and so many lines of samples of nine paths.
-fn many_lines(alloc: Global, count: u32) -> Result<Vec<u8>, AllocError> {
+fn many_lines(rt: &impl Abort, alloc: Global, count: u32) -> Vec<u8> {
     let mut text = Vec::new(alloc);
-    text.extend_from_slice(b"daemon a:0 0\ndaemon b:0 1\n")?;
+    text.extend_from_slice(b"daemon a:0 0\ndaemon b:0 1\n")
+        .expect(rt, "memory");
     for n in 0..count {
-        text.extend_from_slice(b"stack 0 0-1 main;read;")?;
-        text.push(b'a' + (n % 9) as u8)?;
-        text.push(b'\n')?;
+        text.extend_from_slice(b"stack 0 0-1 main;read;")
+            .expect(rt, "memory");
+        text.extend_from_slice(&[b'a' + (n % 9) as u8, b'\n'])
+            .expect(rt, "memory");
     }
-    Ok(text)
+    text
+}
+
+// How a text of so many lines of samples is refused.
+fn refusal_of_many(rt: &impl Abort, alloc: Global, count: u32) -> Option<TextError> {
+    let job = job(rt, alloc);
+    read(alloc, &many_lines(rt, alloc, count), &job).err()
 }
 
 #[test]
-fn reads_as_many_samples_as_may_be(rt: HostRuntime) -> Result<(), Fail> {
-    let job = job(rt.alloc())?;
-    assert!(rt; read(rt.alloc(), &many_lines(rt.alloc(), 262_144)?, &job).is_ok());
-    assert_eq!(rt;
-        read(rt.alloc(), &many_lines(rt.alloc(), 262_145)?, &job).err(),
-        Some(TextError::Over {
-            line: 262_147,
-            what: Quantity::Lines,
-            limit: 262_144
-        })
-    );
-    Ok(())
+fn reads_as_many_samples_as_may_be(rt: HostRuntime) {
+    assert_eq!(rt; refusal_of_many(&rt, rt.alloc(), 262_144), None);
+    let want = TextError::Over {
+        line: 262_147,
+        what: Quantity::Lines,
+        limit: 262_144,
+    };
+    assert_eq!(rt; refusal_of_many(&rt, rt.alloc(), 262_145), Some(want));
 }
 
 // The samples of a text that comes in two pieces.
@@ -401,17 +381,6 @@ fn read_in_two(
     feeder.feed(first);
     feeder.feed(second);
     feeder.finish()
-}
-
-fn samples_in_two(
-    alloc: Global,
-    first: &[u8],
-    second: &[u8],
-    job: &Topology,
-) -> Result<Vec<u8>, TextError> {
-    let samples = read_in_two(alloc, first, second, job)?;
-    let all = samples.lines();
-    Ok(text_of_lines(alloc, all.lines, all.paths)?)
 }
 
 // Texts and their samples: lines that end in both ways, the last one with and without a line feed, and characters of
@@ -431,18 +400,21 @@ const WHOLE_OR_CUT: [(&str, &str); 3] = [
     ),
 ];
 
+fn assert_cut(rt: &impl Abort, alloc: Global, parts: (&[u8], &[u8]), job: &Topology, want: &str) {
+    let samples = read_in_two(alloc, parts.0, parts.1, job).expect(rt, "samples");
+    let text = text_of(rt, alloc, &samples);
+    assert_eq!(rt; text.as_slice(), want.as_bytes(), "{parts:?}");
+}
+
 #[test]
-fn reads_a_text_wherever_it_is_cut(rt: HostRuntime) -> Result<(), Fail> {
-    let job = job(rt.alloc())?;
-    for (text, want) in WHOLE_OR_CUT {
+fn reads_a_text_wherever_it_is_cut(rt: HostRuntime) {
+    let job = job(&rt, rt.alloc());
+    for (text, want) in &WHOLE_OR_CUT {
         let bytes = text.as_bytes();
         for at in 0..bytes.len() {
-            let (first, second) = bytes.split_at(at);
-            let samples = samples_in_two(rt.alloc(), first, second, &job)?;
-            assert_eq!(rt; samples.as_slice(), want.as_bytes(), "{text:?} {at}");
+            assert_cut(&rt, rt.alloc(), bytes.split_at(at), &job, want);
         }
     }
-    Ok(())
 }
 
 // Texts with an error, and others behind it; the line and the reason of the first.
@@ -475,17 +447,17 @@ const BAD_OR_CUT: [(&[u8], u64, Reason); 5] = [
 ];
 
 #[test]
-fn refuses_a_text_wherever_it_is_cut(rt: HostRuntime) -> Result<(), Fail> {
-    let job = job(rt.alloc())?;
-    for (text, line, reason) in BAD_OR_CUT {
+fn refuses_a_text_wherever_it_is_cut(rt: HostRuntime) {
+    let job = job(&rt, rt.alloc());
+    for (text, line, reason) in &BAD_OR_CUT {
         for at in 0..text.len() {
             let (first, second) = text.split_at(at);
-            assert_eq!(rt;
-                read_in_two(rt.alloc(), first, second, &job).err(),
-                Some(TextError::Bad { line, reason }),
-                "{at}"
-            );
+            let found = read_in_two(rt.alloc(), first, second, &job).err();
+            let want = TextError::Bad {
+                line: *line,
+                reason: *reason,
+            };
+            assert_eq!(rt; found, Some(want), "{at}");
         }
     }
-    Ok(())
 }

@@ -1,14 +1,17 @@
 //! What no clause says: texts as they are written, and that each call succeeds with ample memory.
 
-use overlay_setup::{Fault, Grain, Mode, Script};
+use overlay_setup::{Fault, Grain, Mode, Script, Topology};
 use script_text::read;
 use std::alloc::{AllocError, Global};
 use std::process::Abort;
-use std::test::Fail;
 use text_lines::{Quantity, Reason, TextError};
 
 // The nodes `fe:0`, `c:0`, `d:0`, `b:0` and `a:0`, of which the last three are daemons.
 const JOB: &[u8] = b"fe:0 => c:0 d:0 ;\nc:0 => b:0 a:0 ;\n";
+
+fn job(rt: &impl Abort, alloc: Global) -> Topology {
+    topology_text::read(alloc, JOB).expect(rt, "a topology")
+}
 
 // A stream as it is wanted.
 #[derive(Drop)]
@@ -146,26 +149,25 @@ const ACCEPTED: [Accepted; 6] = [
 ];
 
 fn assert_script(rt: &impl Abort, script: &Script, case: &Accepted) {
-    assert_eq!(rt; script.streams().len(), case.streams.len());
+    assert!(rt; script.streams().len() == case.streams.len());
     for (stream, wanted) in script.streams().iter().zip(case.streams) {
-        assert_eq!(rt; stream.number(), wanted.number);
-        assert_eq!(rt; stream.mode(), wanted.mode);
-        assert_eq!(rt; stream.waves(), wanted.waves);
-        assert_eq!(rt; stream.samples(), wanted.samples);
-        assert_eq!(rt; stream.grain(), wanted.grain);
+        assert!(rt; stream.number() == wanted.number);
+        assert!(rt; stream.mode() == wanted.mode);
+        assert!(rt; stream.waves() == wanted.waves);
+        assert!(rt; stream.samples() == wanted.samples);
+        assert!(rt; stream.grain() == wanted.grain);
         assert_eq!(rt; stream.daemons(), wanted.daemons);
     }
     assert_eq!(rt; script.faults(), case.faults);
 }
 
 #[test]
-fn accepts_scripts(rt: HostRuntime) -> Result<(), Fail> {
-    let topology = topology_text::read(rt.alloc(), JOB)?;
+fn accepts_scripts(rt: HostRuntime) {
+    let job = job(&rt, rt.alloc());
     for case in &ACCEPTED {
-        let script = read(rt.alloc(), case.text, &topology)?;
+        let script = read(rt.alloc(), case.text, &job).expect(&rt, "a script");
         assert_script(&rt, &script, case);
     }
-    Ok(())
 }
 
 // A text, and the line and reason of its first fault.
@@ -370,16 +372,16 @@ const BAD: [(&[u8], u64, Reason); 53] = [
 ];
 
 #[test]
-fn refuses_texts_at_the_first_fault(rt: HostRuntime) -> Result<(), Fail> {
-    let topology = topology_text::read(rt.alloc(), JOB)?;
-    for (text, line, reason) in BAD {
-        assert_eq!(rt;
-            read(rt.alloc(), text, &topology).err(),
-            Some(TextError::Bad { line, reason }),
-            "{text:?}"
-        );
+fn refuses_texts_at_the_first_fault(rt: HostRuntime) {
+    let job = job(&rt, rt.alloc());
+    for (text, line, reason) in &BAD {
+        let found = read(rt.alloc(), text, &job).err();
+        let want = TextError::Bad {
+            line: *line,
+            reason: *reason,
+        };
+        assert_eq!(rt; found, Some(want), "{text:?}");
     }
-    Ok(())
 }
 
 // A text, and the line, the quantity and the limit of its first fault.
@@ -417,16 +419,17 @@ const OVER: [(&[u8], u64, Quantity, u64); 5] = [
 ];
 
 #[test]
-fn refuses_what_is_too_much(rt: HostRuntime) -> Result<(), Fail> {
-    let topology = topology_text::read(rt.alloc(), JOB)?;
-    for (text, line, what, limit) in OVER {
-        assert_eq!(rt;
-            read(rt.alloc(), text, &topology).err(),
-            Some(TextError::Over { line, what, limit }),
-            "{text:?}"
-        );
+fn refuses_what_is_too_much(rt: HostRuntime) {
+    let job = job(&rt, rt.alloc());
+    for (text, line, what, limit) in &OVER {
+        let found = read(rt.alloc(), text, &job).err();
+        let want = TextError::Over {
+            line: *line,
+            what: *what,
+            limit: *limit,
+        };
+        assert_eq!(rt; found, Some(want), "{text:?}");
     }
-    Ok(())
 }
 
 // The name of a daemon, one of at most 676.
@@ -460,19 +463,28 @@ fn many_losses(alloc: Global, count: u32) -> Result<Vec<u8>, AllocError> {
     Ok(text)
 }
 
+fn large_job(rt: &impl Abort, alloc: Global) -> Topology {
+    let text = many_daemons(alloc).expect(rt, "memory");
+    topology_text::read(alloc, &text).expect(rt, "a topology")
+}
+
 #[test]
-fn reads_as_many_losses_as_may_be(rt: HostRuntime) -> Result<(), Fail> {
-    let topology = topology_text::read(rt.alloc(), &many_daemons(rt.alloc())?)?;
-    let script = read(rt.alloc(), &many_losses(rt.alloc(), 256)?, &topology)?;
-    assert_eq!(rt; script.faults().len(), 256);
+fn reads_as_many_losses_as_may_be(rt: HostRuntime) {
+    let job = large_job(&rt, rt.alloc());
+    let text = many_losses(rt.alloc(), 256).expect(&rt, "memory");
+    let script = read(rt.alloc(), &text, &job).expect(&rt, "a script");
+    assert!(rt; script.faults().len() == 256);
     assert_eq!(rt; script.faults().first().map(|fault| fault.node), Some(256));
-    assert_eq!(rt;
-        read(rt.alloc(), &many_losses(rt.alloc(), 257)?, &topology).err(),
-        Some(TextError::Over {
-            line: 258,
-            what: Quantity::Faults,
-            limit: 256
-        })
-    );
-    Ok(())
+}
+
+#[test]
+fn refuses_a_loss_more(rt: HostRuntime) {
+    let job = large_job(&rt, rt.alloc());
+    let text = many_losses(rt.alloc(), 257).expect(&rt, "memory");
+    let want = TextError::Over {
+        line: 258,
+        what: Quantity::Faults,
+        limit: 256,
+    };
+    assert_eq!(rt; read(rt.alloc(), &text, &job).err(), Some(want));
 }

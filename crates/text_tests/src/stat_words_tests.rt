@@ -1,6 +1,7 @@
 //! Which words are read, and as what.
 use stat_words::{Command, Files, Opt, ReportForm, RunReport, WordFault, WordsError, read_words};
-use std::alloc::{AllocError, Global};
+use std::alloc::Global;
+use std::process::Abort;
 
 const FILES: Files<'static> = Files {
     topology: "t",
@@ -241,56 +242,46 @@ const LINES: [(WordFault, &str); 6] = [
     (WordFault::Value(Opt::Report), "value of --report"),
 ];
 
-fn words_of(alloc: Global, text: &str) -> Result<Vec<String>, AllocError> {
+fn words_of(rt: &impl Abort, alloc: Global, text: &str) -> Vec<String> {
     let mut words = Vec::new(alloc);
-    for word in text.split_whitespace() {
-        words.push(String::from_str(alloc, word)?)?;
+    for text in text.split_whitespace() {
+        let word = String::from_str(alloc, text).expect(rt, "memory");
+        assert!(rt; words.push(word).is_ok());
     }
-    Ok(words)
+    words
+}
+
+fn assert_read(rt: &impl Abort, alloc: Global, text: &str, want: Result<Command<'_>, WordsError>) {
+    let words = words_of(rt, alloc, text);
+    assert_eq!(rt; read_words(alloc, words.as_slice()), want, "at {text}");
 }
 
 #[test]
-fn reads_commands(rt: HostRuntime) -> Result<(), AllocError> {
-    let alloc = rt.alloc();
-    for (text, command) in READ.as_slice() {
-        let words = words_of(alloc, text)?;
-        assert_eq!(rt;
-            read_words(alloc, words.as_slice()),
-            Ok(*command),
-            "at {text}"
-        );
+fn reads_commands(rt: HostRuntime) {
+    for (text, command) in &READ {
+        assert_read(&rt, rt.alloc(), text, Ok(*command));
     }
-    Ok(())
 }
 
 #[test]
-fn refuses_words_that_are_not_of_the_table(rt: HostRuntime) -> Result<(), AllocError> {
-    let alloc = rt.alloc();
-    for (text, fault) in NOT_OF_THE_TABLE.as_slice() {
-        let words = words_of(alloc, text)?;
-        let want = Err(WordsError::Fault(*fault));
-        assert_eq!(rt; read_words(alloc, words.as_slice()), want, "at {text}");
+fn refuses_words_that_are_not_of_the_table(rt: HostRuntime) {
+    for (text, fault) in &NOT_OF_THE_TABLE {
+        assert_read(&rt, rt.alloc(), text, Err(WordsError::Fault(*fault)));
     }
-    Ok(())
 }
 
 #[test]
-fn refuses_bad_values_in_their_order(rt: HostRuntime) -> Result<(), AllocError> {
-    let alloc = rt.alloc();
-    for (text, option) in BAD_VALUES.as_slice() {
-        let words = words_of(alloc, text)?;
+fn refuses_bad_values_in_their_order(rt: HostRuntime) {
+    for (text, option) in &BAD_VALUES {
         let want = Err(WordsError::Fault(WordFault::Value(*option)));
-        assert_eq!(rt; read_words(alloc, words.as_slice()), want, "at {text}");
+        assert_read(&rt, rt.alloc(), text, want);
     }
-    Ok(())
 }
 
 #[test]
-fn shows_faults(rt: HostRuntime) -> Result<(), AllocError> {
-    let alloc = rt.alloc();
-    for (fault, line) in LINES.as_slice() {
-        let shown = format!(in alloc; "{fault}")?;
+fn shows_faults(rt: HostRuntime) {
+    for (fault, line) in &LINES {
+        let shown = format!(in rt.alloc(); "{fault}").expect(&rt, "memory");
         assert_eq!(rt; shown.as_str(), *line);
     }
-    Ok(())
 }

@@ -1,9 +1,21 @@
 //! The ends of lines, blanks and numbers, by texts from outside.
 
+use std::process::Abort;
 use text_lines::{
     after_blanks, cut_number, cut_word, next_line, next_text_line, next_word, number_in,
     says_nothing,
 };
+
+// What a text was cut into, and what was wanted of it.
+fn assert_parts(rt: &impl Abort, found: Option<(&[u8], &[u8])>, want: Option<(&str, &str)>) {
+    match (found, want) {
+        (Some((front, rest)), Some((want_front, want_rest))) => {
+            assert_eq!(rt; front, want_front.as_bytes());
+            assert_eq!(rt; rest, want_rest.as_bytes(), "after {want_front:?}");
+        }
+        (found, want) => assert!(rt; found.is_none() && want.is_none(), "{want:?}"),
+    }
+}
 
 // A text, its first line, and what is left after it.
 const LINES: [(&str, Option<(&str, &str)>); 8] = [
@@ -19,35 +31,16 @@ const LINES: [(&str, Option<(&str, &str)>); 8] = [
 
 #[test]
 fn cuts_lines(rt: HostRuntime) {
-    for (text, want) in LINES {
-        let line = next_line(text.as_bytes());
-        assert_eq!(rt;
-            line.map(|parts| parts.0),
-            want.map(|parts| parts.0.as_bytes()),
-            "{text:?}"
-        );
-        assert_eq!(rt;
-            line.map(|parts| parts.1),
-            want.map(|parts| parts.1.as_bytes()),
-            "{text:?}"
-        );
+    for (text, want) in &LINES {
+        assert_parts(&rt, next_line(text.as_bytes()), *want);
     }
 }
 
 #[test]
 fn cuts_lines_of_text(rt: HostRuntime) {
-    for (text, want) in LINES {
-        let line = next_text_line(text);
-        assert_eq!(rt;
-            line.map(|parts| parts.0),
-            want.map(|parts| parts.0),
-            "{text:?}"
-        );
-        assert_eq!(rt;
-            line.map(|parts| parts.1),
-            want.map(|parts| parts.1),
-            "{text:?}"
-        );
+    for (text, want) in &LINES {
+        let line = next_text_line(text).map(|parts| (parts.0.as_bytes(), parts.1.as_bytes()));
+        assert_parts(&rt, line, *want);
     }
 }
 
@@ -64,18 +57,8 @@ const WORDS: [(&str, Option<(&str, &str)>); 7] = [
 
 #[test]
 fn cuts_words(rt: HostRuntime) {
-    for (line, want) in WORDS {
-        let word = next_word(line.as_bytes());
-        assert_eq!(rt;
-            word.map(|parts| parts.0),
-            want.map(|parts| parts.0.as_bytes()),
-            "{line:?}"
-        );
-        assert_eq!(rt;
-            word.map(|parts| parts.1),
-            want.map(|parts| parts.1.as_bytes()),
-            "{line:?}"
-        );
+    for (line, want) in &WORDS {
+        assert_parts(&rt, next_word(line.as_bytes()), *want);
     }
 }
 
@@ -92,18 +75,8 @@ const CUTS: [(&str, Option<(&str, &str)>); 7] = [
 
 #[test]
 fn cuts_the_word_in_front(rt: HostRuntime) {
-    for (line, want) in CUTS {
-        let word = cut_word(line.as_bytes());
-        assert_eq!(rt;
-            word.map(|parts| parts.0),
-            want.map(|parts| parts.0.as_bytes()),
-            "{line:?}"
-        );
-        assert_eq!(rt;
-            word.map(|parts| parts.1),
-            want.map(|parts| parts.1.as_bytes()),
-            "{line:?}"
-        );
+    for (line, want) in &CUTS {
+        assert_parts(&rt, cut_word(line.as_bytes()), *want);
     }
 }
 
@@ -122,18 +95,16 @@ const CUT_NUMBERS: [(&str, Option<(u32, &str)>); 9] = [
 
 #[test]
 fn cuts_the_number_in_front(rt: HostRuntime) {
-    for (line, want) in CUT_NUMBERS {
-        let number = cut_number(line.as_bytes(), 1_000);
-        assert_eq!(rt;
-            number.map(|parts| parts.0),
-            want.map(|parts| parts.0),
-            "{line:?}"
-        );
-        assert_eq!(rt;
-            number.map(|parts| parts.1),
-            want.map(|parts| parts.1.as_bytes()),
-            "{line:?}"
-        );
+    for (line, want) in &CUT_NUMBERS {
+        match (cut_number(line.as_bytes(), 1_000), want) {
+            (Some((number, rest)), Some((want_number, want_rest))) => {
+                assert!(rt;
+                    number == *want_number && rest == want_rest.as_bytes(),
+                    "{line:?}"
+                );
+            }
+            (found, want) => assert!(rt; found.is_none() && want.is_none(), "{line:?}"),
+        }
     }
 }
 
@@ -149,8 +120,8 @@ const SILENT: [(&str, bool); 7] = [
 
 #[test]
 fn knows_lines_that_say_nothing(rt: HostRuntime) {
-    for (line, silent) in SILENT {
-        assert_eq!(rt; says_nothing(line.as_bytes()), silent, "{line:?}");
+    for (line, silent) in &SILENT {
+        assert!(rt; says_nothing(line.as_bytes()) == *silent, "{line:?}");
     }
     assert_eq!(rt; after_blanks(b" \t a "), b"a ".as_slice());
 }
@@ -175,7 +146,7 @@ const NUMBERS: [(&str, Option<u32>); 9] = [
 
 #[test]
 fn reads_numbers_of_any_length(rt: HostRuntime) {
-    for (word, number) in NUMBERS {
-        assert_eq!(rt; number_in(word.as_bytes(), 65_536), number, "{word:?}");
+    for (word, number) in &NUMBERS {
+        assert_eq!(rt; number_in(word.as_bytes(), 65_536), *number, "{word:?}");
     }
 }

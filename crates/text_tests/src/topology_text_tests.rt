@@ -3,7 +3,6 @@
 use overlay_setup::Topology;
 use std::alloc::{AllocError, Global};
 use std::process::Abort;
-use std::test::Fail;
 use text_lines::{Quantity, Reason, TextError};
 use topology_text::read;
 
@@ -63,8 +62,12 @@ const ACCEPTED: [Accepted; 6] = [
     },
 ];
 
+fn topology_of(rt: &impl Abort, alloc: Global, text: &[u8]) -> Topology {
+    read(alloc, text).expect(rt, "a topology")
+}
+
 fn assert_nodes(rt: &impl Abort, topology: &Topology, nodes: &[(&str, Option<u32>)]) {
-    assert_eq!(rt; topology.nodes() as usize, nodes.len());
+    assert!(rt; topology.nodes() as usize == nodes.len());
     for n in 0..topology.nodes() {
         let name = topology.name(n);
         assert_eq!(rt; nodes.get(n as usize), Some(&(name, topology.parent(n))));
@@ -73,24 +76,22 @@ fn assert_nodes(rt: &impl Abort, topology: &Topology, nodes: &[(&str, Option<u32
 }
 
 #[test]
-fn accepts_topologies(rt: HostRuntime) -> Result<(), Fail> {
+fn accepts_topologies(rt: HostRuntime) {
     for case in &ACCEPTED {
-        let topology = read(rt.alloc(), case.text.as_bytes())?;
+        let topology = topology_of(&rt, rt.alloc(), case.text.as_bytes());
         assert_nodes(&rt, &topology, case.nodes);
     }
-    Ok(())
 }
 
 #[test]
-fn tells_the_front_end_and_the_daemons(rt: HostRuntime) -> Result<(), Fail> {
-    let topology = read(rt.alloc(), ACCEPTED[0].text.as_bytes())?;
-    assert_eq!(rt; topology.front(), 3);
+fn tells_the_front_end_and_the_daemons(rt: HostRuntime) {
+    let topology = topology_of(&rt, rt.alloc(), ACCEPTED[0].text.as_bytes());
+    assert!(rt; topology.front() == 3);
     for n in 0..topology.nodes() {
-        assert_eq!(rt; topology.is_daemon(n), n == 1 || n == 2 || n == 4);
+        assert!(rt; topology.is_daemon(n) == (n == 1 || n == 2 || n == 4));
     }
-    assert_eq!(rt; topology.number_of(b"c0:1"), None);
-    assert_eq!(rt; topology.number_of(b"c0:0\xff"), None);
-    Ok(())
+    assert!(rt; topology.number_of(b"c0:1").is_none());
+    assert!(rt; topology.number_of(b"c0:0\xff").is_none());
 }
 
 // A text, and the line and reason of its first fault.
@@ -154,27 +155,30 @@ const FAULTS: [(&str, u64, Reason); 43] = [
 
 #[test]
 fn refuses_texts_at_the_first_fault(rt: HostRuntime) {
-    for (text, line, reason) in FAULTS {
-        assert_eq!(rt;
-            read(rt.alloc(), text.as_bytes()).err(),
-            Some(TextError::Bad { line, reason }),
-            "{text:?}"
-        );
+    for (text, line, reason) in &FAULTS {
+        let found = read(rt.alloc(), text.as_bytes()).err();
+        let want = TextError::Bad {
+            line: *line,
+            reason: *reason,
+        };
+        assert_eq!(rt; found, Some(want), "{text:?}");
     }
 }
 
 #[test]
-fn reads_bytes_that_are_not_utf8(rt: HostRuntime) -> Result<(), Fail> {
-    let topology = read(rt.alloc(), b"# \xff\nfe:0 => a:0 ;#\xc3")?;
+fn reads_comments_that_are_not_utf8(rt: HostRuntime) {
+    let topology = topology_of(&rt, rt.alloc(), b"# \xff\nfe:0 => a:0 ;#\xc3");
     assert_nodes(&rt, &topology, &[("fe:0", None), ("a:0", Some(0))]);
-    assert_eq!(rt;
-        read(rt.alloc(), b"#\xff\nfe:0 => a:0\xff ;").err(),
-        Some(TextError::Bad {
-            line: 2,
-            reason: Reason::BadToken
-        })
-    );
-    Ok(())
+}
+
+#[test]
+fn refuses_names_that_are_not_utf8(rt: HostRuntime) {
+    let found = read(rt.alloc(), b"#\xff\nfe:0 => a:0\xff ;").err();
+    let want = TextError::Bad {
+        line: 2,
+        reason: Reason::BadToken,
+    };
+    assert_eq!(rt; found, Some(want));
 }
 
 const CHAIN_OF_TEN: &str =
@@ -207,17 +211,20 @@ fn many_daemons(alloc: Global, count: u32) -> Result<Vec<u8>, AllocError> {
 }
 
 #[test]
-fn reads_as_many_nodes_as_may_be(rt: HostRuntime) -> Result<(), Fail> {
-    let topology = read(rt.alloc(), &many_daemons(rt.alloc(), 511)?)?;
-    assert_eq!(rt; topology.nodes(), 512);
-    assert_eq!(rt; topology.front(), 0);
-    assert_eq!(rt;
-        read(rt.alloc(), &many_daemons(rt.alloc(), 512)?).err(),
-        Some(TextError::Over {
-            line: 513,
-            what: Quantity::Nodes,
-            limit: 512
-        })
-    );
-    Ok(())
+fn reads_as_many_nodes_as_may_be(rt: HostRuntime) {
+    let text = many_daemons(rt.alloc(), 511).expect(&rt, "memory");
+    let topology = topology_of(&rt, rt.alloc(), &text);
+    assert!(rt; topology.nodes() == 512);
+    assert!(rt; topology.front() == 0);
+}
+
+#[test]
+fn refuses_a_node_more(rt: HostRuntime) {
+    let text = many_daemons(rt.alloc(), 512).expect(&rt, "memory");
+    let want = TextError::Over {
+        line: 513,
+        what: Quantity::Nodes,
+        limit: 512,
+    };
+    assert_eq!(rt; read(rt.alloc(), &text).err(), Some(want));
 }
