@@ -116,6 +116,30 @@ other_mode : asked (codes "gen" ∷ codes "--size=1" ∷ codes "--workers=1" ∷
 unfolding asked walked walk_fault bundle_met flags_fault defaults_fault
 other_mode = refl
 
+run_has_no_seed : asked (codes "run" ∷ codes "--seed=1" ∷ three_files) ≡ Err Options
+unfolding asked walked walk_fault bundle_met flags_fault defaults_fault
+run_has_no_seed = refl
+
+run_has_no_journal : asked (codes "run" ∷ codes "--journal-in=j" ∷ three_files) ≡ Err Options
+unfolding asked walked walk_fault bundle_met flags_fault defaults_fault
+run_has_no_journal = refl
+
+sim_has_no_workers : asked (codes "sim" ∷ codes "--workers=2" ∷ three_files) ≡ Err Options
+unfolding asked walked walk_fault bundle_met flags_fault defaults_fault
+sim_has_no_workers = refl
+
+replay_has_no_seed : asked (codes "replay" ∷ codes "--journal-in=j" ∷ codes "--seed=1" ∷ three_files) ≡ Err Options
+unfolding asked walked walk_fault bundle_met flags_fault defaults_fault
+replay_has_no_seed = refl
+
+direct_has_no_seed : asked (codes "direct" ∷ codes "--seed=1" ∷ three_files) ≡ Err Options
+unfolding asked walked walk_fault bundle_met flags_fault defaults_fault
+direct_has_no_seed = refl
+
+direct_has_no_workers : asked (codes "direct" ∷ codes "--workers=1" ∷ three_files) ≡ Err Options
+unfolding asked walked walk_fault bundle_met flags_fault defaults_fault
+direct_has_no_workers = refl
+
 missing : asked (codes "replay" ∷ three_files) ≡ Err Options
 unfolding asked walked walk_fault bundle_met flags_fault defaults_fault
 missing = refl

@@ -353,21 +353,20 @@ fn many_lines(rt: &impl Abort, alloc: Global, count: u32) -> Vec<u8> {
     text
 }
 
-// How a text of so many lines of samples is refused.
-fn refusal_of_many(rt: &impl Abort, alloc: Global, count: u32) -> Option<TextError> {
-    let job = job(rt, alloc);
-    read(alloc, &many_lines(rt, alloc, count), &job).err()
-}
-
+// A line past the limit is refused as that, whatever else is wrong with it.
 #[test]
 fn reads_as_many_samples_as_may_be(rt: HostRuntime) {
-    assert_eq!(rt; refusal_of_many(&rt, rt.alloc(), 262_144), None);
+    let job = job(&rt, rt.alloc());
+    let mut text = many_lines(&rt, rt.alloc(), 262_144);
+    assert_eq!(rt; read(rt.alloc(), &text, &job).err(), None);
+    text.extend_from_slice(b"stack x 0 m\n")
+        .expect(&rt, "memory");
     let want = TextError::Over {
         line: 262_147,
         what: Quantity::Lines,
         limit: 262_144,
     };
-    assert_eq!(rt; refusal_of_many(&rt, rt.alloc(), 262_145), Some(want));
+    assert_eq!(rt; read(rt.alloc(), &text, &job).err(), Some(want));
 }
 
 // The samples of a text that comes in two pieces.

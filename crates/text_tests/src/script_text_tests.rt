@@ -488,3 +488,18 @@ fn refuses_a_loss_more(rt: HostRuntime) {
     };
     assert_eq!(rt; read(rt.alloc(), &text, &job).err(), Some(want));
 }
+
+// A line past the limit of losses is refused as that, whatever else is wrong with it.
+#[test]
+fn refuses_a_loss_more_before_its_node(rt: HostRuntime) {
+    let job = large_job(&rt, rt.alloc());
+    let mut text = many_losses(rt.alloc(), 256).expect(&rt, "memory");
+    text.extend_from_slice(b"lose x after 1 keep 1\n")
+        .expect(&rt, "memory");
+    let want = TextError::Over {
+        line: 258,
+        what: Quantity::Faults,
+        limit: 256,
+    };
+    assert_eq!(rt; read(rt.alloc(), &text, &job).err(), Some(want));
+}

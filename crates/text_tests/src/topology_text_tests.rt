@@ -228,3 +228,16 @@ fn refuses_a_node_more(rt: HostRuntime) {
     };
     assert_eq!(rt; read(rt.alloc(), &text).err(), Some(want));
 }
+
+// A name past the limit is refused as that, and not for what should come behind it.
+#[test]
+fn refuses_a_node_more_before_its_arrow(rt: HostRuntime) {
+    let mut text = many_daemons(rt.alloc(), 511).expect(&rt, "memory");
+    text.extend_from_slice(b"zz:0 zy:0").expect(&rt, "memory");
+    let want = TextError::Over {
+        line: 513,
+        what: Quantity::Nodes,
+        limit: 512,
+    };
+    assert_eq!(rt; read(rt.alloc(), &text).err(), Some(want));
+}
