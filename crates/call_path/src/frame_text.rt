@@ -1,6 +1,7 @@
 //! Frames as one text, with the offset where each ends.
 
-ghost use Rattle.std.specs.Prelude.{◌≡◌, ◌<◌, ◌≤◌, ◌+◌, ◌-◌, ◌^◌, ◌++◌, [], ◌∷◌, length, IfOk, OnOk, OnErr, IsTrue, map, take, drop, slice_get, Some};
+ghost use Rattle.std.specs.Prelude.{◌≡◌, ◌<◌, ◌≤◌, ◌+◌, ◌-◌, ◌^◌, ◌++◌, [], ◌∷◌, length, IfOk, OnOk, OnErr, IsTrue, map, take, drop, slice_get, Some, string_bytes, string_len, string_capacity};
+ghost use Rattle.smallvec.specs.SmallVec.{HasRoomFor};
 ghost use Rattle.call_path.specs.Path.{path_cmp, is_prefix, shared_len, path_text};
 ghost use Rattle.call_path.specs.Good.{is_good_frame, AreGoodFrames};
 ghost use Rattle.call_path.specs.Reading.{frames};
@@ -211,21 +212,52 @@ impl FrameText {
     }
 
     /// Appends a frame.
+    #[inline(always)]
     pub fn push(&mut self, frame: &str) -> Result<(), AllocError>
         requires below_limit { length self.old < FRAME_LIMIT }
         requires good { IsTrue (is_good_frame frame.now) }
         ensures ok { OnOk result (self.new ≡ self.old ++ frame.now ∷ []) }
         ensures err { OnErr result (self.new ≡ self.old) }
     {
-        self.ends.reserve(1)?;
-        self.text.reserve(frame.len() + 1)?;
-        if !self.ends.as_slice().is_empty() {
+        let first = self.ends.as_slice().is_empty();
+        ensure_room(&mut self.text, &mut self.ends, frame.len())?;
+        if !first {
             self.text.push(';')?;
         }
         self.text.push_str(frame)?;
         self.ends.push_reserved(self.text.as_str().len() as u32);
         Ok(())
     }
+}
+
+// Makes room for one more frame of so many bytes, and the `;` before it.
+#[inline(always)]
+fn ensure_room(text: &mut String, ends: &mut Ends, len: usize) -> Result<(), AllocError>
+    requires { len < 2 ^ 63 }
+    ensures text { string_bytes text.new ≡ string_bytes text.old }
+    ensures ends { ends.new.items ≡ ends.old.items }
+    ensures text_room { OnOk result (string_len text.new + (len + 1) ≤ string_capacity text.new) }
+    ensures ends_room { OnOk result (HasRoomFor ends.new 1) }
+{
+    if ends.as_slice().len() >= ends.capacity() || text.capacity() - text.len() <= len {
+        return make_room(text, ends, len);
+    }
+    Ok(())
+}
+
+// The same where one of the two is full. It stands apart, so that a push with room stays short.
+#[cold]
+#[inline(never)]
+fn make_room(text: &mut String, ends: &mut Ends, len: usize) -> Result<(), AllocError>
+    requires { len < 2 ^ 63 }
+    ensures text { string_bytes text.new ≡ string_bytes text.old }
+    ensures ends { ends.new.items ≡ ends.old.items }
+    ensures text_room { OnOk result (string_len text.new + (len + 1) ≤ string_capacity text.new) }
+    ensures ends_room { OnOk result (HasRoomFor ends.new 1) }
+{
+    ends.reserve(1)?;
+    text.reserve(len + 1)?;
+    Ok(())
 }
 
 // Where frame `i` begins.

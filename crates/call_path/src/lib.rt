@@ -226,6 +226,7 @@ impl PathBuilder {
     }
 
     /// Appends a frame.
+    #[inline(always)]
     pub fn push(&mut self, frame: &str) -> Result<(), AllocError>
         requires below_limit { length self.old < FRAME_LIMIT }
         requires good { IsTrue (is_good_frame frame.now) }
