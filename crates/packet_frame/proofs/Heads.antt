@@ -1,7 +1,7 @@
 -- A row up to its ends, and a row's ends where there are none, read in one go.
 use Rattle.std.proofs.Common.{◌≡◌, ℕ, ◌+◌, ◌-◌, ◌≤◌, ◌<◌, Bool, true, false, ◌&&◌, ◌||◌, not, cond, nat_eq, nat_le, nat_lt, List, [], ◌∷◌, ◌++◌, length, take, drop, slice_get, None, Some, refl, sym, ap, subst, ◌∙◌, arith}
 use Rattle.std.proofs.lemmas.Bool.{ne_eqb, le-leb}
-use Rattle.std.proofs.lemmas.List.{drop-drop, length-take-le, take-append-le, take-take, length-append}
+use Rattle.std.proofs.lemmas.List.{drop-drop, length-take-le, length-drop, take-append-le, take-take, length-append}
 use Rattle.std.specs.Int.{w8, w16, from_be_bytes}
 use Rattle.rank_set.specs.Ranks.{Ranks, none, size}
 use Rattle.rank_set.proofs.WordSets.{ranks_in-none}
@@ -9,17 +9,17 @@ use Rattle.call_path.specs.Path.{Path}
 use Rattle.prefix_tree.specs.Tree.{Tree}
 use Rattle.packet_frame.specs.declared.error.FrameReason.TheVariants.{BadLength, NotCanonical, OverLimit}
 use Rattle.packet_frame.specs.declared.packet.Packet.{Packet}
-use Rattle.packet_frame.specs.declared.scan.Part.{Part}
-use Rattle.packet_frame.specs.declared.scan.Part.TheVariants as parts
+use Rattle.packet_frame.specs.declared.scan.Field.{Field}
 use Rattle.packet_frame.specs.declared.scan.Field.TheVariants as fields
 use Rattle.packet_frame.specs.declared.scan.Scan.{Scan}
 use Rattle.packet_frame.specs.Fields.{Form, ◌>>=◌, broken, piece, read}
 use Rattle.packet_frame.specs.Frame.{depth_form, name_length_form, name_form, ends_form, offset_form, word_count_form, set_form, word_limit, is_first, is_name, is_after, ends_needed, if_needed, ends_rule, ranks_at, path_at}
-use Rattle.packet_frame.specs.Scanning.{rows_left, after_ends, after_set, words_left, left, left_at, is_last, needed, word_rule, IsBeforeRow, IsInPart, IsNamed, MayHaveDepth, ReadsOn}
+use Rattle.packet_frame.specs.Scanning.{rows_left, after_ends, words_left, left, left_at, is_last, IsBeforeRow, IsNamed, MayHaveDepth, FollowsRow, BeginsWithHead, ReadsOn}
 use Rattle.packet_frame.specs.FrameRows.{HasGrown}
 use Rattle.packet_frame.proofs.Binding.{take_field, take_number}
 use Rattle.packet_frame.proofs.Rowing.{row_follows, depth_then, ends_follow}
 use Rattle.packet_frame.proofs.Setting.{set_follows, words_end, ranks_at_none}
+use Rattle.packet_frame.proofs.Names.{good}
 use Rattle.packet_frame.proofs.Steps.{field_taken}
 use Rattle.packet_frame.proofs.Growing.{named_more}
 
@@ -123,12 +123,6 @@ module _ (version stream wave : ℕ) (cover : Ranks) (t : Tree) (count : ℕ) wh
       ∙ field_taken (counted 0) (words 0 0) bytes more (at + 2) within second
       ∙ ap (λ form. read form (bytes ++ more) (at + 2 + 2)) (words_end rule then 0 [] 0 refl ∙ ap then (ranks_in-none 0) ∙ ap (after_ends version stream wave cover t p count) (ranks_at_none version cover))
 
--- before the ends of a row
-pub at_ends : {X : Type 0} (s : Scan X) → s.field ≡ fields.Offset → s.part ≡ parts.Ends → left s ≡ ends_left s.version s.stream s.wave s.cover s.tree s.rows_left s.path s.depth
-at_ends s field part =
-    ap (λ f. left_at f s) field
-    ∙ ap (λ (p : Part). set_form (word_limit s.version) (needed p s.depth s.rows_left) (word_rule p s.version s.cover) >>= after_set p s.version s.stream s.wave s.cover s.tree s.path s.rows_left) part
-
 -- a row that isn't the last, and not at the greatest depth, needs no ends
 needs_none : (depth count : ℕ) → 1 < count → (depth ≡ 128 → ⊥) → ends_needed depth (is_last count) ≡ None
 needs_none depth count some less =
@@ -144,15 +138,6 @@ needs_none depth count some less =
 -- ---- the same of a scan, and of the pieces that its code cuts
 
 module _ {X : Type 0} (s : Scan X) (bytes : List ℕ) (at : ℕ) where
-  -- the ends of the row that was named are passed
-  pub passes_ends : (first rest second : List ℕ) → s.field ≡ fields.Offset → s.part ≡ parts.Ends → 1 < s.rows_left → (s.depth ≡ 128 → ⊥) → at + 4 ≤ length bytes → first ≡ take 2 (drop at bytes) → rest ≡ drop 2 (drop at bytes) → second ≡ take 2 rest → from_be_bytes w16 first ≡ 0 → from_be_bytes w16 second ≡ 0 → ReadsOn bytes (left s) at (rows_left s.version s.stream s.wave s.cover s.tree s.path false (s.rows_left - 1)) (at + 4)
-  passes_ends first rest second field part some less within first_is rest_is second_is no_offset no_count more =
-      let two : at + 2 + 2 ≡ at + 4 = omega arith in
-      let behind : rest ≡ drop (at + 2) bytes = rest_is ∙ drop-drop 2 at bytes in
-      ap (λ form. read form (bytes ++ more) at) (at_ends s field part)
-      ∙ ends_read s.version s.stream s.wave s.cover s.tree s.rows_left s.path s.depth bytes at (needs_none s.depth s.rows_left some less) (omega (arith, within)) (sym (ap (from_be_bytes w16) (sym first_is) ∙ no_offset)) (sym (ap (from_be_bytes w16) (ap (take 2) (sym behind) ∙ sym second_is) ∙ no_count)) more
-      ∙ ap (read (rows_left s.version s.stream s.wave s.cover s.tree s.path false (s.rows_left - 1)) (bytes ++ more)) two
-
   -- a row is read up to its ends
   pub reads_head : (depth len : ℕ) (rest one first two second name : List ℕ) → s.field ≡ fields.Depth → 0 < s.rows_left → MayHaveDepth s.path s.ended depth → 0 < len → len ≤ 1023 → is_name name ≡ true → is_after (slice_get s.path (depth - 1)) name ≡ true → at + 3 + len ≤ length bytes → rest ≡ drop at bytes → one ≡ take 1 rest → first ≡ drop 1 rest → two ≡ take 2 first → second ≡ drop 2 first → name ≡ take len second → depth ≡ from_be_bytes w8 one → len ≡ from_be_bytes w16 two → ReadsOn bytes (left s) at (ends_left s.version s.stream s.wave s.cover s.tree s.rows_left (path_at s.path depth name) depth) (at + 3 + len)
   reads_head depth len rest one first two second name field some may len_some len_most good after within rest_is one_is first_is two_is second_is name_is depth_of len_of more =
@@ -167,10 +152,6 @@ module _ {X : Type 0} (s : Scan X) (bytes : List ℕ) (at : ℕ) where
 -- the row that was named is whole, and has no ends
 pub passed : {X : Type 0} (s : Scan X) → IsNamed s → HasGrown s.cover s.tree s.path (s.rows_left - 1)
 passed s named = named_more s named none
-
--- the part that is read is the ends of a row
-pub in_ends : {X : Type 0} (s : Scan X) → s.part ≡ parts.Ends → IsInPart s.part s → IsNamed s
-in_ends s part = subst (λ (p : Part). IsInPart p s) part
 
 -- the path of a row has its depth, and begins with frames of the path before
 path_length : (before : Path) (d : ℕ) (name : List ℕ) → 1 ≤ d → d ≤ length before + 1 → length (path_at before d name) ≡ d
@@ -200,3 +181,52 @@ row_is_named s t name before some may path kind covered places cover tree count 
   grown = subst (λ (n : ℕ). HasGrown t.cover t.tree s.path n) (sym count) (subst (λ (u : Tree). HasGrown t.cover u s.path s.rows_left) (sym tree) (subst (λ (c : Ranks). HasGrown c s.tree s.path s.rows_left) (sym cover) before.grown));
   kept = ap (take (t.depth - 1)) path ∙ path_kept s.path t.depth name may.near;
 }
+
+-- ---- rows of the bytes behind an offset
+
+zeros_first : (xs : List ℕ) → take 4 xs ≡ 0 ∷ 0 ∷ 0 ∷ 0 ∷ [] → 0 ≡ from_be_bytes w16 (take 2 xs)
+zeros_first xs e = ap (λ (ys : List ℕ). from_be_bytes w16 (take 2 ys)) (sym e) ∙ ap (from_be_bytes w16) (take-take 2 4 xs (omega arith))
+
+zeros_second : (xs : List ℕ) → take 4 xs ≡ 0 ∷ 0 ∷ 0 ∷ 0 ∷ [] → 0 ≡ from_be_bytes w16 (take 2 (drop 2 xs))
+zeros_second [] e = absurd cc
+zeros_second (a ∷ []) e = absurd cc
+zeros_second (a ∷ b ∷ xs) e = ap (λ (ys : List ℕ). from_be_bytes w16 (drop 2 ys)) (sym e)
+
+module _ {X : Type 0} (s : Scan X) (bytes : List ℕ) (at depth : ℕ) (name : List ℕ) (path : Path) (next : ℕ) (field : s.field ≡ fields.Depth) (ready : IsBeforeRow s × (0 < s.rows_left)) (within : at ≤ length bytes) (head : BeginsWithHead (drop at bytes) depth name) (row : FollowsRow s.path s.ended depth name path) (to : next ≡ at + (3 + length name)) where
+  -- the name ends within the bytes
+  pub head_within : next ≤ length bytes
+  head_within = let left_over = length-drop at bytes in omega (arith, left_over, within, head.within, to)
+
+  -- a row is read up to its ends
+  pub head_passed : ReadsOn bytes (left s) at (ends_left s.version s.stream s.wave s.cover s.tree s.rows_left path depth) next
+  head_passed =
+      let rest : List ℕ = drop at bytes in
+      let first : List ℕ = drop 1 rest in
+      let at_next : at + 3 + length name ≡ next = omega (arith, to) in
+      let enough : at + 3 + length name ≤ length bytes = omega (arith, at_next, head_within) in
+      subst (λ (p : Path). ReadsOn bytes (left s) at (ends_left s.version s.stream s.wave s.cover s.tree s.rows_left p depth) next) (sym row.path_is)
+      (subst (ReadsOn bytes (left s) at (ends_left s.version s.stream s.wave s.cover s.tree s.rows_left (path_at s.path depth name) depth)) at_next
+      (reads_head s bytes at depth (length name) rest (take 1 rest) first (take 2 first) (drop 2 first) name field ready.1 row.may head.some head.most (good name head.plain) row.after enough refl refl refl refl refl head.name_is head.depth_is head.len_is))
+
+  -- the row is named
+  pub head_named : IsNamed (record s { path = path; depth = depth })
+  head_named = row_is_named s (record s { path = path; depth = depth }) name ready.0 ready.1 row.may row.path_is refl refl refl refl refl refl
+
+  -- the scan behind the row, where it has no ends
+  abbrev pub passed_row : Scan X
+  passed_row = record s { path = path; ended = false; rows_left = s.rows_left - 1 }
+
+  module _ (some : 1 < s.rows_left) where
+    -- the row is read with its ends
+    pub row_passed : next + 4 ≤ length bytes → take 4 (drop next bytes) ≡ 0 ∷ 0 ∷ 0 ∷ 0 ∷ [] → ReadsOn bytes (left s) at (left passed_row) (next + 4)
+    row_passed enough zeros more =
+        let two : next + 2 + 2 ≡ next + 4 = omega arith in
+        let limit = head.limit in
+        head_passed more
+        ∙ ends_read s.version s.stream s.wave s.cover s.tree s.rows_left path depth bytes next (needs_none depth s.rows_left some (λ e. omega (arith, e, limit))) (omega (arith, enough)) (zeros_first (drop next bytes) zeros) (zeros_second (drop next bytes) zeros ∙ ap (λ (ys : List ℕ). from_be_bytes w16 (take 2 ys)) (drop-drop 2 next bytes)) more
+        ∙ ap (read (rows_left s.version s.stream s.wave s.cover s.tree path false (s.rows_left - 1)) (bytes ++ more)) two
+        ∙ ap (λ (f : Field). read (left_at f passed_row) (bytes ++ more) (next + 4)) (sym field)
+
+    -- and another follows
+    pub row_ready : IsBeforeRow passed_row × (0 < s.rows_left - 1)
+    row_ready = (record { kind = ready.0.kind; covered = ready.0.covered; grown = passed (record s { path = path; depth = depth }) head_named }, omega (arith, some))

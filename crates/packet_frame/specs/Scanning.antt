@@ -1,5 +1,7 @@
 -- What is left to read of a frame, once some of its fields were read.
-use Rattle.std.specs.Prelude.{◌≡◌, ℕ, ◌+◌, ◌-◌, ◌<◌, ◌≤◌, Bool, true, false, cond, not, nat_eq, nat_lt, ◌&&◌, List, [], ◌++◌, length, take, get_or, Option, Some, Result, Ok, Err}
+use Rattle.std.specs.Prelude.{◌≡◌, ℕ, ◌+◌, ◌-◌, ◌<◌, ◌≤◌, Bool, true, false, cond, not, nat_eq, nat_lt, ◌&&◌, List, [], ◌++◌, length, take, drop, slice_get, get_or, Option, Some, Result, Ok, Err}
+use Rattle.std.specs.Int.{w8, w16, from_be_bytes}
+use Rattle.std.specs.List.{list_all}
 use Rattle.rank_set.specs.declared.TheConstants.{RANK_LIMIT}
 use Rattle.rank_set.specs.Ranks.{Ranks, none, union, size, is_empty, is_subset, Has}
 use Rattle.rank_set.specs.Runs.{ranks_between, ranks_of_runs}
@@ -21,7 +23,7 @@ use Rattle.packet_frame.specs.declared.scan.Scan.{Scan}
 use Rattle.packet_frame.specs.Sent.{packet_map, tree_from}
 use Rattle.packet_frame.specs.FrameRows.{grown, rows_onto, HasGrown}
 use Rattle.packet_frame.specs.Fields.{Form, whole, ◌>>=◌, Rules, list_form, read, after_field, is_short}
-use Rattle.packet_frame.specs.Frame.{Message, next_word, after_word, word_count_form, set_form, is_first, word_limit, no_rules, run_count_form, last_rank_form, next_run, after_run, ends_rule, ranks_at, ends_needed, ends_form, name_length_form, name_form, path_at, next_row, after_row, kind_form, stream_form, wave_form, row_count_form, content_form, packet_form, frame_form}
+use Rattle.packet_frame.specs.Frame.{Message, next_word, after_word, word_count_form, set_form, is_first, word_limit, no_rules, run_count_form, last_rank_form, next_run, after_run, ends_rule, ranks_at, ends_needed, ends_form, name_length_form, name_form, path_at, next_row, after_row, is_after, kind_form, stream_form, wave_form, row_count_form, content_form, packet_form, frame_form}
 
 -- a byte of a name that is a character by itself
 abbrev pub is_plain_ascii : ℕ → Bool
@@ -176,6 +178,23 @@ pub record MayHaveDepth (before : Path) (ended : Bool) (depth : ℕ) : Type 0 wh
   pub limit : depth ≤ 128
   pub near : depth ≤ length before + 1
   pub next : ended ≡ false → depth ≡ length before + 1
+
+-- a row with this path may follow one with the path before: it has this depth and name
+pub record FollowsRow (before : Path) (ended : Bool) (depth : ℕ) (name : List ℕ) (path : Path) : Type 0 where
+  pub may : MayHaveDepth before ended depth
+  pub after : is_after (slice_get before (depth - 1)) name ≡ true
+  pub path_is : path ≡ path_at before depth name
+
+-- the bytes begin with the depth and the ASCII name of a row
+pub record BeginsWithHead (bytes : List ℕ) (depth : ℕ) (name : List ℕ) : Type 0 where
+  pub limit : depth < 128
+  pub some : 0 < length name
+  pub most : length name ≤ 1023
+  pub within : 3 + length name ≤ length bytes
+  pub plain : list_all is_plain_ascii name ≡ true
+  pub depth_is : depth ≡ from_be_bytes w8 (take 1 bytes)
+  pub len_is : length name ≡ from_be_bytes w16 (take 2 (drop 1 bytes))
+  pub name_is : name ≡ take (length name) (drop 2 (drop 1 bytes))
 
 -- some words of a set were read
 pub record IsInSet {X : Type 0} (s : Scan X) : Type 0 where

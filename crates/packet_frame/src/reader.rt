@@ -74,6 +74,7 @@ impl<T: PrefixTree> Reader<T> {
     }
 
     // Reads rows in one go, up to the ends of the first that has some, or to the first that the fields are read of.
+    #[inline(always)]
     fn read_rows(&mut self, bytes: &[u8]) -> Result<(), FrameError>
         requires on { IsOn self.old bytes.now }
         requires some { self.old.scan.field ≡ fields.End → ⊥ }
@@ -82,13 +83,10 @@ impl<T: PrefixTree> Reader<T> {
         ensures at { OnOk result (self.old.at ≤ self.new.at) }
         ensures refused { IfErr result (Fails bytes.now) }
     {
-        while self.scan.field == Field::Depth {
-            self.at = self.scan.take_row_head(bytes, self.at)?;
-            if self.scan.field != Field::Offset {
-                return Ok(());
-            }
-            self.at = self.scan.pass_no_ends(bytes, self.at);
+        if self.scan.field != Field::Depth {
+            return Ok(());
         }
+        self.at = self.scan.take_rows(bytes, self.at)?;
         Ok(())
     }
 

@@ -1,33 +1,23 @@
 //! Rows as most are, read in one go: whole ones with an ASCII name, and then without ends.
 
-ghost use Rattle.std.specs.Prelude.{◌≡◌, ◌≤◌, ◌<◌, true, length, IfOk, OnOk};
+ghost use Rattle.std.specs.Prelude.{◌≡◌, ◌≤◌, true, false, take, [], ◌∷◌, length, IfOk, OnOk, IfSome, Ok};
+ghost use Rattle.call_path.specs.Good.{is_good_frame};
 ghost use Rattle.packet_frame.specs.declared.scan.Field.TheVariants as fields;
-ghost use Rattle.packet_frame.specs.declared.scan.Part.TheVariants as parts;
-ghost use Rattle.packet_frame.specs.Scanning.{left, IsReady, MayHaveDepth, ReadsOn};
+ghost use Rattle.packet_frame.specs.Scanning.{left, IsReady, ReadsOn, BeginsWithHead, FollowsRow};
 
 use crate::number::{u8_of, u16_of};
 use crate::rows::are_plain_ascii;
 use crate::scan::{Field, Part, Scan};
+use call_path::PathBuilder;
 use prefix_tree::PrefixTree;
 use std::alloc::AllocError;
+use std::cmp::Ordering;
 
 impl<T: PrefixTree> Scan<T> {
-    // Whether the next row may have this depth.
-    #[inline(always)]
-    fn may_have_depth(&self, depth: u8) -> bool
-        ensures { result ≡ true → MayHaveDepth self.now.path self.now.ended depth }
-    {
-        let next = self.path.len() + 1;
-        if depth < 1 || depth > 128 || depth as usize > next {
-            return false;
-        }
-        self.ended || depth as usize == next
-    }
-
-    /// Reads the next row up to its ends, if its bytes up to there are whole and obey their rules, and its name is
-    /// ASCII. Returns the offset of what comes next: that of the row, if it wasn't read.
-    #[inline(always)]
-    pub fn take_row_head(&mut self, bytes: &[u8], at: usize) -> Result<usize, AllocError>
+    /// Reads rows in one go, as long as they are whole up to their ends, obey their rules and have an ASCII name: up to
+    /// the ends of the first that has some or may need some. Returns the offset of what comes next.
+    #[inline(never)]
+    pub fn take_rows(&mut self, bytes: &[u8], at: usize) -> Result<usize, AllocError>
         requires next { self.old.field ≡ fields.Depth }
         requires ready { IsReady fields.Depth self.old }
         requires within { at ≤ length bytes.now }
@@ -35,58 +25,102 @@ impl<T: PrefixTree> Scan<T> {
         ensures within { IfOk result (λ next. (at ≤ next) × (next ≤ length bytes.now)) }
         ensures ready { OnOk result (IsReady self.new.field self.new) }
         ensures some { OnOk result (self.new.field ≡ fields.End → ⊥) }
-        ensures head { IfOk result (λ next. self.new.field ≡ fields.Offset
-            → (at < next) × (self.new.part ≡ parts.Ends)) }
     {
-        let (_, rest) = bytes.split_at(at);
-        if rest.len() < 3 {
-            return Ok(at);
+        let mut offset = at;
+        loop {
+            let (_, rest) = bytes.split_at(offset);
+            let Some((depth, name)) = row_head(rest) else {
+                return Ok(offset);
+            };
+            if !push_row(&mut self.path, self.ended, depth, name)? {
+                return Ok(offset);
+            }
+            offset += 3 + name.len();
+            let (_, rest) = bytes.split_at(offset);
+            if self.rows_left <= 1 || !has_no_ends(rest) {
+                self.depth = depth;
+                self.part = Part::Ends;
+                self.field = Field::Offset;
+                return Ok(offset);
+            }
+            offset += 4;
+            self.ended = false;
+            self.rows_left -= 1;
         }
-        let (depth, rest) = rest.split_at(1);
-        let (length, rest) = rest.split_at(2);
-        let depth = u8_of(depth);
-        let length = u16_of(length) as usize;
-        if length == 0 || length > 1_023 || rest.len() < length {
-            return Ok(at);
-        }
-        let (name, _) = rest.split_at(length);
-        if !self.may_have_depth(depth) || !are_plain_ascii(name) || !self.is_in_order(depth, name) {
-            return Ok(at);
-        }
-        self.path.cut(depth as usize - 1);
-        self.path.push(unsafe { str::from_utf8_unchecked(name) })?;
-        self.depth = depth;
-        self.part = Part::Ends;
-        self.field = Field::Offset;
-        Ok(at + 3 + length)
     }
+}
 
-    /// Ends the row that was named, if it has no ends and needs none. Returns the offset of what comes next, that of
-    /// the ends if they weren't read.
-    #[inline(always)]
-    pub fn pass_no_ends(&mut self, bytes: &[u8], at: usize) -> usize
-        requires next { self.old.field ≡ fields.Offset }
-        requires ready { IsReady fields.Offset self.old }
-        requires part { self.old.part ≡ parts.Ends }
-        requires within { at ≤ length bytes.now }
-        ensures reads { ReadsOn bytes.now (left self.old) at (left self.new) result }
-        ensures from { at ≤ result }
-        ensures within { result ≤ length bytes.now }
-        ensures ready { IsReady self.new.field self.new }
-        ensures some { self.new.field ≡ fields.End → ⊥ }
-    {
-        let (_, rest) = bytes.split_at(at);
-        if self.rows_left <= 1 || self.depth == 128 || rest.len() < 4 {
-            return at;
-        }
-        let (offset, rest) = rest.split_at(2);
-        let (count, _) = rest.split_at(2);
-        if u16_of(offset) != 0 || u16_of(count) != 0 {
-            return at;
-        }
-        self.ended = false;
-        self.rows_left -= 1;
-        self.field = Field::Depth;
-        at + 4
+// The depth and the name of the row that comes next, where both are whole, and the name is ASCII. A row at the greatest
+// depth needs ends, and is left to the fields.
+#[inline(always)]
+fn row_head(rest: &[u8]) -> Option<(u8, &str)>
+    ensures { IfSome result (λ head. BeginsWithHead rest.now head.0 head.1.now) }
+{
+    if rest.len() < 3 {
+        return None;
     }
+    let (depth, rest) = rest.split_at(1);
+    let (length, rest) = rest.split_at(2);
+    let depth = u8_of(depth);
+    let length = u16_of(length) as usize;
+    if depth >= 128 || length == 0 || length > 1_023 || rest.len() < length {
+        return None;
+    }
+    let (name, _) = rest.split_at(length);
+    if !are_plain_ascii(name) {
+        return None;
+    }
+    Some((depth, unsafe { str::from_utf8_unchecked(name) }))
+}
+
+// Whether no ends come next.
+#[inline(always)]
+fn has_no_ends(rest: &[u8]) -> bool
+    ensures within { result ≡ true → 4 ≤ length rest.now }
+    ensures nothing { result ≡ true → take 4 rest.now ≡ 0 ∷ 0 ∷ 0 ∷ 0 ∷ [] }
+{
+    match rest.first_chunk::<4>() {
+        Some(ends) => *ends == [0; 4],
+        None => false,
+    }
+}
+
+// Makes the path that of the next row, if a row may have this depth and name. Returns whether it may.
+#[inline(always)]
+fn push_row(path: &mut PathBuilder, ended: bool, depth: u8, name: &str) -> Result<bool, AllocError>
+    requires depth { depth ≤ 128 }
+    requires good { is_good_frame name.now ≡ true }
+    ensures read { result ≡ Ok true → FollowsRow path.old ended depth name.now path.new }
+    ensures unread { result ≡ Ok false → path.new ≡ path.old }
+{
+    if depth as usize == path.len() + 1 {
+        path.push(name)?;
+        return Ok(true);
+    }
+    push_sibling(path, ended, depth, name)
+}
+
+// The same of a row that is not below the one before. Few rows are, so it stands apart.
+#[inline(never)]
+fn push_sibling(
+    path: &mut PathBuilder,
+    ended: bool,
+    depth: u8,
+    name: &str,
+) -> Result<bool, AllocError>
+    requires depth { depth ≤ 128 }
+    requires good { is_good_frame name.now ≡ true }
+    ensures read { result ≡ Ok true → FollowsRow path.old ended depth name.now path.new }
+    ensures unread { result ≡ Ok false → path.new ≡ path.old }
+{
+    if !ended || depth < 1 || depth as usize > path.len() {
+        return Ok(false);
+    }
+    let above = depth as usize - 1;
+    if path.frame(above).as_bytes().cmp(name.as_bytes()) != Ordering::Less {
+        return Ok(false);
+    }
+    path.cut(above);
+    path.push(name)?;
+    Ok(true)
 }

@@ -1,6 +1,6 @@
 //! Rows of a tree.
 
-ghost use Rattle.std.specs.Prelude.{◌≡◌, ◌≤◌, ◌-◌, length, true, false, slice_get, OnOk, IfErr, IfSome, IfNone, IsTrue};
+ghost use Rattle.std.specs.Prelude.{◌≡◌, ◌≤◌, ◌<◌, ◌+◌, ◌-◌, length, true, false, slice_get, OnOk, IfErr, IfSome, IfNone, IsTrue};
 ghost use Rattle.std.specs.List.{list_all};
 ghost use Rattle.rank_set.specs.Ranks.{is_subset};
 ghost use Rattle.call_path.specs.Good.{is_plain};
@@ -180,28 +180,36 @@ fn all_plain_ascii(bytes: &[u8]) -> bool
     all
 }
 
-// The same of 8 to 16 bytes: the first 8 and the last 8, since single bytes take longer.
-fn two_plain_blocks(field: &[u8]) -> bool
-    requires at_least { 8 ≤ length field.now }
-    requires at_most { length field.now ≤ 16 }
+// The same of WIDTH bytes to twice as many: the first and the last WIDTH, since single bytes take longer.
+#[inline(always)]
+fn two_plain_blocks<const WIDTH: usize>(field: &[u8]) -> bool
+    requires at_least { WIDTH ≤ length field.now }
+    requires at_most { length field.now ≤ WIDTH + WIDTH }
     ensures { result ≡ list_all is_plain_ascii field.now }
 {
-    let (first, _) = field.split_at(8);
-    let (_, last) = field.split_at(field.len() - 8);
+    let (first, _) = field.split_at(WIDTH);
+    let (_, last) = field.split_at(field.len() - WIDTH);
     all_plain_ascii(first) & all_plain_ascii(last)
 }
 
-// It tests blocks of 16 bytes, and the last 16 in place of those that are left, since single bytes take longer.
+// The same of 32 to 63 bytes.
 #[inline(always)]
-pub fn are_plain_ascii(field: &[u8]) -> bool
+fn four_plain_blocks(field: &[u8]) -> bool
+    requires at_least { 32 ≤ length field.now }
+    requires at_most { length field.now < 64 }
     ensures { result ≡ list_all is_plain_ascii field.now }
 {
-    if field.len() < 8 {
-        return all_plain_ascii(field);
-    }
-    if field.len() < 16 {
-        return two_plain_blocks(field);
-    }
+    let (first, _) = field.split_at(32);
+    let (_, last) = field.split_at(field.len() - 32);
+    two_plain_blocks::<16>(last) && two_plain_blocks::<16>(first)
+}
+
+// The same of 16 bytes or more: blocks of 16, and the last 16 in place of those that are left.
+#[inline(never)]
+fn many_plain_blocks(field: &[u8]) -> bool
+    requires { 16 ≤ length field.now }
+    ensures { result ≡ list_all is_plain_ascii field.now }
+{
     let (_, last) = field.split_at(field.len() - 16);
     let mut all = all_plain_ascii(last);
     let mut rest = field;
@@ -211,6 +219,20 @@ pub fn are_plain_ascii(field: &[u8]) -> bool
         rest = behind;
     }
     all
+}
+
+// It tests blocks of bytes at once, which are as long as the length lets them be.
+#[inline(always)]
+pub fn are_plain_ascii(field: &[u8]) -> bool
+    ensures { result ≡ list_all is_plain_ascii field.now }
+{
+    match field.len() {
+        0..8 => all_plain_ascii(field),
+        8..16 => two_plain_blocks::<8>(field),
+        16..32 => two_plain_blocks::<16>(field),
+        32..64 => four_plain_blocks(field),
+        _ => many_plain_blocks(field),
+    }
 }
 
 // The field as text, where it is a good name.
