@@ -6,7 +6,7 @@ ghost use Rattle.packet_frame.specs.declared.scan.Field.TheVariants as fields;
 ghost use Rattle.packet_frame.specs.Scanning.{left, IsReady, ReadsOn, BeginsWithHead, FollowsRow};
 
 use crate::number::{u8_of, u16_of};
-use crate::rows::are_plain_ascii;
+use crate::rows::is_plain_name;
 use crate::scan::{Field, Part, Scan};
 use call_path::PathBuilder;
 use prefix_tree::PrefixTree;
@@ -26,24 +26,23 @@ impl<T: PrefixTree> Scan<T> {
         ensures ready { OnOk result (IsReady self.new.field self.new) }
         ensures some { OnOk result (self.new.field ≡ fields.End → ⊥) }
     {
-        let mut offset = at;
+        let (_, mut rest) = bytes.split_at(at);
         loop {
-            let (_, rest) = bytes.split_at(offset);
             let Some((depth, name)) = row_head(rest) else {
-                return Ok(offset);
+                return Ok(bytes.len() - rest.len());
             };
             if !push_row(&mut self.path, self.ended, depth, name)? {
-                return Ok(offset);
+                return Ok(bytes.len() - rest.len());
             }
-            offset += 3 + name.len();
-            let (_, rest) = bytes.split_at(offset);
-            if self.rows_left <= 1 || !has_no_ends(rest) {
+            let (_, ends) = rest.split_at(3 + name.len());
+            if self.rows_left <= 1 || !has_no_ends(ends) {
                 self.depth = depth;
                 self.part = Part::Ends;
                 self.field = Field::Offset;
-                return Ok(offset);
+                return Ok(bytes.len() - ends.len());
             }
-            offset += 4;
+            let (_, behind) = ends.split_at(4);
+            rest = behind;
             self.ended = false;
             self.rows_left -= 1;
         }
@@ -63,11 +62,11 @@ fn row_head(rest: &[u8]) -> Option<(u8, &str)>
     let (length, rest) = rest.split_at(2);
     let depth = u8_of(depth);
     let length = u16_of(length) as usize;
-    if depth >= 128 || length == 0 || length > 1_023 || rest.len() < length {
+    if depth >= 128 || length > 1_023 || rest.len() < length {
         return None;
     }
     let (name, _) = rest.split_at(length);
-    if !are_plain_ascii(name) {
+    if !is_plain_name(name) {
         return None;
     }
     Some((depth, unsafe { str::from_utf8_unchecked(name) }))

@@ -1,6 +1,6 @@
 //! Rows of a tree.
 
-ghost use Rattle.std.specs.Prelude.{◌≡◌, ◌≤◌, ◌<◌, ◌+◌, ◌-◌, length, true, false, slice_get, OnOk, IfErr, IfSome, IfNone, IsTrue};
+ghost use Rattle.std.specs.Prelude.{◌≡◌, ◌≤◌, ◌<◌, ◌+◌, ◌-◌, ◌&&◌, nat_lt, length, true, false, slice_get, OnOk, IfErr, IfSome, IfNone, IsTrue};
 ghost use Rattle.std.specs.List.{list_all};
 ghost use Rattle.rank_set.specs.Ranks.{is_subset};
 ghost use Rattle.call_path.specs.Good.{is_plain};
@@ -221,18 +221,33 @@ fn many_plain_blocks(field: &[u8]) -> bool
     all
 }
 
-// It tests blocks of bytes at once, which are as long as the length lets them be.
+// Whether bytes are some, and fewer than 16, and plain ASCII.
 #[inline(always)]
-pub fn are_plain_ascii(field: &[u8]) -> bool
-    ensures { result ≡ list_all is_plain_ascii field.now }
+fn is_short_plain_name(field: &[u8]) -> bool
+    requires { length field.now < 16 }
+    ensures { result ≡ (nat_lt 0 (length field.now) && list_all is_plain_ascii field.now) }
 {
-    match field.len() {
-        0..8 => all_plain_ascii(field),
-        8..16 => two_plain_blocks::<8>(field),
-        16..32 => two_plain_blocks::<16>(field),
-        32..64 => four_plain_blocks(field),
-        _ => many_plain_blocks(field),
+    if field.len() >= 8 {
+        return two_plain_blocks::<8>(field);
     }
+    !field.is_empty() && all_plain_ascii(field)
+}
+
+/// Whether there are bytes, and all are plain ASCII. They are tested by blocks that are as long as their length allows.
+#[inline(always)]
+pub fn is_plain_name(field: &[u8]) -> bool
+    ensures { result ≡ (nat_lt 0 (length field.now) && list_all is_plain_ascii field.now) }
+{
+    if field.len() < 16 {
+        return is_short_plain_name(field);
+    }
+    if field.len() < 32 {
+        return two_plain_blocks::<16>(field);
+    }
+    if field.len() < 64 {
+        return four_plain_blocks(field);
+    }
+    many_plain_blocks(field)
 }
 
 // The field as text, where it is a good name.
