@@ -31,3 +31,4 @@ pub mod MergingIn
 pub mod MakingInPlace
 pub mod AddingRuns
 pub mod Parts
+pub mod Chaining

@@ -37,7 +37,7 @@ drop_none i [] e = omega arith
 drop_none zero (x ∷ xs) e = let n : 0 ≡ suc (length xs) = ap length e in absurd (omega (arith, n))
 drop_none (suc i) (x ∷ xs) e = let n = drop_none i xs e in omega (arith, n)
 
-drop_of_none : {X : Type 0} (i : ℕ) → ◌≡◌ {A = List X} (drop i []) []
+pub drop_of_none : {X : Type 0} (i : ℕ) → ◌≡◌ {A = List X} (drop i []) []
 drop_of_none zero = refl
 drop_of_none (suc i) = refl
 
@@ -63,7 +63,7 @@ has_rows : (k : RunForest) → run_length k ≤ count_rows k
 has_rows no_runs = omega arith
 has_rows (run_node a f fs m b s) = omega arith
 
-length_drop : {X : Type 0} (i : ℕ) (xs : List X) → length (drop i xs) ≡ length xs - i
+pub length_drop : {X : Type 0} (i : ℕ) (xs : List X) → length (drop i xs) ≡ length xs - i
 length_drop zero xs = omega arith
 length_drop (suc i) [] = omega arith
 length_drop (suc i) (x ∷ xs) = let n = length_drop i xs in omega (arith, n)
@@ -122,21 +122,21 @@ module _ (cs : List NodeView) where
     pub row_within : i < length c.frames
     row_within = omega (arith, frame, run_here)
 
-    behind_waiting : AreWaiting cs (waiting_behind c w ws)
+    pub behind_waiting : AreWaiting cs (waiting_behind c w ws)
     behind_waiting =
         let rows = rows_here cs w.place c waits.0.leads there w.depth i in
         let deep = waits.0.depth in
         link_waiting c.first (w.depth + length c.frames) (with_link c.next w.depth ws) it.first (omega (arith, rows, deep))
         (link_waiting c.next w.depth ws it.next (omega (arith, rows, deep)) waits.1)
 
-    behind_count : waiting_count cs (waiting_behind c w ws) ≤ waiting_count cs (w ∷ ws)
+    pub behind_count : waiting_count cs (waiting_behind c w ws) ≤ waiting_count cs (w ∷ ws)
     behind_count =
         let nodes = nodes_here cs w.place c waits.0.leads there w.depth i in
         let one = link_count c.first (w.depth + length c.frames) (with_link c.next w.depth ws) it.first in
         let two = link_count c.next w.depth ws it.next in
         omega (arith, nodes, one, two)
 
-    behind_rows : waiting_rows (waiting_forests cs (waiting_behind c w ws)) ≡ drop (length c.frames) (waiting_rows (waiting_forests cs (w ∷ ws)))
+    pub behind_rows : waiting_rows (waiting_forests cs (waiting_behind c w ws)) ≡ drop (length c.frames) (waiting_rows (waiting_forests cs (w ∷ ws)))
     behind_rows =
         let run = run_rows w.depth c.frames (c.label, c.ends) in
         let below = shows (w.depth + length c.frames) (rows_of_runs (forest_at cs c.first)) in

@@ -2,6 +2,7 @@
 
 ghost use Rattle.std.specs.Prelude.{◌≡◌, ◌+◌, ◌<◌, ◌≤◌, Some, IfOk, IfErr, length, drop, slice_get};
 ghost use Rattle.rank_set.specs.Ranks.{none};
+ghost use Rattle.prefix_tree.specs.Chains.{chain_rows, chained};
 ghost use Rattle.arena_tree.specs.RunForest.{count_rows, rows_of_runs, row_ends};
 ghost use Rattle.arena_tree.specs.Reading.{forest_at, LeadsToForest};
 ghost use Rattle.arena_tree.specs.ReadingOrder.{shows, row_seen};
@@ -9,7 +10,7 @@ ghost use Rattle.arena_tree.specs.ReadingOrder.{shows, row_seen};
 use crate::merge::ends_at;
 use crate::node::{NO_PLACE, Node};
 use node_arena::{Arena, Place};
-use prefix_tree::Row;
+use prefix_tree::{Chain, Row};
 use rank_set::RankSet;
 
 /// Row `i` of the nodes from a place on, whose first rows have the given depth. Where there are not so many rows, the
@@ -62,5 +63,26 @@ pub(crate) fn run_row<'a>(node: &'a Node, depth: usize, i: usize, nobody: &'a Ra
         frame: node.frame(i),
         label: node.label(),
         ends: ends_at(node.frames(), i + 1, node.ends(), nobody),
+    }
+}
+
+/// The rows of a node from row `i` on, where its first row has the given depth.
+pub(crate) fn run_chain(node: &Node, depth: usize, i: usize) -> Chain<'_>
+    requires within { i < length node.now.frames }
+    requires depth { depth ≤ 8192 }
+    ensures rows { chain_rows result
+        ≡ chained (depth + i) (drop i node.now.frames) (node.now.label, node.now.ends) }
+    ensures depth { result.depth ≡ depth + i }
+    ensures frames { result.frames.now ≡ node.now.frames }
+    ensures skip { result.skip ≡ i }
+{
+    // For the proof: no more than `FRAME_LIMIT` frames.
+    let _len = node.frames().len();
+    Chain {
+        depth: depth + i,
+        frames: node.frames(),
+        skip: i,
+        label: node.label(),
+        ends: node.ends(),
     }
 }

@@ -16,13 +16,13 @@ use crate::grow::{Growth, Source};
 use crate::merge::{Run, plan_merge, plan_path};
 use crate::node::{Link, NO_PLACE, Node, Step};
 use crate::plan::Plan;
-use crate::row::{find_row, run_row};
+use crate::row::{find_row, run_chain, run_row};
 use crate::target::Target;
 use crate::trail::Hint;
-use crate::walk::{move_on, put_link};
+use crate::walk::{move_on, move_past, put_link};
 use call_path::CallPath;
 use node_arena::{Arena, Place};
-use prefix_tree::{Cursor, PREFIX_LIMIT, PrefixTree, Row, TreeError};
+use prefix_tree::{Chain, Cursor, PREFIX_LIMIT, PrefixTree, Row, TreeError};
 use rank_set::RankSet;
 use std::alloc::{AllocError, Global};
 use std::marker::Model;
@@ -268,6 +268,20 @@ impl PrefixTree for ArenaTree {
                 let row = run_row(node, top.depth as usize, at.frame as usize, &self.nobody);
                 move_on(at, node, top);
                 Some(row)
+            }
+        }
+    }
+
+    fn next_chain(&self, at: &mut Cursor) -> Option<Chain<'_>> {
+        // For the proof: the invariant of the value.
+        let nodes = &self.nodes;
+        match at.waiting.pop() {
+            None => None,
+            Some(top) => {
+                let node = nodes.get(top.place);
+                let chain = run_chain(node, top.depth as usize, at.frame as usize);
+                move_past(at, node, top);
+                Some(chain)
             }
         }
     }

@@ -1,8 +1,8 @@
 //! A walk over the rows of a tree, from node to node.
 
-ghost use Rattle.std.specs.Prelude.{◌≡◌, ◌+◌, ◌<◌, ◌≤◌, ◌∷◌, length, reverse};
+ghost use Rattle.std.specs.Prelude.{◌≡◌, ◌+◌, ◌-◌, ◌<◌, ◌≤◌, ◌∷◌, length, reverse};
 ghost use Rattle.std.specs.Vec.{vec_capacity};
-ghost use Rattle.arena_tree.specs.Cursors.{with_link, waiting_next, frame_next};
+ghost use Rattle.arena_tree.specs.Cursors.{with_link, waiting_behind, waiting_next, frame_next};
 
 use crate::node::{NO_PLACE, Node};
 use node_arena::Place;
@@ -41,6 +41,25 @@ pub(crate) fn move_on(at: &mut Cursor, node: &Node, top: WaitingNode)
         at.waiting.push_reserved(top);
         return;
     }
+    at.frame = 0;
+    put_link(&mut at.waiting, node.next(), top.depth);
+    put_link(&mut at.waiting, node.first(), top.depth + len);
+}
+
+/// Moves a cursor behind the last row of a node, which was taken off those that wait: its siblings wait, and the nodes
+/// below it before them.
+pub(crate) fn move_past(at: &mut Cursor, node: &Node, top: WaitingNode)
+    requires row { at.old.row < 4096 }
+    requires frame { at.old.frame < length node.now.frames }
+    requires depth { top.depth ≤ 8192 }
+    requires room { length (waiting_behind node.now top (reverse at.old.waiting.items)) ≤ vec_capacity at.old.waiting }
+    ensures row { at.new.row ≡ at.old.row + (length node.now.frames - at.old.frame) }
+    ensures waiting { reverse at.new.waiting.items ≡ waiting_behind node.now top (reverse at.old.waiting.items) }
+    ensures frame { at.new.frame ≡ 0 }
+    ensures capacity { vec_capacity at.old.waiting ≤ vec_capacity at.new.waiting }
+{
+    let len = node.frames().len() as u32;
+    at.row += (len - at.frame) as usize;
     at.frame = 0;
     put_link(&mut at.waiting, node.next(), top.depth);
     put_link(&mut at.waiting, node.first(), top.depth + len);

@@ -9,3 +9,4 @@ pub mod GoodPaths
 pub mod ChangeLemmas
 pub mod Places
 pub mod Putting
+pub mod ChainLemmas

@@ -5,5 +5,6 @@ pub mod Code
 pub mod Owned
 pub mod Shown
 pub mod Walk
+pub mod Chains
 pub mod Changes
 pub mod Rows

@@ -5,7 +5,7 @@
 //! it, and its ends have those whose path it is.
 #![tactic(auto)]
 
-ghost use Rattle.std.specs.Prelude.{ℕ, ◌+◌, ◌&&◌, ◌≡◌, ◌≢◌, ◌<◌, ◌≤◌, IsTrue, OnOk, OnErr, IfOk, IfSome, slice_get, length, []};
+ghost use Rattle.std.specs.Prelude.{ℕ, ◌+◌, ◌-◌, ◌++◌, drop, ◌&&◌, ◌≡◌, ◌≢◌, ◌<◌, ◌≤◌, IsTrue, OnOk, OnErr, IfOk, IfSome, slice_get, length, []};
 ghost use Rattle.rank_set.specs.Ranks.{Ranks, none, has, is_subset};
 ghost use Rattle.call_path.specs.Path.{Path};
 ghost use Rattle.prefix_tree.specs.Joined.{IsTreeOf};
@@ -14,6 +14,7 @@ ghost use Rattle.prefix_tree.specs.Tree.{Tree, tree_of, merged, covered, added, 
 ghost use Rattle.std.specs.FinMap as finmap;
 ghost use Rattle.prefix_tree.specs.Shown.{Shows, IsGoodRow};
 ghost use Rattle.prefix_tree.specs.Walk.{Follows};
+ghost use Rattle.prefix_tree.specs.Chains.{rows_shown, chain_rows, IsGoodChain};
 ghost use Rattle.prefix_tree.specs.declared.Cursor.{Cursor};
 
 use call_path::CallPath;
@@ -56,6 +57,22 @@ pub struct Row<'a> {
     /// The ranks that pass the prefix. At the root this is the coverage.
     pub label: &'a RankSet,
     /// The ranks whose path is the prefix. The root has none.
+    pub ends: &'a RankSet,
+}
+
+/// A chain: rows one below the other that have the same label, where paths end at the last of them alone. It is read at
+/// once.
+#[derive(Clone, Copy)]
+pub struct Chain<'a> {
+    /// The depth of its first row: 1 to 128.
+    pub depth: usize,
+    /// The last frames of its rows, behind others that come before the chain.
+    pub frames: &'a CallPath,
+    /// How many frames come before the chain.
+    pub skip: usize,
+    /// The ranks that pass its rows.
+    pub label: &'a RankSet,
+    /// The ranks whose path is the prefix of its last row.
     pub ends: &'a RankSet,
 }
 
@@ -170,6 +187,20 @@ pub trait PrefixTree: Sized + Drop + Send {
         ensures shows { IfSome result (λ row. IfSome (slice_get (rows_of (tree self.now)) at.old.row) (Shows row)) }
         ensures good { IfSome result (λ row. 0 < at.old.row → IsGoodRow row) }
         ensures next { IfSome result (λ _. at.new.row ≡ at.old.row + 1) }
+        ensures end { result ≡ None → length (rows_of (tree self.now)) ≤ at.old.row }
+        ensures stays { result ≡ None → at.new.row ≡ at.old.row }
+        ensures cursor { is_cursor self.now at.new };
+
+    /// Returns the rows from the one before which the cursor stands up to the end of a chain, at least that one, and moves
+    /// the cursor behind them. None past the last row. It takes no memory.
+    fn next_chain(&self, at: &mut Cursor) -> Option<Chain<'_>>
+        requires cursor { is_cursor self.now at.old }
+        requires below_root { 0 < at.old.row }
+        ensures rows { IfSome result (λ chain. drop at.old.row (rows_shown (tree self.now))
+            ≡ chain_rows chain ++ drop at.new.row (rows_shown (tree self.now))) }
+        ensures good { IfSome result IsGoodChain }
+        ensures next { IfSome result (λ chain. at.new.row ≡ at.old.row + (length chain.frames.now - chain.skip)) }
+        ensures within { IfSome result (λ _. at.new.row ≤ length (rows_of (tree self.now))) }
         ensures end { result ≡ None → length (rows_of (tree self.now)) ≤ at.old.row }
         ensures stays { result ≡ None → at.new.row ≡ at.old.row }
         ensures cursor { is_cursor self.now at.new };

@@ -1,14 +1,15 @@
 //! A tree as one vector of rows.
-ghost use Rattle.std.specs.Prelude.{⊤, ◌≡◌, ◌≤◌, ◌<◌, ◌+◌, ◌++◌, [], ◌∷◌, OnOk, OnErr, IfOk, IfErr, IfSome, slice_get, length, map, nat_le};
+ghost use Rattle.std.specs.Prelude.{⊤, ◌≡◌, ◌≤◌, ◌<◌, ◌+◌, ◌-◌, ◌++◌, [], ◌∷◌, OnOk, OnErr, IfOk, IfErr, IfSome, slice_get, length, map, nat_le};
 ghost use Rattle.std.specs.Vec.{vec_capacity};
 ghost use Rattle.rank_set.specs.Ranks.{none, union};
 ghost use Rattle.call_path.specs.Good.{IsGoodPath};
 ghost use Rattle.prefix_tree.specs.Joined.{path_rows};
 ghost use Rattle.prefix_tree.specs.Shown.{Shows, IsGoodRow};
+ghost use Rattle.prefix_tree.specs.Chains.{shown, chain_rows, IsGoodChain};
 ghost use Rattle.prefix_tree.specs.Owned.{HasIncreasingPaths, entries_view, below_in, place_of};
 ghost use Rattle.prefix_tree.specs.Changes.{changed, is_new, new_among, inserted};
 
-use crate::{Cursor, PREFIX_LIMIT, PrefixTree, Row, TreeError};
+use crate::{Chain, Cursor, PREFIX_LIMIT, PrefixTree, Row, TreeError};
 use call_path::CallPath;
 use rank_set::RankSet;
 use std::alloc::{AllocError, Global};
@@ -156,6 +157,15 @@ impl PrefixTree for OwnedTree {
         at.row = i + 1;
         Some(self.row(i))
     }
+
+    fn next_chain(&self, at: &mut Cursor) -> Option<Chain<'_>> {
+        let i = at.row;
+        if i >= self.rows() {
+            return None;
+        }
+        at.row = i + 1;
+        Some(shown_chain(&self.rows, i - 1))
+    }
 }
 
 fn shown(rows: &[TreeRow], i: usize) -> Row<'_>
@@ -168,6 +178,24 @@ fn shown(rows: &[TreeRow], i: usize) -> Row<'_>
     Row {
         depth,
         frame: row.path.frame(depth - 1),
+        label: &row.label,
+        ends: &row.ends,
+    }
+}
+
+// A row as a chain of its own.
+fn shown_chain(rows: &[TreeRow], i: usize) -> Chain<'_>
+    requires { i < length rows.now }
+    ensures rows { IfSome (slice_get (entries_view rows.now) i) (λ e. chain_rows result ≡ shown e ∷ []) }
+    ensures good { IsGoodChain result }
+    ensures one { length result.frames.now - result.skip ≡ 1 }
+{
+    let row = &rows[i];
+    let depth = row.path.len();
+    Chain {
+        depth,
+        frames: &row.path,
+        skip: depth - 1,
         label: &row.label,
         ends: &row.ends,
     }

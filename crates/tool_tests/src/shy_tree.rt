@@ -3,7 +3,7 @@
 ghost use Rattle.std.specs.Prelude.{⊤};
 
 use call_path::CallPath;
-use prefix_tree::{Cursor, OwnedTree, PrefixTree, Row, TreeError};
+use prefix_tree::{Chain, Cursor, OwnedTree, PrefixTree, Row, TreeError};
 use rank_set::RankSet;
 use std::alloc::{AllocError, Global};
 
@@ -76,5 +76,9 @@ impl PrefixTree for ShyTree {
 
     fn next_row(&self, at: &mut Cursor) -> Option<Row<'_>> {
         self.tree.next_row(at)
+    }
+
+    fn next_chain(&self, at: &mut Cursor) -> Option<Chain<'_>> {
+        self.tree.next_chain(at)
     }
 }
