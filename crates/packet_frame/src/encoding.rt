@@ -1,23 +1,22 @@
 //! Bytes of packets.
 
-ghost use Rattle.std.specs.Prelude.{ℕ, ◌≡◌, ◌≢◌, ◌+◌, ◌++◌, ◌∷◌, ◌<◌, ◌≤◌, true, length, List, Ok, OnOk, IfOk};
+ghost use Rattle.std.specs.Prelude.{ℕ, ◌≡◌, ◌≢◌, ◌+◌, ◌++◌, ◌<◌, ◌≤◌, true, length, drop, List, Ok, OnOk, IfOk};
 ghost use Rattle.std.specs.List.{flat_map};
 ghost use Rattle.std.specs.Int.{w16, w64, to_be_bytes};
-ghost use Rattle.std.specs.Str.{IsUtf8};
 ghost use Rattle.rank_set.specs.Ranks.{none, Has, is_subset};
 ghost use Rattle.rank_places.specs.Places.{to_places};
-ghost use Rattle.prefix_tree.specs.Shown.{IsGoodRow};
+ghost use Rattle.prefix_tree.specs.Chains.{IsGoodChain};
 ghost use Rattle.packet_frame.specs.Fields.{read};
 ghost use Rattle.packet_frame.specs.Frame.{frame_form};
 ghost use Rattle.packet_frame.specs.Sent.{sent_from, packet_map, as_packet};
 ghost use Rattle.packet_frame.specs.Spelling.{set_bytes, run_bytes, coverage_bytes, sent_bytes, spelling};
-ghost use Rattle.packet_frame.specs.Writing.{shown_bytes, rows_bytes};
+ghost use Rattle.packet_frame.specs.Writing.{name_bytes, no_ends, below_bytes, chain_bytes, rows_bytes, AreText};
 ghost use Rattle.packet_frame.specs.Sending.{HasText, MayBeTree, MayBePacket, MayBeEncoded, spelling_of};
 ghost use Rattle.packet_frame.specs.declared.packet.Packet.TheVariants.{Up};
 
 use crate::frame::Frame;
 use crate::packet::Packet;
-use prefix_tree::{PrefixTree, Row};
+use prefix_tree::{Chain, PrefixTree};
 use rank_places::CoverPlaces;
 use rank_set::{RANK_LIMIT, RankSet, Run, WORD_LIMIT};
 use std::alloc::{AllocError, Global};
@@ -124,21 +123,37 @@ fn put_rows<T: PrefixTree>(
     ensures text { OnOk result (HasText (T.tree tree.now)) }
 {
     let mut at = tree.cursor(*out.allocator())?;
-    while let Some(row) = tree.next_row(&mut at) {
-        put_row(&row, places, out)?;
+    while let Some(chain) = tree.next_chain(&mut at) {
+        put_chain(&chain, places, out)?;
     }
     Ok(())
 }
 
-// Appends a row: its depth, the length of its last frame, that frame, and the places of its ends in the coverage.
-fn put_row(row: &Row<'_>, places: &CoverPlaces, out: &mut Vec<u8>) -> Result<(), AllocError>
-    requires good { IsGoodRow row.now }
-    requires covered { is_subset row.now.ends.now places.now ≡ true }
-    ensures bytes { OnOk result (out.new.items ≡ out.old.items ++ shown_bytes places.now row.now) }
-    ensures text { OnOk result (IsUtf8 row.now.frame.now) }
+// Appends the rows of a chain: of each its depth, the length of its last frame, that frame, and the places of its ends in
+// the coverage.
+fn put_chain(chain: &Chain<'_>, places: &CoverPlaces, out: &mut Vec<u8>) -> Result<(), AllocError>
+    requires good { IsGoodChain chain.now }
+    requires covered { is_subset chain.now.ends.now places.now ≡ true }
+    ensures bytes { OnOk result (out.new.items ≡ out.old.items ++ chain_bytes places.now chain.now) }
+    ensures text { OnOk result (AreText (drop chain.now.skip chain.now.frames.now)) }
 {
-    put_name(row.depth as u8, row.frame, out)?;
-    put_ends(row.ends, places, out)
+    put_name(chain.depth, chain.frames.frame(chain.skip), out)?;
+    put_below(chain, out)?;
+    put_ends(chain.ends, places, out)
+}
+
+// Appends what is between the first frame of a chain and the ends of its last row.
+fn put_below(chain: &Chain<'_>, out: &mut Vec<u8>) -> Result<(), AllocError>
+    requires { IsGoodChain chain.now }
+    ensures bytes { OnOk result (out.new.items ≡ out.old.items
+        ++ below_bytes (chain.now.depth + 1) (drop (chain.now.skip + 1) chain.now.frames.now)) }
+    ensures text { OnOk result (AreText (drop (chain.now.skip + 1) chain.now.frames.now)) }
+{
+    let len = chain.frames.len();
+    for i in chain.skip + 1..len {
+        put_name_below(chain.depth + (i - chain.skip), chain.frames.frame(i), out)?;
+    }
+    Ok(())
 }
 
 // Appends the places of a row's ends in the coverage. In a deep tree most rows have none, and take no more than this.
@@ -153,14 +168,24 @@ fn put_ends(ends: &RankSet, places: &CoverPlaces, out: &mut Vec<u8>) -> Result<(
 }
 
 // Appends a row's depth, and its last frame: the frame's length, and its bytes.
-fn put_name(depth: u8, name: &str, out: &mut Vec<u8>) -> Result<(), AllocError>
-    requires { length name.now ≤ 1023 }
-    ensures bytes { OnOk result
-        (out.new.items ≡ out.old.items ++ depth ∷ (to_be_bytes w16 (length name.now) ++ name.now)) }
-    ensures text { OnOk result (IsUtf8 name.now) }
+fn put_name(depth: usize, name: &str, out: &mut Vec<u8>) -> Result<(), AllocError>
+    requires depth { depth ≤ 128 }
+    requires name { length name.now ≤ 1023 }
+    ensures { OnOk result (out.new.items ≡ out.old.items ++ name_bytes depth name.now) }
 {
     let [high, low] = (name.len() as u16).to_be_bytes();
-    out.extend_from_slice(&[depth, high, low])?;
+    out.extend_from_slice(&[depth as u8, high, low])?;
+    out.extend_from_slice(name.as_bytes())
+}
+
+// Appends the same behind the ends of the row above, which has none.
+fn put_name_below(depth: usize, name: &str, out: &mut Vec<u8>) -> Result<(), AllocError>
+    requires depth { depth ≤ 128 }
+    requires name { length name.now ≤ 1023 }
+    ensures { OnOk result (out.new.items ≡ out.old.items ++ (no_ends ++ name_bytes depth name.now)) }
+{
+    let [high, low] = (name.len() as u16).to_be_bytes();
+    out.extend_from_slice(&[0, 0, 0, 0, depth as u8, high, low])?;
     out.extend_from_slice(name.as_bytes())
 }
 
