@@ -2,9 +2,10 @@
 //! them. So the text of the last label is kept, and written again where it is the text of the next ranks.
 ghost use Rattle.std.specs.Prelude.{◌≡◌, ◌++◌, OnErr, OnOk};
 ghost use Rattle.rank_set.specs.Text.{text_of};
-ghost use Rattle.front_end.specs.TreeText.{ends_text, indent, line_of, rows_text, tree_text as text_of_tree};
+ghost use Rattle.prefix_tree.specs.Chains.{IsGoodChain};
+ghost use Rattle.front_end.specs.TreeText.{chain_text, ends_text, indent, line_of, line_with, no_ends_text, rows_text, tree_text as text_of_tree};
 
-use prefix_tree::{PrefixTree, Row};
+use prefix_tree::{Chain, PrefixTree, Row};
 use rank_set::RankSet;
 use std::alloc::AllocError;
 
@@ -38,14 +39,52 @@ fn write_below<T: PrefixTree>(tree: &T, out: &mut Vec<u8>) -> Result<(), AllocEr
     let mut label_text = Vec::new(*out.allocator());
     label.write_text(&mut label_text)?;
     let mut at = tree.cursor(*out.allocator())?;
-    while let Some(row) = tree.next_row(&mut at) {
-        if !row.label.equals(label) {
-            label = row.label;
+    while let Some(chain) = tree.next_chain(&mut at) {
+        if !chain.label.equals(label) {
+            label = chain.label;
             label_text.clear();
             label.write_text(&mut label_text)?;
         }
-        write_row(&row, &label_text, out)?;
+        write_chain(&chain, &label_text, out)?;
     }
+    Ok(())
+}
+
+// Appends the lines of the rows of a chain, the text of whose label is at hand.
+fn write_chain(chain: &Chain<'_>, label_text: &[u8], out: &mut Vec<u8>) -> Result<(), AllocError>
+    requires good { IsGoodChain chain.now }
+    requires label { label_text.now ≡ text_of chain.now.label.now }
+    ensures { OnOk result (out.new.items ≡ out.old.items ++ chain_text chain.now) }
+{
+    let last = chain.frames.len() - 1;
+    for i in chain.skip..last {
+        let depth = chain.depth + (i - chain.skip);
+        write_row_above(depth, chain.frames.frame(i), label_text, out)?;
+    }
+    let row = Row {
+        depth: chain.depth + (last - chain.skip),
+        frame: chain.frames.frame(last),
+        label: chain.label,
+        ends: chain.ends,
+    };
+    write_row(&row, label_text, out)
+}
+
+// Appends the line of a row where no path ends, the text of whose label is at hand.
+fn write_row_above(
+    depth: usize,
+    frame: &str,
+    label_text: &[u8],
+    out: &mut Vec<u8>,
+) -> Result<(), AllocError>
+    ensures { OnOk result
+        (out.new.items ≡ out.old.items ++ line_with depth label_text.now no_ends_text frame.now) }
+{
+    write_indent(depth, out)?;
+    out.extend_from_slice(label_text)?;
+    out.extend_from_slice(b" - ")?;
+    out.extend_from_slice(frame.as_bytes())?;
+    out.push(b'\n')?;
     Ok(())
 }
 
