@@ -1,8 +1,11 @@
-//! The walk over the rows of a tree, by a cursor.
+//! The walk over the rows of a tree by a cursor, row by row and chain by chain.
+
+ghost use Rattle.std.specs.Prelude.{◌<◌, ◌≤◌, length};
+ghost use Rattle.prefix_tree.specs.Chains.{IsGoodChain};
 
 use arena_tree::ArenaTree;
 use call_path::CallPath;
-use prefix_tree::{PrefixTree, Row, TreeError};
+use prefix_tree::{Chain, PrefixTree, Row, TreeError};
 use rank_set::RankSet;
 use std::alloc::{AllocError, Global};
 use std::process::Abort;
@@ -37,6 +40,48 @@ fn walk_text<T: PrefixTree>(
     Ok(text)
 }
 
+// Row `i` of the frames of a chain; `no_ranks` is empty.
+fn write_chain_row(
+    alloc: Global,
+    chain: &Chain<'_>,
+    i: usize,
+    no_ranks: &RankSet,
+    text: &mut Vec<u8>,
+) -> Result<(), AllocError>
+    requires good { IsGoodChain chain.now }
+    requires from { chain.now.skip ≤ i }
+    requires within { i < length chain.now.frames.now }
+{
+    let len = chain.frames.len();
+    let ends = if i + 1 < len { no_ranks } else { chain.ends };
+    let row = Row {
+        depth: chain.depth + (i - chain.skip),
+        frame: chain.frames.frame(i),
+        label: chain.label,
+        ends,
+    };
+    write_row(alloc, &row, text)
+}
+
+// The rows below the root that a cursor comes to by chains.
+fn chains_text<T: PrefixTree>(
+    rt: &impl Abort,
+    alloc: Global,
+    tree: &T,
+    no_ranks: &RankSet,
+) -> Result<Vec<u8>, AllocError> {
+    let mut text = Vec::new(alloc);
+    let mut at = tree.cursor(alloc)?;
+    while let Some(chain) = tree.next_chain(&mut at) {
+        for i in chain.skip..chain.frames.len() {
+            write_chain_row(alloc, &chain, i, no_ranks, &mut text)?;
+        }
+    }
+    assert_eq!(rt; at.row, tree.rows());
+    assert!(rt; tree.next_chain(&mut at).is_none());
+    Ok(text)
+}
+
 // Adds a path of one rank.
 fn add<T: PrefixTree>(
     rt: &impl Abort,
@@ -65,6 +110,9 @@ fn assert_walk<T: PrefixTree>(
         add(rt, alloc, &mut tree, *rank, text)?;
     }
     let walked = walk_text(rt, alloc, &tree)?;
+    assert_eq!(rt; walked.as_slice(), want);
+    let no_ranks = RankSet::new(alloc);
+    let walked = chains_text(rt, alloc, &tree, &no_ranks)?;
     assert_eq!(rt; walked.as_slice(), want);
     Ok(())
 }
