@@ -1,112 +1,39 @@
 // Both trees on the same series of calls, and trees at the limits.
+use crate::trees::{add, assert_rows, cover, of_paths, rows_text};
 use arena_tree::ArenaTree;
-use call_path::{CallPath, FRAME_LIMIT};
+use call_path::FRAME_LIMIT;
 use prefix_tree::{OwnedTree, PrefixTree, TreeError};
-use rank_set::RankSet;
 use std::alloc::{AllocError, Global};
 use std::process::Abort;
-use std::test::Fail;
 
-fn ranks(rt: &impl Abort, alloc: Global, members: &[u32]) -> RankSet {
-    let mut set = RankSet::new(alloc);
-    for rank in members {
-        set.insert(*rank).expect(rt, "below the limit");
-    }
-    set
-}
-
-// Each row as a line: its depth, its frame, its label and its ends.
-fn rows_text<T: PrefixTree>(alloc: Global, tree: &T) -> Result<Vec<u8>, AllocError> {
-    let mut text = Vec::new(alloc);
-    for i in 0..tree.rows() {
-        let row = tree.row(i);
-        text.extend_from_slice(row.depth.to_string(alloc)?.as_bytes())?;
-        text.push(b' ')?;
-        text.extend_from_slice(row.frame.as_bytes())?;
-        text.push(b' ')?;
-        row.label.write_text(&mut text)?;
-        text.push(b' ')?;
-        row.ends.write_text(&mut text)?;
-        text.push(b'\n')?;
-    }
-    Ok(text)
-}
-
-fn assert_rows<T: PrefixTree>(
-    rt: &impl Abort,
-    alloc: Global,
-    tree: &T,
-    want: &[u8],
-) -> Result<(), AllocError> {
-    let text = rows_text(alloc, tree)?;
-    assert_eq!(rt; text.as_slice(), want);
-    Ok(())
-}
-
-fn covered<T: PrefixTree>(
-    rt: &impl Abort,
-    alloc: Global,
-    members: &[u32],
-) -> Result<T, AllocError> {
-    let mut tree = T::empty(alloc);
-    tree.cover(&ranks(rt, alloc, members))?;
-    Ok(tree)
-}
-
-fn add<T: PrefixTree>(
-    rt: &impl Abort,
-    alloc: Global,
-    tree: &mut T,
-    members: &[u32],
-    text: &str,
-) -> Result<(), TreeError> {
-    let ranks = ranks(rt, alloc, members);
-    let path = CallPath::read(alloc, text).expect(rt, "good");
-    assert!(rt; ranks.count() > 0);
-    assert!(rt; ranks.is_subset(tree.row(0).label));
-    tree.add(&ranks, &path)
-}
-
-// A tree of one rank and the paths that it was seen in.
-fn of_paths<T: PrefixTree>(
-    rt: &impl Abort,
-    alloc: Global,
-    rank: u32,
-    texts: &[&str],
-) -> Result<T, TreeError> {
-    let mut tree = covered::<T>(rt, alloc, &[rank])?;
-    for text in texts {
-        add(rt, alloc, &mut tree, &[rank], text)?;
-    }
-    Ok(tree)
+// A tree of rank 0 and one of rank 1, one merged into the other.
+fn merged<T: PrefixTree>(rt: &impl Abort, alloc: Global, own: &[&str], others: &[&str]) -> T {
+    let mut tree = of_paths::<T>(rt, alloc, &[0], own).expect(rt, "memory");
+    let other = of_paths::<T>(rt, alloc, &[1], others).expect(rt, "memory");
+    tree.merge(&other).expect(rt, "memory");
+    tree
 }
 
 // A run is cut by a path that ends in it, by one that leaves it, and by one that goes on below it.
 #[test]
-fn cuts_a_run_of_rows(rt: HostRuntime) -> Result<(), Fail> {
-    let alloc = rt.alloc();
-    let mut tree = of_paths::<ArenaTree>(&rt, alloc, 0, &["a;b;c;d"])?;
-    let other = of_paths::<ArenaTree>(&rt, alloc, 1, &["a;b", "a;b;c;x", "a;b;c;d;e"])?;
-    tree.merge(&other)?;
+fn cuts_a_run_of_rows(rt: HostRuntime) {
+    let others = ["a;b", "a;b;c;x", "a;b;c;d;e"];
+    let tree = merged::<ArenaTree>(&rt, rt.alloc(), &["a;b;c;d"], &others);
     let want = b"0 / 2:[0-1] 0:[]\n1 a 2:[0-1] 0:[]\n2 b 2:[0-1] 1:[1]\n3 c 2:[0-1] 0:[]\n\
         4 d 2:[0-1] 1:[0]\n5 e 1:[1] 1:[1]\n4 x 1:[1] 1:[1]\n";
-    assert_rows(&rt, alloc, &tree, want)?;
-    assert_rows(&rt, alloc, &tree.copy()?, want)?;
-    Ok(())
+    assert_rows(&rt, rt.alloc(), &tree, want);
+    assert_rows(&rt, rt.alloc(), &tree.copy().expect(&rt, "memory"), want);
 }
 
 // New rows go before, between and behind the rows that stand, and one stands already.
 #[test]
-fn puts_rows_between_siblings(rt: HostRuntime) -> Result<(), Fail> {
-    let alloc = rt.alloc();
-    let mut tree = of_paths::<ArenaTree>(&rt, alloc, 0, &["e", "b", "d"])?;
-    let other = of_paths::<ArenaTree>(&rt, alloc, 1, &["f", "d;x", "c;y;z", "a"])?;
-    tree.merge(&other)?;
+fn puts_rows_between_siblings(rt: HostRuntime) {
+    let others = ["f", "d;x", "c;y;z", "a"];
+    let tree = merged::<ArenaTree>(&rt, rt.alloc(), &["e", "b", "d"], &others);
     let want = b"0 / 2:[0-1] 0:[]\n1 a 1:[1] 1:[1]\n1 b 1:[0] 1:[0]\n\
         1 c 1:[1] 0:[]\n2 y 1:[1] 0:[]\n3 z 1:[1] 1:[1]\n\
         1 d 2:[0-1] 1:[0]\n2 x 1:[1] 1:[1]\n1 e 1:[0] 1:[0]\n1 f 1:[1] 1:[1]\n";
-    assert_rows(&rt, alloc, &tree, want)?;
-    Ok(())
+    assert_rows(&rt, rt.alloc(), &tree, want);
 }
 
 // A number after another, of no pattern.
@@ -128,120 +55,104 @@ fn picked(alloc: Global, seed: u32) -> Result<String, AllocError> {
     Ok(text)
 }
 
+// A path that the number picks.
+fn add_picked<T: PrefixTree>(rt: &impl Abort, alloc: Global, tree: &mut T, rank: u32, seed: u32) {
+    let text = picked(alloc, seed).expect(rt, "memory");
+    add(rt, alloc, tree, &[rank], &text).expect(rt, "a path");
+}
+
 // A tree of three ranks from a first one on, covered in two steps, with paths that the number picks.
-fn picked_tree<T: PrefixTree>(
-    rt: &impl Abort,
-    alloc: Global,
-    first: u32,
-    seed: u32,
-) -> Result<T, TreeError> {
-    let mut tree = covered::<T>(rt, alloc, &[first])?;
-    tree.cover(&ranks(rt, alloc, &[first.wrapping_add(1), first.wrapping_add(2)]))?;
+fn picked_tree<T: PrefixTree>(rt: &impl Abort, alloc: Global, first: u32, seed: u32) -> T {
+    let mut tree = T::empty(alloc);
+    cover(alloc, &mut tree, &[first]).expect(rt, "memory");
+    let others = [first.wrapping_add(1), first.wrapping_add(2)];
+    cover(alloc, &mut tree, &others).expect(rt, "memory");
     let mut seed = seed;
     for i in 0..9u32 {
-        let text = picked(alloc, seed)?;
-        add(rt, alloc, &mut tree, &[first.wrapping_add(i % 3)], &text)?;
+        add_picked(rt, alloc, &mut tree, first.wrapping_add(i % 3), seed);
         seed = after(seed);
     }
-    Ok(tree)
+    tree
 }
 
 // Merges a tree that numbers pick, adds a path and covers a rank.
-fn change<T: PrefixTree>(
-    rt: &impl Abort,
-    alloc: Global,
-    tree: &mut T,
-    seed: u32,
-    i: u32,
-) -> Result<(), TreeError> {
-    let other = picked_tree::<T>(rt, alloc, 60 * (i % 8), after(seed.wrapping_add(i)))?;
-    tree.merge(&other)?;
-    let text = picked(alloc, seed.wrapping_add(i))?;
-    add(rt, alloc, tree, &[0], &text)?;
-    tree.cover(&ranks(rt, alloc, &[1_000 * (i % 8)]))?;
-    Ok(())
+fn change<T: PrefixTree>(rt: &impl Abort, alloc: Global, tree: &mut T, seed: u32, i: u32) {
+    let other = picked_tree::<T>(rt, alloc, 60 * (i % 8), after(seed.wrapping_add(i)));
+    tree.merge(&other).expect(rt, "memory");
+    add_picked(rt, alloc, tree, 0, seed.wrapping_add(i));
+    cover(alloc, tree, &[1_000 * (i % 8)]).expect(rt, "memory");
 }
 
 // The rows of a tree after the changes that numbers pick.
-fn picked_rows<T: PrefixTree>(
-    rt: &impl Abort,
-    alloc: Global,
-    seed: u32,
-) -> Result<Vec<u8>, TreeError> {
-    let mut tree = picked_tree::<T>(rt, alloc, 0, seed)?;
+fn picked_rows<T: PrefixTree>(rt: &impl Abort, alloc: Global, seed: u32) -> Vec<u8> {
+    let mut tree = picked_tree::<T>(rt, alloc, 0, seed);
     for i in 1..5u32 {
-        change(rt, alloc, &mut tree, seed, i)?;
+        change(rt, alloc, &mut tree, seed, i);
     }
-    let text = rows_text(alloc, &tree)?;
-    Ok(text)
+    rows_text(alloc, &tree).expect(rt, "memory")
 }
 
 #[test]
-fn both_trees_have_the_same_rows(rt: HostRuntime) -> Result<(), Fail> {
+fn both_trees_have_the_same_rows(rt: HostRuntime) {
     for seed in 1..10_001u32 {
-        let owned = picked_rows::<OwnedTree>(&rt, rt.alloc(), seed)?;
-        let arena = picked_rows::<ArenaTree>(&rt, rt.alloc(), seed)?;
-        assert_eq!(&rt; arena.as_slice(), owned.as_slice());
+        let owned = picked_rows::<OwnedTree>(&rt, rt.alloc(), seed);
+        let arena = picked_rows::<ArenaTree>(&rt, rt.alloc(), seed);
+        assert!(&rt; arena.as_slice() == owned.as_slice(), "of {seed}");
     }
-    Ok(())
 }
 
 // A tree with 2,048 rows below the root, all of them siblings, last one first.
-fn full<T: PrefixTree>(rt: &impl Abort, alloc: Global) -> Result<T, TreeError> {
-    let mut tree = covered::<T>(rt, alloc, &[0, 1])?;
+fn full<T: PrefixTree>(rt: &impl Abort, alloc: Global) -> T {
+    let mut tree = T::empty(alloc);
+    cover(alloc, &mut tree, &[0, 1]).expect(rt, "memory");
     for i in 0..2_048u32 {
-        let text = format!(in alloc; "f{:04}", 2_047u32.wrapping_sub(i))?;
-        add(rt, alloc, &mut tree, &[1], &text)?;
+        let text = format!(in alloc; "f{:04}", 2_047u32.wrapping_sub(i)).expect(rt, "memory");
+        add(rt, alloc, &mut tree, &[1], &text).expect(rt, "a path");
     }
-    Ok(tree)
+    tree
 }
 
 // A path and a tree that would make a row more are refused, and the rows stay.
-fn assert_refuses(rt: &impl Abort, alloc: Global, tree: &mut ArenaTree) -> Result<(), TreeError> {
-    let before = rows_text(alloc, tree)?;
-    assert_eq!(rt;
-        add(rt, alloc, tree, &[1], "g"),
-        Err(TreeError::TooManyPrefixes)
-    );
-    let other = of_paths::<ArenaTree>(rt, alloc, 0, &["f0000;g"])?;
-    assert_eq!(rt; tree.merge(&other), Err(TreeError::TooManyPrefixes));
-    assert_rows(rt, alloc, tree, &before)?;
-    Ok(())
+fn assert_refuses(rt: &impl Abort, alloc: Global, tree: &mut ArenaTree) {
+    let before = rows_text(alloc, tree).expect(rt, "memory");
+    assert!(rt; add(rt, alloc, tree, &[1], "g") == Err(TreeError::TooManyPrefixes));
+    let other = of_paths::<ArenaTree>(rt, alloc, &[0], &["f0000;g"]).expect(rt, "memory");
+    assert!(rt; tree.merge(&other) == Err(TreeError::TooManyPrefixes));
+    assert_rows(rt, alloc, tree, &before);
 }
 
 #[test]
-fn refuses_a_row_more_than_the_limit(rt: HostRuntime) -> Result<(), Fail> {
-    let mut tree = full::<ArenaTree>(&rt, rt.alloc())?;
-    assert_refuses(&rt, rt.alloc(), &mut tree)?;
-    add(&rt, rt.alloc(), &mut tree, &[0], "f0000")?;
-    assert_eq!(&rt; tree.rows(), 2_049);
-    Ok(())
+fn refuses_a_row_more_than_the_limit(rt: HostRuntime) {
+    let mut tree = full::<ArenaTree>(&rt, rt.alloc());
+    assert_refuses(&rt, rt.alloc(), &mut tree);
+    add(&rt, rt.alloc(), &mut tree, &[0], "f0000").expect(&rt, "a path that stands");
+    assert!(&rt; tree.rows() == 2_049);
 }
 
 // Paths of even or of odd numbers, 1,000 of each.
-fn siblings<T: PrefixTree>(rt: &impl Abort, alloc: Global, odd: u32) -> Result<T, TreeError> {
-    let mut tree = covered::<T>(rt, alloc, &[odd])?;
+fn siblings<T: PrefixTree>(rt: &impl Abort, alloc: Global, odd: u32) -> T {
+    let mut tree = T::empty(alloc);
+    cover(alloc, &mut tree, &[odd]).expect(rt, "memory");
     for i in 0..1_000u32 {
-        let text = format!(in alloc; "f{:04}", 2 * i + odd % 2)?;
-        add(rt, alloc, &mut tree, &[odd], &text)?;
+        let text = format!(in alloc; "f{:04}", 2 * i + odd % 2).expect(rt, "memory");
+        add(rt, alloc, &mut tree, &[odd], &text).expect(rt, "a path");
     }
-    Ok(tree)
+    tree
 }
 
-fn merged_siblings<T: PrefixTree>(rt: &impl Abort, alloc: Global) -> Result<Vec<u8>, TreeError> {
-    let mut tree = siblings::<T>(rt, alloc, 0)?;
-    tree.merge(&siblings::<T>(rt, alloc, 1)?)?;
-    assert_eq!(rt; tree.rows(), 2_001);
-    let text = rows_text(alloc, &tree)?;
-    Ok(text)
+fn merged_siblings<T: PrefixTree>(rt: &impl Abort, alloc: Global) -> Vec<u8> {
+    let mut tree = siblings::<T>(rt, alloc, 0);
+    tree.merge(&siblings::<T>(rt, alloc, 1))
+        .expect(rt, "memory");
+    assert!(rt; tree.rows() == 2_001);
+    rows_text(alloc, &tree).expect(rt, "memory")
 }
 
 #[test]
-fn merges_2000_siblings(rt: HostRuntime) -> Result<(), Fail> {
-    let owned = merged_siblings::<OwnedTree>(&rt, rt.alloc())?;
-    let arena = merged_siblings::<ArenaTree>(&rt, rt.alloc())?;
-    assert_eq!(&rt; arena.as_slice(), owned.as_slice());
-    Ok(())
+fn merges_2000_siblings(rt: HostRuntime) {
+    let owned = merged_siblings::<OwnedTree>(&rt, rt.alloc());
+    let arena = merged_siblings::<ArenaTree>(&rt, rt.alloc());
+    assert!(&rt; arena.as_slice() == owned.as_slice());
 }
 
 // The text of a path of the deepest sort, whose frames differ from a given one on.
@@ -259,23 +170,23 @@ fn deep_tree<T: PrefixTree>(
     rank: u32,
     from: usize,
     mark: &str,
-) -> Result<T, TreeError> {
-    let text = deep_text(alloc, from, mark)?;
-    of_paths::<T>(rt, alloc, rank, &[&text])
+) -> T {
+    let text = deep_text(alloc, from, mark).expect(rt, "memory");
+    of_paths::<T>(rt, alloc, &[rank], &[&text]).expect(rt, "memory")
 }
 
-fn deep_rows<T: PrefixTree>(rt: &impl Abort, alloc: Global) -> Result<Vec<u8>, TreeError> {
-    let mut tree = deep_tree::<T>(rt, alloc, 0, 128, ";f")?;
-    tree.merge(&deep_tree::<T>(rt, alloc, 1, 64, ";e")?)?;
-    tree.merge(&deep_tree::<T>(rt, alloc, 2, 127, ";g")?)?;
-    let text = rows_text(alloc, &tree)?;
-    Ok(text)
+fn deep_rows<T: PrefixTree>(rt: &impl Abort, alloc: Global) -> Vec<u8> {
+    let mut tree = deep_tree::<T>(rt, alloc, 0, 128, ";f");
+    for (rank, from, mark) in &[(1, 64, ";e"), (2, 127, ";g")] {
+        let other = deep_tree::<T>(rt, alloc, *rank, *from, mark);
+        tree.merge(&other).expect(rt, "memory");
+    }
+    rows_text(alloc, &tree).expect(rt, "memory")
 }
 
 #[test]
-fn cuts_runs_of_128_frames(rt: HostRuntime) -> Result<(), Fail> {
-    let owned = deep_rows::<OwnedTree>(&rt, rt.alloc())?;
-    let arena = deep_rows::<ArenaTree>(&rt, rt.alloc())?;
-    assert_eq!(&rt; arena.as_slice(), owned.as_slice());
-    Ok(())
+fn cuts_runs_of_128_frames(rt: HostRuntime) {
+    let owned = deep_rows::<OwnedTree>(&rt, rt.alloc());
+    let arena = deep_rows::<ArenaTree>(&rt, rt.alloc());
+    assert!(&rt; arena.as_slice() == owned.as_slice());
 }

@@ -2,21 +2,16 @@ ghost use Rattle.std.specs.Prelude.{IsTrue};
 ghost use Rattle.call_path.specs.Good.{is_good_frame};
 
 use call_path::{CallPath, FRAME_LIMIT, PathBuilder, PathError};
-use std::alloc::{AllocError, Global};
+use std::alloc::Global;
 use std::cmp::Ordering;
 use std::process::Abort;
-use std::test::Fail;
 
 fn sent<T: Send>(value: T) -> T {
     value
 }
 
-fn repeated(alloc: Global, part: &str, times: usize) -> Result<String, AllocError> {
-    let mut text = String::new(alloc);
-    for _ in 0..times {
-        text.push_str(part)?;
-    }
-    Ok(text)
+fn path_of(rt: &impl Abort, alloc: Global, text: &str) -> CallPath {
+    CallPath::read(alloc, text).expect(rt, "good")
 }
 
 fn error(alloc: Global, text: &str) -> Option<PathError> {
@@ -39,8 +34,8 @@ const REFUSALS: [(&str, Option<PathError>); 11] = [
 
 #[test]
 fn refuses_with_places(rt: HostRuntime) {
-    for (text, want) in REFUSALS {
-        assert_eq!(rt; error(rt.alloc(), text), want, "{text:?}");
+    for (text, want) in &REFUSALS {
+        assert_eq!(rt; error(rt.alloc(), text), *want, "{text:?}");
     }
 }
 
@@ -57,26 +52,29 @@ const LIMITS: [(&str, usize, &str, Option<PathError>); 9] = [
     ("a;", 127, "", Some(PathError::EmptyFrame(127))),
 ];
 
-#[test]
-fn refuses_past_limits(rt: HostRuntime) -> Result<(), Fail> {
-    for (part, times, end, want) in LIMITS {
-        let mut text = repeated(rt.alloc(), part, times)?;
-        text.push_str(end)?;
-        assert_eq!(rt;
-            error(rt.alloc(), &text),
-            want,
-            "{times} times {part:?} and {end:?}"
-        );
+fn repeated(rt: &impl Abort, alloc: Global, part: &str, times: usize, end: &str) -> String {
+    let mut text = String::new(alloc);
+    for _ in 0..times {
+        text.push_str(part).expect(rt, "memory");
     }
-    Ok(())
+    text.push_str(end).expect(rt, "memory");
+    text
 }
 
-fn assert_text(rt: &impl Abort, alloc: Global, path: &CallPath, want: &str) -> Result<(), Fail> {
+#[test]
+fn refuses_past_limits(rt: HostRuntime) {
+    for (part, times, end, want) in &LIMITS {
+        let text = repeated(&rt, rt.alloc(), part, *times, end);
+        let found = error(rt.alloc(), &text);
+        assert_eq!(rt; found, *want, "{times} times {part:?} and {end:?}");
+    }
+}
+
+fn assert_text(rt: &impl Abort, alloc: Global, path: &CallPath, want: &str) {
     let mut text = Vec::new(alloc);
-    text.push(b'>')?;
-    path.write_text(&mut text)?;
+    text.push(b'>').expect(rt, "memory");
+    path.write_text(&mut text).expect(rt, "memory");
     assert_eq!(rt; &text[1..], want.as_bytes());
-    Ok(())
 }
 
 // Two texts, the order of their paths, and whether the first is a prefix of the second.
@@ -108,15 +106,14 @@ const PAIRS: [(&str, &str, Ordering, bool); 9] = [
 ];
 
 #[test]
-fn compares_by_frames(rt: HostRuntime) -> Result<(), Fail> {
-    for (text, other, order, begins) in PAIRS {
-        let path = CallPath::read(rt.alloc(), text).expect(&rt, "good");
-        let other = CallPath::read(rt.alloc(), other).expect(&rt, "good");
-        assert_eq!(rt; path.cmp(&other), order, "{text:?}");
-        assert_eq!(rt; path.is_prefix_of(&other), begins, "{text:?}");
-        assert_text(&rt, rt.alloc(), &path, text)?;
+fn compares_by_frames(rt: HostRuntime) {
+    for (text, other, order, begins) in &PAIRS {
+        let path = path_of(&rt, rt.alloc(), text);
+        let other = path_of(&rt, rt.alloc(), other);
+        assert!(rt; path.cmp(&other) == *order, "{text:?}");
+        assert!(rt; path.is_prefix_of(&other) == *begins, "{text:?}");
+        assert_text(&rt, rt.alloc(), &path, text);
     }
-    Ok(())
 }
 
 // Two texts, a frame of the second, and how many first frames the first shares with those from there on.
@@ -132,11 +129,11 @@ const SHARED: [(&str, &str, usize, usize); 7] = [
 
 #[test]
 fn counts_shared_frames(rt: HostRuntime) {
-    for (text, other, from, want) in SHARED {
-        let path = CallPath::read(rt.alloc(), text).expect(&rt, "good");
-        let other = CallPath::read(rt.alloc(), other).expect(&rt, "good");
-        assert!(rt; from <= other.len());
-        assert_eq!(rt; path.common(&other, from), want, "{text:?}");
+    for (text, other, from, want) in &SHARED {
+        let path = path_of(&rt, rt.alloc(), text);
+        let other = path_of(&rt, rt.alloc(), other);
+        assert!(rt; *from <= other.len());
+        assert!(rt; path.common(&other, *from) == *want, "{text:?}");
     }
 }
 
@@ -151,63 +148,81 @@ const FUNCTIONS: [(&str, &str); 6] = [
 ];
 
 #[test]
-fn cuts_lines(rt: HostRuntime) -> Result<(), Fail> {
-    for (text, want) in FUNCTIONS {
-        let path = CallPath::read(rt.alloc(), text).expect(&rt, "good");
-        assert_text(&rt, rt.alloc(), &path.functions()?, want)?;
+fn cuts_lines(rt: HostRuntime) {
+    for (text, want) in &FUNCTIONS {
+        let path = path_of(&rt, rt.alloc(), text);
+        let functions = path.functions().expect(&rt, "memory");
+        assert_text(&rt, rt.alloc(), &functions, want);
     }
-    Ok(())
+}
+
+fn assert_behind(rt: &impl Abort, alloc: Global, path: &CallPath, count: usize, want: &str) {
+    assert!(rt; count < path.len());
+    let behind = path.behind(count).expect(rt, "memory");
+    assert_text(rt, alloc, &behind, want);
 }
 
 #[test]
-fn gives_the_frames_behind(rt: HostRuntime) -> Result<(), Fail> {
-    let path = CallPath::read(rt.alloc(), "main;é;poll").expect(&rt, "good");
-    assert!(rt; path.len() > 2);
-    assert_text(&rt, rt.alloc(), &path.behind(0)?, "main;é;poll")?;
-    assert_text(&rt, rt.alloc(), &path.behind(2)?, "poll")?;
-    Ok(())
+fn gives_the_frames_behind(rt: HostRuntime) {
+    let path = path_of(&rt, rt.alloc(), "main;é;poll");
+    assert_behind(&rt, rt.alloc(), &path, 0, "main;é;poll");
+    assert_behind(&rt, rt.alloc(), &path, 2, "poll");
 }
 
 #[test]
-fn cuts_and_appends(rt: HostRuntime) -> Result<(), Fail> {
-    let mut path = CallPath::read(rt.alloc(), "main;a;b").expect(&rt, "good");
+fn cuts_and_appends(rt: HostRuntime) {
+    let mut path = path_of(&rt, rt.alloc(), "main;a;b");
     path.cut(1);
     assert!(rt; path.len() < FRAME_LIMIT);
-    path.push("read")?;
-    assert_text(&rt, rt.alloc(), &path, "main;read")?;
-    Ok(())
+    path.push("read").expect(&rt, "memory");
+    assert_text(&rt, rt.alloc(), &path, "main;read");
 }
 
 #[test]
-fn shows_frames(rt: HostRuntime) -> Result<(), Fail> {
-    let path = sent(CallPath::read(rt.alloc(), "main;é;poll").expect(&rt, "good"));
-    assert_eq!(rt; path.len(), 3);
-    assert_eq!(rt; path.frame(1), "é");
-    assert_eq!(rt; path.frame(2), "poll");
-    assert_text(&rt, rt.alloc(), &path.prefix(2)?, "main;é")?;
-    assert_text(&rt, rt.alloc(), &path.copy()?, "main;é;poll")?;
-    Ok(())
+fn is_sent(rt: HostRuntime) {
+    let path = sent(path_of(&rt, rt.alloc(), "main"));
+    assert_text(&rt, rt.alloc(), &path, "main");
+    let builder = sent(PathBuilder::new(rt.alloc()));
+    assert!(rt; builder.len() == 0);
 }
 
-fn put(rt: &impl Abort, builder: &mut PathBuilder, frame: &str) -> Result<(), AllocError>
+#[test]
+fn shows_frames(rt: HostRuntime) {
+    let path = path_of(&rt, rt.alloc(), "main;é;poll");
+    assert!(rt; path.len() == 3);
+    assert!(rt; path.frame(1) == "é");
+    assert!(rt; path.frame(2) == "poll");
+}
+
+#[test]
+fn copies(rt: HostRuntime) {
+    let path = path_of(&rt, rt.alloc(), "main;é;poll");
+    assert!(rt; path.len() == 3);
+    let prefix = path.prefix(2).expect(&rt, "memory");
+    assert_text(&rt, rt.alloc(), &prefix, "main;é");
+    let copy = path.copy().expect(&rt, "memory");
+    assert_text(&rt, rt.alloc(), &copy, "main;é;poll");
+}
+
+fn put(rt: &impl Abort, builder: &mut PathBuilder, frame: &str)
     requires { IsTrue (is_good_frame frame.now) }
 {
     assert!(rt; builder.len() < FRAME_LIMIT);
-    builder.push(frame)
+    builder.push(frame).expect(rt, "memory");
 }
 
 #[test]
-fn builds(rt: HostRuntime) -> Result<(), Fail> {
-    let mut builder = sent(PathBuilder::new(rt.alloc()));
-    put(&rt, &mut builder, "main")?;
-    put(&rt, &mut builder, "é")?;
+fn builds(rt: HostRuntime) {
+    let mut builder = PathBuilder::new(rt.alloc());
+    put(&rt, &mut builder, "main");
+    put(&rt, &mut builder, "é");
     builder.cut(5);
-    assert_eq!(rt; builder.len(), 2);
+    assert!(rt; builder.len() == 2);
     builder.cut(1);
-    put(&rt, &mut builder, "read")?;
+    put(&rt, &mut builder, "read");
     assert!(rt; builder.len() > 0);
-    assert_text(&rt, rt.alloc(), &builder.path()?, "main;read")?;
+    let path = builder.path().expect(&rt, "memory");
+    assert_text(&rt, rt.alloc(), &path, "main;read");
     builder.cut(0);
-    assert_eq!(rt; builder.len(), 0);
-    Ok(())
+    assert!(rt; builder.len() == 0);
 }

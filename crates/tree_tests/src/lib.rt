@@ -1,6 +1,6 @@
 //! Tests of the trees of paths and of what they stand on, and nothing else: a crate with tests is proved twice, so
 //! tests have crates of their own. Each module has the tests of the library with its name; those that begin with `arena`
-//! have the tests of `arena_tree`.
+//! have the tests of `arena_tree`, and `sets` and `trees` have what several of them use.
 #![tactic(auto)]
 
 #[cfg(test)]
@@ -29,3 +29,7 @@ mod rank_places_tests;
 mod rank_set_tests;
 #[cfg(test)]
 mod rank_table_tests;
+#[cfg(test)]
+mod sets;
+#[cfg(test)]
+mod trees;

@@ -1,10 +1,10 @@
 //! What no clause says: that each call succeeds with ample memory.
 
+use crate::sets::{assert_ranks, ranks_of};
 use rank_places::CoverPlaces;
-use rank_set::{RankSet, read_ranks};
+use rank_set::RankSet;
 use std::alloc::Global;
 use std::process::Abort;
-use std::test::Fail;
 
 // A cover, some of its ranks, and the text of their places.
 const PLACES: [(&str, &str, &str); 9] = [
@@ -23,44 +23,30 @@ const PLACES: [(&str, &str, &str); 9] = [
     ("5", "5", "1:[0]"),
 ];
 
-fn assert_text(rt: &impl Abort, alloc: Global, set: &RankSet, text: &str) -> Result<(), Fail> {
-    let mut out = Vec::new(alloc);
-    set.write_text(&mut out)?;
-    assert_eq!(rt; out.as_slice(), text.as_bytes());
-    Ok(())
-}
-
-fn assert_places(
-    rt: &impl Abort,
-    alloc: Global,
-    cover: &RankSet,
-    ranks: &RankSet,
-    text: &str,
-) -> Result<(), Fail> {
+fn assert_places(rt: &impl Abort, alloc: Global, cover: &RankSet, ranks: &RankSet, text: &str) {
     assert!(rt; ranks.is_subset(cover));
-    let table = CoverPlaces::of(alloc, cover)?;
-    let places = table.to_places(ranks)?;
-    assert_text(rt, alloc, &places, text)?;
-    assert!(rt; table.from_places(&places)?.equals(ranks));
-    Ok(())
+    let table = CoverPlaces::of(alloc, cover).expect(rt, "memory");
+    let places = table.to_places(ranks).expect(rt, "memory");
+    assert_ranks(rt, alloc, &places, text);
+    let taken_back = table.from_places(&places).expect(rt, "memory");
+    assert!(rt; taken_back.equals(ranks));
 }
 
 #[test]
-fn gives_places_and_takes_them_back(rt: HostRuntime) -> Result<(), Fail> {
+fn gives_places_and_takes_them_back(rt: HostRuntime) {
     let alloc = rt.alloc();
     for (cover, ranks, text) in &PLACES {
-        let cover = read_ranks(alloc, cover.as_bytes())?;
-        let ranks = read_ranks(alloc, ranks.as_bytes())?;
-        assert_places(&rt, alloc, &cover, &ranks, text)?;
+        let cover = ranks_of(&rt, alloc, cover);
+        let ranks = ranks_of(&rt, alloc, ranks);
+        assert_places(&rt, alloc, &cover, &ranks, text);
     }
-    Ok(())
 }
 
 #[test]
-fn has_no_places_of_no_ranks(rt: HostRuntime) -> Result<(), Fail> {
-    let alloc = rt.alloc();
-    let none = RankSet::new(alloc);
-    assert_places(&rt, alloc, &none, &none, "0:[]")?;
-    assert_eq!(rt; CoverPlaces::new(alloc).to_places(&none)?.count(), 0);
-    Ok(())
+fn has_no_places_of_no_ranks(rt: HostRuntime) {
+    let none = RankSet::new(rt.alloc());
+    assert_places(&rt, rt.alloc(), &none, &none, "0:[]");
+    let table = CoverPlaces::new(rt.alloc());
+    let places = table.to_places(&none).expect(&rt, "memory");
+    assert!(rt; places.is_empty());
 }

@@ -1,9 +1,9 @@
 //! What no clause says: the forms of text, and that each call succeeds with ample memory.
 
+use crate::sets::{assert_ranks, ranks_of, set_of};
 use rank_set::{RANK_LIMIT, RankError, RankSet, RanksError, Run, read_ranks, word_is_below};
 use std::alloc::Global;
 use std::process::Abort;
-use std::test::Fail;
 
 // Two sets by their texts, and the texts of what is made of them.
 struct Pair {
@@ -108,160 +108,161 @@ const PAIRS: [Pair; 13] = [
     },
 ];
 
-fn assert_text(rt: &impl Abort, alloc: Global, set: &RankSet, text: &str) -> Result<(), Fail> {
-    let mut out = Vec::new(alloc);
-    set.write_text(&mut out)?;
-    assert_eq!(rt; out.as_slice(), text.as_bytes());
-    Ok(())
-}
-
-fn assert_union(
-    rt: &impl Abort,
-    alloc: Global,
-    left: &RankSet,
-    right: &RankSet,
-    text: &str,
-) -> Result<(), Fail> {
-    let mut set = left.copy()?;
+fn assert_union(rt: &impl Abort, alloc: Global, left: &RankSet, right: &RankSet, text: &str) {
+    let mut set = left.copy().expect(rt, "memory");
     assert!(rt; set.equals(left));
-    set.union_into(right)?;
-    assert!(rt; left.united(right)?.equals(&set) && set.equals(&left.united(right)?));
+    set.union_into(right).expect(rt, "memory");
+    let united = left.united(right).expect(rt, "memory");
+    assert!(rt; united.equals(&set) && set.equals(&united));
     assert!(rt; left.is_subset(&set) && right.is_subset(&set));
-    assert_text(rt, alloc, &set, text)
+    assert_ranks(rt, alloc, &set, text);
 }
 
-fn assert_difference(
-    rt: &impl Abort,
-    alloc: Global,
-    left: &RankSet,
-    right: &RankSet,
-    text: &str,
-) -> Result<(), Fail> {
-    let rest = left.difference(right)?;
+fn assert_difference(rt: &impl Abort, alloc: Global, left: &RankSet, right: &RankSet, text: &str) {
+    let rest = left.difference(right).expect(rt, "memory");
     assert!(rt; rest.is_disjoint(right));
-    assert_text(rt, alloc, &rest, text)
+    assert_ranks(rt, alloc, &rest, text);
 }
 
-fn assert_common(
-    rt: &impl Abort,
-    alloc: Global,
-    left: &RankSet,
-    right: &RankSet,
-    text: &str,
-) -> Result<(), Fail> {
-    let common = left.intersection(right)?;
-    assert!(rt; left.difference(&left.difference(right)?)?.equals(&common));
-    assert_eq!(rt; common.count() == left.count(), left.is_subset(right));
-    assert_eq!(rt; common.is_empty(), left.is_disjoint(right));
-    assert_eq!(rt; common.is_empty(), right.is_disjoint(left));
-    assert_text(rt, alloc, &common, text)
+fn assert_common(rt: &impl Abort, alloc: Global, left: &RankSet, right: &RankSet, text: &str) {
+    let common = left.intersection(right).expect(rt, "memory");
+    let rest = left.difference(right).expect(rt, "memory");
+    assert!(rt; left.difference(&rest).expect(rt, "memory").equals(&common));
+    assert!(rt; left.is_subset(right) == (common.count() == left.count()));
+    assert!(rt; left.is_disjoint(right) == common.is_empty());
+    assert!(rt; right.is_disjoint(left) == common.is_empty());
+    assert_ranks(rt, alloc, &common, text);
 }
 
 #[test]
-fn combines_sets_at_the_borders_of_words(rt: HostRuntime) -> Result<(), Fail> {
+fn combines_sets_at_the_borders_of_words(rt: HostRuntime) {
     let alloc = rt.alloc();
     for pair in &PAIRS {
-        let left = read_ranks(alloc, pair.left.as_bytes())?;
-        let right = read_ranks(alloc, pair.right.as_bytes())?;
-        assert_union(&rt, alloc, &left, &right, pair.union)?;
-        assert_difference(&rt, alloc, &left, &right, pair.difference)?;
-        assert_common(&rt, alloc, &left, &right, pair.common)?;
+        let left = ranks_of(&rt, alloc, pair.left);
+        let right = ranks_of(&rt, alloc, pair.right);
+        assert_union(&rt, alloc, &left, &right, pair.union);
+        assert_difference(&rt, alloc, &left, &right, pair.difference);
+        assert_common(&rt, alloc, &left, &right, pair.common);
     }
-    Ok(())
 }
 
 #[test]
-fn writes_a_few_ranks(rt: HostRuntime) -> Result<(), Fail> {
-    let alloc = rt.alloc();
-    let mut set = RankSet::new(alloc);
-    assert_text(&rt, alloc, &set, "0:[]")?;
-    assert_eq!(rt; set.first(), None);
-    for r in [7, 0, 64] {
-        set.insert(r)?;
-    }
-    assert_eq!(rt; set.first(), Some(0));
-    assert_text(&rt, alloc, &set, "3:[0,7,64]")
+fn writes_a_few_ranks(rt: HostRuntime) {
+    let none = set_of(&rt, rt.alloc(), &[]);
+    assert!(rt; none.first().is_none());
+    assert_ranks(&rt, rt.alloc(), &none, "0:[]");
+    let set = set_of(&rt, rt.alloc(), &[7, 0, 64]);
+    assert!(rt; set.first() == Some(0));
+    assert_ranks(&rt, rt.alloc(), &set, "3:[0,7,64]");
 }
 
 #[test]
-fn has_the_ranks_that_were_inserted(rt: HostRuntime) -> Result<(), Fail> {
+fn has_the_ranks_that_were_inserted(rt: HostRuntime) {
+    let mut set = set_of(&rt, rt.alloc(), &[1_048_575, 128, 63, 64, 127]);
+    assert!(rt; set.insert(RANK_LIMIT) == Err(RankError::OverLimit));
+    for r in &[63, 64, 127, 128, 1_048_575] {
+        assert!(rt; set.contains(*r));
+    }
+    for r in &[0, 62, 65, 126, 129, 1_048_574, RANK_LIMIT, u32::MAX] {
+        assert!(rt; !set.contains(*r));
+    }
+    assert_ranks(&rt, rt.alloc(), &set, "5:[63-64,127-128,1048575]");
+}
+
+#[test]
+fn inserts_runs(rt: HostRuntime) {
     let mut set = RankSet::new(rt.alloc());
-    for r in [1_048_575, 128, 63, 64, 127] {
-        set.insert(r)?;
+    for (first, last) in &[(130, 300), (60, 130), (9, 8)] {
+        set.insert_run(*first, *last).expect(&rt, "below the limit");
     }
-    assert_eq!(rt; set.insert(RANK_LIMIT), Err(RankError::OverLimit));
-    for r in [63, 64, 127, 128, 1_048_575] {
-        assert!(rt; set.contains(r));
+    assert!(rt; set.insert_run(16_000, u32::MAX) == Err(RankError::OverLimit));
+    assert_ranks(&rt, rt.alloc(), &set, "241:[60-300]");
+}
+
+// Where to look from, and the run that is found.
+const NEXT_RUNS: [(u32, Option<Run>); 6] = [
+    (0, Some(Run { first: 3, last: 5 })),
+    (4, Some(Run { first: 4, last: 5 })),
+    (
+        6,
+        Some(Run {
+            first: 63,
+            last: 64,
+        }),
+    ),
+    (
+        64,
+        Some(Run {
+            first: 64,
+            last: 64,
+        }),
+    ),
+    (
+        65,
+        Some(Run {
+            first: 1_048_575,
+            last: 1_048_575,
+        }),
+    ),
+    (RANK_LIMIT, None),
+];
+
+#[test]
+fn gives_the_next_run(rt: HostRuntime) {
+    let set = ranks_of(&rt, rt.alloc(), "3-5,63-64,1048575");
+    for (from, run) in &NEXT_RUNS {
+        assert_eq!(rt; set.next_run(*from), *run, "from {from}");
     }
-    for r in [0, 62, 65, 126, 129, 1_048_574, RANK_LIMIT, u32::MAX] {
-        assert!(rt; !set.contains(r));
-    }
-    assert_text(&rt, rt.alloc(), &set, "5:[63-64,127-128,1048575]")
+}
+
+fn assert_words(rt: &impl Abort, alloc: Global, set: &RankSet, want: &[u64]) {
+    let words = set.words(alloc).expect(rt, "memory");
+    assert!(rt; words.as_slice() == want);
+    let same = RankSet::from_words(alloc, set.word_offset(), words).expect(rt, "memory");
+    assert!(rt; same.equals(set));
 }
 
 #[test]
-fn inserts_runs(rt: HostRuntime) -> Result<(), Fail> {
-    let mut set = RankSet::new(rt.alloc());
-    set.insert_run(130, 300)?;
-    set.insert_run(60, 130)?;
-    set.insert_run(9, 8)?;
-    assert_eq!(rt; set.insert_run(16_000, u32::MAX), Err(RankError::OverLimit));
-    assert_text(&rt, rt.alloc(), &set, "241:[60-300]")
-}
-
-#[test]
-fn gives_the_next_run(rt: HostRuntime) -> Result<(), Fail> {
-    let set = read_ranks(rt.alloc(), b"3-5,63-64,1048575")?;
-    for (from, first, last) in [
-        (0, 3, 5),
-        (4, 4, 5),
-        (6, 63, 64),
-        (64, 64, 64),
-        (65, 1_048_575, 1_048_575),
-    ] {
-        assert_eq!(rt; set.next_run(from), Some(Run { first, last }));
-    }
-    assert_eq!(rt; set.next_run(RANK_LIMIT), None);
-    Ok(())
-}
-
-#[test]
-fn keeps_its_words(rt: HostRuntime) -> Result<(), Fail> {
-    let alloc = rt.alloc();
-    let set = read_ranks(alloc, b"130,200")?;
-    assert_eq!(rt; set.word_offset(), 2);
-    let words = set.words(alloc)?;
-    assert_eq!(rt; words.as_slice(), [4, 256].as_slice());
+fn keeps_its_words(rt: HostRuntime) {
+    let set = ranks_of(&rt, rt.alloc(), "130,200");
+    assert!(rt; set.word_offset() == 2);
+    assert_words(&rt, rt.alloc(), &set, &[4, 256]);
     if let Some(held) = set.held_words() {
-        assert_eq!(rt; held, words.as_slice());
+        assert!(rt; held == [4, 256].as_slice());
     }
-    assert!(rt; RankSet::from_words(alloc, set.word_offset(), words)?.equals(&set));
-    Ok(())
+}
+
+// Ranks, and the least number above all of them.
+const ENDS: [(&str, u32); 3] = [("0", 1), ("63-64", 65), ("5,1048575", RANK_LIMIT)];
+
+#[test]
+fn gives_a_number_above_all(rt: HostRuntime) {
+    for (text, least) in &ENDS {
+        let end = ranks_of(&rt, rt.alloc(), text).end();
+        assert!(rt; end >= *least && end <= RANK_LIMIT);
+    }
 }
 
 #[test]
-fn gives_a_number_above_all(rt: HostRuntime) -> Result<(), Fail> {
-    let alloc = rt.alloc();
-    assert_eq!(rt; RankSet::new(alloc).end(), 0);
-    for (text, least) in [("0", 1), ("63-64", 65), ("5,1048575", RANK_LIMIT)] {
-        let end = read_ranks(alloc, text.as_bytes())?.end();
-        assert!(rt; end >= least && end <= RANK_LIMIT);
-    }
-    Ok(())
+fn gives_zero_above_no_ranks(rt: HostRuntime) {
+    assert!(rt; RankSet::new(rt.alloc()).end() == 0);
 }
 
 #[test]
-fn tests_single_words(rt: HostRuntime) -> Result<(), Fail> {
-    let set = read_ranks(rt.alloc(), b"63-64,130,1048575")?;
-    for (index, word) in [(0, 1 << 63), (1, 1), (2, 4), (16_383, 1 << 63), (9, 0)] {
-        assert!(rt; set.covers_word(index, word));
+fn tests_single_words(rt: HostRuntime) {
+    let set = ranks_of(&rt, rt.alloc(), "63-64,130,1048575");
+    for (index, word) in &[(0, 1 << 63), (1, 1), (2, 4), (16_383, 1 << 63), (9, 0)] {
+        assert!(rt; set.covers_word(*index, *word));
     }
-    for (index, word) in [(0, 1), (1, 3), (3, 4), (16_384, 1), (u32::MAX, 1)] {
-        assert!(rt; !set.covers_word(index, word));
+    for (index, word) in &[(0, 1), (1, 3), (3, 4), (16_384, 1), (u32::MAX, 1)] {
+        assert!(rt; !set.covers_word(*index, *word));
     }
+}
+
+#[test]
+fn compares_single_words_with_an_end(rt: HostRuntime) {
     assert!(rt; word_is_below(2, 4, 131) && word_is_below(u32::MAX, 0, 0));
     assert!(rt; !word_is_below(2, 4, 130) && !word_is_below(u32::MAX, 1, u32::MAX));
-    Ok(())
 }
 
 // Ranks, and their runs.
@@ -291,48 +292,56 @@ const RUNS: [(&str, &[Run]); 2] = [
 ];
 
 #[test]
-fn gives_all_runs(rt: HostRuntime) -> Result<(), Fail> {
+fn gives_all_runs(rt: HostRuntime) {
     let alloc = rt.alloc();
-    assert!(rt; RankSet::new(alloc).runs(alloc)?.is_empty());
-    for (text, runs) in &RUNS {
-        assert_eq!(rt;
-            read_ranks(alloc, text.as_bytes())?.runs(alloc)?.as_slice(),
-            *runs
-        );
+    for (text, want) in &RUNS {
+        let runs = ranks_of(&rt, alloc, text).runs(alloc).expect(&rt, "memory");
+        assert_eq!(rt; runs.as_slice(), *want);
     }
-    Ok(())
+}
+
+#[test]
+fn gives_no_runs_of_no_ranks(rt: HostRuntime) {
+    let runs = RankSet::new(rt.alloc())
+        .runs(rt.alloc())
+        .expect(&rt, "memory");
+    assert!(rt; runs.is_empty());
 }
 
 // Ranks so far apart that each is a run of its own, put in from the least on or from the greatest.
-fn far_apart(alloc: Global, rising: bool) -> Result<RankSet, Fail> {
+fn far_apart(rt: &impl Abort, alloc: Global, rising: bool) -> RankSet {
     let mut set = RankSet::new(alloc);
     for i in 0..1_000 {
         let place = if rising { i } else { 999 - i };
-        set.insert(1_000 * place)?;
+        set.insert(1_000 * place).expect(rt, "below the limit");
     }
-    Ok(set)
+    set
 }
 
 #[test]
-fn is_the_same_set_in_whatever_order_ranks_come(rt: HostRuntime) -> Result<(), Fail> {
-    let alloc = rt.alloc();
-    let set = far_apart(alloc, true)?;
-    let other = far_apart(alloc, false)?;
+fn is_the_same_set_in_whatever_order_ranks_come(rt: HostRuntime) {
+    let set = far_apart(&rt, rt.alloc(), true);
+    let other = far_apart(&rt, rt.alloc(), false);
     assert!(rt; set.equals(&other) && other.equals(&set));
-    assert_eq!(rt; set.count(), 1_000);
-    assert_eq!(rt; set.end(), 999_001);
-    assert!(rt; set.contains(500_000) && !set.contains(500_001));
-    Ok(())
 }
 
 #[test]
-fn is_the_same_set_after_its_gaps_are_filled(rt: HostRuntime) -> Result<(), Fail> {
-    let alloc = rt.alloc();
-    let mut set = far_apart(alloc, true)?;
+fn has_ranks_that_are_far_apart(rt: HostRuntime) {
+    let set = far_apart(&rt, rt.alloc(), true);
+    assert!(rt; set.count() == 1_000);
+    assert!(rt; set.end() == 999_001);
+    assert!(rt; set.contains(500_000) && !set.contains(500_001));
+}
+
+#[test]
+fn is_the_same_set_after_its_gaps_are_filled(rt: HostRuntime) {
+    let mut set = far_apart(&rt, rt.alloc(), true);
     for i in 0..999 {
-        set.insert_run(1_000 * i + 1, 1_000 * i + 999)?;
+        let first = 1_000 * i + 1;
+        set.insert_run(first, first + 998)
+            .expect(&rt, "below the limit");
     }
-    assert_text(&rt, alloc, &set, "999001:[0-999000]")
+    assert_ranks(&rt, rt.alloc(), &set, "999001:[0-999000]");
 }
 
 const TEXTS: [(&str, &str); 7] = [
@@ -349,12 +358,11 @@ const TEXTS: [(&str, &str); 7] = [
 ];
 
 #[test]
-fn reads_ranks(rt: HostRuntime) -> Result<(), Fail> {
+fn reads_ranks(rt: HostRuntime) {
     let alloc = rt.alloc();
     for (text, ranks) in &TEXTS {
-        assert_text(&rt, alloc, &read_ranks(alloc, text.as_bytes())?, ranks)?;
+        assert_ranks(&rt, alloc, &ranks_of(&rt, alloc, text), ranks);
     }
-    Ok(())
 }
 
 const REFUSALS: [(&str, RanksError); 15] = [
@@ -387,13 +395,12 @@ fn refuses_texts_at_the_first_fault(rt: HostRuntime) {
 }
 
 #[test]
-fn reads_many_runs_that_overlap(rt: HostRuntime) -> Result<(), Fail> {
-    let alloc = rt.alloc();
-    let mut text = Vec::new(alloc);
+fn reads_many_runs_that_overlap(rt: HostRuntime) {
+    let mut text = String::new(rt.alloc());
     for _ in 0..100_000 {
-        text.extend_from_slice(b"0-1048575,")?;
+        text.push_str("0-1048575,").expect(&rt, "memory");
     }
-    text.push(b'1')?;
-    let ranks = read_ranks(alloc, &text)?;
-    assert_text(&rt, alloc, &ranks, "1048576:[0-1048575]")
+    text.push_str("1").expect(&rt, "memory");
+    let ranks = ranks_of(&rt, rt.alloc(), text.as_str());
+    assert_ranks(&rt, rt.alloc(), &ranks, "1048576:[0-1048575]");
 }

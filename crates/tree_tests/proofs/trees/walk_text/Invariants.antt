@@ -1,6 +1,6 @@
 use Rattle.std.proofs.Common.{◌-◌, length}
 use Rattle.prefix_tree.specs.Tree.{rows_of}
-use Rattle.tree_tests.proofs.prefix_tree_tests.walk_text.Given as goal
+use Rattle.tree_tests.proofs.trees.walk_text.Given as goal
 
 abbrev pub invariant-loop-row : goal.invariant-loop-row
 invariant-loop-row g l = g.T.PrefixTree.is_cursor l.tree l.at

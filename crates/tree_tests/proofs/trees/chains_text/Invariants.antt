@@ -1,6 +1,6 @@
 use Rattle.std.proofs.Common.{◌-◌, ◌<◌, length}
 use Rattle.prefix_tree.specs.Tree.{rows_of}
-use Rattle.tree_tests.proofs.arena_walk.chains_text.Given as goal
+use Rattle.tree_tests.proofs.trees.chains_text.Given as goal
 
 abbrev pub invariant-loop-chain : goal.invariant-loop-chain
 invariant-loop-chain g l = record {
