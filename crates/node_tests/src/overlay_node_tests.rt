@@ -8,8 +8,7 @@ fn is_sent<T: Send>() -> bool {
 }
 
 #[test]
-fn nodes_and_what_they_send_may_change_threads(rt: HostRuntime) -> Result<(), Fail> {
+fn nodes_and_what_they_send_may_change_threads(rt: HostRuntime) {
     assert!(rt; is_sent::<Node<OwnedTree>>());
     assert!(rt; is_sent::<Outgoing<OwnedTree>>());
-    Ok(())
 }

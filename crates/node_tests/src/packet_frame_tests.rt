@@ -13,7 +13,6 @@ use prefix_tree::{OwnedTree, PrefixTree, TreeError};
 use rank_set::RankSet;
 use std::alloc::{AllocError, Global};
 use std::process::Abort;
-use std::test::Fail;
 
 fn digit(c: u8) -> u8 {
     if c >= b'a' {
@@ -84,12 +83,11 @@ fn read_length(alloc: Global, bytes: &[u8]) -> Result<usize, FrameError> {
 }
 
 #[test]
-fn reads_captures(rt: HostRuntime) -> Result<(), Fail> {
+fn reads_captures(rt: HostRuntime) {
     for (text, length) in WHOLE {
-        let bytes = bytes_of(rt.alloc(), text)?;
+        let bytes = bytes_of(rt.alloc(), text).expect(&rt, "memory");
         assert_eq!(rt; read_length(rt.alloc(), &bytes), Ok(length), "{text}");
     }
-    Ok(())
 }
 
 // The refusal of bytes that so many bytes stand before.
@@ -116,13 +114,12 @@ fn read_all(alloc: Global, bytes: &[u8]) -> Result<usize, FrameError> {
 }
 
 #[test]
-fn refuses_captures(rt: HostRuntime) -> Result<(), Fail> {
+fn refuses_captures(rt: HostRuntime) {
     for (text, at, reason) in REFUSED {
-        let bytes = bytes_of(rt.alloc(), text)?;
+        let bytes = bytes_of(rt.alloc(), text).expect(&rt, "memory");
         let want = Err(refused(at, reason));
         assert_eq!(rt; read_all(rt.alloc(), &bytes), want, "{text}");
     }
-    Ok(())
 }
 
 // Four packets of a net with a front end and two daemons, in both versions, and how long their frames are.
@@ -193,24 +190,22 @@ fn written_again(rt: &impl Abort, alloc: Global, bytes: &[u8]) -> Result<Vec<u8>
 }
 
 #[test]
-fn writes_what_was_read(rt: HostRuntime) -> Result<(), Fail> {
-    let want = bytes_of(rt.alloc(), SECOND)?;
+fn writes_what_was_read(rt: HostRuntime) {
+    let want = bytes_of(rt.alloc(), SECOND).expect(&rt, "memory");
     assert_eq!(rt; want.len(), 91);
     for text in [FIRST, SECOND] {
-        let bytes = bytes_of(rt.alloc(), text)?;
-        let out = written_again(&rt, rt.alloc(), &bytes)?;
+        let bytes = bytes_of(rt.alloc(), text).expect(&rt, "memory");
+        let out = written_again(&rt, rt.alloc(), &bytes).expect(&rt, "memory");
         assert_eq!(rt; out.as_slice(), want.as_slice(), "{text}");
     }
-    Ok(())
 }
 
 #[test]
-fn writes_attach_and_down(rt: HostRuntime) -> Result<(), Fail> {
+fn writes_attach_and_down(rt: HostRuntime) {
     let mut out = Vec::new(rt.alloc());
-    put(&rt, rt.alloc(), &Packet::Attach, &mut out)?;
-    put(&rt, rt.alloc(), &Packet::Down, &mut out)?;
+    put(&rt, rt.alloc(), &Packet::Attach, &mut out).expect(&rt, "memory");
+    put(&rt, rt.alloc(), &Packet::Down, &mut out).expect(&rt, "memory");
     assert_eq!(rt; out.as_slice(), [2, 3, 2, 4].as_slice());
-    Ok(())
 }
 
 // What a piece gives: the lengths of the frames that become whole.
@@ -242,16 +237,17 @@ fn fed_in_two(alloc: Global, first: &[u8], second: &[u8]) -> Result<Vec<usize>, 
 }
 
 #[test]
-fn feeds_two_pieces(rt: HostRuntime) -> Result<(), Fail> {
+fn feeds_two_pieces(rt: HostRuntime) {
     for text in [FIRST, SECOND] {
-        let bytes = bytes_of(rt.alloc(), text)?;
+        let bytes = bytes_of(rt.alloc(), text).expect(&rt, "memory");
         assert_eq!(rt; bytes.len(), 91);
         for at in 0..92usize {
-            let lengths = fed_in_two(rt.alloc(), before(&bytes, at), behind(&bytes, at))?;
+            let lengths = fed_in_two(rt.alloc(), before(&bytes, at), behind(&bytes, at)).expect(
+                &rt, "memory",
+            );
             assert_eq!(rt; lengths.as_slice(), LENGTHS.as_slice(), "{at}");
         }
     }
-    Ok(())
 }
 
 // The lengths of the frames of 91 bytes that come one by one.
@@ -267,13 +263,12 @@ fn fed_by_bytes(alloc: Global, bytes: &[u8]) -> Result<Vec<usize>, FrameError> {
 }
 
 #[test]
-fn feeds_byte_by_byte(rt: HostRuntime) -> Result<(), Fail> {
+fn feeds_byte_by_byte(rt: HostRuntime) {
     for text in [FIRST, SECOND] {
-        let bytes = bytes_of(rt.alloc(), text)?;
-        let lengths = fed_by_bytes(rt.alloc(), &bytes)?;
+        let bytes = bytes_of(rt.alloc(), text).expect(&rt, "memory");
+        let lengths = fed_by_bytes(rt.alloc(), &bytes).expect(&rt, "memory");
         assert_eq!(rt; lengths.as_slice(), LENGTHS.as_slice());
     }
-    Ok(())
 }
 
 // Two pieces, the lengths of the frames that each gives or its refusal, and what the end gives.
@@ -408,16 +403,15 @@ fn assert_second(
 }
 
 #[test]
-fn feeds_streams(rt: HostRuntime) -> Result<(), Fail> {
+fn feeds_streams(rt: HostRuntime) {
     for stream in &STREAMS {
-        assert_stream(&rt, rt.alloc(), stream)?;
+        assert_stream(&rt, rt.alloc(), stream).expect(&rt, "memory");
     }
-    Ok(())
 }
 
 // The refusal stays, whatever comes.
 #[test]
-fn refuses_again(rt: HostRuntime) -> Result<(), Fail> {
+fn refuses_again(rt: HostRuntime) {
     let mut feeder = Feeder::new(rt.alloc());
     let want = Some(refused(1, FrameReason::BadKind));
     let bad = [1, 9];
@@ -427,7 +421,6 @@ fn refuses_again(rt: HostRuntime) -> Result<(), Fail> {
     assert_eq!(rt; fed(rt.alloc(), &mut feeder, &good).err(), want);
     assert_eq!(rt; fed(rt.alloc(), &mut feeder, &[]).err(), want);
     assert_eq!(rt; feeder.finish().err(), want);
-    Ok(())
 }
 
 fn rank(i: u32) -> u32 {
@@ -516,11 +509,10 @@ fn full(rt: &impl Abort, alloc: Global) -> Result<OwnedTree, TreeError> {
 }
 
 #[test]
-fn sends_a_full_tree(rt: HostRuntime) -> Result<(), Fail> {
-    let tree = full(&rt, rt.alloc())?;
+fn sends_a_full_tree(rt: HostRuntime) {
+    let tree = full(&rt, rt.alloc()).expect(&rt, "memory");
     assert_eq!(rt; tree.rows(), 2_049);
-    assert_sent(&rt, rt.alloc(), tree)?;
-    Ok(())
+    assert_sent(&rt, rt.alloc(), tree).expect(&rt, "memory");
 }
 
 fn repeated(alloc: Global, part: &str, times: usize, end: &str) -> Result<String, AllocError> {
@@ -541,15 +533,14 @@ const LONG: [(&str, usize, &str, usize); 4] = [
 ];
 
 #[test]
-fn sends_long_paths(rt: HostRuntime) -> Result<(), Fail> {
+fn sends_long_paths(rt: HostRuntime) {
     for (part, times, end, rows) in LONG {
-        let text = repeated(rt.alloc(), part, times, end)?;
-        let mut tree = covered(&rt, rt.alloc(), 1_048_575)?;
-        add(&rt, rt.alloc(), &mut tree, [38, 1_048_575], &text)?;
+        let text = repeated(rt.alloc(), part, times, end).expect(&rt, "memory");
+        let mut tree = covered(&rt, rt.alloc(), 1_048_575).expect(&rt, "memory");
+        add(&rt, rt.alloc(), &mut tree, [38, 1_048_575], &text).expect(&rt, "memory");
         assert_eq!(rt; tree.rows(), rows.wrapping_add(1));
-        assert_sent(&rt, rt.alloc(), tree)?;
+        assert_sent(&rt, rt.alloc(), tree).expect(&rt, "memory");
     }
-    Ok(())
 }
 
 // Paths that share frames.
@@ -558,15 +549,14 @@ const PATHS: [&str; 8] = [
 ];
 
 #[test]
-fn sends_branches(rt: HostRuntime) -> Result<(), Fail> {
-    let mut tree = covered(&rt, rt.alloc(), 1_048_575)?;
+fn sends_branches(rt: HostRuntime) {
+    let mut tree = covered(&rt, rt.alloc(), 1_048_575).expect(&rt, "memory");
     let mut rank = 3u32;
     for text in PATHS {
-        add(&rt, rt.alloc(), &mut tree, [rank, 1_048_575], text)?;
+        add(&rt, rt.alloc(), &mut tree, [rank, 1_048_575], text).expect(&rt, "memory");
         rank = rank.wrapping_add(28);
     }
-    assert_sent(&rt, rt.alloc(), tree)?;
-    Ok(())
+    assert_sent(&rt, rt.alloc(), tree).expect(&rt, "memory");
 }
 
 // `decode` answers as the plain reader does.
@@ -622,21 +612,19 @@ fn assert_changes(rt: &impl Abort, alloc: Global, text: &str) -> Result<(), Allo
 }
 
 #[test]
-fn agrees_on_changed_captures(rt: HostRuntime) -> Result<(), Fail> {
+fn agrees_on_changed_captures(rt: HostRuntime) {
     for (text, _) in WHOLE {
-        assert_changes(&rt, rt.alloc(), text)?;
+        assert_changes(&rt, rt.alloc(), text).expect(&rt, "memory");
     }
-    Ok(())
 }
 
 #[test]
-fn agrees_on_changed_branches(rt: HostRuntime) -> Result<(), Fail> {
+fn agrees_on_changed_branches(rt: HostRuntime) {
     for text in BRANCHES {
-        let bytes = bytes_of(rt.alloc(), text)?;
+        let bytes = bytes_of(rt.alloc(), text).expect(&rt, "memory");
         assert_eq!(rt; length_of(rt.alloc(), &bytes), Ok(bytes.len()), "{text}");
-        assert_changes(&rt, rt.alloc(), text)?;
+        assert_changes(&rt, rt.alloc(), text).expect(&rt, "memory");
     }
-    Ok(())
 }
 
 // A number after another, of no pattern.
@@ -676,11 +664,10 @@ fn assert_picked(
 }
 
 #[test]
-fn agrees_on_bytes_of_no_pattern(rt: HostRuntime) -> Result<(), Fail> {
+fn agrees_on_bytes_of_no_pattern(rt: HostRuntime) {
     for header in HEADERS {
         for seed in 0..4_000u32 {
-            assert_picked(&rt, rt.alloc(), header, seed)?;
+            assert_picked(&rt, rt.alloc(), header, seed).expect(&rt, "memory");
         }
     }
-    Ok(())
 }

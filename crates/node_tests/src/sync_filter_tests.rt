@@ -4,7 +4,6 @@ use overlay_setup::Mode;
 use rank_set::{RankError, RankSet};
 use stat_plan::{Act, Timer};
 use std::alloc::Global;
-use std::test::Fail;
 use sync_filter::due;
 
 // How a wave stands: of two ranks, how many have come in and how many were passed on; and what is due.
@@ -112,14 +111,13 @@ fn first_ranks(alloc: Global, count: u32) -> Result<RankSet, RankError> {
 }
 
 #[test]
-fn says_what_is_due(rt: HostRuntime) -> Result<(), Fail> {
+fn says_what_is_due(rt: HostRuntime) {
     for case in &CASES {
-        let come = first_ranks(rt.alloc(), case.come)?;
-        let passed = first_ranks(rt.alloc(), case.passed)?;
+        let come = first_ranks(rt.alloc(), case.come).expect(&rt, "memory");
+        let passed = first_ranks(rt.alloc(), case.passed).expect(&rt, "memory");
         let elsewhere = due(case.mode, case.complete, &come, &passed, case.timer, false);
         assert_eq!(rt; elsewhere, case.elsewhere);
         let front = due(case.mode, case.complete, &come, &passed, case.timer, true);
         assert_eq!(rt; front, case.front);
     }
-    Ok(())
 }

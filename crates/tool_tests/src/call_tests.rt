@@ -125,12 +125,12 @@ fn bad(file: FileRole, line: u64, reason: Reason) -> Status {
 // The front end merges the parts of two inner nodes, of 32 ranks each. A program that merged the daemons' samples at the
 // end would never merge as many at once.
 #[test]
-fn merges_the_parts_of_inner_nodes(rt: HostRuntime) -> Result<(), AllocError> {
+fn merges_the_parts_of_inner_nodes(rt: HostRuntime) {
     let alloc = rt.alloc();
-    let mut desk = desk_of(alloc, TWO_INNER_TOP, SOLVER_SMP, ALL_SCR)?;
-    let words = words_of(alloc, WORDS.as_slice())?;
-    let mut out = MemSink::new(alloc, 16, 20_000)?;
-    let mut journal = MemSink::new(alloc, 16, 20_000)?;
+    let mut desk = desk_of(alloc, TWO_INNER_TOP, SOLVER_SMP, ALL_SCR).expect(&rt, "memory");
+    let words = words_of(alloc, WORDS.as_slice()).expect(&rt, "memory");
+    let mut out = MemSink::new(alloc, 16, 20_000).expect(&rt, "memory");
+    let mut journal = MemSink::new(alloc, 16, 20_000).expect(&rt, "memory");
     let outcome = stat::<_, ShyTree, _, _, _, _>(
         &rt,
         alloc,
@@ -142,19 +142,17 @@ fn merges_the_parts_of_inner_nodes(rt: HostRuntime) -> Result<(), AllocError> {
     );
     assert_eq!(rt; outcome.status, Status::OutOfMemory);
     assert!(rt; out.bytes().is_empty() && journal.bytes().is_empty());
-    Ok(())
 }
 
 #[test]
-fn writes_the_reports_of_worked_jobs(rt: HostRuntime) -> Result<(), AllocError> {
+fn writes_the_reports_of_worked_jobs(rt: HostRuntime) {
     let alloc = rt.alloc();
     for job in WORKED.as_slice() {
-        let mut desk = desk_of(alloc, job.topology, job.samples, job.script)?;
-        let (status, out) = run_on(&rt, alloc, &mut desk)?;
+        let mut desk = desk_of(alloc, job.topology, job.samples, job.script).expect(&rt, "memory");
+        let (status, out) = run_on(&rt, alloc, &mut desk).expect(&rt, "memory");
         assert_eq!(rt; status, Status::Done);
         assert_eq!(rt; out.bytes(), job.report.as_bytes());
     }
-    Ok(())
 }
 
 // The status of a run of these files, and whether nothing is written.
@@ -188,7 +186,7 @@ fn ends_with<R: Threads + Wait + Sync>(
 }
 
 #[test]
-fn names_the_first_fault_of_each_file(rt: HostRuntime) -> Result<(), AllocError> {
+fn names_the_first_fault_of_each_file(rt: HostRuntime) {
     for (file, table) in [
         (FileRole::Topology, BAD_TOPOLOGY.as_slice()),
         (FileRole::Samples, BAD_SAMPLES.as_slice()),
@@ -200,15 +198,14 @@ fn names_the_first_fault_of_each_file(rt: HostRuntime) -> Result<(), AllocError>
                 line: *line,
                 reason: *reason,
             };
-            let end = ends_with(&rt, rt.alloc(), file, text)?;
+            let end = ends_with(&rt, rt.alloc(), file, text).expect(&rt, "memory");
             assert_eq!(rt; end, (status, true));
         }
     }
-    Ok(())
 }
 
 #[test]
-fn names_the_first_limit_that_is_passed(rt: HostRuntime) -> Result<(), AllocError> {
+fn names_the_first_limit_that_is_passed(rt: HostRuntime) {
     for (file, table) in [
         (FileRole::Samples, LONG_SAMPLES.as_slice()),
         (FileRole::Script, LONG_SCRIPTS.as_slice()),
@@ -220,32 +217,33 @@ fn names_the_first_limit_that_is_passed(rt: HostRuntime) -> Result<(), AllocErro
                 what: *what,
                 limit: *limit,
             };
-            let end = ends_with(&rt, rt.alloc(), file, text)?;
+            let end = ends_with(&rt, rt.alloc(), file, text).expect(&rt, "memory");
             assert_eq!(rt; end, (status, true));
         }
     }
-    Ok(())
 }
 
 #[test]
-fn reads_the_files_in_order(rt: HostRuntime) -> Result<(), AllocError> {
+fn reads_the_files_in_order(rt: HostRuntime) {
     let alloc = rt.alloc();
     let good = TWO_TOP.as_bytes();
-    let first = ends(&rt, alloc, b"", b"stack", b"lose")?.0;
+    let first = ends(&rt, alloc, b"", b"stack", b"lose")
+        .expect(&rt, "memory")
+        .0;
     assert_eq!(rt; first, bad(FileRole::Topology, 0, Reason::NoRoot));
-    let second = ends(&rt, alloc, good, b"stack", b"lose")?.0;
+    let second = ends(&rt, alloc, good, b"stack", b"lose")
+        .expect(&rt, "memory")
+        .0;
     assert_eq!(rt; second, bad(FileRole::Samples, 1, Reason::BadDirective));
-    Ok(())
 }
 
 #[test]
-fn runs_good_scripts(rt: HostRuntime) -> Result<(), AllocError> {
+fn runs_good_scripts(rt: HostRuntime) {
     let alloc = rt.alloc();
     for script in GOOD_SCRIPTS.as_slice() {
-        let end = ends_with(&rt, alloc, FileRole::Script, script.as_bytes())?;
+        let end = ends_with(&rt, alloc, FileRole::Script, script.as_bytes()).expect(&rt, "memory");
         assert_eq!(rt; end, (Status::Done, false));
     }
-    Ok(())
 }
 
 // A script of this many streams, of this many waves each.
@@ -275,17 +273,18 @@ fn report_of(alloc: Global, streams: u32, waves: u32) -> Result<String, AllocErr
 }
 
 #[test]
-fn reports_each_wave_of_each_stream(rt: HostRuntime) -> Result<(), AllocError> {
+fn reports_each_wave_of_each_stream(rt: HostRuntime) {
     let alloc = rt.alloc();
     for (streams, waves) in [(1, 16), (8, 1), (8, 16)] {
-        let script = script_of(alloc, streams, waves)?;
-        let mut desk = desk_of(alloc, ONE_TOP, "daemon a:0 0\n", script.as_str())?;
-        let (status, out) = run_on(&rt, alloc, &mut desk)?;
-        let report = report_of(alloc, streams, waves)?;
+        let script = script_of(alloc, streams, waves).expect(&rt, "memory");
+        let mut desk = desk_of(alloc, ONE_TOP, "daemon a:0 0\n", script.as_str()).expect(
+            &rt, "memory",
+        );
+        let (status, out) = run_on(&rt, alloc, &mut desk).expect(&rt, "memory");
+        let report = report_of(alloc, streams, waves).expect(&rt, "memory");
         assert_eq!(rt; status, Status::Done);
         assert_eq!(rt; out.bytes(), report.as_bytes());
     }
-    Ok(())
 }
 
 // The events of a run of the small job by this topology and script.
@@ -305,9 +304,9 @@ fn events_of<R: Threads + Wait + Sync>(
 }
 
 #[test]
-fn gives_the_events_back(rt: HostRuntime) -> Result<(), AllocError> {
+fn gives_the_events_back(rt: HostRuntime) {
     let alloc = rt.alloc();
-    let events = events_of(&rt, alloc, INNER_TOP, ALL_SCR)?;
+    let events = events_of(&rt, alloc, INNER_TOP, ALL_SCR).expect(&rt, "memory");
     let expected = [
         sample(2),
         recv(1, 2),
@@ -319,7 +318,7 @@ fn gives_the_events_back(rt: HostRuntime) -> Result<(), AllocError> {
         recv(3, 1),
     ];
     assert_eq!(rt; events.as_slice(), expected.as_slice());
-    let events = events_of(&rt, alloc, TWO_TOP, DONT_WAIT_SCR)?;
+    let events = events_of(&rt, alloc, TWO_TOP, DONT_WAIT_SCR).expect(&rt, "memory");
     let expected = [
         sample(1),
         recv(0, 1),
@@ -329,21 +328,19 @@ fn gives_the_events_back(rt: HostRuntime) -> Result<(), AllocError> {
         recv(2, 0),
     ];
     assert_eq!(rt; events.as_slice(), expected.as_slice());
-    Ok(())
 }
 
 #[test]
-fn prints_the_number_of_any_stream(rt: HostRuntime) -> Result<(), AllocError> {
+fn prints_the_number_of_any_stream(rt: HostRuntime) {
     let alloc = rt.alloc();
     let script = "stream 7 wait-for-all waves 1 samples 1 on all\n";
-    let mut desk = desk_of(alloc, TWO_TOP, FOUR_SMP, script)?;
-    let (status, out) = run_on(&rt, alloc, &mut desk)?;
+    let mut desk = desk_of(alloc, TWO_TOP, FOUR_SMP, script).expect(&rt, "memory");
+    let (status, out) = run_on(&rt, alloc, &mut desk).expect(&rt, "memory");
     assert_eq!(rt; status, Status::Done);
     assert!(rt;
         out.bytes()
             .starts_with(b"stream 7 wave 0 release 1 final\ncov".as_slice())
     );
-    Ok(())
 }
 
 // Samples of a rank that has this many paths of one frame at each of this many times, no path twice.
@@ -370,7 +367,7 @@ fn call_with_room<R: Threads + Wait + Sync>(
 }
 
 #[test]
-fn counts_the_prefixes_of_a_wave(rt: HostRuntime) -> Result<(), AllocError> {
+fn counts_the_prefixes_of_a_wave(rt: HostRuntime) {
     let alloc = rt.alloc();
     let over = Status::OverLimit {
         file: FileRole::Samples,
@@ -383,13 +380,12 @@ fn counts_the_prefixes_of_a_wave(rt: HostRuntime) -> Result<(), AllocError> {
         (1, 2_049, over),
         (2, 2_048, Status::Done),
     ] {
-        let samples = one_frame_paths(alloc, times, paths)?;
-        let mut desk = desk_of(alloc, ONE_TOP, samples.as_str(), ALL_SCR)?;
-        let called = call_with_room(&rt, alloc, &mut desk)?;
+        let samples = one_frame_paths(alloc, times, paths).expect(&rt, "memory");
+        let mut desk = desk_of(alloc, ONE_TOP, samples.as_str(), ALL_SCR).expect(&rt, "memory");
+        let called = call_with_room(&rt, alloc, &mut desk).expect(&rt, "memory");
         assert_eq!(rt; called.status, status);
         assert_eq!(rt; called.report.bytes().is_empty(), status != Status::Done);
     }
-    Ok(())
 }
 
 // Streams whose three times are one wave, by line and by function.
@@ -405,15 +401,14 @@ const THREE_TIMES: [(&str, &str); 2] = [
 ];
 
 #[test]
-fn counts_the_prefixes_that_a_stream_sees(rt: HostRuntime) -> Result<(), AllocError> {
+fn counts_the_prefixes_that_a_stream_sees(rt: HostRuntime) {
     let alloc = rt.alloc();
-    let samples = one_frame_paths(alloc, 3, 1_000)?;
+    let samples = one_frame_paths(alloc, 3, 1_000).expect(&rt, "memory");
     for (grain, script) in THREE_TIMES.as_slice() {
-        let mut desk = desk_of(alloc, ONE_TOP, samples.as_str(), script)?;
-        let called = call_with_room(&rt, alloc, &mut desk)?;
+        let mut desk = desk_of(alloc, ONE_TOP, samples.as_str(), script).expect(&rt, "memory");
+        let called = call_with_room(&rt, alloc, &mut desk).expect(&rt, "memory");
         assert_eq!(rt; called.status == Status::Done, *grain == "function");
     }
-    Ok(())
 }
 
 // A front end with 511 daemons, and 2,048 ranks on each, all in one frame.
@@ -442,16 +437,15 @@ end
 ";
 
 #[test]
-fn runs_a_million_ranks(rt: HostRuntime) -> Result<(), AllocError> {
+fn runs_a_million_ranks(rt: HostRuntime) {
     let alloc = rt.alloc();
     for mode in ["run", "sim", "direct"] {
-        let mut desk = wide_job(alloc)?;
+        let mut desk = wide_job(alloc).expect(&rt, "memory");
         let words = [mode, "--topology=t", "--samples=s", "--script=c"];
-        let called = call(&rt, alloc, &mut desk, words.as_slice())?;
+        let called = call(&rt, alloc, &mut desk, words.as_slice()).expect(&rt, "memory");
         assert_eq!(rt; called.status, Status::Done);
         assert_eq!(rt; called.report.bytes(), WIDE_REPORT.as_bytes());
     }
-    Ok(())
 }
 
 // The status of a run whose topology is this text, filled up with blanks to this length.
@@ -471,10 +465,10 @@ fn status_of_length<R: Threads + Wait + Sync>(
 }
 
 #[test]
-fn takes_files_of_33554432_bytes_and_no_longer_ones(rt: HostRuntime) -> Result<(), AllocError> {
+fn takes_files_of_33554432_bytes_and_no_longer_ones(rt: HostRuntime) {
     let alloc = rt.alloc();
     assert_eq!(rt;
-        status_of_length(&rt, alloc, TWO_TOP, 33_554_432)?,
+        status_of_length(&rt, alloc, TWO_TOP, 33_554_432).expect(&rt, "memory"),
         Status::Done
     );
     let over = Status::OverLimit {
@@ -483,8 +477,10 @@ fn takes_files_of_33554432_bytes_and_no_longer_ones(rt: HostRuntime) -> Result<(
         what: Quantity::Bytes,
         limit: 33_554_432,
     };
-    assert_eq!(rt; status_of_length(&rt, alloc, TWO_TOP, 33_554_433)?, over);
-    Ok(())
+    assert_eq!(rt;
+        status_of_length(&rt, alloc, TWO_TOP, 33_554_433).expect(&rt, "memory"),
+        over
+    );
 }
 
 // Words with which nothing is read or written, and their faults.
@@ -522,15 +518,14 @@ const OTHER_WORDS: [(&[&str], WordFault); 8] = [
 ];
 
 #[test]
-fn refuses_other_words(rt: HostRuntime) -> Result<(), AllocError> {
+fn refuses_other_words(rt: HostRuntime) {
     let alloc = rt.alloc();
     for (texts, fault) in OTHER_WORDS.as_slice() {
-        let mut desk = desk_of(alloc, TWO_TOP, FOUR_SMP, ALL_SCR)?;
-        let called = call(&rt, alloc, &mut desk, texts)?;
+        let mut desk = desk_of(alloc, TWO_TOP, FOUR_SMP, ALL_SCR).expect(&rt, "memory");
+        let called = call(&rt, alloc, &mut desk, texts).expect(&rt, "memory");
         assert_eq!(rt; called.status, Status::BadWords(*fault));
         assert!(rt; called.report.bytes().is_empty() && called.journal.bytes().is_empty());
     }
-    Ok(())
 }
 
 const TEXTS: [(Status, &str, u8); 12] = [
@@ -601,14 +596,13 @@ const TEXTS: [(Status, &str, u8); 12] = [
 ];
 
 #[test]
-fn prints_the_texts_of_the_statuses(rt: HostRuntime) -> Result<(), AllocError> {
+fn prints_the_texts_of_the_statuses(rt: HostRuntime) {
     let alloc = rt.alloc();
     for (status, text, number) in TEXTS.as_slice() {
-        let printed = format!(in alloc; "{status}")?;
+        let printed = format!(in alloc; "{status}").expect(&rt, "memory");
         assert_eq!(rt; printed.as_str(), *text);
         assert_eq!(rt; status.number(), *number);
     }
-    Ok(())
 }
 
 #[test]

@@ -94,15 +94,19 @@ const PRINTED: [(&str, &str); 7] = [
 ];
 
 #[test]
-fn prints_captures(rt: HostRuntime) -> Result<(), AllocError> {
+fn prints_captures(rt: HostRuntime) {
     let alloc = rt.alloc();
     for (capture, lines) in PRINTED.as_slice() {
-        let called = print(&rt, alloc, bytes_of(alloc, capture)?.as_slice())?;
+        let called = print(
+            &rt,
+            alloc,
+            bytes_of(alloc, capture).expect(&rt, "memory").as_slice(),
+        )
+        .expect(&rt, "memory");
         assert_eq!(rt; called.status, Status::Done);
         assert_eq!(rt; called.report.bytes(), lines.as_bytes());
         assert!(rt; called.events.is_empty() && called.journal.bytes().is_empty());
     }
-    Ok(())
 }
 
 const REFUSED: [(&str, u64, FrameReason); 29] = [
@@ -187,10 +191,15 @@ const REFUSED: [(&str, u64, FrameReason); 29] = [
 ];
 
 #[test]
-fn refuses_captures(rt: HostRuntime) -> Result<(), AllocError> {
+fn refuses_captures(rt: HostRuntime) {
     let alloc = rt.alloc();
     for (capture, at, reason) in REFUSED.as_slice() {
-        let called = print(&rt, alloc, bytes_of(alloc, capture)?.as_slice())?;
+        let called = print(
+            &rt,
+            alloc,
+            bytes_of(alloc, capture).expect(&rt, "memory").as_slice(),
+        )
+        .expect(&rt, "memory");
         let refused = Status::BadFrames {
             at: *at,
             reason: *reason,
@@ -198,7 +207,6 @@ fn refuses_captures(rt: HostRuntime) -> Result<(), AllocError> {
         assert_eq!(rt; called.status, refused, "at {capture}");
         assert!(rt; called.report.bytes().is_empty() && called.journal.bytes().is_empty());
     }
-    Ok(())
 }
 
 // ---- captures of more than one piece
@@ -223,32 +231,41 @@ fn long_lines(alloc: Global) -> Result<String, AllocError> {
 }
 
 #[test]
-fn prints_captures_of_several_pieces(rt: HostRuntime) -> Result<(), AllocError> {
+fn prints_captures_of_several_pieces(rt: HostRuntime) {
     let alloc = rt.alloc();
     let mut desk = MemDesk::new(alloc);
-    put(alloc, &mut desk, "f", long_capture(alloc)?.as_slice())?;
-    let report = MemSink::new(alloc, 4_096, 200_000)?;
-    let journal = MemSink::new(alloc, 16, 16)?;
+    put(
+        alloc,
+        &mut desk,
+        "f",
+        long_capture(alloc).expect(&rt, "memory").as_slice(),
+    )
+    .expect(&rt, "memory");
+    let report = MemSink::new(alloc, 4_096, 200_000).expect(&rt, "memory");
+    let journal = MemSink::new(alloc, 16, 16).expect(&rt, "memory");
     let words = ["frames", "--capture", "f"];
-    let called = call_into(&rt, alloc, &mut desk, words.as_slice(), report, journal)?;
+    let called = call_into(&rt, alloc, &mut desk, words.as_slice(), report, journal).expect(
+        &rt, "memory",
+    );
     assert_eq!(rt; called.status, Status::Done);
-    assert_eq!(rt; called.report.bytes(), long_lines(alloc)?.as_bytes());
-    Ok(())
+    assert_eq!(rt;
+        called.report.bytes(),
+        long_lines(alloc).expect(&rt, "memory").as_bytes()
+    );
 }
 
 #[test]
-fn refuses_captures_of_several_pieces(rt: HostRuntime) -> Result<(), AllocError> {
+fn refuses_captures_of_several_pieces(rt: HostRuntime) {
     let alloc = rt.alloc();
-    let mut capture = long_capture(alloc)?;
-    capture.extend_from_slice(&[2, 2, 0])?;
-    let called = print(&rt, alloc, capture.as_slice())?;
+    let mut capture = long_capture(alloc).expect(&rt, "memory");
+    capture.extend_from_slice(&[2, 2, 0]).expect(&rt, "memory");
+    let called = print(&rt, alloc, capture.as_slice()).expect(&rt, "memory");
     let short = Status::BadFrames {
         at: 16_005,
         reason: FrameReason::Short,
     };
     assert_eq!(rt; called.status, short);
     assert!(rt; called.report.bytes().is_empty());
-    Ok(())
 }
 
 // ---- the frames of runs
@@ -256,9 +273,9 @@ fn refuses_captures_of_several_pieces(rt: HostRuntime) -> Result<(), AllocError>
 const TWO_SMP: &str = "daemon a:0 0\ndaemon b:0 1\nstack 0 0 main\nstack 0 1 main;io\n";
 
 #[test]
-fn a_simulation_writes_its_frames(rt: HostRuntime) -> Result<(), AllocError> {
+fn a_simulation_writes_its_frames(rt: HostRuntime) {
     let alloc = rt.alloc();
-    let mut desk = desk_of(alloc, TWO_TOP, TWO_SMP, DONT_WAIT_SCR)?;
+    let mut desk = desk_of(alloc, TWO_TOP, TWO_SMP, DONT_WAIT_SCR).expect(&rt, "memory");
     let words = [
         "sim",
         "--topology=t",
@@ -267,13 +284,15 @@ fn a_simulation_writes_its_frames(rt: HostRuntime) -> Result<(), AllocError> {
         "--report=frames",
         "--seed=0",
     ];
-    let called = call(&rt, alloc, &mut desk, words.as_slice())?;
+    let called = call(&rt, alloc, &mut desk, words.as_slice()).expect(&rt, "memory");
     assert_eq!(rt; called.status, Status::Done);
-    assert_eq!(rt; called.report.bytes(), bytes_of(alloc, FRAMES)?.as_slice());
+    assert_eq!(rt;
+        called.report.bytes(),
+        bytes_of(alloc, FRAMES).expect(&rt, "memory").as_slice()
+    );
     assert_eq!(rt; called.events.len(), 6);
-    let printed = print(&rt, alloc, called.report.bytes())?;
+    let printed = print(&rt, alloc, called.report.bytes()).expect(&rt, "memory");
     assert_eq!(rt; printed.report.bytes(), FRAME_LINES.as_bytes());
-    Ok(())
 }
 
 const RUN_WORDS: [&str; 7] = [
@@ -298,21 +317,20 @@ const REPLAY_WORDS: [&str; 7] = [
 
 // What a lost node has sent is in the log, where it is received.
 #[test]
-fn a_replay_writes_the_frames_of_its_run(rt: HostRuntime) -> Result<(), AllocError> {
+fn a_replay_writes_the_frames_of_its_run(rt: HostRuntime) {
     let alloc = rt.alloc();
     for set in [0, 1, 21, 63] {
-        let faults = lines_of(alloc, set, 2, 1)?;
-        let script = format!(in alloc; "{ALL_SCR}{faults}")?;
-        let mut desk = desk_of(alloc, STORM_TOP, STORM_SMP, script.as_str())?;
-        let run = call(&rt, alloc, &mut desk, RUN_WORDS.as_slice())?;
-        put(alloc, &mut desk, "j", run.journal.bytes())?;
-        let replay = call(&rt, alloc, &mut desk, REPLAY_WORDS.as_slice())?;
+        let faults = lines_of(alloc, set, 2, 1).expect(&rt, "memory");
+        let script = format!(in alloc; "{ALL_SCR}{faults}").expect(&rt, "memory");
+        let mut desk = desk_of(alloc, STORM_TOP, STORM_SMP, script.as_str()).expect(&rt, "memory");
+        let run = call(&rt, alloc, &mut desk, RUN_WORDS.as_slice()).expect(&rt, "memory");
+        put(alloc, &mut desk, "j", run.journal.bytes()).expect(&rt, "memory");
+        let replay = call(&rt, alloc, &mut desk, REPLAY_WORDS.as_slice()).expect(&rt, "memory");
         assert_eq!(rt; replay.status, Status::Done);
         assert!(rt; run.report.bytes() == replay.report.bytes());
-        let printed = print(&rt, alloc, run.report.bytes())?;
+        let printed = print(&rt, alloc, run.report.bytes()).expect(&rt, "memory");
         assert_eq!(rt; printed.status, Status::Done);
     }
-    Ok(())
 }
 
 // An inner node is lost after it has sent: what it sent is received after the loss, and before the notice of it.
@@ -345,37 +363,36 @@ end 12 frames
 ";
 
 #[test]
-fn a_lost_node_has_sent_frames(rt: HostRuntime) -> Result<(), AllocError> {
+fn a_lost_node_has_sent_frames(rt: HostRuntime) {
     let alloc = rt.alloc();
-    let mut desk = desk_of(alloc, INNER_TOP, FOUR_SMP, LOST_SCR)?;
-    put(alloc, &mut desk, "j", LOST_JOURNAL.as_bytes())?;
-    let called = call(&rt, alloc, &mut desk, REPLAY_WORDS.as_slice())?;
+    let mut desk = desk_of(alloc, INNER_TOP, FOUR_SMP, LOST_SCR).expect(&rt, "memory");
+    put(alloc, &mut desk, "j", LOST_JOURNAL.as_bytes()).expect(&rt, "memory");
+    let called = call(&rt, alloc, &mut desk, REPLAY_WORDS.as_slice()).expect(&rt, "memory");
     assert_eq!(rt; called.status, Status::Done);
-    let printed = print(&rt, alloc, called.report.bytes())?;
+    let printed = print(&rt, alloc, called.report.bytes()).expect(&rt, "memory");
     assert_eq!(rt; printed.report.bytes(), LOST_LINES.as_bytes());
-    Ok(())
 }
 
 // A journal that ends early has the frames that it receives.
 #[test]
-fn a_journal_that_ends_early_has_its_frames(rt: HostRuntime) -> Result<(), AllocError> {
+fn a_journal_that_ends_early_has_its_frames(rt: HostRuntime) {
     let alloc = rt.alloc();
-    let mut desk = desk_of(alloc, TWO_TOP, TWO_SMP, DONT_WAIT_SCR)?;
+    let mut desk = desk_of(alloc, TWO_TOP, TWO_SMP, DONT_WAIT_SCR).expect(&rt, "memory");
     put(
         alloc,
         &mut desk,
         "j",
         b"sample b:0 0 0\nrecv fe:0 b:0\n".as_slice(),
-    )?;
-    let called = call(&rt, alloc, &mut desk, REPLAY_WORDS.as_slice())?;
+    )
+    .expect(&rt, "memory");
+    let called = call(&rt, alloc, &mut desk, REPLAY_WORDS.as_slice()).expect(&rt, "memory");
     let next = Event::Sample {
         node: 1,
         stream: 0,
         wave: 0,
     };
     assert_eq!(rt; called.status, Status::Unfinished(next));
-    let frames = bytes_of(alloc, FRAMES)?;
+    let frames = bytes_of(alloc, FRAMES).expect(&rt, "memory");
     assert_eq!(rt; called.report.bytes().len(), 46usize);
     assert!(rt; frames.as_slice().starts_with(called.report.bytes()));
-    Ok(())
 }

@@ -21,17 +21,16 @@ const FILES: [(u64, FileRole); 4] = [
 
 // A replay whose desk fails at one of its reads stops there.
 #[test]
-fn the_desk_fails_at_each_file(rt: HostRuntime) -> Result<(), AllocError> {
+fn the_desk_fails_at_each_file(rt: HostRuntime) {
     let alloc = rt.alloc();
     for (number, role) in FILES.as_slice() {
-        let mut desk = desk_of(alloc, INNER_TOP, FOUR_SMP, LOST_SCR)?;
-        put(alloc, &mut desk, "j", LOST_JOURNAL.as_bytes())?;
-        desk.fail_at(*number)?;
-        let called = call(&rt, alloc, &mut desk, REPLAY_WORDS.as_slice())?;
+        let mut desk = desk_of(alloc, INNER_TOP, FOUR_SMP, LOST_SCR).expect(&rt, "memory");
+        put(alloc, &mut desk, "j", LOST_JOURNAL.as_bytes()).expect(&rt, "memory");
+        desk.fail_at(*number).expect(&rt, "memory");
+        let called = call(&rt, alloc, &mut desk, REPLAY_WORDS.as_slice()).expect(&rt, "memory");
         assert_eq!(rt; called.status, Status::DeskFault(*role));
         assert!(rt; called.report.bytes().is_empty() && called.journal.bytes().is_empty());
     }
-    Ok(())
 }
 
 // ---- the sinks
@@ -75,12 +74,18 @@ fn holds_first(sink: &MemSink, number: usize, text: &str) -> bool {
 }
 
 #[test]
-fn the_report_fails_at_each_call(rt: HostRuntime) -> Result<(), AllocError> {
+fn the_report_fails_at_each_call(rt: HostRuntime) {
     let alloc = rt.alloc();
     for number in 1..40usize {
         for stalls in [false, true] {
-            let report = sink(alloc, number as u64, stalls)?;
-            let called = simulate(&rt, alloc, report, MemSink::new(alloc, 16, 1_000)?)?;
+            let report = sink(alloc, number as u64, stalls).expect(&rt, "memory");
+            let called = simulate(
+                &rt,
+                alloc,
+                report,
+                MemSink::new(alloc, 16, 1_000).expect(&rt, "memory"),
+            )
+            .expect(&rt, "memory");
             if (number - 1) * 16 < FOUR_REPORT.as_bytes().len() {
                 assert_eq!(rt; called.status, Status::SinkFault(Target::Report));
                 assert_eq!(rt; called.events.len(), 6);
@@ -91,16 +96,21 @@ fn the_report_fails_at_each_call(rt: HostRuntime) -> Result<(), AllocError> {
             }
         }
     }
-    Ok(())
 }
 
 #[test]
-fn the_journal_fails_at_each_call(rt: HostRuntime) -> Result<(), AllocError> {
+fn the_journal_fails_at_each_call(rt: HostRuntime) {
     let alloc = rt.alloc();
     for number in 1..12usize {
         for stalls in [false, true] {
-            let journal = sink(alloc, number as u64, stalls)?;
-            let called = simulate(&rt, alloc, MemSink::new(alloc, 16, 1_000)?, journal)?;
+            let journal = sink(alloc, number as u64, stalls).expect(&rt, "memory");
+            let called = simulate(
+                &rt,
+                alloc,
+                MemSink::new(alloc, 16, 1_000).expect(&rt, "memory"),
+                journal,
+            )
+            .expect(&rt, "memory");
             assert_eq!(rt; called.report.bytes(), FOUR_REPORT.as_bytes());
             if (number - 1) * 16 < FOUR_JOURNAL.as_bytes().len() {
                 assert_eq!(rt; called.status, Status::SinkFault(Target::Journal));
@@ -112,7 +122,6 @@ fn the_journal_fails_at_each_call(rt: HostRuntime) -> Result<(), AllocError> {
             }
         }
     }
-    Ok(())
 }
 
 // ---- journals
@@ -131,14 +140,13 @@ const REFUSED: [(&str, u64); 6] = [
 ];
 
 #[test]
-fn refuses_journals(rt: HostRuntime) -> Result<(), AllocError> {
+fn refuses_journals(rt: HostRuntime) {
     let alloc = rt.alloc();
     for (journal, number) in REFUSED.as_slice() {
-        let mut desk = desk_of(alloc, ONE_TOP, "daemon a:0 0\n", ALL_SCR)?;
-        put(alloc, &mut desk, "j", journal.as_bytes())?;
-        let called = call(&rt, alloc, &mut desk, REPLAY_WORDS.as_slice())?;
+        let mut desk = desk_of(alloc, ONE_TOP, "daemon a:0 0\n", ALL_SCR).expect(&rt, "memory");
+        put(alloc, &mut desk, "j", journal.as_bytes()).expect(&rt, "memory");
+        let called = call(&rt, alloc, &mut desk, REPLAY_WORDS.as_slice()).expect(&rt, "memory");
         assert_eq!(rt; called.status, Status::BadJournal(*number));
         assert!(rt; called.report.bytes().is_empty() && called.journal.bytes().is_empty());
     }
-    Ok(())
 }

@@ -233,17 +233,16 @@ fn desk_with_journal(alloc: Global, job: &Replayed) -> Result<MemDesk, AllocErro
 }
 
 #[test]
-fn replays_journals(rt: HostRuntime) -> Result<(), AllocError> {
+fn replays_journals(rt: HostRuntime) {
     let alloc = rt.alloc();
     for job in REPLAYED.as_slice() {
-        let mut desk = desk_with_journal(alloc, job)?;
-        let called = call(&rt, alloc, &mut desk, REPLAY_WORDS.as_slice())?;
-        let report = report_of(alloc, job)?;
+        let mut desk = desk_with_journal(alloc, job).expect(&rt, "memory");
+        let called = call(&rt, alloc, &mut desk, REPLAY_WORDS.as_slice()).expect(&rt, "memory");
+        let report = report_of(alloc, job).expect(&rt, "memory");
         assert_eq!(rt; called.status, job.status);
         assert_eq!(rt; called.report.bytes(), report.as_bytes());
         assert!(rt; called.journal.bytes().is_empty());
     }
-    Ok(())
 }
 
 // ---- simulations
@@ -340,10 +339,10 @@ recv a:0 fe:0
 ];
 
 #[test]
-fn simulates_by_a_seed(rt: HostRuntime) -> Result<(), AllocError> {
+fn simulates_by_a_seed(rt: HostRuntime) {
     let alloc = rt.alloc();
     for job in SIMULATED.as_slice() {
-        let mut desk = desk_of(alloc, job.topology, job.samples, job.script)?;
+        let mut desk = desk_of(alloc, job.topology, job.samples, job.script).expect(&rt, "memory");
         let [first, second] = job.mode;
         let words = [
             "sim",
@@ -353,27 +352,25 @@ fn simulates_by_a_seed(rt: HostRuntime) -> Result<(), AllocError> {
             first,
             second,
         ];
-        let called = call(&rt, alloc, &mut desk, words.as_slice())?;
+        let called = call(&rt, alloc, &mut desk, words.as_slice()).expect(&rt, "memory");
         assert_eq!(rt; called.status, Status::Done);
         assert_eq!(rt; called.report.bytes(), job.report.as_bytes());
         assert_eq!(rt; called.journal.bytes(), job.journal.as_bytes());
     }
-    Ok(())
 }
 
 // A run's journal is replayed with the same report.
 #[test]
-fn replays_what_was_run(rt: HostRuntime) -> Result<(), AllocError> {
+fn replays_what_was_run(rt: HostRuntime) {
     let alloc = rt.alloc();
     for job in WORKED.as_slice() {
-        let mut desk = desk_of(alloc, job.topology, job.samples, job.script)?;
-        let run = call(&rt, alloc, &mut desk, WORDS.as_slice())?;
-        put(alloc, &mut desk, "j", run.journal.bytes())?;
-        let replay = call(&rt, alloc, &mut desk, REPLAY_WORDS.as_slice())?;
+        let mut desk = desk_of(alloc, job.topology, job.samples, job.script).expect(&rt, "memory");
+        let run = call(&rt, alloc, &mut desk, WORDS.as_slice()).expect(&rt, "memory");
+        put(alloc, &mut desk, "j", run.journal.bytes()).expect(&rt, "memory");
+        let replay = call(&rt, alloc, &mut desk, REPLAY_WORDS.as_slice()).expect(&rt, "memory");
         assert_eq!(rt; replay.status, Status::Done);
         assert_eq!(rt; replay.report.bytes(), job.report.as_bytes());
     }
-    Ok(())
 }
 
 // ---- direct merges
@@ -390,31 +387,29 @@ const DIRECT_WORDS: [&str; 7] = [
 
 // Where all daemons live and each stream waits for all, a direct merge writes what a run does, and no journal.
 #[test]
-fn merges_directly(rt: HostRuntime) -> Result<(), AllocError> {
+fn merges_directly(rt: HostRuntime) {
     let alloc = rt.alloc();
     for job in WORKED.as_slice() {
-        let mut desk = desk_of(alloc, job.topology, job.samples, job.script)?;
-        let called = call(&rt, alloc, &mut desk, DIRECT_WORDS.as_slice())?;
+        let mut desk = desk_of(alloc, job.topology, job.samples, job.script).expect(&rt, "memory");
+        let called = call(&rt, alloc, &mut desk, DIRECT_WORDS.as_slice()).expect(&rt, "memory");
         assert_eq!(rt; called.status, Status::Done);
         assert!(rt; called.events.is_empty() && called.journal.bytes().is_empty());
         if job.script != DONT_WAIT_SCR {
             assert_eq!(rt; called.report.bytes(), job.report.as_bytes());
         }
     }
-    Ok(())
 }
 
 // A direct merge has the ranks of daemons that the script loses, and says nothing of faults.
 #[test]
-fn merges_lost_daemons_directly(rt: HostRuntime) -> Result<(), AllocError> {
+fn merges_lost_daemons_directly(rt: HostRuntime) {
     let alloc = rt.alloc();
     let script = "stream 0 wait-for-all waves 1 samples 1 on all\nlose b:0 after 0 keep 0\n";
-    let mut desk = desk_of(alloc, TWO_TOP, FOUR_SMP, script)?;
-    let called = call(&rt, alloc, &mut desk, DIRECT_WORDS.as_slice())?;
-    let report = format!(in alloc; "{FOUR_RELEASE}end\n")?;
+    let mut desk = desk_of(alloc, TWO_TOP, FOUR_SMP, script).expect(&rt, "memory");
+    let called = call(&rt, alloc, &mut desk, DIRECT_WORDS.as_slice()).expect(&rt, "memory");
+    let report = format!(in alloc; "{FOUR_RELEASE}end\n").expect(&rt, "memory");
     assert_eq!(rt; called.status, Status::Done);
     assert_eq!(rt; called.report.bytes(), report.as_bytes());
-    Ok(())
 }
 
 // ---- generated jobs
@@ -444,14 +439,13 @@ end
 ];
 
 #[test]
-fn sums_generated_jobs_up(rt: HostRuntime) -> Result<(), AllocError> {
+fn sums_generated_jobs_up(rt: HostRuntime) {
     let alloc = rt.alloc();
     let mut desk = MemDesk::new(alloc);
     for (words, summary) in GENERATED.as_slice() {
-        let called = call(&rt, alloc, &mut desk, words.as_slice())?;
+        let called = call(&rt, alloc, &mut desk, words.as_slice()).expect(&rt, "memory");
         assert_eq!(rt; called.status, Status::Done);
         assert_eq!(rt; called.report.bytes(), summary.as_bytes());
         assert!(rt; called.journal.bytes().is_empty());
     }
-    Ok(())
 }
