@@ -14,26 +14,36 @@ fn merged<T: PrefixTree>(rt: &impl Abort, alloc: Global, own: &[&str], others: &
     tree
 }
 
+fn assert_merged<T: PrefixTree>(
+    rt: &impl Abort,
+    alloc: Global,
+    own: &[&str],
+    others: &[&str],
+    want: &[u8],
+) {
+    let tree = merged::<T>(rt, alloc, own, others);
+    assert_rows(rt, alloc, &tree, want);
+    let copy = tree.copy().expect(rt, "memory");
+    assert_rows(rt, alloc, &copy, want);
+}
+
 // A run is cut by a path that ends in it, by one that leaves it, and by one that goes on below it.
 #[test]
 fn cuts_a_run_of_rows(rt: HostRuntime) {
     let others = ["a;b", "a;b;c;x", "a;b;c;d;e"];
-    let tree = merged::<ArenaTree>(&rt, rt.alloc(), &["a;b;c;d"], &others);
     let want = b"0 / 2:[0-1] 0:[]\n1 a 2:[0-1] 0:[]\n2 b 2:[0-1] 1:[1]\n3 c 2:[0-1] 0:[]\n\
         4 d 2:[0-1] 1:[0]\n5 e 1:[1] 1:[1]\n4 x 1:[1] 1:[1]\n";
-    assert_rows(&rt, rt.alloc(), &tree, want);
-    assert_rows(&rt, rt.alloc(), &tree.copy().expect(&rt, "memory"), want);
+    assert_merged::<ArenaTree>(&rt, rt.alloc(), &["a;b;c;d"], &others, want);
 }
 
 // New rows go before, between and behind the rows that stand, and one stands already.
 #[test]
 fn puts_rows_between_siblings(rt: HostRuntime) {
     let others = ["f", "d;x", "c;y;z", "a"];
-    let tree = merged::<ArenaTree>(&rt, rt.alloc(), &["e", "b", "d"], &others);
     let want = b"0 / 2:[0-1] 0:[]\n1 a 1:[1] 1:[1]\n1 b 1:[0] 1:[0]\n\
         1 c 1:[1] 0:[]\n2 y 1:[1] 0:[]\n3 z 1:[1] 1:[1]\n\
         1 d 2:[0-1] 1:[0]\n2 x 1:[1] 1:[1]\n1 e 1:[0] 1:[0]\n1 f 1:[1] 1:[1]\n";
-    assert_rows(&rt, rt.alloc(), &tree, want);
+    assert_merged::<ArenaTree>(&rt, rt.alloc(), &["e", "b", "d"], &others, want);
 }
 
 // A number after another, of no pattern.
@@ -113,10 +123,10 @@ fn full<T: PrefixTree>(rt: &impl Abort, alloc: Global) -> T {
 }
 
 // A path and a tree that would make a row more are refused, and the rows stay.
-fn assert_refuses(rt: &impl Abort, alloc: Global, tree: &mut ArenaTree) {
+fn assert_refuses<T: PrefixTree>(rt: &impl Abort, alloc: Global, tree: &mut T) {
     let before = rows_text(alloc, tree).expect(rt, "memory");
     assert!(rt; add(rt, alloc, tree, &[1], "g") == Err(TreeError::TooManyPrefixes));
-    let other = of_paths::<ArenaTree>(rt, alloc, &[0], &["f0000;g"]).expect(rt, "memory");
+    let other = of_paths::<T>(rt, alloc, &[0], &["f0000;g"]).expect(rt, "memory");
     assert!(rt; tree.merge(&other) == Err(TreeError::TooManyPrefixes));
     assert_rows(rt, alloc, tree, &before);
 }
