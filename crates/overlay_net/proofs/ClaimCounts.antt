@@ -1,10 +1,11 @@
 -- Which nodes an event changes: of all others the same events may be claimed as before.
-use Rattle.std.proofs.Common.{◌≡◌, ◌≢◌, ◌∙◌, ◌<◌, ℕ, Bool, false, ◌==◌, ◌||◌, not, cond, List, [], ◌∷◌, filter, length, slice_get, Option, Some, None, refl, sym, ap, subst, inl, inr, eqb-true}
+use Rattle.std.proofs.Common.{◌≡◌, ◌≢◌, ◌∙◌, ◌<◌, ℕ, Bool, false, ◌==◌, ◌||◌, not, cond, List, [], ◌∷◌, filter, length, slice_get, Option, Some, None, option_map, refl, sym, ap, subst, ◌⊎◌, inl, inr, eqb-true}
 use Rattle.std.specs.Prelude.{⊤}
 use Rattle.std.proofs.lemmas.Bool.{cases_Bool, eqb-false, true≢false}
 use Rattle.std.specs.List.{AllByRecursion, list_any}
 use Rattle.overlay_setup.specs.NodeSets.{In, member, up_to}
-use Rattle.stat_plan.specs.Plans.{Plan, nodes}
+use Rattle.overlay_setup.specs.declared.script.Fault.{Fault}
+use Rattle.stat_plan.specs.Plans.{Plan, fault, nodes}
 use Rattle.stat_desk.specs.declared.event.Event.{Event}
 use Rattle.stat_desk.specs.declared.event.Event.TheVariants.{Sample, Recv, Tick, Lose}
 use Rattle.stat_desk.specs.Events.{event_node}
@@ -14,10 +15,11 @@ use Rattle.event_claims.specs.Claims.{Outs, is_free, is_home, is_loss_of, receiv
 use Rattle.overlay_node.specs.NodeViews.{NodeView}
 use Rattle.node_inbox.specs.Sends.{inbox_at, is_alive}
 use Rattle.overlay_net.specs.Inboxes.{FrameInbox}
-use Rattle.overlay_net.specs.Events.{AreCountedBut, AreParts, IsOrdinary}
+use Rattle.overlay_net.specs.Events.{AreCountedBut, AreNodes, AreParts, IsOrdinary}
 use Rattle.overlay_net.specs.Nets.{claims_at, events_at, node_events}
-use Rattle.overlay_net.specs.Sends.{changed}
+use Rattle.overlay_net.specs.Sends.{changed, with_first}
 use Rattle.overlay_net.proofs.Listed.{filter_same}
+use Rattle.overlay_net.proofs.Faultless.{faultless_ordinary}
 use Rattle.overlay_net.proofs.Offers.{own_event}
 use Rattle.overlay_net.proofs.PartsInvariant.{or_both_false}
 
@@ -88,30 +90,52 @@ free_stays p e old new b (Tick n) ord h from own = refl
 free_stays p e old new b (Lose n) ord h from own =
     ap not (any_same (λ k. receives_from (new k) n) (λ k. receives_from (old k) n) (up_to (nodes p)) (λ k. subst (λ j. receives_from (new k) j ≡ receives_from (old k) j) (sym own) (frames_stay e old new b from h k)))
 
+-- an event of a node that is never lost is as free as before
+ordinary_stays : (p : Plan) (e : Event) (old new : Outs) (g : Event) → IsOrdinary e → DifferAt e old new → IsOrdinary g → is_free p new g ≡ is_free p old g
+ordinary_stays p e old new (Sample n s w) ord h ordinary = refl
+ordinary_stays p e old new (Recv n m) ord h ordinary = ap not (losses_stay e old new ord h m m)
+ordinary_stays p e old new (Tick n) ord h ordinary = refl
+ordinary_stays p e old new (Lose n) ord h ordinary = absurd ordinary
+
 module _ (p : Plan) (al : List Bool) (xs ys : List NodeView) (ib ic : List FrameInbox) (e : Event) (old new : Outs) (parts : AreParts p al xs ib) (ord : IsOrdinary e) (differ : DifferAt e old new) where
+  -- the event doesn't receive from a node, or the node is never lost
+  abbrev IsUnmoved : ℕ → Type 0
+  IsUnmoved b = IsNotFrom e b ⊎ (fault p b ≡ None)
+
+  free_same : (b : ℕ) (g : Event) → IsUnmoved b → In g (events_at p al xs ib b) → is_free p new g ≡ is_free p old g
+  free_same b g (inl from) i = free_stays p e old new b g ord differ from (own_event p al xs ib b g parts i)
+  free_same b g (inr none) i = ordinary_stays p e old new g ord differ (faultless_ordinary p al xs ib b g parts none i)
+
   -- a node that the event didn't touch
-  claims_stay : (b : ℕ) → b ≢ event_node e → IsNotFrom e b → slice_get ys b ≡ slice_get xs b → inbox_at ic b ≡ inbox_at ib b → claims_at p al ys ic new b ≡ claims_at p al xs ib old b
+  claims_stay : (b : ℕ) → b ≢ event_node e → IsUnmoved b → slice_get ys b ≡ slice_get xs b → inbox_at ic b ≡ inbox_at ib b → claims_at p al ys ic new b ≡ claims_at p al xs ib old b
   claims_stay b ne from node box =
       (λ i. cond (is_home (differ.others b ne i)) (filter (is_free p new) (events_same i)) [])
-      ∙ ap (λ l. cond (is_home (old b)) l []) (filter_same (is_free p new) (is_free p old) (events_at p al xs ib b) (λ g i. free_stays p e old new b g ord differ from (own_event p al xs ib b g parts i)))
+      ∙ ap (λ l. cond (is_home (old b)) l []) (filter_same (is_free p new) (is_free p old) (events_at p al xs ib b) (λ g i. free_same b g from i))
     where
       events_same : events_at p al ys ic b ≡ events_at p al xs ib b
       events_same = (λ i. elim (node i) as (λ _. List Event) [ None ↦ [] | (Some x) ↦ node_events p (is_alive al b) x (box i) ])
 
   -- who isn't among the changed
-  apart : (receivers : List ℕ) (b : ℕ) → member b (changed p e receivers) ≡ false → ((b ≢ event_node e) × IsNotFrom e b × (member b receivers ≡ false))
+  apart : (receivers : List ℕ) (b : ℕ) → member b (changed p e receivers) ≡ false → ((b ≢ event_node e) × IsUnmoved b × (member b receivers ≡ false))
   apart receivers b h = go e ord h
     where
-      two : (n m : ℕ) → ((b == n) || ((b == m) || member b receivers)) ≡ false → ((b ≢ n) × (b ≢ m) × (member b receivers ≡ false))
-      two n m k =
-          let one = or_both_false (b == n) ((b == m) || member b receivers) k in
-          let next = or_both_false (b == m) (member b receivers) one.1 in
-          (eqb-false b n one.0, eqb-false b m next.0, next.1)
+      one : (n : ℕ) → ((b == n) || member b receivers) ≡ false → ((b ≢ n) × (member b receivers ≡ false))
+      one n k = let both = or_both_false (b == n) (member b receivers) k in (eqb-false b n both.0, both.1)
 
-      go : (g : Event) → IsOrdinary g → member b (changed p g receivers) ≡ false → ((b ≢ event_node g) × IsNotFrom g b × (member b receivers ≡ false))
-      go (Sample n s w) ord k = let t = two n n k in (t.0, tt, t.2)
-      go (Recv n m) ord k = two n m k
-      go (Tick n) ord k = let t = two n n k in (t.0, tt, t.2)
+      not_from : (m : ℕ) → fault p m ≡ None → ((b ≢ m) ⊎ (fault p b ≡ None))
+      not_from m none = elim (cases_Bool (b == m)) [ inl t ↦ inr (ap (fault p) (eqb-true b m t) ∙ none) | inr f ↦ inl (eqb-false b m f) ]
+
+      sender : (n m : ℕ) (o : Option Fault) → fault p m ≡ o → ((b == n) || member b (with_first (option_map (λ f. m) o) receivers)) ≡ false → ((b ≢ n) × ((b ≢ m) ⊎ (fault p b ≡ None)) × (member b receivers ≡ false))
+      sender n m None is k = let t = one n k in (t.0, not_from m is, t.1)
+      sender n m (Some f) is k =
+          let first = or_both_false (b == n) ((b == m) || member b receivers) k in
+          let next = or_both_false (b == m) (member b receivers) first.1 in
+          (eqb-false b n first.0, inl (eqb-false b m next.0), next.1)
+
+      go : (g : Event) → IsOrdinary g → member b (changed p g receivers) ≡ false → ((b ≢ event_node g) × (IsNotFrom g b ⊎ (fault p b ≡ None)) × (member b receivers ≡ false))
+      go (Sample n s w) ord k = let t = one n k in (t.0, inl tt, t.1)
+      go (Recv n m) ord k = sender n m (fault p m) refl k
+      go (Tick n) ord k = let t = one n k in (t.0, inl tt, t.1)
       go (Lose n) ord k = absurd ord
 
   -- the counts of all but the changed nodes are still right
@@ -124,6 +148,11 @@ module _ (p : Plan) (al : List Bool) (xs ys : List NodeView) (ib ic : List Frame
         let t = apart receivers b other in
         h.events b lt refl ∙ ap (λ l. Some (length l)) (sym (claims_stay b t.0 t.1 (node b t.0) (box b t.0 t.2)));
   }
+
+-- a node of the plan, if there is one, before nodes of the plan
+pub first_below : (p : Plan) (o : Option Fault) (m : ℕ) (rest : List ℕ) → m < nodes p → AreNodes p rest → AreNodes p (with_first (option_map (λ f. m) o) rest)
+first_below p None m rest lt all = all
+first_below p (Some f) m rest lt all = (lt, all)
 
 -- all numbers below n are below n
 pub all_below : (n : ℕ) → AllByRecursion (λ k. k < n) (up_to n)

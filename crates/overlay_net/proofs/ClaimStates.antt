@@ -1,7 +1,7 @@
 -- The invariant of a net, where an event is claimed.
 use Rattle.std.proofs.Common.{◌≡◌, ◌∙◌, ◌<◌, ℕ, Bool, false, cond, List, [], length, slice_get, slice_set, Option, Some, None, refl, sym, ap, subst, eq-eqb}
 use Rattle.stat_plan.specs.Invariants.{IsPlan}
-use Rattle.stat_plan.specs.Plans.{Plan, nodes}
+use Rattle.stat_plan.specs.Plans.{Plan, fault, nodes}
 use Rattle.stat_desk.specs.declared.event.Event.{Event}
 use Rattle.stat_desk.specs.declared.event.Event.TheVariants.{Sample, Recv, Tick, Lose}
 use Rattle.stat_desk.specs.Events.{event_node}
@@ -16,7 +16,7 @@ use Rattle.overlay_net.specs.Nets.{NetView, state_with}
 use Rattle.overlay_net.specs.Places.{PlaceView, at_home, away, nodes_in, out_at, outs_in, whole_inboxes}
 use Rattle.overlay_net.specs.Sends.{IsTaken, changed}
 use Rattle.overlay_net.specs.States.{IsClaimed, IsNetOf}
-use Rattle.overlay_net.proofs.ClaimCounts.{DifferAt, IsOutOrHome, all_below, counts_stay, losses_stay, nothing_counted}
+use Rattle.overlay_net.proofs.ClaimCounts.{DifferAt, IsOutOrHome, all_below, counts_stay, first_below, losses_stay, nothing_counted}
 use Rattle.overlay_net.proofs.Claiming.{claim_below, claim_moved, claim_within, claim_worked, frames_stay, inbox_stays, net_stays, new_count, new_inboxes, nodes_stay, out_then, outs_are, sender_below, state_stays}
 use Rattle.overlay_net.proofs.LosingCounts.{losing_same, losing_set}
 use Rattle.overlay_net.proofs.Whole.{out_else, out_here}
@@ -41,9 +41,9 @@ module _ (p : Plan) (plan : IsPlan p) (al : List Bool) (ps : List PlaceView) (bo
       sender n m is = sender_below p plan al ps boxes rs h.net h.frames h.inbox_count h.inboxes h.out e may n m is
 
       go : (g : Event) → g ≡ e → AreNodes p (changed p g [])
-      go (Sample n s w) is = let lt : n < nodes p = subst (λ k. k < nodes p) (sym (ap event_node is)) below in (lt, (lt, tt))
-      go (Recv n m) is = (subst (λ k. k < nodes p) (sym (ap event_node is)) below, (sender n m is, tt))
-      go (Tick n) is = let lt : n < nodes p = subst (λ k. k < nodes p) (sym (ap event_node is)) below in (lt, (lt, tt))
+      go (Sample n s w) is = let lt : n < nodes p = subst (λ k. k < nodes p) (sym (ap event_node is)) below in (lt, tt)
+      go (Recv n m) is = (subst (λ k. k < nodes p) (sym (ap event_node is)) below, first_below p (fault p m) m [] (sender n m is) tt)
+      go (Tick n) is = let lt : n < nodes p = subst (λ k. k < nodes p) (sym (ap event_node is)) below in (lt, tt)
       go (Lose n) is = all_below (nodes p)
 
   module _ (f : Option (List ℕ)) (new : List FrameInbox) (took : IsTaken boxes e f new) (x : NodeView) (at : slice_get ps (event_node e) ≡ Some (at_home x)) where

@@ -5,7 +5,7 @@ use Rattle.std.proofs.lemmas.Option.{none-some, slice_get_within}
 use Rattle.std.specs.List.{AllByRecursion}
 use Rattle.overlay_setup.specs.NodeSets.{member, up_to}
 use Rattle.stat_plan.specs.Invariants.{IsPlan}
-use Rattle.stat_plan.specs.Plans.{Plan, is_related, nodes}
+use Rattle.stat_plan.specs.Plans.{Plan, fault, is_related, nodes}
 use Rattle.stat_desk.specs.declared.event.Event.{Event}
 use Rattle.stat_desk.specs.declared.event.Event.TheVariants.{Sample, Recv, Tick, Lose}
 use Rattle.stat_desk.specs.Events.{event_node}
@@ -29,7 +29,7 @@ use Rattle.overlay_net.specs.Nets.{IsReachedBy, NetView, net_view_of, state_of, 
 use Rattle.overlay_net.specs.Places.{HasFrame, HaveFrames, PlaceView, at_home, away, nodes_in, out_at, outs_in, whole_inboxes, with_frame}
 use Rattle.overlay_net.specs.Sends.{changed}
 use Rattle.overlay_net.specs.States.{IsCommitted, IsNetOf}
-use Rattle.overlay_net.proofs.ClaimCounts.{DifferAt, IsOutOrHome, all_below, counts_stay, losses_stay, nothing_counted}
+use Rattle.overlay_net.proofs.ClaimCounts.{DifferAt, IsOutOrHome, all_below, counts_stay, first_below, losses_stay, nothing_counted}
 use Rattle.overlay_net.proofs.ClaimStates.{same_net, view}
 use Rattle.overlay_net.proofs.Committed.{extends, net_then, they_are_below}
 use Rattle.overlay_net.proofs.LosingCounts.{losing_same, losing_set}
@@ -266,9 +266,9 @@ module _ (p : Plan) (plan : IsPlan p) (al : List Bool) (ps : List PlaceView) (bo
           h.net.parts.senders m k (waits_where_some (inbox_at (whole_inboxes ps boxes) k) m (λ none. true≢false (sym pending ∙ ap (λ l. is_pending (map packet_of l)) none)))
 
       go : (g : Event) → g ≡ c.event → AreNodes p (changed p g receivers)
-      go (Sample k s w) is = let lt : k < nodes p = subst (λ j. j < nodes p) (sym (ap event_node is)) node_below in (lt, (lt, told))
-      go (Recv k m) is = (subst (λ j. j < nodes p) (sym (ap event_node is)) node_below, (sender k m is, told))
-      go (Tick k) is = let lt : k < nodes p = subst (λ j. j < nodes p) (sym (ap event_node is)) node_below in (lt, (lt, told))
+      go (Sample k s w) is = let lt : k < nodes p = subst (λ j. j < nodes p) (sym (ap event_node is)) node_below in (lt, told)
+      go (Recv k m) is = (subst (λ j. j < nodes p) (sym (ap event_node is)) node_below, first_below p (fault p m) m receivers (sender k m is) told)
+      go (Tick k) is = let lt : k < nodes p = subst (λ j. j < nodes p) (sym (ap event_node is)) node_below in (lt, told)
       go (Lose k) is = all_below (nodes p)
 
   -- ---- for lists that are equal to these

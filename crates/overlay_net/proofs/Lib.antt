@@ -5,6 +5,7 @@ pub mod CommitStates
 pub mod Committed
 pub mod Cuts
 pub mod EventCounts
+mod Faultless
 pub mod EventInvariant
 pub mod FirstFrames
 pub mod Fitting
@@ -25,6 +26,7 @@ pub mod ReadPlaces
 pub mod Refits
 pub mod Refitted
 pub mod Seen
+pub mod PlanSharing
 pub mod Sending
 pub mod SmallCounts
 pub mod States

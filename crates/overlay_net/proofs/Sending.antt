@@ -10,7 +10,7 @@ use Rattle.node_inbox.proofs.inbox.Inbox.TheSendSync as inbox
 use Rattle.overlay_core.proofs.release.Release.TheSendSync as release
 use Rattle.overlay_node.proofs.node.Node.TheSendSync as node
 use Rattle.packet_frame.proofs.frame.Frame.TheSendSync as frame
-use Rattle.stat_plan.proofs.plan.Plan.TheSendSync as plan
+use Rattle.overlay_net.proofs.PlanSharing.{plan_sync}
 use Rattle.overlay_net.proofs.claimed.Work.TheSendSync as work
 use Rattle.overlay_net.specs.contracts.claimed.Claimed as Claimed
 use Rattle.overlay_net.specs.contracts.net.Net as Net
@@ -32,4 +32,4 @@ pub net_send : (κ : NamedLft) (T : RattleType) (g : Ghosts T.Denot) → IsSend 
 net_send κ T g s =
     view_send (inside.the_row κ T g) _ _ _ _
     (recorded_send (inside.the_field κ T g).row _ _ (inside.the_type κ T g).to_one
-    (struct_send (shape (inside.the_type κ T g)) (search (sendable, plan.the_sync) depth 20, (state_send T g s, (search sendable depth 20, tt)))))
+    (struct_send (shape (inside.the_type κ T g)) (search (sendable, plan_sync) depth 20, (state_send T g s, (search sendable depth 20, tt)))))

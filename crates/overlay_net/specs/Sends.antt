@@ -1,19 +1,28 @@
 -- The packets that a node sends, and the inboxes that they go to.
-use Rattle.std.specs.Prelude.{◌≡◌, ◌≢◌, ⊤, ℕ, ◌<◌, false, ◌==◌, List, [], ◌∷◌, length, Option, Some, None}
+use Rattle.std.specs.Prelude.{◌≡◌, ◌≢◌, ⊤, ℕ, ◌<◌, false, ◌==◌, List, [], ◌∷◌, length, Option, Some, None, option_map}
 use Rattle.overlay_setup.specs.NodeSets.{up_to}
-use Rattle.stat_plan.specs.Plans.{Plan, nodes}
+use Rattle.stat_plan.specs.Plans.{Plan, fault, nodes}
 use Rattle.stat_desk.specs.declared.event.Event.{Event}
 use Rattle.stat_desk.specs.declared.event.Event.TheVariants.{Sample, Recv, Tick, Lose}
 use Rattle.node_inbox.specs.Inboxes.{IsInbox, queue_of}
 use Rattle.overlay_net.specs.Inboxes.{FrameInbox}
 use Rattle.node_inbox.specs.Sends.{inbox_at}
 
--- the nodes of whom an event may change which of their events may be claimed: its own, the sender of what it receives, and the
--- receivers of what it sends; all nodes, if it is a loss
+-- the node, if it is to be lost
+abbrev pub if_lost : Plan → ℕ → Option ℕ
+if_lost p n = option_map (λ f. n) (fault p n)
+
+-- these nodes, and one before them, if there is one
+abbrev pub with_first : Option ℕ → List ℕ → List ℕ
+with_first None ns = ns
+with_first (Some n) ns = n ∷ ns
+
+-- the nodes of whom an event may change which of their events may be claimed: its own, the sender of what it receives, if a loss
+-- waits there for the event, and the receivers of what it sends; all nodes, if it is a loss
 abbrev pub changed : Plan → Event → List ℕ → List ℕ
-changed p (Sample n s w) receivers = n ∷ n ∷ receivers
-changed p (Recv n m) receivers = n ∷ m ∷ receivers
-changed p (Tick n) receivers = n ∷ n ∷ receivers
+changed p (Sample n s w) receivers = n ∷ receivers
+changed p (Recv n m) receivers = n ∷ with_first (if_lost p m) receivers
+changed p (Tick n) receivers = n ∷ receivers
 changed p (Lose n) receivers = up_to (nodes p)
 
 -- if the event receives a packet, a packet waits

@@ -10,7 +10,7 @@ ghost use Rattle.overlay_net.specs.Nets.{sample_of};
 ghost use Rattle.overlay_net.specs.Places.{events_out, places_view};
 ghost use Rattle.overlay_net.specs.Events.{AreNodes, NoneIsLosing, free_senders};
 ghost use Rattle.overlay_net.specs.States.{AreClaimsCounted, AreClaimsCountedBut, ArePartsOf, claims_of};
-ghost use Rattle.overlay_net.specs.Sends.{changed};
+ghost use Rattle.overlay_net.specs.Sends.{changed, if_lost};
 
 use crate::events::{is_doomed, is_losing, is_received_from, is_up, next_wave};
 use crate::place::Place;
@@ -130,8 +130,18 @@ pub fn count_all<T: PrefixTree>(
     }
 }
 
+// The node, if it is to be lost.
+fn if_lost(plan: &Plan, n: u32) -> Option<u32>
+    ensures { result ≡ if_lost plan.now n }
+{
+    match plan.fault(n) {
+        Some(_) => Some(n),
+        None => None,
+    }
+}
+
 /// Counts anew the events of all nodes of whom an event may have changed which may be claimed: its own node, the sender
-/// of what it receives, and these receivers; all nodes, if it is a loss.
+/// of what it receives, if that is to be lost, and these receivers; all nodes, if it is a loss.
 pub fn recount<T: PrefixTree>(
     plan: &Plan,
     alive: &[bool],
@@ -150,15 +160,17 @@ pub fn recount<T: PrefixTree>(
     ensures { AreClaimsCounted plan.now alive.now places.now inboxes.now counts.new }
 {
     let own = event.node();
-    let other = match event {
+    let sender = match event {
         Event::Lose { .. } => return count_all(plan, alive, places, inboxes, losing, counts),
-        Event::Recv { from, .. } => from,
-        Event::Sample { .. } | Event::Tick { .. } => own,
+        Event::Recv { from, .. } => if_lost(plan, from),
+        Event::Sample { .. } | Event::Tick { .. } => None,
     };
     counts.set(own, event_count(plan, alive, places, inboxes, losing, own));
-    counts.set(
-        other,
-        event_count(plan, alive, places, inboxes, losing, other),
-    );
-    count_nodes(plan, alive, places, inboxes, losing, receivers, counts);
+    match sender {
+        Some(n) => {
+            counts.set(n, event_count(plan, alive, places, inboxes, losing, n));
+            count_nodes(plan, alive, places, inboxes, losing, receivers, counts);
+        }
+        None => count_nodes(plan, alive, places, inboxes, losing, receivers, counts),
+    }
 }

@@ -18,7 +18,7 @@ use Rattle.board_turn.proofs.holding.Holding.TheSendSync as holding
 use Rattle.overlay_net.proofs.Sending.{net_send}
 use Rattle.prefix_tree.specs.declared.PrefixTree.{Ghosts}
 use Rattle.stat_desk.proofs.journal.Journal.TheSendSync as journal
-use Rattle.stat_plan.proofs.plan.Plan.TheSendSync as plan
+use Rattle.overlay_net.proofs.PlanSharing.{plan_sync}
 use Rattle.overlay_run.specs.contracts.board.NetBoard as NetBoard
 use Rattle.overlay_run.specs.contracts.board.NetBoardBoard.TheImpl as board
 use Rattle.stat_plan.specs.contracts.plan.Plan as Plan
@@ -29,7 +29,7 @@ board_send κ T g s =
     view_send (inside.the_row κ T g) _ _ _ _
     (recorded_send (inside.the_field κ T g).row _ _ (inside.the_type κ T g).to_one
     (struct_send (shape (inside.the_type κ T g)) (
-      search (sendable, plan.the_sync) depth 20,
+      search (sendable, plan_sync) depth 20,
       (net_send κ T g s, (journal.the_send, (search (sendable, crosses, holding.the_send) depth 20, (search sendable depth 20, (search sendable depth 20, tt))))),
     )))
 

@@ -2,6 +2,7 @@
 #![tactic(auto)]
 
 mod board;
+mod given;
 mod run;
 mod worker;
 

@@ -1,6 +1,6 @@
 //! A run on several workers.
 
-ghost use Rattle.std.specs.Prelude.{◌≡◌, ◌≤◌, All, IfOk};
+ghost use Rattle.std.specs.Prelude.{◌≡◌, ◌≤◌, All, IfOk, length};
 ghost use Rattle.std.specs.Thread.{IsSync};
 ghost use Rattle.overlay_core.specs.TreeReleases.{releases_view};
 ghost use Rattle.board_turn.specs.Seats.{seat_number, split_count};
@@ -29,6 +29,7 @@ fn split_seats<'p, T: PrefixTree>(
     requires within_limit { workers ≤ 32 }
     ensures first { IfOk result (λ seats. IsIdle turn.now first.new) }
     ensures seats { IfOk result (λ seats. All (λ s. IsIdle turn.now s) seats.items) }
+    ensures count { IfOk result (λ seats. length seats.items ≡ workers) }
 {
     let mut seats = Vec::new(alloc);
     for _ in 0..workers {
@@ -52,7 +53,7 @@ fn finish<'p, R: Wait, T: PrefixTree, G: Gate>(
     ensures { IfOk result (λ ran. IsWholeRun plan.now ran.journal (releases_view T.tree ran.releases.items)) }
 {
     let mut seat = seat;
-    if !work(rt, alloc, &turn, plan, gate, &mut seat) {
+    if work(rt, alloc, &turn, plan, gate, &mut seat).is_err() {
         return Err(AllocError);
     }
     let mut held = turn.take(rt, &mut seat);
@@ -86,7 +87,7 @@ pub fn run_workers<R: Threads + Wait + Sync, T: PrefixTree, G: Gate>(
         requires { IsSync R.row × IsSync G.row × (plan_of shared.now ≡ plan.now) × IsIdle shared.now seat }
     {
         let mut seat = seat;
-        work(rt, alloc, shared, plan, gate, &mut seat)
+        work(rt, alloc, shared, plan, gate, &mut seat).is_ok()
     };
     let ended = map_vec(rt, seats, &job)?;
     drop(ended);

@@ -1,11 +1,13 @@
 //! What a worker does.
 
-ghost use Rattle.std.specs.Prelude.{◌≡◌, true, None, IfSome, IfNone};
+ghost use Rattle.std.specs.Prelude.{◌≡◌, true, None, IfErr, IfSome, IfNone, OnOk};
 ghost use Rattle.board_turn.specs.Seats.{seat_number};
 ghost use Rattle.overlay_net.specs.Claims.{WasWorked};
+ghost use Rattle.overlay_run.specs.Given.{given_board};
 ghost use Rattle.overlay_run.specs.Seats.{IsAtRest, IsAway, IsIdle, plan_of};
 
 use crate::board::NetBoard;
+use crate::given::{Given, give};
 use board_turn::{Turn, TurnSeat};
 use overlay_net::Claimed;
 use prefix_tree::PrefixTree;
@@ -47,30 +49,37 @@ fn claim_next<'p, R: Wait, T: PrefixTree>(
     Some(Some(claim))
 }
 
-// Takes the turn and stops the run.
-fn stop_run<'p, R: Wait, T: PrefixTree>(rt: &R, turn: &Turn<NetBoard<'p, T>>, seat: &mut TurnSeat)
+// Takes the turn and stops the run. Returns the stopped board that it gave back.
+fn stop_run<'p, R: Wait, T: PrefixTree>(
+    rt: &R,
+    turn: &Turn<NetBoard<'p, T>>,
+    seat: &mut TurnSeat,
+) -> Given<NetBoard<'p, T>>
     requires at_rest { IsAtRest turn.now seat.old }
     ensures at_rest { IsAtRest turn.now seat.new }
     ensures number { seat_number seat.new ≡ seat_number seat.old }
+    ensures stopped { (given_board result).stopped ≡ true }
 {
     let mut held = turn.take(rt, seat);
     held.board().stop();
-    turn.give(seat, held);
+    give(turn, seat, held)
 }
 
-// Takes the turn and commits a claim that was worked on. Returns false if memory ran out; the run is then stopped.
+// Takes the turn and commits a claim that was worked on. If memory runs out, it stops the run, and returns the stopped
+// board that it gave back.
 fn commit_claim<'p, R: Wait, T: PrefixTree>(
     rt: &R,
     alloc: Global,
     turn: &Turn<NetBoard<'p, T>>,
     seat: &mut TurnSeat,
     claim: Claimed<T>,
-) -> bool
+) -> Result<(), Given<NetBoard<'p, T>>>
     requires away { IsAway turn.now seat.old claim }
     requires worked { WasWorked (plan_of turn.now) claim }
     ensures at_rest { IsAtRest turn.now seat.new }
     ensures number { seat_number seat.new ≡ seat_number seat.old }
-    ensures idle { result ≡ true → IsIdle turn.now seat.new }
+    ensures idle { OnOk result (IsIdle turn.now seat.new) }
+    ensures stopped { IfErr result (λ given. (given_board given).stopped ≡ true) }
 {
     let mut held = turn.take(rt, seat);
     let number = seat.number();
@@ -80,17 +89,17 @@ fn commit_claim<'p, R: Wait, T: PrefixTree>(
         Ok(()) => {
             turn.commit(seat, &mut held);
             turn.give(seat, held);
-            true
+            Ok(())
         }
         Err(_) => {
             board.stop();
-            turn.give(seat, held);
-            false
+            Err(give(turn, seat, held))
         }
     }
 }
 
-// Lets a claim pass the gate, works on it, and commits it. Returns false if memory ran out; the run is then stopped.
+// Lets a claim pass the gate, works on it, and commits it. If memory runs out, it stops the run, and returns the stopped
+// board that it gave back.
 fn do_claim<'p, R: Wait, T: PrefixTree, G: Gate>(
     rt: &R,
     alloc: Global,
@@ -99,27 +108,25 @@ fn do_claim<'p, R: Wait, T: PrefixTree, G: Gate>(
     gate: &G,
     seat: &mut TurnSeat,
     claim: Claimed<T>,
-) -> bool
+) -> Result<(), Given<NetBoard<'p, T>>>
     requires plan { plan_of turn.now ≡ plan.now }
     requires fresh { claim.left ≡ None }
     requires away { IsAway turn.now seat.old claim }
     ensures at_rest { IsAtRest turn.now seat.new }
     ensures number { seat_number seat.new ≡ seat_number seat.old }
-    ensures idle { result ≡ true → IsIdle turn.now seat.new }
+    ensures idle { OnOk result (IsIdle turn.now seat.new) }
+    ensures stopped { IfErr result (λ given. (given_board given).stopped ≡ true) }
 {
     let event = claim.event();
     gate.pass(&event);
     match claim.work(alloc, plan) {
         Ok(claim) => commit_claim(rt, alloc, turn, seat, claim),
-        Err(_) => {
-            stop_run(rt, turn, seat);
-            false
-        }
+        Err(_) => Err(stop_run(rt, turn, seat)),
     }
 }
 
-/// Does events until the run is done or stopped. Returns false if memory ran out; the run is then stopped, and the seat
-/// may have a node out.
+/// Does events until the run is done or stopped. If memory runs out, it stops the run, and returns the stopped board that
+/// it gave back; the seat may then have a node out.
 pub fn work<'p, R: Wait, T: PrefixTree, G: Gate>(
     rt: &R,
     alloc: Global,
@@ -127,19 +134,20 @@ pub fn work<'p, R: Wait, T: PrefixTree, G: Gate>(
     plan: &Plan,
     gate: &G,
     seat: &mut TurnSeat,
-) -> bool
+) -> Result<(), Given<NetBoard<'p, T>>>
     requires plan { plan_of turn.now ≡ plan.now }
     requires idle { IsIdle turn.now seat.old }
     ensures number { seat_number seat.new ≡ seat_number seat.old }
-    ensures idle { result ≡ true → IsIdle turn.now seat.new }
+    ensures idle { OnOk result (IsIdle turn.now seat.new) }
+    ensures stopped { IfErr result (λ given. (given_board given).stopped ≡ true) }
 {
     for _ in rt.forever() {
         match claim_next(rt, turn, seat) {
-            None => return true,
+            None => return Ok(()),
             Some(None) => thread::yield_now(),
             Some(Some(claim)) => {
-                if !do_claim(rt, alloc, turn, plan, gate, seat, claim) {
-                    return false;
+                if let Err(given) = do_claim(rt, alloc, turn, plan, gate, seat, claim) {
+                    return Err(given);
                 }
             }
         }

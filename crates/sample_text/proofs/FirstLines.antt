@@ -5,7 +5,7 @@ use Rattle.std.specs.Char.{is_ascii_digit}
 use Rattle.std.specs.List.{list_all}
 use Rattle.std.specs.Str.{bytes_eq, IsUtf8, IsAscii, IsCharBoundary}
 use Rattle.std.proofs.Math.Seq.{take-append_seam, drop-append_seam, drop-append-add}
-use Rattle.std.proofs.lemmas.Bool.{and_parts, not-true, ne_eqb, ltb-true, ltb-false, leb-true}
+use Rattle.std.proofs.lemmas.Bool.{true≢false, false_from_ne_true, and_parts, not-true, ne_eqb, ltb-true, leb-true}
 use Rattle.std.proofs.lemmas.List.{append_assoc, drop-append-le, length-take-le, take-append-drop}
 use Rattle.std.proofs.lemmas.List.Elements.{All-head, All-tail}
 use Rattle.std.proofs.lemmas.List.Folds.{list_all-append}
@@ -13,10 +13,9 @@ use Rattle.std.proofs.lemmas.List.Sums.{prefix_len_stops, prefix_len-le-length}
 use Rattle.std.proofs.lemmas.Slice.Eq.{bytes_eq-Decides}
 use Rattle.std.proofs.lemmas.Str.{IsUtf8-append, IsUtf8-from_ascii, IsUtf8-take, IsCharBoundary-before_ascii, IsCharBoundary-after_ascii}
 use Rattle.rank_set.specs.Digits.{digits_len, value_after}
-use Rattle.rank_set.specs.Ranks.{Ranks, none, has, union, is_subset, has-none, has-union, subset_from}
+use Rattle.rank_set.specs.Ranks.{Ranks, none, has, union, is_subset, subset_from, subset_has}
 use Rattle.rank_set.specs.Runs.{ranks_between}
 use Rattle.rank_set.specs.declared.TheConstants.{RANK_LIMIT}
-use Rattle.rank_set.proofs.RunSets.{has-ranks_between}
 use Rattle.call_path.specs.Path.{Path, path_text}
 use Rattle.call_path.specs.Good.{is_plain, is_good_frame}
 use Rattle.call_path.specs.Reading.{path_of, frames, first_error, frame_error}
@@ -27,6 +26,7 @@ use Rattle.text_lines.proofs.Numbers.{word_is, number_words, number_rest}
 use Rattle.text_lines.specs.declared.text_error.TextError.TheVariants.{OutOfMemory}
 use Rattle.stat_plan.specs.Plans.{Sampled}
 use Rattle.stat_plan.specs.Samples.{all_ranks}
+use Rattle.stat_plan.proofs.OneRanks.{has_one_rank, one_rank_within}
 use Rattle.stat_plan.specs.declared.samples.TheConstants.{TIME_LIMIT}
 use Rattle.sample_text.specs.declared.parser.Parser.{Parser}
 use Rattle.sample_text.specs.LineViews.{SamplesOneRank, BeginsWithNumber, BeginsOneRank, is_no_feed}
@@ -364,16 +364,14 @@ module _ (text line after : List ℕ) (is : text ≡ line ++ 10 ∷ after) where
   feed_line path read = ap lines is ∙ line_and_feed line after (path_in_line line path read)
 
 -- one rank that others have
-one_is_subset : (all : Ranks) (rank : ℕ) → has all rank ≡ true → is_subset (union none (ranks_between rank rank)) all ≡ true
-one_is_subset all rank there = subset_from (union none (ranks_between rank rank)) all (λ r one. ap (has all) (same r one) ∙ there)
-  where
-    same : (r : ℕ) → has (union none (ranks_between rank rank)) r ≡ true → r ≡ rank
-    same r one =
-        let is : (not (nat_lt r rank) && not (nat_lt rank r)) ≡ true = sym (has-ranks_between rank rank r) ∙ sym (has-union none (ranks_between rank rank) r ∙ ap (λ t. t || has (ranks_between rank rank) r) (has-none r)) ∙ one in
-        let parts = and_parts (not (nat_lt r rank)) (not (nat_lt rank r)) is in
-        let low = ltb-false r rank (not-true (nat_lt r rank) parts.0) in
-        let high = ltb-false rank r (not-true (nat_lt rank r) parts.1) in
-        omega (arith, low, high)
+pub one_is_subset : (all : Ranks) (rank : ℕ) → has all rank ≡ true → is_subset (union none (ranks_between rank rank)) all ≡ true
+one_is_subset all rank there = subset_from (union none (ranks_between rank rank)) all (one_rank_within rank all there)
+
+-- a set of one rank is no part of a set without the rank
+pub one_is_not_subset : (all : Ranks) (rank : ℕ) → has all rank ≡ false → is_subset (union none (ranks_between rank rank)) all ≡ false
+one_is_not_subset all rank lacks =
+    false_from_ne_true (is_subset (union none (ranks_between rank rank)) all)
+    (λ lies. true≢false (sym (subset_has (union none (ranks_between rank rank)) all lies rank (has_one_rank rank)) ∙ lacks))
 
 -- a sample of a placed rank in a path, where there is room
 pub placed_sample : (s : Sampled) (number time rank : ℕ) (text : List ℕ) (path : Path) → length s.lines < 262144 → has (all_ranks s.placed) rank ≡ true → path_of text ≡ Ok path → if_room s number (with_sample s number time (union none (ranks_between rank rank)) text) ≡ Ok (with_sample_line s (sample time (union none (ranks_between rank rank)) path))

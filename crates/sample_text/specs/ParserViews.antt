@@ -35,7 +35,7 @@ pub record BeginsWithPath (p : Paths) (text : List ℕ) (number : ℕ) (after : 
 
 -- the ranks and samples of a parser
 abbrev pub parser_view : Parser → Sampled
-parser_view parser = sampled parser.placed.items (lines_of parser.paths.paths.items parser.lines.items)
+parser_view parser = sampled parser.placed.items (lines_of parser.paths.paths.items parser.lines)
 
 -- the nodes that a parser knows
 abbrev pub parser_nodes : Parser → Nodes
@@ -46,5 +46,5 @@ pub record IsConsistent (parser : Parser) : Type 0 where
   pub paired : length parser.placed.items ≡ length parser.topology.now.parents
   pub placed : parser.all ≡ all_ranks parser.placed.items
   pub paths : HoldsPaths parser.paths
-  pub numbered : PathIndicesInRange parser.paths.paths.items parser.lines.items
-  pub no_more_than_lines : length parser.paths.paths.items ≤ length parser.lines.items
+  pub numbered : PathIndicesInRange parser.paths.paths.items parser.lines
+  pub no_more_than_lines : length parser.paths.paths.items ≤ length parser.lines

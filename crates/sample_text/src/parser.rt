@@ -13,7 +13,7 @@ use crate::words::{
 };
 use overlay_setup::Topology;
 use rank_set::{RANK_LIMIT, RankSet, RanksError, read_ranks};
-use stat_plan::{LINE_LIMIT, Samples, StackLine, TIME_LIMIT};
+use stat_plan::{LINE_LIMIT, LineList, Samples, TIME_LIMIT};
 use std::alloc::{AllocError, Global};
 use text_lines::{Quantity, Reason, TextError, next_text_line, number_in};
 
@@ -25,7 +25,7 @@ pub struct Parser<'t> {
     // All ranks that are placed.
     all: RankSet,
     paths: Paths,
-    lines: Vec<StackLine>,
+    lines: LineList,
 }
 
 // `count` empty sets.
@@ -129,7 +129,7 @@ impl<'t> Parser<'t> {
             placed: empty_sets(alloc, topology.nodes())?,
             all: RankSet::new(alloc),
             paths: Paths::new(alloc),
-            lines: Vec::new(alloc),
+            lines: LineList::new(alloc),
         })
     }
 
@@ -158,7 +158,7 @@ impl<'t> Parser<'t> {
 
     // Whether there may be no line more.
     fn is_full(&self) -> bool
-        ensures { result ≡ not (nat_lt (length self.now.lines.items) LINE_LIMIT) }
+        ensures { result ≡ not (nat_lt (length self.now.lines) LINE_LIMIT) }
     {
         self.lines.len() >= LINE_LIMIT as usize
     }
@@ -173,7 +173,7 @@ impl<'t> Parser<'t> {
         text: &str,
     ) -> Result<(), TextError>
         requires ready { IsConsistent self.old }
-        requires room { length self.old.lines.items < LINE_LIMIT }
+        requires room { length self.old.lines < LINE_LIMIT }
         ensures ok { OnOk result (
             with_sample (parser_view self.old) line_number time ranks text.now ≡ Ok (parser_view self.new)
             ) }
@@ -185,7 +185,37 @@ impl<'t> Parser<'t> {
             return Err(TextError::bad(line_number, Reason::Unplaced));
         }
         let path = self.paths.number(line_number, text)?;
-        self.lines.push(StackLine { time, ranks, path })?;
+        self.lines.push(time, path, ranks)?;
+        Ok(())
+    }
+
+    // A sample of one rank at a time, in the path that a text writes.
+    #[inline(always)]
+    fn sample_of_one(
+        &mut self,
+        line_number: u64,
+        time: u32,
+        rank: u32,
+        text: &str,
+    ) -> Result<(), TextError>
+        requires ready { IsConsistent self.old }
+        requires room { length self.old.lines < LINE_LIMIT }
+        requires below_limit { rank < RANK_LIMIT }
+        ensures ok { OnOk result (
+            with_sample (parser_view self.old) line_number time (union none (ranks_between rank rank)) text.now
+            ≡ Ok (parser_view self.new)
+            ) }
+        ensures nodes { parser_nodes self.new ≡ parser_nodes self.old }
+        ensures consistent { OnOk result (IsConsistent self.new) }
+        ensures err { IsErrorOf result (
+            with_sample (parser_view self.old) line_number time (union none (ranks_between rank rank)) text.now
+            ) }
+    {
+        if !self.all.contains(rank) {
+            return Err(TextError::bad(line_number, Reason::Unplaced));
+        }
+        let path = self.paths.number(line_number, text)?;
+        self.lines.push_one(time, path, rank)?;
         Ok(())
     }
 
@@ -232,8 +262,7 @@ impl<'t> Parser<'t> {
         if self.is_full() {
             return Err(TextError::over(line_number, Quantity::Lines, LINE_LIMIT));
         }
-        let ranks = RankSet::in_one_word(*self.placed.allocator(), one.rank, one.rank);
-        self.sample(line_number, one.time, ranks, one.path)
+        self.sample_of_one(line_number, one.time, one.rank, one.path)
     }
 
     // Takes the next line, which is UTF-8 and of any kind.
@@ -258,7 +287,7 @@ impl<'t> Parser<'t> {
         requires { IsConsistent self.now }
         ensures path { IfSome result (λ cut. BeginsWithPath self.now.paths start.now.rest.now cut.0 cut.1.now) }
         ensures shorter { IfSome result (λ cut. length cut.1.now < length start.now.rest.now) }
-        ensures room { IfSome result (λ _. length self.now.lines.items < LINE_LIMIT) }
+        ensures room { IfSome result (λ _. length self.now.lines < LINE_LIMIT) }
         ensures placed { IfSome result (λ _. has self.now.all start.now.rank ≡ true) }
     {
         if self.is_full() || !self.all.contains(start.rank) {
@@ -281,8 +310,7 @@ impl<'t> Parser<'t> {
         ensures nodes { parser_nodes self.new ≡ parser_nodes self.old }
         ensures consistent { OnOk result (IsConsistent self.new) }
     {
-        let ranks = RankSet::in_one_word(*self.placed.allocator(), rank, rank);
-        self.lines.push(StackLine { time, ranks, path })?;
+        self.lines.push_one(time, path, rank)?;
         Ok(())
     }
 

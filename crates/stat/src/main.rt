@@ -3,14 +3,10 @@
 #![tactic(auto)]
 
 use arena_tree::ArenaTree;
-use stat_tool::run_program;
+use stat_tool::{RefusalLine, run_program};
 use std::process::ExitCode;
 
 /// Runs the call, tells a refusal on standard error, and ends with the number of its status.
 fn main(rt: HostRuntime) -> ExitCode {
-    let ending = run_program::<ArenaTree, _>(&rt);
-    if let Some(status) = ending.refusal {
-        let _ = eprintln!(rt; "stat: {status}");
-    }
-    ExitCode::from(ending.number)
+    run_program::<ArenaTree, _>(&rt, RefusalLine::Error)
 }

@@ -1,4 +1,6 @@
 pub mod InLists
+pub mod LineLists
+pub mod OneRanks
 pub mod Expecting
 pub mod Indexing
 pub mod Elements

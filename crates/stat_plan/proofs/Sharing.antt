@@ -1,10 +1,10 @@
 -- Rows that gain their parts of lines.
-use Rattle.std.proofs.Common.{◌≡◌, ◌≢◌, ℕ, suc, zero, ◌+◌, ◌<◌, Bool, true, false, ◌&&◌, ◌||◌, nat_eq, List, [], ◌∷◌, ◌++◌, map, take, get_or, set, length, refl, sym, ap, subst, ◌∙◌, arith, eqb-true, eq-eqb, inl, inr}
+use Rattle.std.proofs.Common.{Vec, Global, ◌≡◌, ◌≢◌, ℕ, suc, zero, ◌<◌, Bool, true, false, ◌&&◌, ◌||◌, nat_eq, List, [], ◌∷◌, ◌++◌, map, get_or, set, length, refl, sym, ap, subst, ◌∙◌, arith, eqb-true, eq-eqb, inl, inr}
 use Rattle.std.specs.Prelude.{not, if◌then◌else◌, slice_get, Option, Some, unwrap_or, Result, Ok, Err, OnOk}
 use Rattle.std.specs.List.{list_any, AllByRecursion}
 use Rattle.std.specs.List.Sorted.{IsPermutation}
 use Rattle.std.proofs.lemmas.Bool.{true≢false, cases_Bool, eqb-false, and_parts, and_from, or_cases, or_left, or_right, false_from_ne_true}
-use Rattle.std.proofs.lemmas.List.{get_or_default, length-set, length-map, map-append, map-set, set-get_or, take_more}
+use Rattle.std.proofs.lemmas.List.{get_or_default, length-set, length-map, map-append, map-set, set-get_or}
 use Rattle.std.proofs.lemmas.List.Folds.{list_any-append}
 use Rattle.std.proofs.lemmas.List.Sorted.{IsPermutation-refl, IsPermutation-sym, IsPermutation-trans}
 use Rattle.std.proofs.lemmas.Option.{none-some}
@@ -12,13 +12,14 @@ use Rattle.indexmap.specs.IndexSet.{insert_key}
 use Rattle.rank_set.specs.Ranks.{Ranks, none, has, Has, IsSubset, union, has-union, has-none}
 use Rattle.rank_set.proofs.SomeMember.{some_member}
 use Rattle.stat_plan.specs.Invariants.{ArePlacedOnce}
-use Rattle.stat_plan.specs.OwnLines.{AreKeysOf, AreNotEmpty, AreParted, AreReordered, GainParts, GainsRanks, ListPlacedRanks, is_in, key_of, lists, ranks_at, row_at}
+use Rattle.stat_plan.specs.OwnLines.{AreKeysOf, AreNotEmpty, AreParted, AreReordered, GainParts, GainsRanks, ListPlacedRanks, TakesLine, is_in, key_of, lists, ranks_at, row_at}
 use Rattle.stat_plan.specs.Samples.{all_ranks}
 use Rattle.overlay_setup.specs.NodeSets.{up_to}
+use Rattle.stat_plan.specs.Tables.{rows_view}
 use Rattle.stat_plan.specs.declared.samples.StackLine.{StackLine}
 use Rattle.stat_plan.proofs.Elements.{all_from}
 use Rattle.stat_plan.proofs.FirstOver.{all_in}
-use Rattle.stat_plan.proofs.Indexing.{other_row, same_row}
+use Rattle.stat_plan.proofs.Indexing.{other_row, row_here, rows_changed, same_row}
 use Rattle.stat_plan.proofs.InLists.{any_from_in, in_from_any, in_permuted}
 use Rattle.stat_plan.proofs.TableLemmas.{at_table, length-up_to}
 
@@ -163,11 +164,10 @@ or_group true b c = refl
 or_group false b c = refl
 
 -- one line more
-one_more : (lines : List StackLine) (k : ℕ) (line : StackLine) → k < length lines → line ≡ get_or lines k line → (r t i : ℕ) → is_in (take (k + 1) lines) r t i ≡ (is_in (take k lines) r t i || lists line r t i)
-one_more lines k line lt is r t i =
-    ap (λ xs. is_in xs r t i) (take_more lines k line lt ∙ ap (λ l. take k lines ++ l ∷ []) (sym is))
-    ∙ list_any-append (λ l. lists l r t i) (take k lines) (line ∷ [])
-    ∙ ap (λ b. is_in (take k lines) r t i || b) (or_none (lists line r t i))
+one_more : (before : List StackLine) (line : StackLine) (r t i : ℕ) → is_in (before ++ line ∷ []) r t i ≡ (is_in before r t i || lists line r t i)
+one_more before line r t i =
+    list_any-append (λ l. lists l r t i) before (line ∷ [])
+    ∙ ap (λ b. is_in before r t i || b) (or_none (lists line r t i))
 
 -- no line is shared out yet
 pub parted_none : (placed : List Ranks) (spread : List StackLine) (rows : List (List StackLine)) → spread ≡ [] → rows ≡ map (λ (_ : ℕ). []) (up_to (length placed)) → AreParted placed [] spread rows
@@ -183,9 +183,9 @@ parted_none placed spread rows none_spread is = subst (λ xs. AreParted placed [
     empty n below = ap (λ xs. row_at xs n) is ∙ at_table (λ _. []) (length placed) n [] below
 
 -- a line more is taken
-module _ (placed : List Ranks) (lines : List StackLine) (k : ℕ) (line : StackLine) (lt : k < length lines) (is : line ≡ get_or lines k line) where
+module _ (placed : List Ranks) (before : List StackLine) (line : StackLine) where
   -- by the rows
-  pub parted_by_rows : (spread : List StackLine) (old new : List (List StackLine)) → AreParted placed (take k lines) spread old → GainParts placed line old new → AreParted placed (take (k + 1) lines) spread new
+  pub parted_by_rows : (spread : List StackLine) (old new : List (List StackLine)) → AreParted placed before spread old → GainParts placed line old new → AreParted placed (before ++ line ∷ []) spread new
   parted_by_rows spread old new so_far gain = record {
     paired = gain.paired ∙ so_far.paired;
     each = λ n r t i below.
@@ -193,18 +193,18 @@ module _ (placed : List Ranks) (lines : List StackLine) (k : ℕ) (line : StackL
         ap (λ b. b || (own && is_in spread r t i)) (gain.each n r t i (inside n below))
         ∙ or_swap (is_in (row_at old n) r t i) (own && lists line r t i) (own && is_in spread r t i)
         ∙ ap (λ b. b || (own && lists line r t i)) (so_far.each n r t i below)
-        ∙ and_or own (is_in (take k lines) r t i) (lists line r t i)
-        ∙ ap (λ b. own && b) (sym (one_more lines k line lt is r t i));
+        ∙ and_or own (is_in before r t i) (lists line r t i)
+        ∙ ap (λ b. own && b) (sym (one_more before line r t i));
     not_empty = λ n below. gain.not_empty n (inside n below) (so_far.not_empty n below);
-    spread_within = λ r t i there. one_more lines k line lt is r t i ∙ or_left (is_in (take k lines) r t i) (lists line r t i) (so_far.spread_within r t i there);
+    spread_within = λ r t i there. one_more before line r t i ∙ or_left (is_in before r t i) (lists line r t i) (so_far.spread_within r t i there);
     spread_not_empty = so_far.spread_not_empty;
   }
     where
       inside : (n : ℕ) → n < length placed → n < length old
-      inside n below = subst (λ k. n < k) (sym so_far.paired) below
+      inside n below = subst (λ m. n < m) (sym so_far.paired) below
 
   -- by the spread lines
-  pub parted_by_spread : (old new : List StackLine) (rows : List (List StackLine)) → AreParted placed (take k lines) old rows → GainsRanks line line.ranks old new → AreParted placed (take (k + 1) lines) new rows
+  pub parted_by_spread : (old new : List StackLine) (rows : List (List StackLine)) → AreParted placed before old rows → GainsRanks line line.ranks old new → AreParted placed (before ++ line ∷ []) new rows
   parted_by_spread old new rows so_far gain = record {
     paired = so_far.paired;
     each = λ n r t i below.
@@ -213,12 +213,12 @@ module _ (placed : List Ranks) (lines : List StackLine) (k : ℕ) (line : StackL
         ∙ ap (λ b. is_in (row_at rows n) r t i || b) (sym (and_or own (is_in old r t i) (lists line r t i)))
         ∙ or_group (is_in (row_at rows n) r t i) (own && is_in old r t i) (own && lists line r t i)
         ∙ ap (λ b. b || (own && lists line r t i)) (so_far.each n r t i below)
-        ∙ and_or own (is_in (take k lines) r t i) (lists line r t i)
-        ∙ ap (λ b. own && b) (sym (one_more lines k line lt is r t i));
+        ∙ and_or own (is_in before r t i) (lists line r t i)
+        ∙ ap (λ b. own && b) (sym (one_more before line r t i));
     not_empty = so_far.not_empty;
-    spread_within = λ r t i there. one_more lines k line lt is r t i ∙ elim (or_cases (is_in old r t i) (lists line r t i) (sym (gain.each r t i) ∙ there)) [
-      | (inl before) ↦ or_left (is_in (take k lines) r t i) (lists line r t i) (so_far.spread_within r t i before)
-      | (inr now) ↦ or_right (is_in (take k lines) r t i) (lists line r t i) now
+    spread_within = λ r t i there. one_more before line r t i ∙ elim (or_cases (is_in old r t i) (lists line r t i) (sym (gain.each r t i) ∙ there)) [
+      | (inl earlier) ↦ or_left (is_in before r t i) (lists line r t i) (so_far.spread_within r t i earlier)
+      | (inr now) ↦ or_right (is_in before r t i) (lists line r t i) now
     ];
     spread_not_empty = gain.not_empty so_far.spread_not_empty;
   }
@@ -271,13 +271,13 @@ key_at (l ∷ lines) zero key d is = (omega arith, ap (λ (o : Option (ℕ × �
 key_at (l ∷ lines) (suc k) key d is = let rest = key_at lines k key d is in let lt = rest.0 in (omega (arith, lt), rest.1)
 
 -- the line with the key of a line gains its ranks
-pub key_gains : (line was : StackLine) (gained : Ranks) (keys new : List (ℕ × ℕ)) (old : List StackLine) (k : ℕ) (key : ℕ × ℕ) → AreKeysOf keys old → new ≡ keys → slice_get new k ≡ Some key → key_eq (key_of line) key ≡ true
-    → was ≡ get_or old k was → gained ≡ union was.ranks line.ranks → GainsRanks line line.ranks old (set old k (record { time = was.time; ranks = gained; path = was.path }))
-key_gains line was gained keys new old k key are same found equal was_is is =
+pub key_gains : (line was : StackLine) (ranks gained : Ranks) (keys new : List (ℕ × ℕ)) (old : List StackLine) (k : ℕ) (key : ℕ × ℕ) → AreKeysOf keys old → new ≡ keys → slice_get new k ≡ Some key → key_eq (key_of line) key ≡ true
+    → was ≡ get_or old k was → gained ≡ union was.ranks ranks → GainsRanks line ranks old (set old k (record { time = was.time; ranks = gained; path = was.path }))
+key_gains line was ranks gained keys new old k key are same found equal was_is is =
     let at = key_at old k key was (ap (λ ks. slice_get ks k) (sym (same ∙ are)) ∙ found) in
     let parts = and_parts (nat_eq line.path key.0) (nat_eq line.time key.1) equal in
     let here : key_of was ≡ key = ap key_of was_is ∙ at.1 in
-    entry_gains line was line.ranks gained old k at.0 was_is (ap (λ (p : ℕ × ℕ). p.1) here ∙ sym (eqb-true line.time key.1 parts.1)) (ap (λ (p : ℕ × ℕ). p.0) here ∙ sym (eqb-true line.path key.0 parts.0)) is
+    entry_gains line was ranks gained old k at.0 was_is (ap (λ (p : ℕ × ℕ). p.1) here ∙ sym (eqb-true line.time key.1 parts.1)) (ap (λ (p : ℕ × ℕ). p.0) here ∙ sym (eqb-true line.path key.0 parts.0)) is
 
 -- ---- rows in another order
 
@@ -318,3 +318,13 @@ parted_reordered placed lines spread sorted old new moved order are = record {
   spread_within = λ r t i there. are.spread_within r t i (sym (any_permuted (λ l. lists l r t i) spread sorted order) ∙ there);
   spread_not_empty = all_permuted (λ (l : StackLine). l.ranks ≢ none) spread sorted order are.spread_not_empty;
 }
+
+-- a line is taken by the row of the node that has its ranks
+pub taken_by_row : (placed : List Ranks) (rows : List (Vec StackLine Global)) (line : StackLine) (ranks : Ranks) (node : ℕ) (d row : Vec StackLine Global) (spread : List StackLine) → ArePlacedOnce placed → length rows ≡ length placed → node < length placed → IsSubset ranks (ranks_at placed node) → line.ranks ≡ ranks
+    → GainsRanks line ranks (get_or rows node d).items row.items → TakesLine placed line spread (rows_view rows) spread (rows_view (set rows node row))
+taken_by_row placed rows line ranks node d row spread once paired below lies is gain before so_far =
+    let inside : node < length rows = subst (λ k. node < k) (sym paired) below in
+    let gained = subst (λ xs. GainsRanks line line.ranks xs row.items) (row_here rows node d inside) (subst (λ s. GainsRanks line s (get_or rows node d).items row.items) (sym is) gain) in
+    subst (AreParted placed (before ++ line ∷ []) spread) (sym (rows_changed rows node row))
+    (parted_by_rows placed before line spread (rows_view rows) (set (rows_view rows) node row.items) so_far
+    (parts_of_node placed line node (rows_view rows) row.items once (subst (λ k. node < k) (sym (length-map rows (λ (r : Vec StackLine Global). r.items))) inside) (subst (λ s. IsSubset s (ranks_at placed node)) (sym is) lies) gained))

@@ -288,27 +288,28 @@ module _ (placed : List Ranks) (lines spread : List StackLine) (rows : List (Lis
   }
 
   -- those of some daemons, of which these are the ranks
+  pub united_seen : (daemons : List ℕ) (own : Ranks) → ((d : ℕ) → In d daemons → d < length placed) → ((r : ℕ) → Has r own → HasRankOn placed daemons r)
+      → (r p : ℕ) → (has own r && (list_any (λ d. sees k w (row_at rows d) r p) daemons || sees k w spread r p)) ≡ (has own r && sees k w lines r p)
+  united_seen daemons own nodes on r p = both_ways _ _
+      (λ there.
+      let parts = and_parts (has own r) (list_any (λ d. sees k w (row_at rows d) r p) daemons || sees k w spread r p) there in
+      and_from (has own r) (sees k w lines r p) parts.0 (elim (or_cases (list_any (λ d. sees k w (row_at rows d) r p) daemons) (sees k w spread r p) parts.1) [
+        | (inl here) ↦
+            let found = in_from_any (λ (d : ℕ). sees k w (row_at rows d) r p) daemons here in
+            (and_parts (has (ranks_at placed found.0) r) (sees k w lines r p) (row_seen found.0 r p (nodes found.0 found.1.0) found.1.1)).1
+        | (inr here) ↦ spread_seen r p here
+      ]))
+      (λ there.
+      let parts = and_parts (has own r) (sees k w lines r p) there in
+      let at = on r parts.0 in
+      and_from (has own r) (list_any (λ d. sees k w (row_at rows d) r p) daemons || sees k w spread r p) parts.0 (elim (or_cases (sees k w (row_at rows at.node) r p) (sees k w spread r p) (found_on at.node r p (nodes at.node at.there) at.rank parts.1)) [
+        | (inl here) ↦ or_left (list_any (λ d. sees k w (row_at rows d) r p) daemons) (sees k w spread r p) (any_from_in (λ (d : ℕ). sees k w (row_at rows d) r p) at.node daemons at.there here)
+        | (inr here) ↦ or_right (list_any (λ d. sees k w (row_at rows d) r p) daemons) (sees k w spread r p) here
+      ]))
+
   pub united_samples : (daemons : List ℕ) (own : Ranks) (count : ℕ) (some : List StackLine) → ((d : ℕ) → In d daemons → d < length placed) → ((r : ℕ) → Has r own → HasRankOn placed daemons r)
       → AreUnited k w own rows daemons spread count some → AreWaveRows k w own lines some
-  united_samples daemons own count some nodes on united = record {
-    within = united.within;
-    each = λ r p. united.each r p ∙ both_ways _ _
-        (λ there.
-        let parts = and_parts (has own r) (list_any (λ d. sees k w (row_at rows d) r p) daemons || sees k w spread r p) there in
-        and_from (has own r) (sees k w lines r p) parts.0 (elim (or_cases (list_any (λ d. sees k w (row_at rows d) r p) daemons) (sees k w spread r p) parts.1) [
-          | (inl here) ↦
-              let found = in_from_any (λ (d : ℕ). sees k w (row_at rows d) r p) daemons here in
-              (and_parts (has (ranks_at placed found.0) r) (sees k w lines r p) (row_seen found.0 r p (nodes found.0 found.1.0) found.1.1)).1
-          | (inr here) ↦ spread_seen r p here
-        ]))
-        (λ there.
-        let parts = and_parts (has own r) (sees k w lines r p) there in
-        let at = on r parts.0 in
-        and_from (has own r) (list_any (λ d. sees k w (row_at rows d) r p) daemons || sees k w spread r p) parts.0 (elim (or_cases (sees k w (row_at rows at.node) r p) (sees k w spread r p) (found_on at.node r p (nodes at.node at.there) at.rank parts.1)) [
-          | (inl here) ↦ or_left (list_any (λ d. sees k w (row_at rows d) r p) daemons) (sees k w spread r p) (any_from_in (λ (d : ℕ). sees k w (row_at rows d) r p) at.node daemons at.there here)
-          | (inr here) ↦ or_right (list_any (λ d. sees k w (row_at rows d) r p) daemons) (sees k w spread r p) here
-        ]));
-  }
+  united_samples daemons own count some nodes on united = record { within = united.within; each = λ r p. united.each r p ∙ united_seen daemons own nodes on r p }
 
 -- in another order
 pub node_lines_sorted : (k w : ℕ) (own : Ranks) (row spread some sorted : List StackLine) → IsPermutation some sorted → AreNodeLines k w own row spread some → AreNodeLines k w own row spread sorted

@@ -1,5 +1,5 @@
 -- The lines of a node alone.
-use Rattle.std.specs.Prelude.{◌≡◌, ◌≢◌, ◌<◌, ℕ, Bool, true, ◌&&◌, ◌||◌, nat_eq, List, [], length, map, slice_index_or}
+use Rattle.std.specs.Prelude.{◌≡◌, ◌≢◌, ◌<◌, ℕ, Bool, true, ◌&&◌, ◌||◌, nat_eq, List, [], ◌∷◌, ◌++◌, length, map, slice_index_or}
 use Rattle.std.specs.List.{list_any, AllByRecursion}
 use Rattle.std.specs.List.Sorted.{IsPermutation}
 use Rattle.rank_set.specs.Ranks.{Ranks, none, has, Has, IsSubset}
@@ -68,6 +68,10 @@ pub record AreParted (placed : List Ranks) (lines spread : List StackLine) (rows
   pub not_empty : (n : ℕ) → n < length placed → AreNotEmpty (row_at rows n)
   pub spread_within : (r time path : ℕ) → is_in spread r time path ≡ true → is_in lines r time path ≡ true
   pub spread_not_empty : AreNotEmpty spread
+
+-- lines that are parted stay so with a line more
+abbrev pub TakesLine : List Ranks → StackLine → List StackLine → List (List StackLine) → List StackLine → List (List StackLine) → Type 0
+TakesLine placed line old_spread old_rows spread rows = (before : List StackLine) → AreParted placed before old_spread old_rows → AreParted placed (before ++ line ∷ []) spread rows
 
 -- the path and the time of a line
 abbrev pub key_of : StackLine → ℕ × ℕ

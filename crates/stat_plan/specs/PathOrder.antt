@@ -1,10 +1,10 @@
 -- Paths in their order, and which of them a wave has.
-use Rattle.std.specs.Prelude.{◌≡◌, ◌<◌, ℕ, Bool, false, ◌&&◌, nat_eq, List, [], filter, length, map, slice_index_or, Option, None, Some}
+use Rattle.std.specs.Prelude.{◌≡◌, ◌<◌, ℕ, Bool, false, ◌&&◌, nat_eq, List, [], filter, length, map, not, slice_index_or, Option, None, Some}
 use Rattle.std.specs.Borrow.{Bor}
 use Rattle.std.specs.List.{list_any}
 use Rattle.std.specs.List.Sorted.{IsSortedBy}
 use Rattle.std.specs.Ordering.{is_lt}
-use Rattle.rank_set.specs.Ranks.{Ranks, has, in_order}
+use Rattle.rank_set.specs.Ranks.{Ranks, has, in_order, is_empty}
 use Rattle.call_path.specs.Path.{Path, path_cmp}
 use Rattle.overlay_setup.specs.NodeSets.{In}
 use Rattle.stat_plan.specs.Samples.{is_in_wave}
@@ -39,6 +39,10 @@ seen_paths ordered seen = map (λ e. e.0) (filter (λ e. slice_index_or seen e.1
 abbrev pub last_path : Option (Bor Path) → Path
 last_path None = []
 last_path (Some path) = path.now
+
+-- whether a set has a rank
+abbrev pub has_rank : Ranks → Bool
+has_rank ranks = not (is_empty ranks)
 
 -- whether two sets have a rank in common
 abbrev pub share_rank : Ranks → Ranks → Bool

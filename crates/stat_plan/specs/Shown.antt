@@ -1,7 +1,9 @@
 -- Lines of samples, as they are read.
 use Rattle.std.specs.Prelude.{◌≡◌, ℕ, List, map, Option, Some, None}
 use Rattle.call_path.specs.Functions.{func}
+use Rattle.stat_plan.specs.OwnLines.{AreParted}
 use Rattle.stat_plan.specs.Samples.{SampleLine}
+use Rattle.stat_plan.specs.Tables.{rows_view}
 use Rattle.std.specs.Borrow.{Bor}
 use Rattle.stat_plan.specs.Plans.{Plan, stream_of}
 use Rattle.overlay_setup.specs.Scripts.{Stream}
@@ -14,7 +16,11 @@ use Rattle.stat_plan.specs.declared.wave_lines.HeldLines.TheVariants.{Kept, Made
 
 -- the lines that are shown
 abbrev pub lines_view : Lines → List SampleLine
-lines_view lines = lines_of lines.paths.now lines.lines.now
+lines_view lines = lines_of lines.paths.now lines.lines.now.value
+
+-- the lines, parted by the nodes
+abbrev pub AreLinesParted : Lines → Type 0
+AreLinesParted all = AreParted all.placed.now all.lines.now.value all.parted.now.spread.items (rows_view all.parted.now.rows.items)
 
 -- the lines of a node
 abbrev pub held_lines : HeldLines → List StackLine

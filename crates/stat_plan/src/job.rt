@@ -10,7 +10,7 @@ ghost use Rattle.stat_plan.specs.OwnLines.{AreWaveLines};
 ghost use Rattle.stat_plan.specs.PathOrder.{IsOrderOf};
 ghost use Rattle.stat_plan.specs.Plans.{plan_of, nodes, front, ranks_on};
 ghost use Rattle.overlay_setup.specs.Names.{name_of};
-ghost use Rattle.stat_plan.specs.Shown.{AreNumbered, lines_view, wave_lines_view};
+ghost use Rattle.stat_plan.specs.Shown.{AreLinesParted, AreNumbered, lines_view, wave_lines_view};
 ghost use Rattle.stat_plan.specs.StackLines.{PathIndicesInRange};
 ghost use Rattle.overlay_setup.specs.Trees.{parent_of, is_daemon};
 
@@ -76,10 +76,12 @@ impl Job {
         &self.topology
     }
 
-    /// The lines of samples, in the order of their text.
-    pub fn lines(&self) -> Lines<'_>
+    /// The lines of samples as they are kept.
+    pub(crate) fn lines(&self) -> Lines<'_>
         ensures lines { lines_view result ≡ self.now.lines }
-        ensures numbered { PathIndicesInRange result.paths.now result.lines.now }
+        ensures numbered { PathIndicesInRange result.paths.now result.lines.now.value }
+        ensures placed { result.placed.now ≡ self.now.placed }
+        ensures parted { AreLinesParted result }
         ensures functions { result.functions.now ≡ map (map func) result.paths.now }
         ensures order { IsOrderOf result.paths.now result.order.now }
     {

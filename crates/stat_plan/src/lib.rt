@@ -14,6 +14,7 @@ mod find;
 mod job;
 mod limit;
 mod line_index;
+mod line_list;
 mod machine;
 mod parted_lines;
 mod path_order;
@@ -22,8 +23,9 @@ mod plan_error;
 mod samples;
 mod wave_lines;
 
+pub use line_list::{LineList, LineRanks, ListedLine};
 pub use machine::{Act, Timer};
 pub use plan::Plan;
 pub use plan_error::PlanError;
-pub use samples::{LINE_LIMIT, Lines, Samples, StackLine, TIME_LIMIT, WaveLines, WaveTimes};
+pub use samples::{LINE_LIMIT, Samples, StackLine, TIME_LIMIT, WaveLines, WaveTimes};
 pub use wave_lines::Wanted;

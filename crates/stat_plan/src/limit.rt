@@ -4,24 +4,27 @@
 //! it shares with the path just before it. So the number of distinct prefixes is the sum of each path's frames, less
 //! the frames that it shares with the path before.
 
-ghost use Rattle.std.specs.Prelude.{◌≡◌, ◌<◌, ◌≤◌, ℕ, IfOk, IfErr, OnOk, length, map, nat_le, ◌&&◌, None, Some, find};
-ghost use Rattle.std.specs.List.{AllByRecursion, flat_map};
+ghost use Rattle.std.specs.Prelude.{◌≡◌, ◌<◌, ◌≤◌, ℕ, IfOk, IfErr, OnOk, length, map, nat_le, None, Some, find};
+ghost use Rattle.std.specs.List.{flat_map};
 ghost use Rattle.std.specs.Set.{distinct_count};
+ghost use Rattle.rank_set.specs.Ranks.{Has};
 ghost use Rattle.call_path.specs.Functions.{func};
 ghost use Rattle.call_path.specs.Pairs.{prefixes};
 ghost use Rattle.call_path.specs.Path.{is_path, shared_len};
 ghost use Rattle.stat_plan.specs.Limits.{RefusesAt, first_over, is_over, is_within_limit, stream_waves};
 ghost use Rattle.overlay_setup.specs.NodeSets.{In};
-ghost use Rattle.stat_plan.specs.PathOrder.{AreSeen, IsOrderOf, last_path, numbered, seen_paths, share_rank};
+ghost use Rattle.stat_plan.specs.PathOrder.{IsOrderOf, has_rank, last_path, numbered, seen_paths};
 ghost use Rattle.stat_plan.specs.Plans.{nodes, ranks_on, stream_of};
-ghost use Rattle.stat_plan.specs.Samples.{is_in_wave, path_by, samples_of, seen_by, wave_lines};
-ghost use Rattle.stat_plan.specs.Shown.{lines_view};
+ghost use Rattle.stat_plan.specs.OwnLines.{HasRankOn};
+ghost use Rattle.stat_plan.specs.Samples.{path_by, samples_of, seen_by, wave_lines};
+ghost use Rattle.stat_plan.specs.Shown.{AreLinesParted, lines_view};
 ghost use Rattle.stat_plan.specs.StackLines.{PathIndicesInRange};
 
 use crate::job::Job;
 use crate::path_order::in_order;
 use crate::plan_error::PlanError;
-use crate::samples::{Lines, StackLine, WaveTimes};
+use crate::samples::{Lines, WaveTimes};
+use crate::wave_lines::{Wanted, ranks_seen};
 use call_path::CallPath;
 use overlay_setup::{Grain, StreamDef};
 use rank_set::RankSet;
@@ -65,35 +68,15 @@ fn is_within(paths: &[CallPath], order: &[usize], seen: &[bool]) -> bool
     true
 }
 
-// By path number, whether a line at the times of a wave lists one of some ranks in the path.
-fn paths_seen(
-    alloc: Global,
-    lines: &[StackLine],
-    count: usize,
-    times: WaveTimes,
-    ranks: &RankSet,
-) -> Result<Vec<bool>, AllocError>
-    requires { AllByRecursion (λ line. line.path < count) lines.now }
-    ensures length { IfOk result (λ seen. length seen.items ≡ count) }
-    ensures seen { IfOk result (λ seen. AreSeen lines.now times.samples times.wave ranks.now seen.items) }
+// Which of some sets have a rank.
+fn which_have_ranks(alloc: Global, sets: &[RankSet]) -> Result<Vec<bool>, AllocError>
+    ensures { IfOk result (λ seen. seen.items ≡ map has_rank sets.now) }
 {
-    let mut seen = vec![in alloc; false; count]?;
-    for line in lines {
-        if lists_rank(line, times, ranks) {
-            seen[line.path as usize] = true;
-        }
+    let mut seen = Vec::with_capacity(alloc, sets.len())?;
+    for ranks in sets {
+        seen.push(!ranks.is_empty())?;
     }
     Ok(seen)
-}
-
-// Whether a line at a time of a wave lists one of some ranks.
-fn lists_rank(line: &StackLine, times: WaveTimes, ranks: &RankSet) -> bool
-    ensures { result ≡ (is_in_wave times.samples times.wave line.now.time && share_rank line.now.ranks ranks.now) }
-{
-    if !times.contains(line.time) {
-        return false;
-    }
-    !line.ranks.is_disjoint(ranks)
 }
 
 // Whether the samples of a wave of a stream have at most 2,048 distinct prefixes. The stream has these ranks, and sees
@@ -106,9 +89,12 @@ fn wave_is_within(
     wave: u8,
     ranks: &RankSet,
 ) -> Result<bool, AllocError>
-    requires numbered { PathIndicesInRange all.paths.now all.lines.now }
+    requires numbered { PathIndicesInRange all.paths.now all.lines.now.value }
     requires functions { all.functions.now ≡ map (map func) all.paths.now }
     requires order { IsOrderOf (map (path_by stream.now.grain) all.paths.now) order.now }
+    requires parted { AreLinesParted all }
+    requires nodes { (d : ℕ) → In d stream.now.daemons → d < length all.placed.now }
+    requires ranks { (r : ℕ) → Has r ranks.now → HasRankOn all.placed.now stream.now.daemons r }
     ensures { IfOk result (λ within. within
         ≡ is_within_limit (samples_of (map (seen_by stream.now.grain ranks.now)
         (wave_lines stream.now.samples wave (lines_view all.entry))))) }
@@ -118,7 +104,13 @@ fn wave_is_within(
         samples: stream.samples(),
         wave,
     };
-    let seen = paths_seen(alloc, all.lines, paths.len(), times, ranks)?;
+    let wanted = Wanted {
+        daemons: stream.daemons(),
+        ranks,
+        times,
+    };
+    let sets = ranks_seen(alloc, all.parted, paths.len(), wanted)?;
+    let seen = which_have_ranks(alloc, &sets)?;
     Ok(is_within(paths, order, &seen))
 }
 
@@ -154,14 +146,17 @@ fn check_stream(
     stream: &StreamDef,
 ) -> Result<(), PlanError>
     requires lines { lines_view all ≡ job.now.lines }
-    requires numbered { PathIndicesInRange all.paths.now all.lines.now }
+    requires numbered { PathIndicesInRange all.paths.now all.lines.now.value }
     requires functions { all.functions.now ≡ map (map func) all.paths.now }
     requires order { IsOrderOf (map (path_by stream.now.grain) all.paths.now) order.now }
+    requires parted { AreLinesParted all }
+    requires placed { all.placed.now ≡ job.now.placed }
     requires stream { stream_of job.now stream.now.number ≡ Some stream.now }
     requires daemons { (d : ℕ) → In d stream.now.daemons → d < nodes job.now }
     ensures ok { OnOk result (find (is_over job.now) (stream_waves stream.now) ≡ None) }
     ensures err { IfErr result (RefusesAt (find (is_over job.now) (stream_waves stream.now))) }
 {
+    job.invariant();
     let ranks = ranks_of(alloc, job, stream.daemons())?;
     for wave in 0..stream.waves() {
         if !wave_is_within(alloc, all, order, stream, wave, &ranks)? {
@@ -182,10 +177,12 @@ fn check_streams(
     by_function: &[usize],
 ) -> Result<(), PlanError>
     requires lines { lines_view all ≡ job.now.lines }
-    requires numbered { PathIndicesInRange all.paths.now all.lines.now }
+    requires numbered { PathIndicesInRange all.paths.now all.lines.now.value }
     requires functions { all.functions.now ≡ map (map func) all.paths.now }
     requires order { IsOrderOf all.paths.now all.order.now }
     requires by_function { IsOrderOf all.functions.now by_function.now }
+    requires parted { AreLinesParted all }
+    requires placed { all.placed.now ≡ job.now.placed }
     ensures ok { OnOk result (first_over job.now ≡ None) }
     ensures err { IfErr result (RefusesAt (first_over job.now)) }
 {

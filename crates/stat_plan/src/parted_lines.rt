@@ -10,15 +10,17 @@ ghost use Rattle.std.specs.Prelude.{◌≡◌, ◌≢◌, ◌<◌, ◌≤◌, �
 ghost use Rattle.std.specs.List.Sorted.{IsPermutation};
 ghost use Rattle.rank_set.specs.Ranks.{none, has, Has, IsSubset};
 ghost use Rattle.stat_plan.specs.Invariants.{ArePlacedOnce};
-ghost use Rattle.stat_plan.specs.OwnLines.{AreKeysOf, AreParted, AreIndexed, AreReordered, GainsRanks, ListPlacedRanks, ranks_at, ranks_of_lines};
+ghost use Rattle.stat_plan.specs.LineLists.{AreBelowLimit, line_view, one_rank, ranks_view};
+ghost use Rattle.stat_plan.specs.OwnLines.{AreKeysOf, AreParted, AreIndexed, AreReordered, GainsRanks, ListPlacedRanks, TakesLine, ranks_at, ranks_of_lines};
 ghost use Rattle.overlay_setup.specs.NodeSets.{up_to};
 ghost use Rattle.stat_plan.specs.Samples.{all_ranks};
 ghost use Rattle.stat_plan.specs.Tables.{AreRankNodes, rows_view};
 
 use crate::line_index::line_numbers;
+use crate::line_list::{LineList, LineRanks, ListedLine};
 use crate::samples::StackLine;
 use indexmap::IndexSet;
-use rank_set::RankSet;
+use rank_set::{RANK_LIMIT, RankSet};
 use rank_table::RankTable;
 use std::alloc::{AllocError, Global};
 
@@ -76,16 +78,21 @@ fn rank_to_node_of(alloc: Global, placed: &[RankSet]) -> Result<RankTable, Alloc
 }
 
 // Whether a line is at the time of another, in its path.
-fn is_at(line: &StackLine, other: &StackLine) -> bool
+#[inline(always)]
+fn is_at(line: &ListedLine<'_>, other: &StackLine) -> bool
     ensures { result ≡ (nat_eq other.now.time line.now.time && nat_eq other.now.path line.now.path) }
 {
     other.time == line.time && other.path == line.path
 }
 
 // Gives a row ranks at the time of a line, in its path: its last line takes them up, if it is there too.
-fn add_ranks(row: &mut Vec<StackLine>, line: &StackLine, ranks: &RankSet) -> Result<(), AllocError>
+fn add_ranks(
+    row: &mut Vec<StackLine>,
+    line: &ListedLine<'_>,
+    ranks: &RankSet,
+) -> Result<(), AllocError>
     requires { ranks.now ≢ none }
-    ensures { OnOk result (GainsRanks line.now ranks.now row.old.items row.new.items) }
+    ensures { OnOk result (GainsRanks (line_view line.now) ranks.now row.old.items row.new.items) }
 {
     let count = row.len();
     if count > 0 && is_at(line, &row[count - 1]) {
@@ -94,6 +101,25 @@ fn add_ranks(row: &mut Vec<StackLine>, line: &StackLine, ranks: &RankSet) -> Res
     row.push(StackLine {
         time: line.time,
         ranks: ranks.copy()?,
+        path: line.path,
+    })?;
+    Ok(())
+}
+
+// Gives a row one rank at the time of a line, in its path, in the same way.
+#[inline(always)]
+fn add_rank(row: &mut Vec<StackLine>, line: &ListedLine<'_>, rank: u32) -> Result<(), AllocError>
+    requires { rank < RANK_LIMIT }
+    ensures { OnOk result (GainsRanks (line_view line.now) (one_rank rank) row.old.items row.new.items) }
+{
+    let ranks = RankSet::in_one_word(*row.allocator(), rank, rank);
+    let count = row.len();
+    if count > 0 && is_at(line, &row[count - 1]) {
+        return row[count - 1].ranks.union_into(&ranks);
+    }
+    row.push(StackLine {
+        time: line.time,
+        ranks,
         path: line.path,
     })?;
     Ok(())
@@ -113,6 +139,19 @@ fn only_node(rank_to_node: &RankTable, placed: &[RankSet], ranks: &RankSet) -> O
     } else {
         None
     }
+}
+
+// The node that has a placed rank.
+#[inline(always)]
+fn node_of(rank_to_node: &RankTable, placed: &[RankSet], rank: u32) -> usize
+    requires rank_to_node { AreRankNodes placed.now rank_to_node.now }
+    requires placed { IsSubset (one_rank rank) (all_ranks placed.now) }
+    ensures inside { result < length placed.now }
+    ensures subset { IsSubset (one_rank rank) (ranks_at placed.now result) }
+{
+    // for the proof: whose ranks the table has
+    let _ = placed;
+    rank_to_node.number(rank) as usize
 }
 
 // Lines that list ranks of several nodes: one for each path and time.
@@ -136,34 +175,67 @@ impl SpreadLines {
     }
 
     // Adds a line: the earlier one of its path and time takes its ranks up, if there is one.
-    fn add(&mut self, line: &StackLine) -> Result<(), AllocError>
+    fn add(&mut self, line: &ListedLine<'_>, ranks: &RankSet) -> Result<(), AllocError>
         requires keys { AreKeysOf self.old.keys.keys self.old.lines.items }
-        requires not_empty { line.now.ranks ≢ none }
+        requires not_empty { ranks.now ≢ none }
         ensures keys { OnOk result (AreKeysOf self.new.keys.keys self.new.lines.items) }
         ensures gained { OnOk result
-            (GainsRanks line.now line.now.ranks self.old.lines.items self.new.lines.items) }
+            (GainsRanks (line_view line.now) ranks.now self.old.lines.items self.new.lines.items) }
     {
         let (i, added) = self.keys.insert_full((line.path, line.time))?;
         if !added {
-            return self.lines[i].ranks.union_into(&line.ranks);
+            return self.lines[i].ranks.union_into(ranks);
         }
         self.lines.push(StackLine {
             time: line.time,
-            ranks: line.ranks.copy()?,
+            ranks: ranks.copy()?,
             path: line.path,
         })?;
         Ok(())
     }
 }
 
-// Shares the lines out: a line of which all ranks are one node's goes to that node's row, and the others are united by
-// path and time.
+// Shares a line out: a line of which all ranks are one node's goes to that node's row, and another joins the spread
+// lines.
+#[inline(always)]
+fn part_line(
+    rows: &mut [Vec<StackLine>],
+    spread: &mut SpreadLines,
+    rank_to_node: &RankTable,
+    placed: &[RankSet],
+    line: ListedLine<'_>,
+) -> Result<(), AllocError>
+    requires rank_to_node { AreRankNodes placed.now rank_to_node.now }
+    requires once { ArePlacedOnce placed.now }
+    requires paired { length rows.old ≡ length placed.now }
+    requires keys { AreKeysOf spread.old.keys.keys spread.old.lines.items }
+    requires not_empty { ranks_view line.ranks ≢ none }
+    requires placed { IsSubset (ranks_view line.ranks) (all_ranks placed.now) }
+    requires below_limit { AreBelowLimit line.ranks }
+    ensures keys { OnOk result (AreKeysOf spread.new.keys.keys spread.new.lines.items) }
+    ensures parted { OnOk result (TakesLine placed.now (line_view line.entry)
+        spread.old.lines.items (rows_view rows.old) spread.new.lines.items (rows_view rows.new)) }
+{
+    let ranks = match line.ranks {
+        LineRanks::One(rank) => {
+            let node = node_of(rank_to_node, placed, rank);
+            return add_rank(&mut rows[node], &line, rank);
+        }
+        LineRanks::Several(ranks) => ranks,
+    };
+    if let Some(node) = only_node(rank_to_node, placed, ranks) {
+        return add_ranks(&mut rows[node], &line, ranks);
+    }
+    spread.add(&line, ranks)
+}
+
+// Shares the lines out.
 fn part_lines(
     alloc: Global,
     rows: &mut [Vec<StackLine>],
     rank_to_node: &RankTable,
     placed: &[RankSet],
-    lines: &[StackLine],
+    lines: &LineList,
 ) -> Result<Vec<StackLine>, AllocError>
     requires rank_to_node { AreRankNodes placed.now rank_to_node.now }
     requires once { ArePlacedOnce placed.now }
@@ -172,11 +244,8 @@ fn part_lines(
     ensures { IfOk result (λ spread. AreParted placed.now lines.now spread.items (rows_view rows.new)) }
 {
     let mut spread = SpreadLines::new(alloc);
-    for line in lines {
-        match only_node(rank_to_node, placed, &line.ranks) {
-            Some(node) => add_ranks(&mut rows[node], line, &line.ranks)?,
-            None => spread.add(line)?,
-        }
+    for i in 0..lines.len() {
+        part_line(rows, &mut spread, rank_to_node, placed, lines.line(i))?;
     }
     Ok(spread.lines)
 }
@@ -233,7 +302,7 @@ pub struct PartedLines {
 pub fn parted_lines(
     alloc: Global,
     placed: &[RankSet],
-    lines: &[StackLine],
+    lines: &LineList,
     places: &[usize],
 ) -> Result<PartedLines, AllocError>
     requires once { ArePlacedOnce placed.now }

@@ -5,12 +5,13 @@ ghost use Rattle.rank_set.specs.Ranks.{Has, none};
 ghost use Rattle.overlay_setup.specs.NodeSets.{In};
 ghost use Rattle.call_path.specs.Functions.{func};
 ghost use Rattle.stat_plan.specs.Samples.{is_in_wave, path_by};
-ghost use Rattle.stat_plan.specs.Shown.{AreNumbered, held_lines, lines_view, wave_lines_view};
+ghost use Rattle.stat_plan.specs.Shown.{AreLinesParted, AreNumbered, held_lines, lines_view, wave_lines_view};
 ghost use Rattle.stat_plan.specs.Invariants.{AreSamples};
 ghost use Rattle.stat_plan.specs.OwnLines.{AreWaveLines, HasRankOn};
 ghost use Rattle.stat_plan.specs.PathOrder.{IsOrderOf};
 ghost use Rattle.stat_plan.specs.Plans.{sampled};
 
+use crate::line_list::LineList;
 use crate::parted_lines::{PartedLines, parted_lines};
 use crate::path_order::{in_order, path_places};
 use crate::wave_lines::{HeldLines, Wanted, node_lines, united_lines};
@@ -19,6 +20,7 @@ use overlay_setup::Grain;
 use rank_set::RankSet;
 use std::alloc::{AllocError, Global};
 use std::marker::Model;
+use std::snapshot::Snapshot;
 
 /// The last time that a sample may have.
 pub const TIME_LIMIT: u32 = 65_535;
@@ -38,10 +40,15 @@ pub struct StackLine {
     pub ranks: RankSet,
 }
 
-/// Lines of samples, with the numbers of their paths.
+/// Lines of samples as they are kept, with the numbers of their paths.
 #[derive(Clone, Copy)]
-pub struct Lines<'a> {
-    pub lines: &'a [StackLine],
+pub(crate) struct Lines<'a> {
+    /// The lines in the order of the text, for contracts alone.
+    pub lines: &'a Snapshot<LineList>,
+    /// The ranks of each node.
+    pub placed: &'a [RankSet],
+    /// The lines, parted by nodes.
+    pub parted: &'a PartedLines,
     /// The paths by number.
     pub paths: &'a [CallPath],
     /// The functions of each path, by its number.
@@ -143,10 +150,11 @@ pub struct Samples {
     functions: Vec<CallPath>,
     // The numbers of the paths in the order of the paths.
     order: Vec<usize>,
-    lines: Vec<StackLine>,
+    // The lines in the order of the text, for contracts alone.
+    lines: Snapshot<LineList>,
     // By path number, the place of the path in the order of the paths.
     places: Vec<usize>,
-    // The lines once more, by the nodes whose ranks they list.
+    // The lines, by the nodes whose ranks they list.
     parted: PartedLines,
 }
 
@@ -166,30 +174,31 @@ impl Model for Samples {
     ghost use Rattle.stat_plan.specs.PathOrder.{IsOrderOf};
     ghost use Rattle.stat_plan.specs.Tables.{rows_view};
 
-    ghost view = { λ a. sampled a.placed.items (lines_of a.paths.items a.lines.items) };
+    ghost view = { λ a. sampled a.placed.items (lines_of a.paths.items a.lines.value) };
 
     ghost invariant = { λ a.
-        PathIndicesInRange a.paths.items a.lines.items
-        × AreSamples (sampled a.placed.items (lines_of a.paths.items a.lines.items))
+        PathIndicesInRange a.paths.items a.lines.value
+        × AreSamples (sampled a.placed.items (lines_of a.paths.items a.lines.value))
         × (a.functions.items ≡ map (map func) a.paths.items)
         × IsOrderOf a.paths.items a.order.items
-        × AreParted a.placed.items a.lines.items a.parted.spread.items (rows_view a.parted.rows.items)
+        × AreParted a.placed.items a.lines.value a.parted.spread.items (rows_view a.parted.rows.items)
         × AreIndexed a.placed.items (ranks_of_lines a.parted.spread.items) a.parted.numbers.items };
 }
 
 impl Samples {
     ghost use Rattle.stat_plan.specs.StackLines.{lines_of, PathIndicesInRange, line_of};
 
-    /// The samples of these ranks by node number, and these lines, whose paths stand by their numbers.
+    /// The samples of these ranks by node number, and these lines, whose paths stand by their numbers. The lines are kept
+    /// parted alone: their list is let go.
     pub fn new(
         alloc: Global,
         placed: Vec<RankSet>,
         paths: Vec<CallPath>,
-        lines: Vec<StackLine>,
+        lines: LineList,
     ) -> Result<Samples, AllocError>
-        requires numbered { PathIndicesInRange paths.items lines.items }
-        requires samples { AreSamples (sampled placed.items (lines_of paths.items lines.items)) }
-        ensures { IfOk result (λ samples. samples ≡ sampled placed.items (lines_of paths.items lines.items)) }
+        requires numbered { PathIndicesInRange paths.items lines }
+        requires samples { AreSamples (sampled placed.items (lines_of paths.items lines)) }
+        ensures { IfOk result (λ samples. samples ≡ sampled placed.items (lines_of paths.items lines)) }
     {
         let functions = functions_of(alloc, &paths)?;
         let order = in_order(alloc, &paths)?;
@@ -200,7 +209,7 @@ impl Samples {
             paths,
             functions,
             order,
-            lines,
+            lines: Snapshot::of(&lines),
             places,
             parted,
         })
@@ -221,15 +230,19 @@ impl Samples {
         self.placed.as_slice()
     }
 
-    /// The lines in the order of the text.
-    pub fn lines(&self) -> Lines<'_>
+    /// The lines as they are kept.
+    pub(crate) fn lines(&self) -> Lines<'_>
         ensures lines { lines_view result ≡ self.now.lines }
-        ensures numbered { PathIndicesInRange result.paths.now result.lines.now }
+        ensures numbered { PathIndicesInRange result.paths.now result.lines.now.value }
+        ensures placed { result.placed.now ≡ self.now.placed }
+        ensures parted { AreLinesParted result }
         ensures functions { result.functions.now ≡ map (map func) result.paths.now }
         ensures order { IsOrderOf result.paths.now result.order.now }
     {
         Lines {
-            lines: self.lines.as_slice(),
+            lines: &self.lines,
+            placed: self.placed.as_slice(),
+            parted: &self.parted,
             paths: self.paths.as_slice(),
             functions: self.functions.as_slice(),
             order: self.order.as_slice(),

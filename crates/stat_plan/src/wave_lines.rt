@@ -127,8 +127,8 @@ pub struct Wanted<'a> {
     pub times: WaveTimes,
 }
 
-// By path number, the wanted ranks that lines list in the path at the times of the wave.
-fn ranks_seen(
+/// By path number, the wanted ranks that lines list in the path at the times of the wave.
+pub fn ranks_seen(
     alloc: Global,
     parted: &PartedLines,
     count: usize,

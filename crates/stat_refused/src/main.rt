@@ -3,13 +3,9 @@
 #![tactic(auto)]
 
 use arena_tree::ArenaTree;
-use stat_tool::run_program;
+use stat_tool::{RefusalLine, run_program};
 use std::process::ExitCode;
 
 fn main(rt: HostRuntime) -> ExitCode {
-    let ending = run_program::<ArenaTree, _>(&rt);
-    if let Some(status) = ending.refusal {
-        let _ = println!(rt; "stat: {status}");
-    }
-    ExitCode::from(ending.number)
+    run_program::<ArenaTree, _>(&rt, RefusalLine::Output)
 }

@@ -10,7 +10,6 @@ use Rattle.text_lines.specs.declared.text_error.TextError.{TextError}
 use Rattle.stat_desk.specs.declared.event.Event.{Event}
 use Rattle.stat_words.specs.Words.{Asked}
 use Rattle.stat_words.specs.Words.{Run, Sim, Replay, Direct, Gen, Frames}
-use Rattle.stat_words.specs.declared.words.ReportForm.{ReportForm}
 use Rattle.stat_words.specs.declared.words.RunReport.{RunReport}
 use Rattle.stat_words.specs.declared.words.WordFault.{WordFault}
 use Rattle.topology_text.specs.Whole.{topology_of}
@@ -160,18 +159,18 @@ module _ (asked : Asked) (contents : List ℕ → Option (List ℕ)) (told : Are
 -- the texts determine the answer, where nothing fails
 pub determined : (asked : Asked) (desk : DeskChange) (out journal : SinkChange) (events : List Event) (status : Status) → Answered (Ok asked) desk out journal events status → IsDetermined asked desk out journal status
 determined asked desk out journal events Done a told no_fault no_loss no_journal_loss =
-    inl (finishes asked desk.contents told a.0 out journal events Done a.1.1 a.1.0 (ap end_of (sym a.1.1.written.0)))
+    inl (finishes asked desk.contents told a.0 out journal events Done a.1.1 a.1.0.contents (ap end_of (sym a.1.1.written.0)))
 determined asked desk out journal events (Unfinished e) a told no_fault no_loss no_journal_loss =
-    inl (finishes asked desk.contents told a.0 out journal events (Unfinished e) a.1.1 a.1.0 (ap end_of (sym a.1.1.written.0)))
+    inl (finishes asked desk.contents told a.0 out journal events (Unfinished e) a.1.1 a.1.0.contents (ap end_of (sym a.1.1.written.0)))
 determined asked desk out journal events OutOfMemory a told no_fault no_loss no_journal_loss = inr refl
 determined asked desk out journal events (BadInput file line reason) a told no_fault no_loss no_journal_loss =
-    inl (answers asked desk.contents told a.0 (Answers (BadInput file line reason)) a.1.0 a.1.1.0 tt)
+    inl (answers asked desk.contents told a.0 (Answers (BadInput file line reason)) a.1.0.contents a.1.1.0 tt)
 determined asked desk out journal events (OverLimit file line what most) a told no_fault no_loss no_journal_loss =
-    inl (answers asked desk.contents told a.0 (Answers (OverLimit file line what most)) a.1.0 a.1.1.0 tt)
+    inl (answers asked desk.contents told a.0 (Answers (OverLimit file line what most)) a.1.0.contents a.1.1.0 tt)
 determined asked desk out journal events (BadJournal i) a told no_fault no_loss no_journal_loss =
-    inl (answers asked desk.contents told a.0 (Answers (BadJournal i)) a.1.0 a.1.1.0 tt)
+    inl (answers asked desk.contents told a.0 (Answers (BadJournal i)) a.1.0.contents a.1.1.0 tt)
 determined asked desk out journal events (BadFrames at reason) a told no_fault no_loss no_journal_loss =
-    inl (answers asked desk.contents told a.0 (Answers (BadFrames at reason)) a.1.0 a.1.1.0 tt)
+    inl (answers asked desk.contents told a.0 (Answers (BadFrames at reason)) a.1.0.contents a.1.1.0 tt)
 determined asked desk out journal events (DeskFault role) a told no_fault no_loss no_journal_loss = absurd (no_fault a.1.1.0.1.failed.rose)
 determined asked desk out journal events (SinkFault Report) a told no_fault no_loss no_journal_loss = absurd (no_loss a.1.1.written.0.rose)
 determined asked desk out journal events (SinkFault Journal) a told no_fault no_loss no_journal_loss = absurd (no_journal_loss a.1.1.written.1.rose)

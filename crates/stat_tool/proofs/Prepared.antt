@@ -3,7 +3,6 @@ use Rattle.std.proofs.Common.{◌≡◌, inl, inr, ℕ, List, [], ◌∷◌, ◌
 use Rattle.overlay_setup.specs.NodeSets.{In}
 use Rattle.stat_plan.specs.Plans.{Plan}
 use Rattle.stat_plan.proofs.InLists.{append_left}
-use Rattle.stat_desk.specs.Desk.{IsWhole}
 use Rattle.stat_desk.specs.declared.event.Event.{Event}
 use Rattle.capture_text.specs.Captures.{capture_of}
 use Rattle.journal_text.specs.Reading.{ReadJournal}
@@ -11,11 +10,12 @@ use Rattle.stat_words.specs.Words.{Asked, Names}
 use Rattle.stat_words.specs.Words.{Run, Sim, Replay, Direct, Frames}
 use Rattle.stat_words.specs.declared.words.ReportForm.{ReportForm}
 use Rattle.stat_words.specs.declared.words.RunReport.{RunReport}
-use Rattle.stat_tool.specs.Call.{DeskChange, HasJournal, IsCaptureRefusal, IsJobRefusal, IsPlanned, IsStopped, Prepared, Prevented, Prevents, Refuses}
+use Rattle.stat_tool.specs.Call.{DeskChange, Gave, HasJournal, HasNoJournal, HasRead, IsCaptureRefusal, IsJobRefusal, IsPlanned, IsStopped, Prepared, Prevented, Prevents, Refuses}
 use Rattle.stat_tool.specs.Files.{NamedFile, files_of, limit_of, plan_files}
 use Rattle.stat_tool.specs.Jobs.{RunJob, SimJob, ReplayJob, DirectJob, CaptureJob, RunOutput}
 use Rattle.stat_tool.specs.NextStep.{AfterPlan, Agrees, Answers, AreReadResults, Bytes, Does, ReadResult, Step, TooLong, Wants, at_journal, by_capture, next_step, plan_step, replay_step}
 use Rattle.stat_tool.specs.Outputs.{HasOutput}
+use Rattle.stat_tool.proofs.Stopping.{IsRestOf, failed_earlier, longer_earlier, read_no_more, read_one_more, read_too_long, whole_change, whole_earlier}
 use Rattle.stat_tool.specs.declared.status.FileRole.{FileRole}
 use Rattle.stat_tool.specs.declared.status.FileRole.TheVariants.{Journal, Capture}
 use Rattle.stat_tool.specs.declared.status.Status.{Status}
@@ -63,69 +63,101 @@ pub replay_stops : (names : Names) (journal : List ℕ) (wanted : RunReport) (de
 replay_stops names journal wanted desk status s = (
   s.0,
   (
-    read_less desk.contents (plan_files names) ((Journal, journal) ∷ []) s.0 s.1.0,
+    record { gave = s.1.0.gave; contents = read_less desk.contents (plan_files names) ((Journal, journal) ∷ []) s.0 s.1.0.contents },
     prevents_less (plan_files names) ((Journal, journal) ∷ []) desk (plan_step s.0 (at_journal wanted)) status (s.1.1 (at_journal wanted)),
   ),
 )
 
 -- ---- where there is one
 
-step_at : (files : List NamedFile) (contents : List ℕ → Option (List ℕ)) (p : Plan) (planned : IsPlanned files contents p) (after : AfterPlan) → plan_step planned.results after ≡ after p []
-step_at files contents p planned after = ap (λ (rs : List ReadResult). plan_step rs after) (sym (append-nil planned.results)) ∙ planned.step [] after
+step_at : (files : List NamedFile) (desk : DeskChange) (p : Plan) (planned : IsPlanned files desk p) (after : AfterPlan) → plan_step planned.results after ≡ after p []
+step_at files desk p planned after = ap (λ (rs : List ReadResult). plan_step rs after) (sym (append-nil planned.results)) ∙ planned.step [] after
 
-pub run_prepared : (names : Names) (workers : ℕ) (wanted : RunReport) (contents : List ℕ → Option (List ℕ)) (p : Plan) (output : RunOutput) → IsPlanned (plan_files names) contents p → HasOutput (RunJob p wanted) output → Prepared (Run names workers wanted) contents output
-run_prepared names workers wanted contents p output planned has = (planned.results, (planned.read, (RunJob p wanted, (step_at (plan_files names) contents p planned (λ p rest. Does (RunJob p wanted)), has))))
+pub run_prepared : (names : Names) (workers : ℕ) (wanted : RunReport) (desk : DeskChange) (p : Plan) (output : RunOutput) → IsPlanned (plan_files names) desk p → HasOutput (RunJob p wanted) output → Prepared (Run names workers wanted) desk output
+run_prepared names workers wanted desk p output planned has = (planned.results, (planned.read, (RunJob p wanted, (step_at (plan_files names) desk p planned (λ p rest. Does (RunJob p wanted)), has))))
 
-pub sim_prepared : (names : Names) (seed : ℕ) (wanted : RunReport) (contents : List ℕ → Option (List ℕ)) (p : Plan) (output : RunOutput) → IsPlanned (plan_files names) contents p → HasOutput (SimJob p seed wanted) output → Prepared (Sim names seed wanted) contents output
-sim_prepared names seed wanted contents p output planned has = (planned.results, (planned.read, (SimJob p seed wanted, (step_at (plan_files names) contents p planned (λ p rest. Does (SimJob p seed wanted)), has))))
+pub sim_prepared : (names : Names) (seed : ℕ) (wanted : RunReport) (desk : DeskChange) (p : Plan) (output : RunOutput) → IsPlanned (plan_files names) desk p → HasOutput (SimJob p seed wanted) output → Prepared (Sim names seed wanted) desk output
+sim_prepared names seed wanted desk p output planned has = (planned.results, (planned.read, (SimJob p seed wanted, (step_at (plan_files names) desk p planned (λ p rest. Does (SimJob p seed wanted)), has))))
 
-pub direct_prepared : (names : Names) (form : ReportForm) (contents : List ℕ → Option (List ℕ)) (p : Plan) (output : RunOutput) → IsPlanned (plan_files names) contents p → HasOutput (DirectJob p form) output → Prepared (Direct names form) contents output
-direct_prepared names form contents p output planned has = (planned.results, (planned.read, (DirectJob p form, (step_at (plan_files names) contents p planned (λ p rest. Does (DirectJob p form)), has))))
+pub direct_prepared : (names : Names) (form : ReportForm) (desk : DeskChange) (p : Plan) (output : RunOutput) → IsPlanned (plan_files names) desk p → HasOutput (DirectJob p form) output → Prepared (Direct names form) desk output
+direct_prepared names form desk p output planned has = (planned.results, (planned.read, (DirectJob p form, (step_at (plan_files names) desk p planned (λ p rest. Does (DirectJob p form)), has))))
 
 -- memory ran out, once there is a plan
-pub no_memory : (asked : Asked) (desk : DeskChange) (results : List ReadResult) → AreReadResults desk.contents (files_of asked) results → Prevented asked desk OutOfMemory
+pub no_memory : (asked : Asked) (desk : DeskChange) (results : List ReadResult) → HasRead (files_of asked) desk results → Prevented asked desk OutOfMemory
 no_memory asked desk results read = (results, (read, tt))
 
 -- ---- the journal
 
-module _ (names : Names) (journal : List ℕ) (wanted : RunReport) (desk : DeskChange) (p : Plan) (planned : IsPlanned (plan_files names) desk.contents p) where
-  with_journal : (g : ReadResult) → Agrees (desk.contents journal) (limit_of Journal) g → AreReadResults desk.contents (plan_files names ++ (Journal, journal) ∷ []) (planned.results ++ g ∷ [])
-  with_journal g agrees = read_on desk.contents (plan_files names) ((Journal, journal) ∷ []) planned.results (g ∷ []) planned.read planned.all (agrees, tt)
+module _ (names : Names) (journal : List ℕ) (wanted : RunReport) (desk first rest : DeskChange) (p : Plan) (planned : IsPlanned (plan_files names) first p)
+    (read : AreReadResults desk.contents (plan_files names) planned.results) (is_rest : IsRestOf desk rest planned.results) where
+  files : List NamedFile
+  files = plan_files names ++ (Journal, journal) ∷ []
 
-  -- where the journal was not read
-  pub journal_stops : (status : Status) → Refuses Journal journal desk status → Prevented (Replay names journal wanted) desk status
-  journal_stops OutOfMemory r = (planned.results, (read_less desk.contents (plan_files names) ((Journal, journal) ∷ []) planned.results planned.read, tt))
-  journal_stops (DeskFault role) r = (
+  without_journal : AreReadResults desk.contents files planned.results
+  unfolding files
+  without_journal = read_less desk.contents (plan_files names) ((Journal, journal) ∷ []) planned.results read
+
+  with_journal : (g : ReadResult) → Agrees (desk.contents journal) (limit_of Journal) g → AreReadResults desk.contents files (planned.results ++ g ∷ [])
+  unfolding files
+  with_journal g agrees = read_on desk.contents (plan_files names) ((Journal, journal) ∷ []) planned.results (g ∷ []) read planned.all (agrees, tt)
+
+  has_read : (bytes : List ℕ) → Gave rest journal (limit_of Journal) bytes → HasRead files desk (planned.results ++ Bytes bytes ∷ [])
+  has_read bytes given = read_one_more files desk rest planned.results is_rest journal (limit_of Journal) bytes given
+      (with_journal (Bytes bytes) (whole_earlier files desk rest planned.results is_rest journal (limit_of Journal) bytes given))
+
+  -- where the file of the journal was not read
+  unread : (status : Status) → Refuses Journal journal rest status → Prevented (Replay names journal wanted) desk status
+  unfolding files
+  unread OutOfMemory r = (planned.results, (read_no_more files desk rest planned.results is_rest without_journal r, tt))
+  unread (DeskFault role) r = (
     planned.results,
     (
-      read_less desk.contents (plan_files names) ((Journal, journal) ∷ []) planned.results planned.read,
+      read_no_more files desk rest planned.results is_rest without_journal r.1.0,
       (
-        step_at (plan_files names) desk.contents p planned (at_journal wanted) ∙ ap Wants (sym r.0),
-        record { name = journal; is_named = subst (λ role. In (role, journal) (plan_files names ++ (Journal, journal) ∷ [])) (sym r.0) (inr (inr (inr (inl refl)))); failed = r.1 },
+        step_at (plan_files names) first p planned (at_journal wanted) ∙ ap Wants (sym r.0),
+        record {
+          name = journal;
+          is_named = subst (λ role. In (role, journal) (plan_files names ++ (Journal, journal) ∷ [])) (sym r.0) (inr (inr (inr (inl refl))));
+          failed = failed_earlier files desk rest planned.results is_rest journal r.1.1;
+        },
       ),
     ),
   )
-  journal_stops (OverLimit file line what most) r = (planned.results ++ TooLong ∷ [], (with_journal TooLong r.1, planned.step (TooLong ∷ []) (at_journal wanted) ∙ ap Answers (sym r.0)))
-  journal_stops Done r = absurd r
-  journal_stops (BadWords fault) r = absurd r
-  journal_stops (BadInput file line reason) r = absurd r
-  journal_stops (SinkFault target) r = absurd r
-  journal_stops (BadJournal i) r = absurd r
-  journal_stops (Unfinished e) r = absurd r
-  journal_stops (BadFrames at reason) r = absurd r
+  unread (OverLimit file line what most) r = (
+    planned.results ++ TooLong ∷ [],
+    (
+      read_too_long files desk rest planned.results is_rest (with_journal TooLong (longer_earlier files desk rest planned.results is_rest journal (limit_of Journal) r.1.1)) r.1.0,
+      planned.step (TooLong ∷ []) (at_journal wanted) ∙ ap Answers (sym r.0),
+    ),
+  )
+  unread Done r = absurd r
+  unread (BadWords fault) r = absurd r
+  unread (BadInput file line reason) r = absurd r
+  unread (SinkFault target) r = absurd r
+  unread (BadJournal i) r = absurd r
+  unread (Unfinished e) r = absurd r
+  unread (BadFrames at reason) r = absurd r
 
-  module _ (read : ReadJournal) (has : HasJournal (desk.contents journal) p read) where
+  -- where the journal was not read
+  pub journal_stops : (status : Status) → HasNoJournal rest journal status → Prevented (Replay names journal wanted) desk status
+  unfolding files
+  journal_stops status (inl r) = unread status r
+  journal_stops status (inr r) = subst (Prevented (Replay names journal wanted) desk) (sym r.0) (planned.results ++ Bytes r.1.0 ∷ [], (has_read r.1.0 r.1.1, tt))
+
+  module _ (events_read : ReadJournal) (has : HasJournal rest journal p events_read) where
     -- where the journal leads
-    at_read : next_step (Replay names journal wanted) (planned.results ++ Bytes has.0 ∷ []) ≡ replay_step p wanted read
+    at_read : next_step (Replay names journal wanted) (planned.results ++ Bytes has.0 ∷ []) ≡ replay_step p wanted events_read
     at_read = planned.step (Bytes has.0 ∷ []) (at_journal wanted) ∙ ap (replay_step p wanted) has.1.1
 
-    pub replay_prepared : (events : List Event) (output : RunOutput) → replay_step p wanted read ≡ Does (ReplayJob p events wanted) → HasOutput (ReplayJob p events wanted) output → Prepared (Replay names journal wanted) desk.contents output
-    replay_prepared events output leads is = (planned.results ++ Bytes has.0 ∷ [], (with_journal (Bytes has.0) has.1.0, (ReplayJob p events wanted, (at_read ∙ leads, is))))
+    pub replay_prepared : (events : List Event) (output : RunOutput) → replay_step p wanted events_read ≡ Does (ReplayJob p events wanted) → HasOutput (ReplayJob p events wanted) output → Prepared (Replay names journal wanted) desk output
+    unfolding files
+    replay_prepared events output leads is = (planned.results ++ Bytes has.0 ∷ [], (has_read has.0 has.1.0, (ReplayJob p events wanted, (at_read ∙ leads, is))))
 
     -- why it is not replayed to its end
-    pub replay_refused : (status : Status) → IsJobRefusal (replay_step p wanted read) status → Prevented (Replay names journal wanted) desk status
-    replay_refused OutOfMemory r = (planned.results ++ Bytes has.0 ∷ [], (with_journal (Bytes has.0) has.1.0, tt))
-    replay_refused (BadJournal i) r = (planned.results ++ Bytes has.0 ∷ [], (with_journal (Bytes has.0) has.1.0, at_read ∙ r))
+    pub replay_refused : (status : Status) → IsJobRefusal (replay_step p wanted events_read) status → Prevented (Replay names journal wanted) desk status
+    unfolding files
+    replay_refused OutOfMemory r = (planned.results ++ Bytes has.0 ∷ [], (has_read has.0 has.1.0, tt))
+    replay_refused (BadJournal i) r = (planned.results ++ Bytes has.0 ∷ [], (has_read has.0 has.1.0, at_read ∙ r))
     replay_refused (OverLimit file line what most) r = absurd r
     replay_refused (DeskFault role) r = absurd r
     replay_refused (BadInput file line reason) r = absurd r
@@ -140,18 +172,18 @@ module _ (names : Names) (journal : List ℕ) (wanted : RunReport) (desk : DeskC
 module _ (capture : List ℕ) (desk : DeskChange) where
   -- where it was not read
   pub capture_stops : (status : Status) → Refuses Capture capture desk status → Prevented (Frames capture) desk status
-  capture_stops OutOfMemory r = ([], (tt, tt))
+  capture_stops OutOfMemory r = ([], (read_no_more ((Capture, capture) ∷ []) desk desk [] (whole_change desk) tt r, tt))
   capture_stops (DeskFault role) r = (
     [],
     (
-      tt,
+      read_no_more ((Capture, capture) ∷ []) desk desk [] (whole_change desk) tt r.1.0,
       (
         ap Wants (sym r.0),
-        record { name = capture; is_named = subst (λ (role : FileRole). In {X = NamedFile} (role, capture) ((Capture, capture) ∷ [])) (sym r.0) (inl refl); failed = r.1 },
+        record { name = capture; is_named = subst (λ (role : FileRole). In {X = NamedFile} (role, capture) ((Capture, capture) ∷ [])) (sym r.0) (inl refl); failed = r.1.1 },
       ),
     ),
   )
-  capture_stops (OverLimit file line what most) r = (TooLong ∷ [], ((r.1, tt), ap Answers (sym r.0)))
+  capture_stops (OverLimit file line what most) r = (TooLong ∷ [], (read_too_long ((Capture, capture) ∷ []) desk desk [] (whole_change desk) (r.1.1, tt) r.1.0, ap Answers (sym r.0)))
   capture_stops Done r = absurd r
   capture_stops (BadWords fault) r = absurd r
   capture_stops (BadInput file line reason) r = absurd r
@@ -160,14 +192,17 @@ module _ (capture : List ℕ) (desk : DeskChange) where
   capture_stops (Unfinished e) r = absurd r
   capture_stops (BadFrames at reason) r = absurd r
 
-  module _ (bytes : List ℕ) (whole : IsWhole (desk.contents capture) (limit_of Capture) bytes) where
-    pub capture_prepared : (output : RunOutput) → by_capture bytes (capture_of bytes) ≡ Does (CaptureJob bytes) → HasOutput (CaptureJob bytes) output → Prepared (Frames capture) desk.contents output
-    capture_prepared output leads is = (Bytes bytes ∷ [], ((whole, tt), (CaptureJob bytes, (leads, is))))
+  module _ (bytes : List ℕ) (given : Gave desk capture (limit_of Capture) bytes) where
+    capture_read : HasRead ((Capture, capture) ∷ []) desk (Bytes bytes ∷ [])
+    capture_read = record { gave = given.gave; contents = (given.whole, tt) }
+
+    pub capture_prepared : (output : RunOutput) → by_capture bytes (capture_of bytes) ≡ Does (CaptureJob bytes) → HasOutput (CaptureJob bytes) output → Prepared (Frames capture) desk output
+    capture_prepared output leads is = (Bytes bytes ∷ [], (capture_read, (CaptureJob bytes, (leads, is))))
 
     -- why it is not printed
     pub capture_refused : (status : Status) → IsCaptureRefusal (by_capture bytes (capture_of bytes)) status → Prevented (Frames capture) desk status
-    capture_refused OutOfMemory r = (Bytes bytes ∷ [], ((whole, tt), tt))
-    capture_refused (BadFrames at reason) r = (Bytes bytes ∷ [], ((whole, tt), r))
+    capture_refused OutOfMemory r = (Bytes bytes ∷ [], (capture_read, tt))
+    capture_refused (BadFrames at reason) r = (Bytes bytes ∷ [], (capture_read, r))
     capture_refused (BadJournal i) r = absurd r
     capture_refused (OverLimit file line what most) r = absurd r
     capture_refused (DeskFault role) r = absurd r

@@ -1,11 +1,11 @@
 -- From why one file's text was not read to why the call stops.
-use Rattle.std.proofs.Common.{◌≡◌, ◌≢◌, ◌≤◌, inl, inr, ℕ, zero, suc, List, [], ◌∷◌, ◌++◌, Option, Ok, Err, refl, sym, ap, subst, ◌∙◌, arith}
+use Rattle.std.proofs.Common.{◌≡◌, ◌≢◌, ◌≤◌, inl, inr, ℕ, zero, suc, List, [], ◌∷◌, ◌++◌, Option, Ok, Err, refl, sym, ap, subst, ◌∙◌, arith, append-nil}
 use Rattle.std.specs.Prelude.{Result, IfErr, IfOk, take}
 use Rattle.std.proofs.lemmas.List.{append_assoc}
 use Rattle.overlay_setup.specs.NodeSets.{In}
 use Rattle.overlay_setup.specs.Scripts.{Scripted}
 use Rattle.overlay_setup.specs.Topologies.{Nodes}
-use Rattle.stat_desk.specs.Desk.{IsLonger, IsWhole}
+use Rattle.stat_desk.specs.Desk.{FailedAt, IsLonger, IsWhole}
 use Rattle.stat_plan.specs.Plans.{Plan, Sampled, plan_of}
 use Rattle.text_lines.specs.declared.text_error.TextError.{TextError}
 use Rattle.text_lines.specs.declared.text_error.TextError.TheVariants.{Bad, Over, OutOfMemory as NoMemory}
@@ -15,124 +15,186 @@ use Rattle.script_text.specs.Whole.{script_of}
 use Rattle.stat_desk.specs.declared.event.Event.{Event}
 use Rattle.stat_words.specs.Words.{Asked, Names}
 use Rattle.stat_words.specs.declared.words.WordFault.{WordFault}
-use Rattle.stat_tool.specs.Call.{Answered, AreReadInOrder, DeskChange, Explains, HasSameContents, SinkChange, IsPlanRefusal, IsPlanned, IsRefused, IsStopped, Refuses, StopsAt, Tells}
+use Rattle.stat_tool.specs.Call.{Answered, AreReadInOrder, DeskChange, Explains, Gave, GaveNothing, HasRead, IsBadText, IsPlanRefusal, IsPlanned, IsStopped, Prevents, Refuses, SinkChange, StopsAt, Tells, TookNothing}
 use Rattle.stat_tool.specs.Files.{NamedFile, files_of, limit_of, plan_files}
-use Rattle.stat_tool.specs.NextStep.{AfterPlan, Agrees, Answers, Bytes, AreReadResults, ReadResult, TooLong, Wants, at_samples, at_script, by_samples, by_script, by_topology, next_step, plan_step, with_plan, too_long}
+use Rattle.stat_tool.specs.NextStep.{AfterPlan, Agrees, Answers, Bytes, AreReadResults, ReadResult, Step, TooLong, Wants, bytes_of, at_samples, at_script, by_samples, by_script, by_topology, next_step, plan_step, with_plan, too_long}
 use Rattle.stat_tool.specs.Status.{refusal_of}
 use Rattle.stat_tool.specs.declared.status.FileRole.{FileRole}
 use Rattle.stat_tool.specs.declared.status.FileRole.TheVariants.{Topology, Samples, Script}
 use Rattle.stat_tool.specs.declared.status.Status.{Status}
 use Rattle.stat_tool.specs.declared.status.Status.TheVariants.{Done, BadWords, DeskFault, BadInput, OverLimit, SinkFault, OutOfMemory, BadJournal, Unfinished, BadFrames}
 
--- a file that did not come was not read
-pub stops_unread : {A : Type 0} (read : List ℕ → Result A TextError) (role : FileRole) (name : List ℕ) (desk : DeskChange) (status : Status) → Refuses role name desk status → StopsAt read role name desk status
-stops_unread read role name desk OutOfMemory r = tt
-stops_unread read role name desk (DeskFault at) r = r
-stops_unread read role name desk (OverLimit file line what most) r = inl r
-stops_unread read role name desk Done r = absurd r
-stops_unread read role name desk (BadWords fault) r = absurd r
-stops_unread read role name desk (BadInput file line reason) r = absurd r
-stops_unread read role name desk (SinkFault target) r = absurd r
-stops_unread read role name desk (BadJournal i) r = absurd r
-stops_unread read role name desk (Unfinished e) r = absurd r
-stops_unread read role name desk (BadFrames at reason) r = absurd r
-
 -- a text that was refused
 pub stops_refused : {A : Type 0} (read : List ℕ → Result A TextError) (role : FileRole) (name : List ℕ) (desk : DeskChange) (error : TextError) (bytes text : List ℕ) (status : Status)
-    → status ≡ refusal_of role error → IsWhole (desk.contents name) (limit_of role) bytes → text ≡ bytes → (error ≢ NoMemory → read text ≡ Err error) → StopsAt read role name desk status
-stops_refused read role name desk (Bad line reason) bytes text status is whole same says =
-    subst (StopsAt read role name desk) (sym is) (bytes, (whole, (Bad line reason, (ap read (sym same) ∙ says (λ e. cc), refl))))
-stops_refused read role name desk (Over line what most) bytes text status is whole same says =
-    subst (StopsAt read role name desk) (sym is) (inr (bytes, (whole, (Over line what most, (ap read (sym same) ∙ says (λ e. cc), refl)))))
-stops_refused read role name desk NoMemory bytes text status is whole same says = subst (StopsAt read role name desk) (sym is) tt
+    → status ≡ refusal_of role error → Gave desk name (limit_of role) bytes → text ≡ bytes → (error ≢ NoMemory → read text ≡ Err error) → StopsAt read role name desk status
+stops_refused read role name desk (Bad line reason) bytes text status is gave same says =
+    inr (bytes, (gave, inr (Bad line reason, (ap read (sym same) ∙ says (λ e. cc), sym is))))
+stops_refused read role name desk (Over line what most) bytes text status is gave same says =
+    inr (bytes, (gave, inr (Over line what most, (ap read (sym same) ∙ says (λ e. cc), sym is))))
+stops_refused read role name desk NoMemory bytes text status is gave same says = inr (bytes, (gave, inl is))
 
-refused_earlier : {A : Type 0} (read : List ℕ → Result A TextError) (role : FileRole) (name : List ℕ) (old mid : DeskChange) (status : Status) → mid.contents ≡ old.contents → IsRefused (mid.contents name) read role status → IsRefused (old.contents name) read role status
-refused_earlier read role name old mid status contents r = (r.0, (subst (λ (t : List ℕ → Option (List ℕ)). IsWhole (t name) (limit_of role) r.0) contents r.1.0, r.1.1))
+-- ---- a part of a call, after some results
 
--- the same, seen from an earlier moment of the same desk
-pub stops_earlier : {A : Type 0} (read : List ℕ → Result A TextError) (role : FileRole) (name : List ℕ) (old mid : DeskChange) (status : Status)
-    → old.before ≤ mid.before → old.now ≡ mid.now → old.last_fault ≡ mid.last_fault → mid.contents ≡ old.contents
-    → StopsAt read role name mid status → StopsAt read role name old status
-stops_earlier read role name old mid OutOfMemory le now last contents r = tt
-stops_earlier read role name old mid (DeskFault at) le now last contents r = (r.0, record { rose = omega (arith, r.1.rose, le, now); last = last ∙ r.1.last })
-stops_earlier read role name old mid (BadInput file line reason) le now last contents r = refused_earlier read role name old mid (BadInput file line reason) contents r
-stops_earlier read role name old mid (OverLimit file line what most) le now last contents (inl r) =
-    inl (r.0, subst (λ (t : List ℕ → Option (List ℕ)). IsLonger (t name) (limit_of role)) contents r.1)
-stops_earlier read role name old mid (OverLimit file line what most) le now last contents (inr r) = inr (refused_earlier read role name old mid (OverLimit file line what most) contents r)
-stops_earlier read role name old mid Done le now last contents r = absurd r
-stops_earlier read role name old mid (BadWords fault) le now last contents r = absurd r
-stops_earlier read role name old mid (SinkFault target) le now last contents r = absurd r
-stops_earlier read role name old mid (BadJournal i) le now last contents r = absurd r
-stops_earlier read role name old mid (Unfinished e) le now last contents r = absurd r
-stops_earlier read role name old mid (BadFrames at reason) le now last contents r = absurd r
+-- this change of a desk is the rest of another, after reads of these results
+pub record IsRestOf (desk rest : DeskChange) (results : List ReadResult) : Type 0 where
+  pub later : desk.before ≤ rest.before
+  pub now : desk.now ≡ rest.now
+  pub last : desk.last_fault ≡ rest.last_fault
+  pub contents : rest.contents ≡ desk.contents
+  pub gave_before : rest.gave_before ≡ desk.gave_before ++ bytes_of results
+  pub gave_now : desk.gave_now ≡ rest.gave_now
+
+-- the whole of it
+pub whole_change : (desk : DeskChange) → IsRestOf desk desk []
+whole_change desk = record { later = omega (arith); now = refl; last = refl; contents = refl; gave_before = sym (append-nil desk.gave_before); gave_now = refl }
+
+bytes_of_more : (results : List ReadResult) (bytes : List ℕ) → bytes_of (results ++ Bytes bytes ∷ []) ≡ bytes_of results ++ bytes ∷ []
+bytes_of_more [] bytes = refl
+bytes_of_more (Bytes first ∷ results) bytes = ap (λ (all : List (List ℕ)). first ∷ all) (bytes_of_more results bytes)
+bytes_of_more (TooLong ∷ results) bytes = bytes_of_more results bytes
+
+bytes_of_long : (results : List ReadResult) → bytes_of (results ++ TooLong ∷ []) ≡ bytes_of results
+bytes_of_long [] = refl
+bytes_of_long (Bytes first ∷ results) = ap (λ (all : List (List ℕ)). first ∷ all) (bytes_of_long results)
+bytes_of_long (TooLong ∷ results) = bytes_of_long results
+
+module _ (files : List NamedFile) (desk rest : DeskChange) (results : List ReadResult) (is_rest : IsRestOf desk rest results) where
+  -- the rest gave nothing
+  pub read_no_more : AreReadResults desk.contents files results → GaveNothing rest → HasRead files desk results
+  read_no_more read nothing = record { gave = is_rest.gave_now ∙ nothing ∙ is_rest.gave_before; contents = read }
+
+  pub read_too_long : AreReadResults desk.contents files (results ++ TooLong ∷ []) → GaveNothing rest → HasRead files desk (results ++ TooLong ∷ [])
+  read_too_long read nothing = record {
+    gave = is_rest.gave_now ∙ nothing ∙ is_rest.gave_before ∙ ap (λ (all : List (List ℕ)). desk.gave_before ++ all) (sym (bytes_of_long results));
+    contents = read;
+  }
+
+  -- the rest gave one file more
+  pub read_one_more : (name : List ℕ) (limit : ℕ) (bytes : List ℕ) → Gave rest name limit bytes → AreReadResults desk.contents files (results ++ Bytes bytes ∷ []) → HasRead files desk (results ++ Bytes bytes ∷ [])
+  read_one_more name limit bytes given read = record {
+    gave = is_rest.gave_now ∙ given.gave ∙ ap (λ (all : List (List ℕ)). all ++ bytes ∷ []) is_rest.gave_before ∙ append_assoc desk.gave_before (bytes_of results) (bytes ∷ [])
+        ∙ ap (λ (all : List (List ℕ)). desk.gave_before ++ all) (sym (bytes_of_more results bytes));
+    contents = read;
+  }
+
+  -- what a file has, and that the desk failed, seen from the beginning
+  pub whole_earlier : (name : List ℕ) (limit : ℕ) (bytes : List ℕ) → Gave rest name limit bytes → IsWhole (desk.contents name) limit bytes
+  whole_earlier name limit bytes given = subst (λ (t : List ℕ → Option (List ℕ)). IsWhole (t name) limit bytes) is_rest.contents given.whole
+
+  pub longer_earlier : (name : List ℕ) (limit : ℕ) → IsLonger (rest.contents name) limit → IsLonger (desk.contents name) limit
+  longer_earlier name limit longer = subst (λ (t : List ℕ → Option (List ℕ)). IsLonger (t name) limit) is_rest.contents longer
+
+  pub failed_earlier : (name : List ℕ) → FailedAt rest.before rest.now rest.last_fault name → FailedAt desk.before desk.now desk.last_fault name
+  failed_earlier name failed = record { rose = omega (arith, failed.rose, is_rest.later, is_rest.now); last = is_rest.last ∙ failed.last }
+
+-- a text's error is the answer
+error_prevents : (files : List NamedFile) (desk : DeskChange) (next : Step) (role : FileRole) (error : TextError) → next ≡ Answers (refusal_of role error) → Prevents files desk next (refusal_of role error)
+error_prevents files desk next role (Bad line reason) is = is
+error_prevents files desk next role (Over line what most) is = is
+error_prevents files desk next role NoMemory is = tt
 
 -- the call stops at a file whose text was not read, where all files before it were read
-module _ {A : Type 0} (files : List NamedFile) (desk : DeskChange) (role : FileRole) (name : List ℕ) (read : List ℕ → Result A TextError) (before : List ReadResult)
+module _ {A : Type 0} (files : List NamedFile) (desk rest : DeskChange) (role : FileRole) (name : List ℕ) (read : List ℕ → Result A TextError) (before : List ReadResult)
+    (is_rest : IsRestOf desk rest before)
     (wants : (after : AfterPlan) → plan_step before after ≡ Wants role)
     (long : (after : AfterPlan) → plan_step (before ++ TooLong ∷ []) after ≡ Answers (too_long role))
     (bad : (bytes : List ℕ) (e : TextError) → read bytes ≡ Err e → (after : AfterPlan) → plan_step (before ++ Bytes bytes ∷ []) after ≡ Answers (refusal_of role e))
     (listed : In (role, name) files)
     (earlier : AreReadResults desk.contents files before)
     (more : (g : ReadResult) → Agrees (desk.contents name) (limit_of role) g → AreReadResults desk.contents files (before ++ g ∷ [])) where
-  refused : (status : Status) → IsRefused (desk.contents name) read role status
-      → (results : List ReadResult) × (AreReadResults desk.contents files results × ((after : AfterPlan) → plan_step results after ≡ Answers status))
-  refused status r = (before ++ Bytes r.0 ∷ [], (more (Bytes r.0) r.1.0, λ after. bad r.0 r.1.1.0 r.1.1.1.0 after ∙ ap Answers r.1.1.1.1))
-
-  pub stops : (status : Status) → StopsAt read role name desk status → IsStopped files desk status
-  stops OutOfMemory r = (before, (earlier, λ after. tt))
-  stops (DeskFault at) r = (
+  unread : (status : Status) → Refuses role name rest status → IsStopped files desk status
+  unread OutOfMemory r = (before, (read_no_more files desk rest before is_rest earlier r, λ after. tt))
+  unread (DeskFault at) r = (
     before,
-    (earlier, λ after. (wants after ∙ ap Wants (sym r.0), record { name = name; is_named = subst (λ (q : FileRole). In (q, name) files) (sym r.0) listed; failed = r.1 })),
+    (
+      read_no_more files desk rest before is_rest earlier r.1.0,
+      λ after. (
+        wants after ∙ ap Wants (sym r.0),
+        record { name = name; is_named = subst (λ (q : FileRole). In (q, name) files) (sym r.0) listed; failed = failed_earlier files desk rest before is_rest name r.1.1 },
+      ),
+    ),
   )
-  stops (BadInput file line reason) r = refused (BadInput file line reason) r
-  stops (OverLimit file line what most) (inl r) = (before ++ TooLong ∷ [], (more TooLong r.1, λ after. long after ∙ ap Answers (sym r.0)))
-  stops (OverLimit file line what most) (inr r) = refused (OverLimit file line what most) r
-  stops Done r = absurd r
-  stops (BadWords fault) r = absurd r
-  stops (SinkFault target) r = absurd r
-  stops (BadJournal i) r = absurd r
-  stops (Unfinished e) r = absurd r
-  stops (BadFrames at reason) r = absurd r
+  unread (OverLimit file line what most) r = (
+    before ++ TooLong ∷ [],
+    (
+      read_too_long files desk rest before is_rest (more TooLong (longer_earlier files desk rest before is_rest name (limit_of role) r.1.1)) r.1.0,
+      λ after. long after ∙ ap Answers (sym r.0),
+    ),
+  )
+  unread Done r = absurd r
+  unread (BadWords fault) r = absurd r
+  unread (BadInput file line reason) r = absurd r
+  unread (SinkFault target) r = absurd r
+  unread (BadJournal i) r = absurd r
+  unread (Unfinished e) r = absurd r
+  unread (BadFrames at reason) r = absurd r
+
+  one_more : (bytes : List ℕ) → Gave rest name (limit_of role) bytes → HasRead files desk (before ++ Bytes bytes ∷ [])
+  one_more bytes given = read_one_more files desk rest before is_rest name (limit_of role) bytes given (more (Bytes bytes) (whole_earlier files desk rest before is_rest name (limit_of role) bytes given))
+
+  refused : (status : Status) (bytes : List ℕ) → Gave rest name (limit_of role) bytes → IsBadText read role bytes status → IsStopped files desk status
+  refused status bytes given (inl is) = subst (IsStopped files desk) (sym is) (before ++ Bytes bytes ∷ [], (one_more bytes given, λ after. tt))
+  refused status bytes given (inr e) = subst (IsStopped files desk) e.1.1
+      (before ++ Bytes bytes ∷ [], (one_more bytes given, λ after. error_prevents files desk (plan_step (before ++ Bytes bytes ∷ []) after) role e.0 (bad bytes e.0 e.1.0 after)))
+
+  pub stops : (status : Status) → StopsAt read role name rest status → IsStopped files desk status
+  stops status (inl r) = unread status r
+  stops status (inr r) = refused status r.0 r.1.0 r.1.1
+
+-- ---- the three files
+
+-- a file with these contents was read as this
+abbrev pub HasText : {A : Type 0} → Option (List ℕ) → ℕ → (List ℕ → Result A TextError) → A → Type 0
+HasText contents limit read x = (bytes : List ℕ) × (IsWhole contents limit bytes × (read bytes ≡ Ok x))
 
 -- a file that was read, as the desk had it at the start
-pub tells_earlier : {A : Type 0} (old mid : List ℕ → Option (List ℕ)) (name : List ℕ) (limit : ℕ) (read : List ℕ → Result A TextError) (x : A) → mid ≡ old → Tells (mid name) limit read x → Tells (old name) limit read x
-tells_earlier old mid name limit read x contents t = (t.0, (subst (λ (u : List ℕ → Option (List ℕ)). IsWhole (u name) limit t.0) contents t.1.0, t.1.1))
+abbrev pub text_at_start : {A : Type 0} (start : List ℕ → Option (List ℕ)) (desk : DeskChange) (name : List ℕ) (limit : ℕ) (read : List ℕ → Result A TextError) (x : A)
+    → desk.contents ≡ start → Tells desk name limit read x → HasText (start name) limit read x
+text_at_start start desk name limit read x same t = (t.0, (subst (λ (u : List ℕ → Option (List ℕ)). IsWhole (u name) limit t.0) same t.1.0.whole, t.1.1))
+
+-- two files were given, and three
+pub gave_two : (old mid new : List (List ℕ)) (a b : List ℕ) → mid ≡ old ++ a ∷ [] → new ≡ mid ++ b ∷ [] → new ≡ old ++ a ∷ b ∷ []
+gave_two old mid new a b first second = second ∙ ap (λ (all : List (List ℕ)). all ++ b ∷ []) first ∙ append_assoc old (a ∷ []) (b ∷ [])
+
+pub gave_three : (old one two new : List (List ℕ)) (a b c : List ℕ) → one ≡ old ++ a ∷ [] → two ≡ one ++ b ∷ [] → new ≡ two ++ c ∷ [] → new ≡ old ++ a ∷ b ∷ c ∷ []
+gave_three old one two new a b c first second third =
+    third ∙ ap (λ (all : List (List ℕ)). all ++ c ∷ []) (gave_two old one two a b first second) ∙ append_assoc old (a ∷ b ∷ []) (c ∷ [])
 
 -- where the topology was not read
 pub stops_topology : (names : Names) (desk : DeskChange) (status : Status) → StopsAt topology_of Topology names.topology desk status → IsStopped (plan_files names) desk status
 stops_topology names desk status r =
-    stops (plan_files names) desk Topology names.topology topology_of [] (λ after. refl) (λ after. refl) (λ bytes e is after. ap (λ o. by_topology o [] after) is) (inl refl) tt (λ g agrees. (agrees, tt)) status r
+    stops (plan_files names) desk desk Topology names.topology topology_of [] (whole_change desk) (λ after. refl) (λ after. refl) (λ bytes e is after. ap (λ o. by_topology o [] after) is) (inl refl) tt (λ g agrees. (agrees, tt)) status r
 
-module _ (names : Names) (desk : DeskChange) (t : Nodes) (topology : Tells (desk.contents names.topology) (limit_of Topology) topology_of t) where
+module _ (names : Names) (desk : DeskChange) (t : Nodes) (topology : HasText (desk.contents names.topology) (limit_of Topology) topology_of t) where
   -- the steps from the samples on
   with_nodes : (rest : List ReadResult) (after : AfterPlan) → plan_step (Bytes topology.0 ∷ rest) after ≡ at_samples t rest after
   with_nodes rest after = ap (λ o. by_topology o rest after) topology.1.1
 
   -- where the samples were not read
-  pub stops_samples : (status : Status) → StopsAt (samples_of_text t) Samples names.samples desk status → IsStopped (plan_files names) desk status
-  stops_samples status r =
-      stops (plan_files names) desk Samples names.samples (samples_of_text t) (Bytes topology.0 ∷ []) (with_nodes []) (with_nodes (TooLong ∷ []))
+  pub stops_samples : (rest : DeskChange) → IsRestOf desk rest (Bytes topology.0 ∷ []) → (status : Status) → StopsAt (samples_of_text t) Samples names.samples rest status → IsStopped (plan_files names) desk status
+  stops_samples rest is_rest status r =
+      stops (plan_files names) desk rest Samples names.samples (samples_of_text t) (Bytes topology.0 ∷ []) is_rest (with_nodes []) (with_nodes (TooLong ∷ []))
       (λ bytes e is after. with_nodes (Bytes bytes ∷ []) after ∙ ap (λ o. by_samples t o [] after) is) (inr (inl refl)) (topology.1.0, tt) (λ g agrees. (topology.1.0, (agrees, tt))) status r
 
-  module _ (s : Sampled) (samples : Tells (desk.contents names.samples) (limit_of Samples) (samples_of_text t) s) where
+  module _ (s : Sampled) (samples : HasText (desk.contents names.samples) (limit_of Samples) (samples_of_text t) s) where
     -- the steps from the script on
     with_samples : (rest : List ReadResult) (after : AfterPlan) → plan_step (Bytes topology.0 ∷ Bytes samples.0 ∷ rest) after ≡ at_script t s rest after
     with_samples rest after = with_nodes (Bytes samples.0 ∷ rest) after ∙ ap (λ o. by_samples t o rest after) samples.1.1
 
     -- where the script was not read
-    pub stops_script : (status : Status) → StopsAt (script_of t) Script names.script desk status → IsStopped (plan_files names) desk status
-    stops_script status r =
-        stops (plan_files names) desk Script names.script (script_of t) (Bytes topology.0 ∷ Bytes samples.0 ∷ []) (with_samples []) (with_samples (TooLong ∷ []))
+    pub stops_script : (rest : DeskChange) → IsRestOf desk rest (Bytes topology.0 ∷ Bytes samples.0 ∷ []) → (status : Status) → StopsAt (script_of t) Script names.script rest status → IsStopped (plan_files names) desk status
+    stops_script rest is_rest status r =
+        stops (plan_files names) desk rest Script names.script (script_of t) (Bytes topology.0 ∷ Bytes samples.0 ∷ []) is_rest (with_samples []) (with_samples (TooLong ∷ []))
         (λ bytes e is after. with_samples (Bytes bytes ∷ []) after ∙ ap (λ o. by_script t s o [] after) is) (inr (inr (inl refl))) (topology.1.0, (samples.1.0, tt)) (λ g agrees. (topology.1.0, (samples.1.0, (agrees, tt)))) status r
 
-    module _ (c : Scripted) (script : Tells (desk.contents names.script) (limit_of Script) (script_of t) c) where
+    module _ (c : Scripted) (script : HasText (desk.contents names.script) (limit_of Script) (script_of t) c) (gave : desk.gave_now ≡ desk.gave_before ++ topology.0 ∷ samples.0 ∷ script.0 ∷ []) where
       -- what the three files gave
       pub all_results : List ReadResult
       all_results = Bytes topology.0 ∷ Bytes samples.0 ∷ Bytes script.0 ∷ []
 
-      pub all_are_read : AreReadResults desk.contents (plan_files names) all_results
+      pub all_are_read : HasRead (plan_files names) desk all_results
       unfolding all_results
-      all_are_read = (topology.1.0, (samples.1.0, (script.1.0, tt)))
+      all_are_read = record { gave = gave; contents = (topology.1.0, (samples.1.0, (script.1.0, tt))) }
 
       -- where they lead
       pub with_script : (rest : List ReadResult) (after : AfterPlan) → plan_step (all_results ++ rest) after ≡ with_plan (plan_of t s c) rest after
@@ -154,7 +216,7 @@ module _ (names : Names) (desk : DeskChange) (t : Nodes) (topology : Tells (desk
       stops_plan (BadFrames at reason) r = absurd r
 
       -- the plan that is run
-      pub planned : (plan : Plan) → ((rest : List ReadResult) (after : AfterPlan) → with_plan (plan_of t s c) rest after ≡ after plan rest) → IsPlanned (plan_files names) desk.contents plan
+      pub planned : (plan : Plan) → ((rest : List ReadResult) (after : AfterPlan) → with_plan (plan_of t s c) rest after ≡ after plan rest) → IsPlanned (plan_files names) desk plan
       unfolding all_results
       planned plan is = record { results = all_results; read = all_are_read; all = refl; step = λ rest after. with_script rest after ∙ is rest after }
 
@@ -205,30 +267,14 @@ reads_all before mid now xs ys all some =
     let part = part_after some.0 xs ys in
     (part.0, some.1 ∙ ap (λ zs. zs ++ take some.0 ys) all ∙ append_assoc before xs (take some.0 ys) ∙ ap (λ zs. before ++ zs) part.1)
 
--- why a file could not be read, seen from an earlier moment of the same desk
-pub refuses_earlier : (role : FileRole) (name : List ℕ) (old mid : DeskChange) (status : Status)
-    → old.before ≤ mid.before → old.now ≡ mid.now → old.last_fault ≡ mid.last_fault → mid.contents ≡ old.contents
-    → Refuses role name mid status → Refuses role name old status
-refuses_earlier role name old mid OutOfMemory le now last contents r = tt
-refuses_earlier role name old mid (DeskFault at) le now last contents r = (r.0, record { rose = omega (arith, r.1.rose, le, now); last = last ∙ r.1.last })
-refuses_earlier role name old mid (OverLimit file line what most) le now last contents r =
-    (r.0, subst (λ (t : List ℕ → Option (List ℕ)). IsLonger (t name) (limit_of role)) contents r.1)
-refuses_earlier role name old mid Done le now last contents r = absurd r
-refuses_earlier role name old mid (BadWords fault) le now last contents r = absurd r
-refuses_earlier role name old mid (BadInput file line reason) le now last contents r = absurd r
-refuses_earlier role name old mid (SinkFault target) le now last contents r = absurd r
-refuses_earlier role name old mid (BadJournal i) le now last contents r = absurd r
-refuses_earlier role name old mid (Unfinished e) le now last contents r = absurd r
-refuses_earlier role name old mid (BadFrames at reason) le now last contents r = absurd r
-
 -- where memory ran out before the words were read
 pub words_need_memory : (asked : Result Asked WordFault) (desk : DeskChange) (out journal : SinkChange) (events : List Event) (status : Status)
-    → status ≡ OutOfMemory → HasSameContents out → HasSameContents journal → events ≡ [] → Answered asked desk out journal events status
-words_need_memory (Err fault) desk out journal events status is same_out same_journal none = (inr is, record { same_report = same_out; same_journal = same_journal; no_events = none })
-words_need_memory (Ok command) desk out journal events status is same_out same_journal none = (
+    → status ≡ OutOfMemory → GaveNothing desk → TookNothing out → TookNothing journal → events ≡ [] → Answered asked desk out journal events status
+words_need_memory (Err fault) desk out journal events status is gave same_out same_journal none = (inr is, record { same_report = same_out; same_journal = same_journal; no_events = none })
+words_need_memory (Ok command) desk out journal events status is gave same_out same_journal none = (
   [],
   (
-    tt,
+    read_no_more (files_of command) desk desk [] (whole_change desk) tt gave,
     subst (λ (s : Status). Explains (files_of command) desk out journal (next_step command []) events s) (sym is)
         (tt, record { same_report = same_out; same_journal = same_journal; no_events = none }),
   ),

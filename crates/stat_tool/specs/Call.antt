@@ -11,11 +11,11 @@ use Rattle.stat_desk.specs.declared.event.Event.{Event}
 use Rattle.stat_plan.specs.Plans.{Plan}
 use Rattle.text_lines.specs.declared.text_error.TextError.{TextError}
 use Rattle.journal_text.specs.Reading.{ReadJournal, journal_of}
-use Rattle.stat_words.specs.Words.{Asked}
+use Rattle.stat_words.specs.Words.{Asked, Run, Sim}
 use Rattle.stat_words.specs.declared.words.WordFault.{WordFault}
 use Rattle.stat_tool.specs.Files.{NamedFile, files_of, limit_of}
 use Rattle.stat_tool.specs.Jobs.{Job, RunJob, SimJob, ReplayJob, DirectJob, GenJob, CaptureJob, RunOutput}
-use Rattle.stat_tool.specs.NextStep.{AfterPlan, Answers, Bytes, Does, AreReadResults, ReadResult, Step, TooLong, Wants, next_step, plan_step, too_long}
+use Rattle.stat_tool.specs.NextStep.{AfterPlan, Answers, Bytes, Does, AreReadResults, ReadResult, Step, TooLong, Wants, bytes_of, next_step, plan_step, too_long}
 use Rattle.stat_tool.specs.Outputs.{HasOutput}
 use Rattle.stat_tool.specs.Status.{refusal_of}
 use Rattle.stat_tool.specs.declared.status.FileRole.{FileRole}
@@ -24,52 +24,83 @@ use Rattle.stat_tool.specs.declared.status.Target.TheVariants.{Report, Journal}
 use Rattle.stat_tool.specs.declared.status.Status.{Status}
 use Rattle.stat_tool.specs.declared.status.Status.TheVariants.{Done, BadWords, DeskFault, BadInput, OverLimit, SinkFault, OutOfMemory, BadJournal, Unfinished, BadFrames}
 
--- a desk before and after a call: its count of faults, the last name at which it rose, and the contents of its files
+-- a desk before and after a call: its count of faults, the last name at which it rose, the bytes that its reads gave, file by
+-- file, and the contents of its files
 pub record DeskChange : Type 0 where
   pub before : ℕ
   pub now : ℕ
   pub last_fault : Option (List ℕ)
+  pub gave_before : List (List ℕ)
+  pub gave_now : List (List ℕ)
   pub contents : List ℕ → Option (List ℕ)
 
 -- that of a desk which became another, by the ghosts of its trait
-abbrev pub desk_change : {D : Type 0} → (D → ℕ) → (D → Option (List ℕ)) → (D → List ℕ → Option (List ℕ)) → D → D → DeskChange
-desk_change faults last_fault contents old new =
-    record { before = faults old; now = faults new; last_fault = last_fault new; contents = contents old }
+abbrev pub desk_change : {D : Type 0} → (D → ℕ) → (D → Option (List ℕ)) → (D → List (List ℕ)) → (D → List ℕ → Option (List ℕ))
+    → D → D → DeskChange
+desk_change faults last_fault gave contents old new = record {
+  before = faults old;
+  now = faults new;
+  last_fault = last_fault new;
+  gave_before = gave old;
+  gave_now = gave new;
+  contents = contents old;
+}
 
--- a sink before and after a call: its count of faults, and its contents
+-- a sink before and after a call: its count of faults, the bytes that it took, and its contents
 pub record SinkChange : Type 0 where
   pub before : ℕ
   pub now : ℕ
+  pub took_before : List ℕ
+  pub took_now : List ℕ
   pub contents_before : Option (List ℕ)
   pub contents_now : Option (List ℕ)
 
 -- that of a sink which became another, by the ghosts of its trait
-abbrev pub sink_change : {O : Type 0} → (O → ℕ) → (O → Option (List ℕ)) → O → O → SinkChange
-sink_change faults contents old new =
-    record { before = faults old; now = faults new; contents_before = contents old; contents_now = contents new }
+abbrev pub sink_change : {O : Type 0} → (O → ℕ) → (O → List ℕ) → (O → Option (List ℕ)) → O → O → SinkChange
+sink_change faults took contents old new = record {
+  before = faults old;
+  now = faults new;
+  took_before = took old;
+  took_now = took new;
+  contents_before = contents old;
+  contents_now = contents new;
+}
+
+-- The desk gave just these results, from the first of these files on: their bytes are the bytes that its reads gave, in order,
+-- and they are what the desk has, where it can tell its files.
+pub record HasRead (files : List NamedFile) (desk : DeskChange) (results : List ReadResult) : Type 0 where
+  pub gave : desk.gave_now ≡ desk.gave_before ++ bytes_of results
+  pub contents : AreReadResults desk.contents files results
 
 -- the names asked for, before and after: some of these were added, from the first on, in order, each once
 abbrev pub AreReadInOrder : List (List ℕ) → List (List ℕ) → List (List ℕ) → Type 0
 AreReadInOrder before now names = (n : ℕ) × (now ≡ before ++ take n names)
 
--- the sink's contents are the same
-abbrev pub HasSameContents : SinkChange → Type 0
-HasSameContents sink = sink.contents_now ≡ sink.contents_before
+-- the names asked for, before and after: all of these were added, each once, in order
+abbrev pub AreAllRead : List (List ℕ) → List (List ℕ) → List (List ℕ) → Type 0
+AreAllRead before now names = now ≡ before ++ names
 
--- the sink took the whole text
-abbrev pub TookWhole : SinkChange → List ℕ → Type 0
-TookWhole sink text = Appends sink.contents_before sink.contents_now text
+-- the sink took no byte, and its contents are the same
+pub record TookNothing (sink : SinkChange) : Type 0 where
+  pub took : sink.took_now ≡ sink.took_before
+  pub contents : sink.contents_now ≡ sink.contents_before
+
+-- the sink took the whole text: its writes took just these bytes, and they were appended to its contents
+pub record TookWhole (sink : SinkChange) (text : List ℕ) : Type 0 where
+  pub took : sink.took_now ≡ sink.took_before ++ text
+  pub contents : Appends sink.contents_before sink.contents_now text
 
 -- the sink took a prefix of the text, and its count of faults rose
 pub record TookPrefix (sink : SinkChange) (text : List ℕ) : Type 0 where
-  pub prefix : AppendsPrefix sink.contents_before sink.contents_now text
+  pub took : (n : ℕ) × (sink.took_now ≡ sink.took_before ++ take n text)
+  pub contents : AppendsPrefix sink.contents_before sink.contents_now text
   pub rose : Rose sink.before sink.now
 
 -- What the sinks of the report and of the journal have of an output, by the status. The report is written first.
 abbrev pub Written : RunOutput → SinkChange → SinkChange → Status → Type 0
 Written output out journal Done = (output.unfinished ≡ None) × (TookWhole out output.report × TookWhole journal output.journal_text)
 Written output out journal (Unfinished e) = (output.unfinished ≡ Some e) × (TookWhole out output.report × TookWhole journal output.journal_text)
-Written output out journal (SinkFault Report) = TookPrefix out output.report × HasSameContents journal
+Written output out journal (SinkFault Report) = TookPrefix out output.report × TookNothing journal
 Written output out journal (SinkFault Journal) = TookWhole out output.report × TookPrefix journal output.journal_text
 Written output out journal status = ⊥
 
@@ -85,8 +116,8 @@ pub record Finishes (next : Step) (out journal : SinkChange) (events : List Even
 
 -- nothing was written, and no event is returned
 pub record StaysSame (out journal : SinkChange) (events : List Event) : Type 0 where
-  pub same_report : HasSameContents out
-  pub same_journal : HasSameContents journal
+  pub same_report : TookNothing out
+  pub same_journal : TookNothing journal
   pub no_events : events ≡ []
 
 -- the desk failed at this file
@@ -120,7 +151,7 @@ Explains files desk out journal next events status = Prevents files desk next st
 abbrev pub Answered : Result Asked WordFault → DeskChange → SinkChange → SinkChange → List Event → Status → Type 0
 Answered (Err fault) desk out journal events status = ((status ≡ BadWords fault) ⊎ (status ≡ OutOfMemory)) × StaysSame out journal events
 Answered (Ok asked) desk out journal events status =
-    (results : List ReadResult) × (AreReadResults desk.contents (files_of asked) results
+    (results : List ReadResult) × (HasRead (files_of asked) desk results
     × Explains (files_of asked) desk out journal (next_step asked results) events status)
 
 -- ---- what the texts determine
@@ -171,13 +202,33 @@ HasWritten (Unfinished e) = Unit {0}
 HasWritten (SinkFault target) = Unit {0}
 HasWritten status = ⊥
 
+-- the commands that write no journal, whatever they report: all but a run and a simulation
+abbrev pub WritesNoJournal : Asked → Type 0
+WritesNoJournal (Run names workers wanted) = ⊥
+WritesNoJournal (Sim names seed wanted) = ⊥
+WritesNoJournal command = Unit {0}
+
 -- ---- the parts of the call: no clause of a public call cites what follows
+
+-- the reads gave no bytes
+abbrev pub GaveNothing : DeskChange → Type 0
+GaveNothing desk = desk.gave_now ≡ desk.gave_before
+
+-- the reads gave these bytes alone, all those of a file
+pub record Gave (desk : DeskChange) (name : List ℕ) (limit : ℕ) (bytes : List ℕ) : Type 0 where
+  pub gave : desk.gave_now ≡ desk.gave_before ++ bytes ∷ []
+  pub whole : IsWhole (desk.contents name) limit bytes
+
+-- all bytes of a file were fed
+abbrev pub FeedsFile : {F : Type 0} → (F → List ℕ → F → Type 0) → F → F → DeskChange → List ℕ → ℕ → Type 0
+FeedsFile feeds old new desk name limit = (bytes : List ℕ) × (feeds old bytes new × Gave desk name limit bytes)
 
 -- why one file could not be read
 abbrev pub Refuses : FileRole → List ℕ → DeskChange → Status → Type 0
-Refuses role name desk OutOfMemory = Unit {0}
-Refuses role name desk (DeskFault r) = (r ≡ role) × FailedAt desk.before desk.now desk.last_fault name
-Refuses role name desk (OverLimit file line what most) = (OverLimit file line what most ≡ too_long role) × IsLonger (desk.contents name) (limit_of role)
+Refuses role name desk OutOfMemory = GaveNothing desk
+Refuses role name desk (DeskFault r) = (r ≡ role) × (GaveNothing desk × FailedAt desk.before desk.now desk.last_fault name)
+Refuses role name desk (OverLimit file line what most) =
+    (OverLimit file line what most ≡ too_long role) × (GaveNothing desk × IsLonger (desk.contents name) (limit_of role))
 Refuses role name desk Done = ⊥
 Refuses role name desk (BadWords fault) = ⊥
 Refuses role name desk (BadInput file line reason) = ⊥
@@ -186,50 +237,40 @@ Refuses role name desk (BadJournal i) = ⊥
 Refuses role name desk (Unfinished e) = ⊥
 Refuses role name desk (BadFrames at reason) = ⊥
 
--- a file with these contents was read as this
-abbrev pub Tells : {A : Type 0} → Option (List ℕ) → ℕ → (List ℕ → Result A TextError) → A → Type 0
-Tells contents limit read x = (bytes : List ℕ) × (IsWhole contents limit bytes × (read bytes ≡ Ok x))
+-- the file of this name was read as this
+abbrev pub Tells : {A : Type 0} → DeskChange → List ℕ → ℕ → (List ℕ → Result A TextError) → A → Type 0
+Tells desk name limit read x = (bytes : List ℕ) × (Gave desk name limit bytes × (read bytes ≡ Ok x))
 
--- the file has a text whose first error makes this status
-abbrev pub IsRefused : {A : Type 0} → Option (List ℕ) → (List ℕ → Result A TextError) → FileRole → Status → Type 0
-IsRefused contents read role status =
-    (bytes : List ℕ) × (IsWhole contents (limit_of role) bytes × ((e : TextError) × ((read bytes ≡ Err e) × (refusal_of role e ≡ status))))
+-- why a text that was read has no value: memory ran out, or its first error makes this status
+abbrev pub IsBadText : {A : Type 0} → (List ℕ → Result A TextError) → FileRole → List ℕ → Status → Type 0
+IsBadText read role bytes status = (status ≡ OutOfMemory) ⊎ ((e : TextError) × ((read bytes ≡ Err e) × (refusal_of role e ≡ status)))
 
--- why the text of a file was not read: the file could not be read, it is too long, or it has an error
+-- why a file gives no value: it could not be read, or its text has none
 abbrev pub StopsAt : {A : Type 0} → (List ℕ → Result A TextError) → FileRole → List ℕ → DeskChange → Status → Type 0
-StopsAt read role name desk OutOfMemory = Unit {0}
-StopsAt read role name desk (DeskFault r) = (r ≡ role) × FailedAt desk.before desk.now desk.last_fault name
-StopsAt read role name desk (BadInput file line reason) = IsRefused (desk.contents name) read role (BadInput file line reason)
-StopsAt read role name desk (OverLimit file line what most) =
-    ((OverLimit file line what most ≡ too_long role) × IsLonger (desk.contents name) (limit_of role)) ⊎ IsRefused (desk.contents name) read role (OverLimit file line what most)
-StopsAt read role name desk Done = ⊥
-StopsAt read role name desk (BadWords fault) = ⊥
-StopsAt read role name desk (SinkFault target) = ⊥
-StopsAt read role name desk (BadJournal i) = ⊥
-StopsAt read role name desk (Unfinished e) = ⊥
-StopsAt read role name desk (BadFrames at reason) = ⊥
+StopsAt read role name desk status = Refuses role name desk status
+    ⊎ ((bytes : List ℕ) × (Gave desk name (limit_of role) bytes × IsBadText read role bytes status))
 
 -- what the files gave leads to this output
-abbrev pub Prepared : Asked → (List ℕ → Option (List ℕ)) → RunOutput → Type 0
-Prepared asked contents output = (results : List ReadResult) × (AreReadResults contents (files_of asked) results
+abbrev pub Prepared : Asked → DeskChange → RunOutput → Type 0
+Prepared asked desk output = (results : List ReadResult) × (HasRead (files_of asked) desk results
     × ((job : Job) × ((next_step asked results ≡ Does job) × HasOutput job output)))
 
 -- what the files gave is why the call stops
 abbrev pub Prevented : Asked → DeskChange → Status → Type 0
 Prevented asked desk status =
-    (results : List ReadResult) × (AreReadResults desk.contents (files_of asked) results × Prevents (files_of asked) desk (next_step asked results) status)
+    (results : List ReadResult) × (HasRead (files_of asked) desk results × Prevents (files_of asked) desk (next_step asked results) status)
 
 -- what the files of a plan gave leads to this plan, whatever comes after it
-pub record IsPlanned (files : List NamedFile) (contents : List ℕ → Option (List ℕ)) (p : Plan) : Type 0 where
+pub record IsPlanned (files : List NamedFile) (desk : DeskChange) (p : Plan) : Type 0 where
   pub results : List ReadResult
-  pub read : AreReadResults contents files results
+  pub read : HasRead files desk results
   pub all : length results ≡ length files
   pub step : (rest : List ReadResult) (after : AfterPlan) → plan_step (results ++ rest) after ≡ after p rest
 
 -- what the files of a plan gave is why the call stops, whatever comes after a plan
 abbrev pub IsStopped : List NamedFile → DeskChange → Status → Type 0
 IsStopped files desk status =
-    (results : List ReadResult) × (AreReadResults desk.contents files results × ((after : AfterPlan) → Prevents files desk (plan_step results after) status))
+    (results : List ReadResult) × (HasRead files desk results × ((after : AfterPlan) → Prevents files desk (plan_step results after) status))
 
 -- why three good files give no plan: it passes the limit of prefixes, or memory is out
 abbrev pub IsPlanRefusal : (AfterPlan → Step) → Status → Type 0
@@ -283,6 +324,11 @@ IsEventRefusal refused (SinkFault target) = ⊥
 IsEventRefusal refused (Unfinished e) = ⊥
 IsEventRefusal refused (BadFrames at reason) = ⊥
 
--- the journal of a file with these contents was read as this
-abbrev pub HasJournal : Option (List ℕ) → Plan → ReadJournal → Type 0
-HasJournal contents p read = (bytes : List ℕ) × (IsWhole contents (limit_of RoleJournal) bytes × (journal_of p bytes ≡ read))
+-- the journal of this name was read as this
+abbrev pub HasJournal : DeskChange → List ℕ → Plan → ReadJournal → Type 0
+HasJournal desk name p read = (bytes : List ℕ) × (Gave desk name (limit_of RoleJournal) bytes × (journal_of p bytes ≡ read))
+
+-- why a journal was not read: the file could not be read, or memory ran out after it
+abbrev pub HasNoJournal : DeskChange → List ℕ → Status → Type 0
+HasNoJournal desk name status = Refuses RoleJournal name desk status
+    ⊎ ((status ≡ OutOfMemory) × ((bytes : List ℕ) × Gave desk name (limit_of RoleJournal) bytes))

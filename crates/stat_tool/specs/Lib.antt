@@ -7,3 +7,4 @@ pub mod Outputs
 pub mod Call
 pub mod Ending
 pub mod Views
+pub mod Rows

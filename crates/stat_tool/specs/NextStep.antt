@@ -149,3 +149,9 @@ abbrev pub AreReadResults : (List ℕ → Option (List ℕ)) → List NamedFile 
 AreReadResults contents files [] = Unit {0}
 AreReadResults contents [] (g ∷ gs) = ⊥
 AreReadResults contents (f ∷ files) (g ∷ gs) = Agrees (contents f.1) (limit_of f.0) g × AreReadResults contents files gs
+
+-- the bytes of what was read, file by file
+abbrev pub bytes_of : List ReadResult → List (List ℕ)
+bytes_of [] = []
+bytes_of (Bytes bytes ∷ results) = bytes ∷ bytes_of results
+bytes_of (TooLong ∷ results) = bytes_of results

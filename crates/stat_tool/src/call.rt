@@ -1,7 +1,8 @@
 //! From words and files to a report and a journal.
-ghost use Rattle.std.specs.Prelude.{◌≡◌, ⊤, [], Ok, IfErr, IfOk, map, string_bytes};
+ghost use Rattle.std.specs.Prelude.{◌≡◌, ⊤, [], Ok, IfErr, IfOk, OnOk, map, string_bytes};
 ghost use Rattle.stat_words.specs.Words.{IsInRanges, asked, asked_of};
-ghost use Rattle.stat_tool.specs.Call.{Answered, AreReadInOrder, HasWritten, IsDetermined, Prepared, Prevented, Written};
+ghost use Rattle.stat_tool.specs.Call.{Answered, AreAllRead, AreReadInOrder, HasWritten, IsDetermined};
+ghost use Rattle.stat_tool.specs.Call.{Prepared, Prevented, Written, WritesNoJournal};
 ghost use Rattle.stat_tool.specs.Call.{desk_change, sink_change};
 ghost use Rattle.stat_tool.specs.Files.{files_of, names_in};
 ghost use Rattle.stat_tool.specs.Views.{output_view};
@@ -19,14 +20,16 @@ use std::sync::Wait;
 use std::thread::Threads;
 
 /// Does what the words ask for: reads the files that they name, runs the overlay on their samples, and writes the
-/// report, or the frames that went over the overlay's links, to `out` and the journal to `journal`. `T` is how the overlay keeps its trees. A run's events are done by as
-/// many threads of `rt` as its words say, and each passes the gate; no other mode makes a thread or passes the gate.
+/// report, or the frames that went over the overlay's links, to `out` and the journal to `journal`. `T` is how the
+/// overlay keeps its trees. A run's events are done by as many threads of `rt` as its words say, and each passes the
+/// gate; no other mode makes a thread or passes the gate.
 ///
 /// The files are read each once, in the order topology, samples, script, journal, and each is tested before the next is
 /// read; a capture is read alone. The report and the journal's text are built whole before their first byte is written.
 ///
 /// `answered` has the headline: where the status is Done, the files lead to a job, and the journal and the report are
-/// an output of it, `HasOutput`. Every other status has its cause there, too.
+/// an output of it, `HasOutput`. The bytes of the files are those that the desk's reads gave, and the sinks took just
+/// those of the output. Every other status has its cause there, too.
 pub fn stat<R: Threads + Wait + Sync, T: PrefixTree, D: Desk, O: Sink, J: Sink, G: Gate>(
     rt: &R,
     alloc: Global,
@@ -37,18 +40,23 @@ pub fn stat<R: Threads + Wait + Sync, T: PrefixTree, D: Desk, O: Sink, J: Sink, 
     gate: &G,
 ) -> Outcome
     ensures answered { Answered (asked (map string_bytes words.now))
-        (desk_change D.faults D.last_fault D.contents desk.old desk.new)
-        (sink_change O.faults O.contents out.old out.new) (sink_change J.faults J.contents journal.old journal.new)
-        result.journal result.status }
+        (desk_change D.faults D.last_fault D.gave D.contents desk.old desk.new)
+        (sink_change O.faults O.took O.contents out.old out.new)
+        (sink_change J.faults J.took J.contents journal.old journal.new) result.journal result.status }
     ensures determined { IfOk (asked (map string_bytes words.now)) (λ command. IsDetermined command
-        (desk_change D.faults D.last_fault D.contents desk.old desk.new)
-        (sink_change O.faults O.contents out.old out.new) (sink_change J.faults J.contents journal.old journal.new)
-        result.status) }
+        (desk_change D.faults D.last_fault D.gave D.contents desk.old desk.new)
+        (sink_change O.faults O.took O.contents out.old out.new)
+        (sink_change J.faults J.took J.contents journal.old journal.new) result.status) }
     ensures reads { IfOk (asked (map string_bytes words.now)) (λ command.
         AreReadInOrder (D.reads desk.old) (D.reads desk.new) (names_in (files_of command))) }
+    ensures all_read { IfOk (asked (map string_bytes words.now)) (λ command. HasWritten result.status
+        → AreAllRead (D.reads desk.old) (D.reads desk.new) (names_in (files_of command))) }
     ensures unread { IfErr (asked (map string_bytes words.now)) (λ fault. desk.new ≡ desk.old) }
     ensures untouched { ¬ HasWritten result.status → (out.new ≡ out.old) × (journal.new ≡ journal.old) }
     ensures journal { ¬ HasWritten result.status → result.journal ≡ [] }
+    ensures kept { IfOk (asked (map string_bytes words.now))
+        (λ command. WritesNoJournal command → journal.new ≡ journal.old) }
+    ensures report_first { result.status ≡ Status.SinkFault Target.Report → journal.new ≡ journal.old }
 {
     run::<R, T, D, O, J, G>(rt, alloc, words, desk, out, journal, gate)
 }
@@ -64,14 +72,19 @@ fn run<R: Threads + Wait + Sync, T: PrefixTree, D: Desk, O: Sink, J: Sink, G: Ga
     gate: &G,
 ) -> Outcome
     ensures answered { Answered (asked (map string_bytes words.now))
-        (desk_change D.faults D.last_fault D.contents desk.old desk.new)
-        (sink_change O.faults O.contents out.old out.new) (sink_change J.faults J.contents journal.old journal.new)
-        result.journal result.status }
+        (desk_change D.faults D.last_fault D.gave D.contents desk.old desk.new)
+        (sink_change O.faults O.took O.contents out.old out.new)
+        (sink_change J.faults J.took J.contents journal.old journal.new) result.journal result.status }
     ensures reads { IfOk (asked (map string_bytes words.now)) (λ command.
         AreReadInOrder (D.reads desk.old) (D.reads desk.new) (names_in (files_of command))) }
+    ensures all_read { IfOk (asked (map string_bytes words.now)) (λ command. HasWritten result.status
+        → AreAllRead (D.reads desk.old) (D.reads desk.new) (names_in (files_of command))) }
     ensures unread { IfErr (asked (map string_bytes words.now)) (λ fault. desk.new ≡ desk.old) }
     ensures untouched { ¬ HasWritten result.status → (out.new ≡ out.old) × (journal.new ≡ journal.old) }
     ensures journal { ¬ HasWritten result.status → result.journal ≡ [] }
+    ensures kept { IfOk (asked (map string_bytes words.now))
+        (λ command. WritesNoJournal command → journal.new ≡ journal.old) }
+    ensures report_first { result.status ≡ Status.SinkFault Target.Report → journal.new ≡ journal.old }
 {
     let command = match read_words(alloc, words) {
         Ok(command) => command,
@@ -104,11 +117,16 @@ fn prepare<R: Threads + Wait + Sync, T: PrefixTree, D: Desk, G: Gate>(
     gate: &G,
 ) -> Result<Output, Status>
     requires ranges { IsInRanges command }
-    ensures ok { IfOk result (λ output. Prepared (asked_of command.entry) (D.contents desk.old) (output_view output)) }
+    ensures ok { IfOk result (λ output. Prepared (asked_of command.entry)
+        (desk_change D.faults D.last_fault D.gave D.contents desk.old desk.new) (output_view output)) }
     ensures err { IfErr result (Prevented (asked_of command.entry)
-        (desk_change D.faults D.last_fault D.contents desk.old desk.new)) }
+        (desk_change D.faults D.last_fault D.gave D.contents desk.old desk.new)) }
     ensures reads { AreReadInOrder (D.reads desk.old) (D.reads desk.new)
         (names_in (files_of (asked_of command.entry))) }
+    ensures all_read { OnOk result (AreAllRead (D.reads desk.old) (D.reads desk.new)
+        (names_in (files_of (asked_of command.entry)))) }
+    ensures unwritten { IfOk result
+        (λ output. WritesNoJournal (asked_of command.entry) → output.journal_text.items ≡ []) }
 {
     match command {
         Command::Run {
@@ -134,10 +152,12 @@ fn prepare<R: Threads + Wait + Sync, T: PrefixTree, D: Desk, G: Gate>(
 
 // Writes the report, and then the journal.
 fn deliver<O: Sink, J: Sink>(output: Output, out: &mut O, journal: &mut J) -> Outcome
-    ensures written { Written (output_view output) (sink_change O.faults O.contents out.old out.new)
-        (sink_change J.faults J.contents journal.old journal.new) result.status }
+    ensures written { Written (output_view output) (sink_change O.faults O.took O.contents out.old out.new)
+        (sink_change J.faults J.took J.contents journal.old journal.new) result.status }
     ensures events { result.journal ≡ output.journal }
     ensures some { HasWritten result.status }
+    ensures kept { output.journal_text.items ≡ [] → journal.new ≡ journal.old }
+    ensures report_first { result.status ≡ Status.SinkFault Target.Report → journal.new ≡ journal.old }
 {
     let status = if write_all_to(out, output.report.as_slice()).is_err() {
         Status::SinkFault(Target::Report)

@@ -10,6 +10,6 @@ mod read;
 mod status;
 
 pub use call::stat;
-pub use program::{Ending, ending_of, run_program};
+pub use program::{Ending, RefusalLine, ending_of, run_program, run_words};
 pub use stat_words::WordFault;
 pub use status::{FileRole, Outcome, Status, Target};

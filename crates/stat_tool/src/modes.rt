@@ -1,9 +1,10 @@
 //! The modes: from the files that the words name to an output.
-ghost use Rattle.std.specs.Prelude.{◌≡◌, ◌≤◌, ◌∷◌, [], IfErr, IfOk, OnOk};
+ghost use Rattle.std.specs.Prelude.{◌≡◌, ◌≤◌, ◌∷◌, ◌++◌, [], IfErr, IfOk, OnOk};
 ghost use Rattle.journal_text.specs.Reading.{read_view};
 ghost use Rattle.stat_words.specs.Words.{names_of};
 ghost use Rattle.stat_words.specs.Words.{Direct, Frames, Gen, Replay, Run, Sim};
-ghost use Rattle.stat_tool.specs.Call.{AreReadInOrder, HasJournal, Prepared, Prevented, Refuses, desk_change};
+ghost use Rattle.stat_tool.specs.Call.{AreAllRead, AreReadInOrder, HasJournal, HasNoJournal, Prepared, Prevented};
+ghost use Rattle.stat_tool.specs.Call.{desk_change};
 ghost use Rattle.stat_tool.specs.Files.{files_of, names_in};
 ghost use Rattle.stat_tool.specs.Views.{output_view};
 
@@ -31,12 +32,14 @@ pub fn prepare_run<R: Threads + Wait + Sync, T: PrefixTree, D: Desk, G: Gate>(
     gate: &G,
 ) -> Result<Output, Status>
     requires workers { (1 ≤ workers) × (workers ≤ 32) }
-    ensures ok { IfOk result
-        (λ output. Prepared (Run (names_of files.entry) workers wanted) (D.contents desk.old) (output_view output)) }
+    ensures ok { IfOk result (λ output. Prepared (Run (names_of files.entry) workers wanted)
+        (desk_change D.faults D.last_fault D.gave D.contents desk.old desk.new) (output_view output)) }
     ensures err { IfErr result (Prevented (Run (names_of files.entry) workers wanted)
-        (desk_change D.faults D.last_fault D.contents desk.old desk.new)) }
+        (desk_change D.faults D.last_fault D.gave D.contents desk.old desk.new)) }
     ensures reads { AreReadInOrder (D.reads desk.old) (D.reads desk.new)
         (names_in (files_of (Run (names_of files.entry) workers wanted))) }
+    ensures all_read { OnOk result (AreAllRead (D.reads desk.old) (D.reads desk.new)
+        (names_in (files_of (Run (names_of files.entry) workers wanted)))) }
 {
     let plan = match read_plan(alloc, files, desk) {
         Ok(plan) => plan,
@@ -56,12 +59,14 @@ pub fn prepare_sim<T: PrefixTree, D: Desk>(
     wanted: RunReport,
     desk: &mut D,
 ) -> Result<Output, Status>
-    ensures ok { IfOk result
-        (λ output. Prepared (Sim (names_of files.entry) seed wanted) (D.contents desk.old) (output_view output)) }
+    ensures ok { IfOk result (λ output. Prepared (Sim (names_of files.entry) seed wanted)
+        (desk_change D.faults D.last_fault D.gave D.contents desk.old desk.new) (output_view output)) }
     ensures err { IfErr result (Prevented (Sim (names_of files.entry) seed wanted)
-        (desk_change D.faults D.last_fault D.contents desk.old desk.new)) }
+        (desk_change D.faults D.last_fault D.gave D.contents desk.old desk.new)) }
     ensures reads { AreReadInOrder (D.reads desk.old) (D.reads desk.new)
         (names_in (files_of (Sim (names_of files.entry) seed wanted))) }
+    ensures all_read { OnOk result (AreAllRead (D.reads desk.old) (D.reads desk.new)
+        (names_in (files_of (Sim (names_of files.entry) seed wanted)))) }
 {
     let plan = match read_plan(alloc, files, desk) {
         Ok(plan) => plan,
@@ -81,12 +86,15 @@ pub fn prepare_replay<T: PrefixTree, D: Desk>(
     wanted: RunReport,
     desk: &mut D,
 ) -> Result<Output, Status>
-    ensures ok { IfOk result (λ output.
-        Prepared (Replay (names_of files.entry) journal.now wanted) (D.contents desk.old) (output_view output)) }
+    ensures ok { IfOk result (λ output. Prepared (Replay (names_of files.entry) journal.now wanted)
+        (desk_change D.faults D.last_fault D.gave D.contents desk.old desk.new) (output_view output)) }
     ensures err { IfErr result (Prevented (Replay (names_of files.entry) journal.now wanted)
-        (desk_change D.faults D.last_fault D.contents desk.old desk.new)) }
+        (desk_change D.faults D.last_fault D.gave D.contents desk.old desk.new)) }
     ensures reads { AreReadInOrder (D.reads desk.old) (D.reads desk.new)
         (names_in (files_of (Replay (names_of files.entry) journal.now wanted))) }
+    ensures all_read { OnOk result (AreAllRead (D.reads desk.old) (D.reads desk.new)
+        (names_in (files_of (Replay (names_of files.entry) journal.now wanted)))) }
+    ensures unwritten { IfOk result (λ output. output.journal_text.items ≡ []) }
 {
     let plan = match read_plan(alloc, files, desk) {
         Ok(plan) => plan,
@@ -106,9 +114,11 @@ fn read_events<D: Desk>(
     name: &str,
     desk: &mut D,
 ) -> Result<JournalRead, Status>
-    ensures ok { IfOk result (λ read. HasJournal (D.contents desk.old name.now) plan.now (read_view read)) }
-    ensures err { IfErr result (Refuses FileRole.Journal name.now
-        (desk_change D.faults D.last_fault D.contents desk.old desk.new)) }
+    ensures ok { IfOk result (λ read. HasJournal (desk_change D.faults D.last_fault D.gave D.contents desk.old desk.new)
+        name.now plan.now (read_view read)) }
+    ensures err { IfErr result (HasNoJournal
+        (desk_change D.faults D.last_fault D.gave D.contents desk.old desk.new) name.now) }
+    ensures read { OnOk result (D.reads desk.new ≡ D.reads desk.old ++ name.now ∷ []) }
     ensures reads { AreReadInOrder (D.reads desk.old) (D.reads desk.new) (name.now ∷ []) }
 {
     let bytes = match read_file(desk, name, FileRole::Journal) {
@@ -128,12 +138,15 @@ pub fn prepare_direct<T: PrefixTree, D: Desk>(
     form: ReportForm,
     desk: &mut D,
 ) -> Result<Output, Status>
-    ensures ok { IfOk result
-        (λ output. Prepared (Direct (names_of files.entry) form) (D.contents desk.old) (output_view output)) }
+    ensures ok { IfOk result (λ output. Prepared (Direct (names_of files.entry) form)
+        (desk_change D.faults D.last_fault D.gave D.contents desk.old desk.new) (output_view output)) }
     ensures err { IfErr result (Prevented (Direct (names_of files.entry) form)
-        (desk_change D.faults D.last_fault D.contents desk.old desk.new)) }
+        (desk_change D.faults D.last_fault D.gave D.contents desk.old desk.new)) }
     ensures reads { AreReadInOrder (D.reads desk.old) (D.reads desk.new)
         (names_in (files_of (Direct (names_of files.entry) form))) }
+    ensures all_read { OnOk result (AreAllRead (D.reads desk.old) (D.reads desk.new)
+        (names_in (files_of (Direct (names_of files.entry) form)))) }
+    ensures unwritten { IfOk result (λ output. output.journal_text.items ≡ []) }
 {
     let plan = match read_plan(alloc, files, desk) {
         Ok(plan) => plan,
@@ -153,10 +166,12 @@ pub fn prepare_gen<T: PrefixTree, D: Desk>(
     desk: &mut D,
 ) -> Result<Output, Status>
     requires size { (1 ≤ size) × (size ≤ 256) }
-    ensures ok { IfOk result (λ output. Prepared (Gen size seed) (D.contents desk.old) (output_view output)) }
+    ensures ok { IfOk result (λ output. Prepared (Gen size seed)
+        (desk_change D.faults D.last_fault D.gave D.contents desk.old desk.new) (output_view output)) }
     ensures err { IfErr result (Prevented (Gen size seed)
-        (desk_change D.faults D.last_fault D.contents desk.old desk.new)) }
+        (desk_change D.faults D.last_fault D.gave D.contents desk.old desk.new)) }
     ensures same { desk.new ≡ desk.old }
+    ensures unwritten { IfOk result (λ output. output.journal_text.items ≡ []) }
 {
     match gen_job::<T>(alloc, size, seed) {
         Ok(output) => Ok(output),
@@ -170,10 +185,14 @@ pub fn prepare_frames<T: PrefixTree, D: Desk>(
     capture: &str,
     desk: &mut D,
 ) -> Result<Output, Status>
-    ensures ok { IfOk result (λ output. Prepared (Frames capture.now) (D.contents desk.old) (output_view output)) }
+    ensures ok { IfOk result (λ output. Prepared (Frames capture.now)
+        (desk_change D.faults D.last_fault D.gave D.contents desk.old desk.new) (output_view output)) }
     ensures err { IfErr result (Prevented (Frames capture.now)
-        (desk_change D.faults D.last_fault D.contents desk.old desk.new)) }
+        (desk_change D.faults D.last_fault D.gave D.contents desk.old desk.new)) }
     ensures reads { AreReadInOrder (D.reads desk.old) (D.reads desk.new) (names_in (files_of (Frames capture.now))) }
+    ensures all_read { OnOk result (AreAllRead (D.reads desk.old) (D.reads desk.new)
+        (names_in (files_of (Frames capture.now)))) }
+    ensures unwritten { IfOk result (λ output. output.journal_text.items ≡ []) }
 {
     let bytes = match read_file(desk, capture, FileRole::Capture) {
         Ok(bytes) => bytes,

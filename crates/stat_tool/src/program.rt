@@ -1,15 +1,21 @@
 //! What the program does around the top call: it takes its words, uses the real files and standard output, and ends.
-ghost use Rattle.std.specs.Prelude.{◌≡◌};
-ghost use Rattle.stat_tool.specs.Ending.{IsEnding};
+ghost use Rattle.std.specs.Prelude.{◌≡◌, List, map, string_bytes};
+ghost use Rattle.std.specs.Process.{exit_status};
+ghost use Rattle.stat_desk.specs.declared.event.Event.{Event};
+ghost use Rattle.stat_words.specs.Words.{asked};
+ghost use Rattle.stat_tool.specs.Call.{Answered, desk_change, sink_change};
+ghost use Rattle.stat_tool.specs.Ending.{IsEnding, ended_with};
 ghost use Rattle.stat_tool.specs.Status.{number_of, refusal_of_status};
 
 use crate::call::stat;
 use crate::status::Status;
 use prefix_tree::PrefixTree;
-use stat_desk::{FileDesk, FileSink, OpenGate, StdSink};
+use stat_desk::{Desk, FileDesk, FileSink, Gate, OpenGate, Sink, StdSink};
 use stat_words::WordFault;
+use std::alloc::Global;
 use std::env;
 use std::io::ErrorKind;
+use std::process::ExitCode;
 use std::rt::{Env, Files};
 use std::sync::Wait;
 use std::thread::Threads;
@@ -17,10 +23,19 @@ use std::thread::Threads;
 /// The file that a run writes its journal to.
 const JOURNAL_NAME: &str = "stat.journal";
 
+/// Where the line of a refusal is printed.
+#[derive(Clone, Copy, Debug, PartialEq, Eq)]
+pub enum RefusalLine {
+    /// On standard error.
+    Error,
+    /// On standard output.
+    Output,
+}
+
 /// How the program ends.
 #[derive(Clone, Copy, Debug, PartialEq, Eq)]
 pub struct Ending {
-    /// The status that standard error gets a line of; none if all was done.
+    /// The status that gets a line; none if all was done.
     pub refusal: Option<Status>,
     /// The exit status.
     pub number: u8,
@@ -41,15 +56,50 @@ pub fn ending_of(status: Status) -> Ending
     }
 }
 
-/// The call with the program's words, the real files, standard output, and a file `stat.journal` for the journal, which
-/// is made when it is first written to. No event waits at the gate. Words of which one is not UTF-8 are bad words. What
-/// the outside gives and takes no clause can say; that the number and the line are those of one status, it says.
-pub fn run_program<T: PrefixTree, R: Env + Files + Print + AllocGlobal + Threads + Wait + Sync>(
+/// The call with these words, desk, sinks and gate, and how the program ends after it: with the line and the number of
+/// just the status that the call answered.
+pub fn run_words<R: Threads + Wait + Sync, T: PrefixTree, D: Desk, O: Sink, J: Sink, G: Gate>(
     rt: &R,
+    alloc: Global,
+    words: &[String],
+    desk: &mut D,
+    out: &mut O,
+    journal: &mut J,
+    gate: &G,
 ) -> Ending
-    ensures { IsEnding result }
+    ensures answered { (events : List Event) × Answered (asked (map string_bytes words.now))
+        (desk_change D.faults D.last_fault D.gave D.contents desk.old desk.new)
+        (sink_change O.faults O.took O.contents out.old out.new)
+        (sink_change J.faults J.took J.contents journal.old journal.new) events (ended_with result.refusal) }
+    ensures ending { IsEnding (ended_with result.refusal) result }
 {
-    ending_of(status_of_run::<T, R>(rt))
+    let outcome = stat::<R, T, D, O, J, G>(rt, alloc, words, desk, out, journal, gate);
+    ending_of(outcome.status)
+}
+
+/// The program: the call with its words, the real files, standard output, and a file `stat.journal` for the journal,
+/// which is made when it is first written to. No event waits at the gate. Words of which one is not UTF-8 are bad
+/// words. A refusal gets a line. That these are the words, the desk, the sinks and the gate, and what is printed, no
+/// clause says.
+pub fn run_program<
+    T: PrefixTree,
+    R: Env + Files + Print + Eprint + AllocGlobal + Threads + Wait + Sync,
+>(rt: &R, line: RefusalLine) -> ExitCode {
+    let ending = ending_of_words::<T, R>(rt);
+    exit_with(rt, ending, line)
+}
+
+// Prints the line of a refusal, and gives the exit status.
+fn exit_with<R: Print + Eprint>(rt: &R, ending: Ending, line: RefusalLine) -> ExitCode
+    ensures { exit_status result ≡ ending.number }
+{
+    if let Some(status) = ending.refusal {
+        let _ = match line {
+            RefusalLine::Error => eprintln!(rt; "stat: {status}"),
+            RefusalLine::Output => println!(rt; "stat: {status}"),
+        };
+    }
+    ExitCode::from(ending.number)
 }
 
 // The status of a program whose words can't be had.
@@ -63,25 +113,25 @@ fn status_without_words(cause: ErrorKind) -> Status
     }
 }
 
-// The status of that call.
-fn status_of_run<T: PrefixTree, R: Env + Files + Print + AllocGlobal + Threads + Wait + Sync>(
+// How the program ends: its words, the real desk and the real sinks.
+fn ending_of_words<T: PrefixTree, R: Env + Files + Print + AllocGlobal + Threads + Wait + Sync>(
     rt: &R,
-) -> Status {
+) -> Ending {
     let alloc = rt.alloc();
     let args = match env::args(rt) {
         Ok(args) => args,
-        Err(error) => return status_without_words(error.kind()),
+        Err(error) => return ending_of(status_without_words(error.kind())),
     };
     let Ok(words) = args.skip(1).collect::<Vec<String>>(alloc) else {
-        return Status::OutOfMemory;
+        return ending_of(Status::OutOfMemory);
     };
     let Ok(name) = String::from_str(alloc, JOURNAL_NAME) else {
-        return Status::OutOfMemory;
+        return ending_of(Status::OutOfMemory);
     };
     let mut desk = FileDesk::new(alloc, rt);
     let mut out = StdSink::new(rt);
     let mut journal = FileSink::new(rt, name);
-    stat::<R, T, _, _, _, _>(
+    run_words::<R, T, _, _, _, _>(
         rt,
         alloc,
         words.as_slice(),
@@ -90,5 +140,4 @@ fn status_of_run<T: PrefixTree, R: Env + Files + Print + AllocGlobal + Threads +
         &mut journal,
         &OpenGate,
     )
-    .status
 }

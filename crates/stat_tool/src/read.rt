@@ -1,8 +1,6 @@
 //! Reads the files that the words name, and tests each before the next is read. The samples are read in pieces, the
 //! others whole.
 ghost use Rattle.std.specs.Prelude.{◌≡◌, ◌≤◌, ◌++◌, ◌∷◌, List, [], IfErr, IfOk, OnOk};
-ghost use Rattle.stat_desk.specs.Desk.{IsWhole};
-ghost use Rattle.stat_desk.specs.Feeding.{FeedsWhole};
 ghost use Rattle.stat_plan.specs.Invariants.{SamplesFit};
 ghost use Rattle.overlay_setup.specs.Scripts.{ScriptFits};
 ghost use Rattle.stat_plan.specs.Plans.{plan_of};
@@ -10,8 +8,8 @@ ghost use Rattle.topology_text.specs.Whole.{topology_of};
 ghost use Rattle.sample_text.specs.Whole.{samples_of_text};
 ghost use Rattle.script_text.specs.Whole.{script_of};
 ghost use Rattle.stat_words.specs.Words.{names_of};
-ghost use Rattle.stat_tool.specs.Call.{AreReadInOrder, IsPlanned, IsPlanRefusal, IsStopped, Refuses, StopsAt, Tells};
-ghost use Rattle.stat_tool.specs.Call.{desk_change};
+ghost use Rattle.stat_tool.specs.Call.{AreReadInOrder, FeedsFile, Gave, IsPlanned, IsPlanRefusal, IsStopped};
+ghost use Rattle.stat_tool.specs.Call.{Refuses, StopsAt, Tells, desk_change};
 ghost use Rattle.stat_tool.specs.Files.{limit_of, names_in, plan_files};
 ghost use Rattle.stat_tool.specs.NextStep.{AfterPlan, ReadResult, with_plan};
 ghost use Rattle.stat_tool.specs.Status.{refusal_of};
@@ -38,9 +36,10 @@ fn limit_of(role: FileRole) -> u64
 
 /// All bytes of one file.
 pub fn read_file<D: Desk>(desk: &mut D, name: &str, role: FileRole) -> Result<Vec<u8>, Status>
-    ensures ok { IfOk result (λ bytes. IsWhole (D.contents desk.old name.now) (limit_of role) bytes.items) }
+    ensures ok { IfOk result (λ bytes. Gave (desk_change D.faults D.last_fault D.gave D.contents desk.old desk.new)
+        name.now (limit_of role) bytes.items) }
     ensures err { IfErr result
-        (Refuses role name.now (desk_change D.faults D.last_fault D.contents desk.old desk.new)) }
+        (Refuses role name.now (desk_change D.faults D.last_fault D.gave D.contents desk.old desk.new)) }
     ensures read { OnOk result (D.reads desk.new ≡ D.reads desk.old ++ name.now ∷ []) }
     ensures reads { AreReadInOrder (D.reads desk.old) (D.reads desk.new) (name.now ∷ []) }
     ensures later { D.faults desk.old ≤ D.faults desk.new }
@@ -68,9 +67,10 @@ fn feed_file<D: Desk, F: Feed>(
     fed: &mut F,
 ) -> Result<(), Status>
     requires nothing_fed { F.feeds fed.old [] fed.old }
-    ensures ok { OnOk result (FeedsWhole F.feeds fed.old fed.new (D.contents desk.old name.now) (limit_of role)) }
+    ensures ok { OnOk result (FeedsFile F.feeds fed.old fed.new
+        (desk_change D.faults D.last_fault D.gave D.contents desk.old desk.new) name.now (limit_of role)) }
     ensures err { IfErr result
-        (Refuses role name.now (desk_change D.faults D.last_fault D.contents desk.old desk.new)) }
+        (Refuses role name.now (desk_change D.faults D.last_fault D.gave D.contents desk.old desk.new)) }
     ensures read { OnOk result (D.reads desk.new ≡ D.reads desk.old ++ name.now ∷ []) }
     ensures reads { AreReadInOrder (D.reads desk.old) (D.reads desk.new) (name.now ∷ []) }
     ensures later { D.faults desk.old ≤ D.faults desk.new }
@@ -112,9 +112,10 @@ fn refusal(role: FileRole, error: TextError) -> Status
 
 /// The nodes, from the topology's file.
 fn read_topology<D: Desk>(alloc: Global, desk: &mut D, name: &str) -> Result<Topology, Status>
-    ensures ok { IfOk result (λ t. Tells (D.contents desk.old name.now) (limit_of FileRole.Topology) topology_of t) }
+    ensures ok { IfOk result (λ t. Tells (desk_change D.faults D.last_fault D.gave D.contents desk.old desk.new)
+        name.now (limit_of FileRole.Topology) topology_of t) }
     ensures err { IfErr result (StopsAt topology_of FileRole.Topology name.now
-        (desk_change D.faults D.last_fault D.contents desk.old desk.new)) }
+        (desk_change D.faults D.last_fault D.gave D.contents desk.old desk.new)) }
     ensures read { OnOk result (D.reads desk.new ≡ D.reads desk.old ++ name.now ∷ []) }
     ensures reads { AreReadInOrder (D.reads desk.old) (D.reads desk.new) (name.now ∷ []) }
     ensures later { D.faults desk.old ≤ D.faults desk.new }
@@ -137,11 +138,11 @@ fn read_samples<D: Desk>(
     name: &str,
     topology: &Topology,
 ) -> Result<Samples, Status>
-    ensures ok { IfOk result
-        (λ s. Tells (D.contents desk.old name.now) (limit_of FileRole.Samples) (samples_of_text topology.now) s) }
+    ensures ok { IfOk result (λ s. Tells (desk_change D.faults D.last_fault D.gave D.contents desk.old desk.new)
+        name.now (limit_of FileRole.Samples) (samples_of_text topology.now) s) }
     ensures fits { IfOk result (λ s. SamplesFit topology.now s) }
     ensures err { IfErr result (StopsAt (samples_of_text topology.now) FileRole.Samples name.now
-        (desk_change D.faults D.last_fault D.contents desk.old desk.new)) }
+        (desk_change D.faults D.last_fault D.gave D.contents desk.old desk.new)) }
     ensures read { OnOk result (D.reads desk.new ≡ D.reads desk.old ++ name.now ∷ []) }
     ensures reads { AreReadInOrder (D.reads desk.old) (D.reads desk.new) (name.now ∷ []) }
     ensures later { D.faults desk.old ≤ D.faults desk.new }
@@ -168,11 +169,11 @@ fn read_script<D: Desk>(
     name: &str,
     topology: &Topology,
 ) -> Result<Script, Status>
-    ensures ok { IfOk result
-        (λ c. Tells (D.contents desk.old name.now) (limit_of FileRole.Script) (script_of topology.now) c) }
+    ensures ok { IfOk result (λ c. Tells (desk_change D.faults D.last_fault D.gave D.contents desk.old desk.new)
+        name.now (limit_of FileRole.Script) (script_of topology.now) c) }
     ensures fits { IfOk result (λ c. ScriptFits topology.now c) }
     ensures err { IfErr result (StopsAt (script_of topology.now) FileRole.Script name.now
-        (desk_change D.faults D.last_fault D.contents desk.old desk.new)) }
+        (desk_change D.faults D.last_fault D.gave D.contents desk.old desk.new)) }
     ensures read { OnOk result (D.reads desk.new ≡ D.reads desk.old ++ name.now ∷ []) }
     ensures reads { AreReadInOrder (D.reads desk.old) (D.reads desk.new) (name.now ∷ []) }
     ensures later { D.faults desk.old ≤ D.faults desk.new }
@@ -215,9 +216,10 @@ fn plan_of_files(
 
 /// The plan of the three files.
 pub fn read_plan<D: Desk>(alloc: Global, files: Files<'_>, desk: &mut D) -> Result<Plan, Status>
-    ensures ok { IfOk result (IsPlanned (plan_files (names_of files.entry)) (D.contents desk.old)) }
+    ensures ok { IfOk result (IsPlanned (plan_files (names_of files.entry))
+        (desk_change D.faults D.last_fault D.gave D.contents desk.old desk.new)) }
     ensures err { IfErr result (IsStopped (plan_files (names_of files.entry))
-        (desk_change D.faults D.last_fault D.contents desk.old desk.new)) }
+        (desk_change D.faults D.last_fault D.gave D.contents desk.old desk.new)) }
     ensures read { OnOk result (D.reads desk.new ≡ D.reads desk.old ++ names_in (plan_files (names_of files.entry))) }
     ensures reads { AreReadInOrder (D.reads desk.old) (D.reads desk.new)
         (names_in (plan_files (names_of files.entry))) }

@@ -1,15 +1,15 @@
 //! Runs on several workers.
 use crate::calls::{call_into, is_replayed, run_with};
 use prefix_tree::OwnedTree;
-use stat_desk::{Event, Gate, MemDesk, MemSink};
+use stat_desk::{Event, Gate, Journal, MemDesk, MemSink};
 use stat_tool::{Status, Target, stat};
 use std::alloc::{AllocError, Global};
 use std::sync::Wait;
 use std::sync::atomic::{AtomicBool, AtomicU64, Ordering};
 use std::thread::{Threads, yield_now};
-use worked_jobs::desks::{desk_of, lines_of, words_of};
+use worked_jobs::desks::{desk_of, lines_of, put, words_of};
 use worked_jobs::jobs::{
-    ALL_SCR, FOUR_REPORT, FOUR_SMP, INNER_TOP, NO_B, SOLVER_REPORT, SOLVER_SMP, STORM_SMP,
+    ALL_SCR, FOUR_REPORT, FOUR_SMP, INNER_TOP, NO_B, ONE_TOP, SOLVER_REPORT, SOLVER_SMP, STORM_SMP,
     STORM_TOP, TWO_INNER_TOP, TWO_TOP,
 };
 
@@ -42,23 +42,46 @@ fn any_number_of_workers_writes_the_report(rt: HostRuntime) -> Result<(), AllocE
 
 // ---- the gate
 
-// A gate that holds the first event until two more have come, or for so many turns.
+// A gate that holds events until so many have come, or for so many turns.
 #[derive(Drop)]
 struct HoldingGate {
+    // The events that are held, by their numbers: from the first one on, and before the second one.
+    held: (u64, u64),
+    // How many events have to come.
+    until: u64,
     passes: AtomicU64,
-    // The node of the event that is held.
-    held: AtomicU64,
+    // The node of the first event that is held.
+    node: AtomicU64,
     gave_up: AtomicBool,
+}
+
+fn gate_of(held: (u64, u64), until: u64) -> HoldingGate {
+    HoldingGate {
+        held,
+        until,
+        passes: AtomicU64::new(0),
+        node: AtomicU64::new(0),
+        gave_up: AtomicBool::new(false),
+    }
 }
 
 impl Gate for HoldingGate {
     fn pass(&self, event: &Event) {
-        if self.passes.fetch_add(1, Ordering::SeqCst) > 0 {
+        let number = self.passes.fetch_add(1, Ordering::SeqCst);
+        if number < self.held.0 {
+            // meanwhile other workers look for an event, and find none
+            for _ in 0..10_000 {
+                yield_now();
+            }
+        }
+        if number < self.held.0 || number >= self.held.1 {
             return;
         }
-        self.held.store(u64::from(event.node()), Ordering::SeqCst);
+        if number == self.held.0 {
+            self.node.store(u64::from(event.node()), Ordering::SeqCst);
+        }
         for _ in 0..10_000_000 {
-            if self.passes.load(Ordering::SeqCst) > 2 {
+            if self.passes.load(Ordering::SeqCst) >= self.until {
                 return;
             }
             yield_now();
@@ -67,43 +90,131 @@ impl Gate for HoldingGate {
     }
 }
 
-// While one worker is held with an event, the other does events: the one that is held isn't the first of the journal. A
-// run on one thread would wait for itself.
+// A job, its workers, and which of its events are held until how many have come.
+struct Holding {
+    topology: &'static str,
+    samples: &'static str,
+    script: &'static str,
+    workers: &'static str,
+    held: (u64, u64),
+    until: u64,
+}
+
+// All workers but one are held, and in the last job the one that goes on has found nothing to do before: of its first two
+// events one is of the first wave and one of the second.
+const HOLDING: [Holding; 4] = [
+    Holding {
+        topology: TWO_TOP,
+        samples: FOUR_SMP,
+        script: ALL_SCR,
+        workers: "--workers=2",
+        held: (0, 1),
+        until: 3,
+    },
+    Holding {
+        topology: TWO_INNER_TOP,
+        samples: SOLVER_SMP,
+        script: ALL_SCR,
+        workers: "--workers=3",
+        held: (0, 2),
+        until: 4,
+    },
+    Holding {
+        topology: TWO_INNER_TOP,
+        samples: SOLVER_SMP,
+        script: ALL_SCR,
+        workers: "--workers=4",
+        held: (0, 3),
+        until: 5,
+    },
+    Holding {
+        topology: "fe:0 => c:0 ;\nc:0 => a:0 ;\n",
+        samples: "daemon a:0 0\n",
+        script: "stream 0 wait-for-all waves 3 samples 1 on all\n",
+        workers: "--workers=2",
+        held: (1, 2),
+        until: 4,
+    },
+];
+
+// The status and the journal of a call whose events pass a gate.
+fn call_through<R: Threads + Wait + Sync>(
+    rt: &R,
+    alloc: Global,
+    desk: &mut MemDesk,
+    texts: &[&str],
+    gate: &HoldingGate,
+) -> Result<(Status, Journal), AllocError> {
+    let words = words_of(alloc, texts)?;
+    let mut out = MemSink::new(alloc, 16, 20_000)?;
+    let mut journal = MemSink::new(alloc, 16, 20_000)?;
+    let outcome = stat::<R, OwnedTree, _, _, _, _>(
+        rt,
+        alloc,
+        words.as_slice(),
+        desk,
+        &mut out,
+        &mut journal,
+        gate,
+    );
+    Ok((outcome.status, outcome.journal))
+}
+
+// While workers are held with an event each, another one does events: what is held isn't the next of the journal. A run on
+// fewer threads would wait for itself.
 #[test]
-fn one_worker_goes_on_while_another_is_held(rt: HostRuntime) -> Result<(), AllocError> {
+fn one_worker_goes_on_while_others_are_held(rt: HostRuntime) {
     let alloc = rt.alloc();
-    let mut desk = desk_of(alloc, TWO_TOP, FOUR_SMP, ALL_SCR)?;
-    let texts = [
-        "run",
+    for job in HOLDING.as_slice() {
+        let mut desk = desk_of(alloc, job.topology, job.samples, job.script).expect(&rt, "memory");
+        let texts = [
+            "run",
+            "--topology=t",
+            "--samples=s",
+            "--script=c",
+            job.workers,
+        ];
+        let gate = gate_of(job.held, job.until);
+        let (status, events) = call_through(&rt, alloc, &mut desk, texts.as_slice(), &gate).expect(
+            &rt, "memory",
+        );
+        assert_eq!(rt; status, Status::Done);
+        assert!(rt; !gate.gave_up.load(Ordering::SeqCst));
+        assert_eq!(rt; gate.passes.load(Ordering::SeqCst), events.len());
+        assert!(rt; job.held.0 < events.len());
+        let next = u64::from(events.at(job.held.0).node());
+        assert!(rt; next != gate.node.load(Ordering::SeqCst));
+    }
+}
+
+// The words of each mode that has no workers.
+const OTHER_MODES: [&[&str]; 5] = [
+    &["sim", "--topology=t", "--samples=s", "--script=c"],
+    &[
+        "replay",
         "--topology=t",
         "--samples=s",
         "--script=c",
-        "--workers=2",
-    ];
-    let words = words_of(alloc, texts.as_slice())?;
-    let mut out = MemSink::new(alloc, 16, 20_000)?;
-    let mut journal = MemSink::new(alloc, 16, 20_000)?;
-    let gate = HoldingGate {
-        passes: AtomicU64::new(0),
-        held: AtomicU64::new(0),
-        gave_up: AtomicBool::new(false),
-    };
-    let outcome = stat::<_, OwnedTree, _, _, _, _>(
-        &rt,
-        alloc,
-        words.as_slice(),
-        &mut desk,
-        &mut out,
-        &mut journal,
-        &gate,
-    );
-    assert_eq!(rt; outcome.status, Status::Done);
-    assert!(rt; !gate.gave_up.load(Ordering::SeqCst));
-    assert_eq!(rt; gate.passes.load(Ordering::SeqCst), outcome.journal.len());
-    assert!(rt; !outcome.journal.is_empty());
-    let first = u64::from(outcome.journal.at(0).node());
-    assert!(rt; first != gate.held.load(Ordering::SeqCst));
-    Ok(())
+        "--journal-in=j",
+    ],
+    &["direct", "--topology=t", "--samples=s", "--script=c"],
+    &["gen", "--size=1"],
+    &["frames", "--capture=f"],
+];
+
+#[test]
+fn no_event_of_another_mode_passes_the_gate(rt: HostRuntime) {
+    let alloc = rt.alloc();
+    let mut desk = desk_of(alloc, ONE_TOP, "daemon a:0 0\n", ALL_SCR).expect(&rt, "memory");
+    let journal = "sample a:0 0 0\nrecv fe:0 a:0\nrecv a:0 fe:0\n";
+    put(alloc, &mut desk, "j", journal.as_bytes()).expect(&rt, "memory");
+    put(alloc, &mut desk, "f", b"").expect(&rt, "memory");
+    for texts in OTHER_MODES.as_slice() {
+        let gate = gate_of((0, 0), 0);
+        let (status, _) = call_through(&rt, alloc, &mut desk, texts, &gate).expect(&rt, "memory");
+        assert_eq!(rt; status, Status::Done);
+        assert!(rt; gate.passes.load(Ordering::SeqCst) == 0);
+    }
 }
 
 // ---- journals

@@ -58,13 +58,16 @@ fn push_line(line: &StackLine, paths: &[CallPath], out: &mut Vec<u8>) -> Result<
     out.extend_from_slice(b"\n")
 }
 
+// The samples for both daemons, one after the other, in a wave that has the first ten sample times.
 fn text_of(rt: &impl Abort, alloc: Global, samples: &Samples) -> Vec<u8> {
-    let all = samples.lines();
-    text_of_lines(rt, alloc, all.lines, all.paths)
+    let mut text = own_text(rt, alloc, samples, 1, wave(10, 0));
+    let other = own_text(rt, alloc, samples, 2, wave(10, 0));
+    text.extend_from_slice(&other).expect(rt, "memory");
+    text
 }
 
-// `stack` lines in the usual form and in others, behind lines that place the ranks 0 to 2, and the samples that they
-// give.
+// `stack` lines in the usual form and in others, behind lines that place the ranks 0 and 1 on the one daemon and 2 on the
+// other, and the samples that they give, by daemon.
 const FORMS: [(&str, &str); 16] = [
     ("stack 7 0-1 main;a", "7 2:[0-1] 0 main;a\n"),
     ("stack  7 0-1 main;a", "7 2:[0-1] 0 main;a\n"),
@@ -85,11 +88,11 @@ const FORMS: [(&str, &str); 16] = [
     ("stack 7 0-1 stack 7 0-1 m", "7 2:[0-1] 0 stack 7 0-1 m\n"),
     (
         "stack 0 0 m\nstack 1 1 m\nstack 2 2 n\nstack 3 0 m\nstack 4 1 n\nstack 5 2 n\nstack 6 0 mm",
-        "0 1:[0] 0 m\n1 1:[1] 0 m\n2 1:[2] 1 n\n3 1:[0] 0 m\n4 1:[1] 1 n\n5 1:[2] 1 n\n6 1:[0] 2 mm\n",
+        "0 1:[0] 0 m\n1 1:[1] 0 m\n3 1:[0] 0 m\n6 1:[0] 2 mm\n4 1:[1] 1 n\n2 1:[2] 1 n\n5 1:[2] 1 n\n",
     ),
     (
         "stack 0 0 m \nstack 1 1 m\nstack 2 2  m\nstack 3 0 m ",
-        "0 1:[0] 0 m \n1 1:[1] 1 m\n2 1:[2] 1 m\n3 1:[0] 0 m \n",
+        "1 1:[1] 1 m\n0 1:[0] 0 m \n3 1:[0] 0 m \n2 1:[2] 1 m\n",
     ),
 ];
 
@@ -382,12 +385,12 @@ fn read_in_two(
     feeder.finish()
 }
 
-// Texts and their samples: lines that end in both ways, the last one with and without a line feed, and characters of
+// Texts and their samples by daemon: lines that end in both ways, the last one with and without a line feed, and characters of
 // two and of three bytes.
 const WHOLE_OR_CUT: [(&str, &str); 3] = [
     (
         "daemon a:0 0\r\ndaemon b:0 1-2\r\n\r\nstack 7 0-2 m\r\nstack 8 1 m;n\r\n",
-        "7 3:[0-2] 0 m\n8 1:[1] 1 m;n\n",
+        "7 1:[0] 0 m\n7 2:[1-2] 0 m\n8 1:[1] 1 m;n\n",
     ),
     (
         "daemon a:0 0\ndaemon b:0 1\nstack 1 0 \u{e9};\u{20ac}\nstack 1 1 \u{e9};\u{20ac}",

@@ -1,5 +1,5 @@
 //! Whole calls over a desk and a sink in memory, with worked jobs, and one over the real files.
-use crate::calls::{Called, call, call_into, run_on};
+use crate::calls::{Called, call, call_into, call_over, report_of, run_on, script_of};
 use crate::shy_tree::ShyTree;
 use packet_frame::FrameReason;
 use prefix_tree::OwnedTree;
@@ -11,7 +11,9 @@ use std::fs;
 use std::sync::Wait;
 use std::thread::Threads;
 use text_lines::{Quantity, Reason};
-use worked_jobs::desks::{WORDS, desk_of, desk_of_bytes, put, recv, sample, words_of};
+use worked_jobs::desks::{
+    REPLAY_WORDS, SIM_WORDS, WORDS, desk_of, desk_of_bytes, put, recv, sample, words_of,
+};
 use worked_jobs::jobs::{
     ALL_SCR, DONT_WAIT_SCR, FOUR_SMP, INNER_TOP, ONE_TOP, SOLVER_SMP, TWO_INNER_TOP, TWO_TOP,
     WORKED,
@@ -122,26 +124,35 @@ fn bad(file: FileRole, line: u64, reason: Reason) -> Status {
     Status::BadInput { file, line, reason }
 }
 
-// The front end merges the parts of two inner nodes, of 32 ranks each. A program that merged the daemons' samples at the
-// end would never merge as many at once.
+// A call over the tree that won't merge many ranks.
+fn call_shy<R: Threads + Wait + Sync>(
+    rt: &R,
+    alloc: Global,
+    desk: &mut MemDesk,
+    texts: &[&str],
+) -> Result<Called, AllocError> {
+    let report = MemSink::new(alloc, 16, 20_000)?;
+    let journal = MemSink::new(alloc, 16, 20_000)?;
+    call_over::<R, ShyTree>(rt, alloc, desk, texts, report, journal)
+}
+
+// In a run, a simulation and a replay of the run's journal, the front end merges the parts of two inner nodes, of 32 ranks
+// each. A program that merged the daemons' samples at the end would never merge as many at once.
 #[test]
 fn merges_the_parts_of_inner_nodes(rt: HostRuntime) {
     let alloc = rt.alloc();
     let mut desk = desk_of(alloc, TWO_INNER_TOP, SOLVER_SMP, ALL_SCR).expect(&rt, "memory");
-    let words = words_of(alloc, WORDS.as_slice()).expect(&rt, "memory");
-    let mut out = MemSink::new(alloc, 16, 20_000).expect(&rt, "memory");
-    let mut journal = MemSink::new(alloc, 16, 20_000).expect(&rt, "memory");
-    let outcome = stat::<_, ShyTree, _, _, _, _>(
-        &rt,
-        alloc,
-        words.as_slice(),
-        &mut desk,
-        &mut out,
-        &mut journal,
-        &OpenGate,
-    );
-    assert_eq!(rt; outcome.status, Status::OutOfMemory);
-    assert!(rt; out.bytes().is_empty() && journal.bytes().is_empty());
+    let run = call(&rt, alloc, &mut desk, WORDS.as_slice()).expect(&rt, "memory");
+    put(alloc, &mut desk, "j", run.journal.bytes()).expect(&rt, "memory");
+    for texts in [
+        WORDS.as_slice(),
+        SIM_WORDS.as_slice(),
+        REPLAY_WORDS.as_slice(),
+    ] {
+        let called = call_shy(&rt, alloc, &mut desk, texts).expect(&rt, "memory");
+        assert_eq!(rt; called.status, Status::OutOfMemory);
+        assert!(rt; called.report.bytes().is_empty() && called.journal.bytes().is_empty());
+    }
 }
 
 #[test]
@@ -246,32 +257,6 @@ fn runs_good_scripts(rt: HostRuntime) {
     }
 }
 
-// A script of this many streams, of this many waves each.
-fn script_of(alloc: Global, streams: u32, waves: u32) -> Result<String, AllocError> {
-    let mut script = String::new(alloc);
-    for stream in 0..streams {
-        let line = format!(in alloc;
-            "stream {stream} wait-for-all waves {waves} samples 1 on all\n"
-        )?;
-        script.push_str(line.as_str())?;
-    }
-    Ok(script)
-}
-
-// The report of this many streams, of this many waves each, of one rank that was never seen.
-fn report_of(alloc: Global, streams: u32, waves: u32) -> Result<String, AllocError> {
-    let mut report = String::new(alloc);
-    for stream in 0..streams {
-        for wave in 0..waves {
-            let heading = format!(in alloc; "stream {stream} wave {wave} release 1 final\n")?;
-            report.push_str(heading.as_str())?;
-            report.push_str("covered 1:[0]\ntree\n1:[0] - /\nclasses\nclass 1:[0] paths 0\n")?;
-        }
-    }
-    report.push_str("end\n")?;
-    Ok(report)
-}
-
 #[test]
 fn reports_each_wave_of_each_stream(rt: HostRuntime) {
     let alloc = rt.alloc();
@@ -281,7 +266,7 @@ fn reports_each_wave_of_each_stream(rt: HostRuntime) {
             &rt, "memory",
         );
         let (status, out) = run_on(&rt, alloc, &mut desk).expect(&rt, "memory");
-        let report = report_of(alloc, streams, waves).expect(&rt, "memory");
+        let report = report_of(alloc, streams, waves, "1:[0]").expect(&rt, "memory");
         assert_eq!(rt; status, Status::Done);
         assert_eq!(rt; out.bytes(), report.as_bytes());
     }

@@ -1,6 +1,6 @@
 //! Calls over a desk in memory, with sinks in memory.
 
-use prefix_tree::OwnedTree;
+use prefix_tree::{OwnedTree, PrefixTree};
 use stat_desk::{Journal, MemDesk, MemSink, OpenGate};
 use stat_tool::{Status, stat};
 use std::alloc::{AllocError, Global};
@@ -38,9 +38,21 @@ pub fn call_into<R: Threads + Wait + Sync>(
     report: MemSink,
     journal: MemSink,
 ) -> Result<Called, AllocError> {
+    call_over::<R, OwnedTree>(rt, alloc, desk, texts, report, journal)
+}
+
+// A call with these words and sinks, over this tree.
+pub fn call_over<R: Threads + Wait + Sync, T: PrefixTree>(
+    rt: &R,
+    alloc: Global,
+    desk: &mut MemDesk,
+    texts: &[&str],
+    report: MemSink,
+    journal: MemSink,
+) -> Result<Called, AllocError> {
     let words = words_of(alloc, texts)?;
     let (mut report, mut journal) = (report, journal);
-    let outcome = stat::<R, OwnedTree, _, _, _, _>(
+    let outcome = stat::<R, T, _, _, _, _>(
         rt,
         alloc,
         words.as_slice(),
@@ -65,4 +77,38 @@ pub fn run_on<R: Threads + Wait + Sync>(
 ) -> Result<(Status, MemSink), AllocError> {
     let called = call(rt, alloc, desk, WORDS.as_slice())?;
     Ok((called.status, called.report))
+}
+
+// A script of this many streams, of this many waves each.
+pub fn script_of(alloc: Global, streams: u32, waves: u32) -> Result<String, AllocError> {
+    let mut script = String::new(alloc);
+    for stream in 0..streams {
+        let line = format!(in alloc;
+            "stream {stream} wait-for-all waves {waves} samples 1 on all\n"
+        )?;
+        script.push_str(line.as_str())?;
+    }
+    Ok(script)
+}
+
+// The report of this many streams, of this many waves each, of these ranks, which were never seen.
+pub fn report_of(
+    alloc: Global,
+    streams: u32,
+    waves: u32,
+    ranks: &str,
+) -> Result<String, AllocError> {
+    let mut report = String::new(alloc);
+    for stream in 0..streams {
+        for wave in 0..waves {
+            let heading = format!(in alloc; "stream {stream} wave {wave} release 1 final\n")?;
+            report.push_str(heading.as_str())?;
+            let rest = format!(in alloc;
+                "covered {ranks}\ntree\n{ranks} - /\nclasses\nclass {ranks} paths 0\n"
+            )?;
+            report.push_str(rest.as_str())?;
+        }
+    }
+    report.push_str("end\n")?;
+    Ok(report)
 }

@@ -109,6 +109,34 @@ fn prints_captures(rt: HostRuntime) {
     }
 }
 
+// Ten frames of 2,058 bytes each, of 256 words of 64 ranks and no rows, and their lines.
+fn wide_capture(alloc: Global) -> Result<(Vec<u8>, String), AllocError> {
+    let (mut capture, mut lines) = (Vec::new(alloc), String::new(alloc));
+    for i in 0..10u32 {
+        capture.extend_from_slice(&[1, 1, 0, 0, 0, 0, 1, 0])?;
+        for _ in 0..2_048 {
+            capture.push(0xff)?;
+        }
+        capture.extend_from_slice(&[0, 0])?;
+        let line = format!(in alloc;
+            "{} up stream 0 wave 0 covered 16384:[0-16383] rows 0\n",
+            2_058 * i
+        )?;
+        lines.push_str(line.as_str())?;
+    }
+    lines.push_str("end 10 frames\n")?;
+    Ok((capture, lines))
+}
+
+#[test]
+fn prints_captures_of_20580_bytes(rt: HostRuntime) {
+    let alloc = rt.alloc();
+    let (capture, lines) = wide_capture(alloc).expect(&rt, "memory");
+    let called = print(&rt, alloc, capture.as_slice()).expect(&rt, "memory");
+    assert_eq!(rt; called.status, Status::Done);
+    assert_eq!(rt; called.report.bytes(), lines.as_bytes());
+}
+
 const REFUSED: [(&str, u64, FrameReason); 29] = [
     ("0101000000000001000000000000000100", 16, FrameReason::Short),
     (

@@ -10,6 +10,8 @@ mod capture_tests;
 #[cfg(test)]
 mod hostile_tests;
 #[cfg(test)]
+mod long_tests;
+#[cfg(test)]
 mod mode_tests;
 #[cfg(test)]
 mod net_tests;

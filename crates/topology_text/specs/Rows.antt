@@ -38,6 +38,11 @@ unreached : parsed (line (codes "fe:0 => a:0 ;") ++ line (codes "x:0 => y:0 ;") 
 unfolding pieces with_pieces first_beyond is_within whole_error number_of appear add_parent add_child
 unreached = refl
 
+-- of two nodes that the root doesn't reach the first one counts, which stands in line 2
+first_unreached : parsed (line (codes "fe:0 => a:0 ;") ++ line (codes "x:0 =>") ++ line (codes "y:0 ;") ++ line (codes "y:0 => x:0 ;")) ≡ Err (Bad 2 Unreached)
+unfolding pieces with_pieces first_beyond is_within whole_error number_of appear add_parent add_child
+first_unreached = refl
+
 two_roots : parsed (line (codes "fe:0 => a:0 ;") ++ line (codes "gz:0 => b:0 ;")) ≡ Err (Bad 2 TwoRoots)
 unfolding pieces with_pieces first_beyond is_within whole_error number_of appear add_parent add_child
 two_roots = refl

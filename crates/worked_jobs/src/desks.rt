@@ -42,6 +42,8 @@ pub const WORDS: [&str; 5] = [
     "--workers=1",
 ];
 
+pub const SIM_WORDS: [&str; 4] = ["sim", "--topology=t", "--samples=s", "--script=c"];
+
 pub const REPLAY_WORDS: [&str; 9] = [
     "replay",
     "--topology",

@@ -2,7 +2,7 @@ use mir.Syntax.{named}
 use denote.Exit.{no}
 use denote.Param.{layout}
 use denote.Param.Send.{arg_send, arg_sync, param_send, param_sync, sendable, shr_sync}
-use Rattle.stat_plan.proofs.plan.Plan.TheSendSync as plan
+use Rattle.overlay_net.proofs.PlanSharing.{plan_sync}
 use Rattle.std.proofs.Common.{◌∙◌, sym, subst}
 use Rattle.std.proofs.lemmas.List.Elements.{All-get_or}
 use Rattle.overlay_run.specs.Seats.{IsIdle}
@@ -24,7 +24,7 @@ map_vec-requires-sync-F g c κs within =
     (shr_sync _ _ _ c.type_bounds.sync-R)
     (shr_sync _ _ _ global_sync)
     (shr_sync _ _ _ (plan_turn_sync _ _ g.T.PrefixTree c.type_bounds.send-T))
-    (shr_sync _ _ _ plan.the_sync)
+    (shr_sync _ _ _ plan_sync)
     (shr_sync _ _ _ c.type_bounds.sync-G)))
 
 pub map_vec-requires-after_bounds : goal.map_vec-requires-after_bounds

@@ -5,4 +5,4 @@ use Rattle.stat_plan.proofs.limit.check_limit.Goals as goal
 pub returns-then-branch-clause-ok : goal.returns-then-branch-clause-ok
 returns-then-branch-clause-ok c =
     let all = c.lines-all in
-    none_over c.args.job.now all.result.paths.now all.result.lines.now all.ensures.numbered all.ensures.lines (sym c.in_ok-all_are_within.ensures ∙ c.if-branch.true)
+    none_over c.args.job.now all.result.paths.now all.result.lines.now.value all.ensures.numbered all.ensures.lines (sym c.in_ok-all_are_within.ensures ∙ c.if-branch.true)

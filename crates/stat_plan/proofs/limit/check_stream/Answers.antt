@@ -1,16 +1,27 @@
-use Rattle.std.proofs.Common.{◌≡◌, ◌<◌, ◌+◌, ℕ, List, Bool, suc, None, Some, sym, ap, subst, ◌∙◌, arith, map}
+use Rattle.std.proofs.Common.{length, ◌≡◌, ◌<◌, ◌+◌, ℕ, List, Bool, suc, None, Some, sym, ap, subst, ◌∙◌, arith, map}
 use Rattle.std.specs.Prelude.{find}
 use Rattle.overlay_setup.specs.NodeSets.{In, up_to}
 use Rattle.stat_plan.specs.Limits.{is_over, is_within_limit}
-use Rattle.rank_set.specs.Ranks.{Ranks}
+use Rattle.rank_set.specs.Ranks.{Has, Ranks}
+use Rattle.stat_plan.specs.OwnLines.{HasRankOn}
 use Rattle.stat_plan.specs.Plans.{Plan, ranks_on}
 use Rattle.overlay_setup.specs.Scripts.{Stream}
 use Rattle.stat_plan.specs.Samples.{SampleLine, samples_of, seen_by, wave_lines}
+use Rattle.stat_plan.proofs.Indexing.{rank_on}
 use Rattle.stat_plan.proofs.FirstOver.{wave_value, none_over_more, over_found}
 use Rattle.stat_plan.proofs.limit.check_stream.Goals as goal
 
 pub ranks_of-requires : goal.ranks_of-requires
 ranks_of-requires c d there = c.requires.daemons d (subst (In d) c.daemons.ensures there)
+
+pub wave_is_within-requires-clause-nodes : goal.wave_is_within-requires-clause-nodes
+wave_is_within-requires-clause-nodes c d there =
+    subst (λ k. d < k) (sym (ap length c.requires.placed ∙ c.invariant.ensures.samples_fit.paired)) (c.requires.daemons d there)
+
+pub wave_is_within-requires-clause-ranks : goal.wave_is_within-requires-clause-ranks
+wave_is_within-requires-clause-ranks c r there =
+    subst (λ placed. HasRankOn placed c.args.stream.now.daemons r) (sym c.requires.placed)
+    (rank_on c.args.job.now c.args.stream.now.daemons r (subst (Has r) (c.in_ok-ranks.ensures ∙ ap (ranks_on c.args.job.now) c.daemons.ensures) there))
 
 -- what the test of a wave says
 abbrev tested : (p : Plan) (x : Stream) (w : ℕ) (lines : List SampleLine) (own : List ℕ) (ranks : Ranks) (b : Bool) → b ≡ is_within_limit (samples_of (map (seen_by x.grain ranks) (wave_lines x.samples w lines))) → lines ≡ p.lines → ranks ≡ ranks_on p own → own ≡ x.daemons → b ≡ is_within_limit (samples_of (map (seen_by x.grain (ranks_on p x.daemons)) (wave_lines x.samples w p.lines)))

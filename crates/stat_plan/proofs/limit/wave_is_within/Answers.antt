@@ -1,21 +1,58 @@
-use Rattle.std.proofs.Common.{◌≡◌, ap, length, map, nat_le, subst, ◌∙◌}
-use Rattle.std.specs.List.{flat_map}
+use Rattle.std.proofs.Common.{◌≡◌, ◌<◌, ◌∙◌, List, ap, length, map, nat_le, sym, subst, Vec, Global}
+use Rattle.std.specs.List.{AllByRecursion, flat_map}
 use Rattle.std.specs.Set.{distinct_count}
+use Rattle.std.proofs.lemmas.List.{length-map}
 use Rattle.call_path.specs.Pairs.{prefixes}
-use Rattle.call_path.specs.Path.{is_path}
-use Rattle.stat_plan.specs.PathOrder.{AreSeen, numbered, seen_paths}
+use Rattle.call_path.specs.Path.{Path, is_path}
+use Rattle.overlay_setup.specs.NodeSets.{In}
+use Rattle.overlay_setup.specs.declared.script.Grain.{Grain}
+use Rattle.stat_plan.specs.OwnLines.{AreRanksSeen, row_at}
+use Rattle.stat_plan.specs.PathOrder.{has_rank, numbered, seen_paths}
 use Rattle.stat_plan.specs.Samples.{path_by}
+use Rattle.stat_plan.specs.Tables.{rows_view}
+use Rattle.stat_plan.specs.declared.samples.StackLine.{StackLine}
+use Rattle.stat_plan.proofs.OwnPaths.{row_in_range, spread_in_range}
+use Rattle.stat_plan.proofs.SeenPaths.{seen_by_sets}
 use Rattle.stat_plan.proofs.WavePrefixes.{wave_count}
 use Rattle.stat_plan.proofs.limit.wave_is_within.Goals as goal
 
+-- as many paths as a stream sees
+as_many : (paths seen : List Path) (g : Grain) → seen ≡ map (path_by g) paths → length seen ≡ length paths
+as_many paths seen g is = ap length is ∙ length-map paths (path_by g)
+
+pub ranks_seen-requires-clause-nodes : goal.ranks_seen-requires-clause-nodes
+ranks_seen-requires-clause-nodes c d there =
+    subst (λ k. d < k) (sym (sym (length-map c.args.all.parted.now.rows.items (λ (r : Vec StackLine Global). r.items)) ∙ c.requires.parted.paired)) (c.requires.nodes d (subst (In d) c.daemons.ensures there))
+
+pub ranks_seen-requires-clause-rows : goal.ranks_seen-requires-clause-rows
+ranks_seen-requires-clause-rows c d there =
+    let all = c.args.all in
+    subst (λ k. AllByRecursion (λ (line : StackLine). line.path < k) (row_at (rows_view all.parted.now.rows.items) d)) (sym (as_many all.paths.now c.paths_by-paths.result.now c.grain.result c.paths_by-paths.ensures))
+    (row_in_range all.placed.now all.paths.now all.lines.now.value all.parted.now.spread.items (rows_view all.parted.now.rows.items) c.requires.parted c.requires.numbered d (c.requires.nodes d (subst (In d) c.daemons.ensures there)))
+
+pub ranks_seen-requires-clause-spread : goal.ranks_seen-requires-clause-spread
+ranks_seen-requires-clause-spread c =
+    let all = c.args.all in
+    subst (λ k. AllByRecursion (λ (line : StackLine). line.path < k) all.parted.now.spread.items) (sym (as_many all.paths.now c.paths_by-paths.result.now c.grain.result c.paths_by-paths.ensures))
+    (spread_in_range all.placed.now all.paths.now all.lines.now.value all.parted.now.spread.items (rows_view all.parted.now.rows.items) c.requires.parted c.requires.numbered)
+
 pub returns : goal.returns
 returns c =
-    let paths = c.args.all.paths.now in
+    let all = c.args.all in
+    let paths = all.paths.now in
+    let lines = all.lines.now.value in
     let stream = c.args.stream.now in
+    let own = c.args.ranks.now in
+    let sets = c.in_ok-sets.sets.items in
+    let spread = all.parted.now.spread.items in
+    let rows = rows_view all.parted.now.rows.items in
     let table : c.paths_by-paths.result.now ≡ map (path_by stream.grain) paths = c.paths_by-paths.ensures ∙ ap (λ g. map (path_by g) paths) c.grain.ensures in
-    let long : length c.in_ok-seen.seen.items ≡ length paths = c.in_ok-seen.ensures.length ∙ ap length table ∙ Rattle.std.proofs.lemmas.List.length-map paths (path_by stream.grain) in
-    let seen = subst (λ k. AreSeen c.args.all.lines.now k c.args.wave c.args.ranks.now c.in_ok-seen.seen.items) c.samples.ensures c.in_ok-seen.ensures.seen in
+    let bits : c.deref-2.result.now ≡ map has_rank sets = c.deref-2.ensures.value ∙ c.in_ok-seen.ensures ∙ ap (map has_rank) c.deref.ensures.value in
+    let long : length (map has_rank sets) ≡ length paths = length-map sets has_rank ∙ c.in_ok-sets.ensures.length ∙ as_many paths c.paths_by-paths.result.now stream.grain table in
+    let ranks : AreRanksSeen stream.samples c.args.wave own rows stream.daemons spread sets =
+    subst (λ k. AreRanksSeen k c.args.wave own rows stream.daemons spread sets) c.samples.ensures (subst (λ ds. AreRanksSeen c.samples.result c.args.wave own rows ds spread sets) c.daemons.ensures c.in_ok-sets.ensures.seen) in
+    let seen = seen_by_sets all.placed.now lines spread rows stream.samples c.args.wave stream.daemons own sets c.requires.parted c.requires.nodes c.requires.ranks ranks in
     c.is_within.ensures
-    ∙ ap (λ ps. nat_le (distinct_count is_path (flat_map prefixes (seen_paths (numbered ps c.args.order.now) c.deref.result.now))) 2048) table
-    ∙ ap (λ bs. nat_le (distinct_count is_path (flat_map prefixes (seen_paths (numbered (map (path_by stream.grain) paths) c.args.order.now) bs))) 2048) c.deref.ensures.value
-    ∙ ap (λ n. nat_le n 2048) (wave_count paths c.args.all.lines.now stream.samples c.args.wave stream.grain c.args.ranks.now c.requires.numbered c.args.order.now c.in_ok-seen.seen.items c.requires.order long seen)
+    ∙ ap (λ ps. nat_le (distinct_count is_path (flat_map prefixes (seen_paths (numbered ps c.args.order.now) c.deref-2.result.now))) 2048) table
+    ∙ ap (λ bs. nat_le (distinct_count is_path (flat_map prefixes (seen_paths (numbered (map (path_by stream.grain) paths) c.args.order.now) bs))) 2048) bits
+    ∙ ap (λ n. nat_le n 2048) (wave_count paths lines stream.samples c.args.wave stream.grain own c.requires.numbered c.args.order.now (map has_rank sets) c.requires.order long seen)

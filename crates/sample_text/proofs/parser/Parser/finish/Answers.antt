@@ -10,5 +10,5 @@ use Rattle.sample_text.proofs.parser.Parser.finish.Goals as goal
 pub returns-clause-fits : goal.returns-clause-fits
 returns-clause-fits c =
     subst (SamplesFit (parser_nodes c.args.self))
-    (sym (c.in_ok-new.ensures ∙ ap (λ ps. sampled c.args.self.placed.items (lines_of ps c.args.self.lines.items)) c.into_paths-paths.ensures))
+    (sym (c.in_ok-new.ensures ∙ ap (λ ps. sampled c.args.self.placed.items (lines_of ps c.args.self.lines)) c.into_paths-paths.ensures))
     (fits (parser_nodes c.args.self) (parser_view c.args.self) c.requires.invariant (ap (lacks_rank (parser_nodes c.args.self).parents 0) (sym c.deref.ensures.value) ∙ sym c.lacks_rank.ensures ∙ c.if-lacks_rank.false))

@@ -9,6 +9,6 @@ returns-clause-consistent c = record {
   paired = ap length c.in_ok-empty_sets.ensures ∙ length-empty_sets c.nodes.result ∙ c.nodes.ensures;
   placed = c.new.ensures ∙ all_ranks-empty_sets c.nodes.result ∙ ap all_ranks (sym c.in_ok-empty_sets.ensures);
   paths = c.new-2.ensures.holds;
-  numbered = subst (PathIndicesInRange c.new-2.result.paths.items) (sym c.new-3.ensures.items) tt;
+  numbered = subst (PathIndicesInRange c.new-2.result.paths.items) (sym c.new-3.ensures) tt;
   no_more_than_lines = omega (arith, c.new-2.ensures.empty);
 }

@@ -12,18 +12,17 @@ use Rattle.sample_text.proofs.parser.Parser.one_rank.Goals as goal
 pub returns-then-is_full-clause-err : goal.returns-then-is_full-clause-err
 returns-then-is_full-clause-err c = λ _.
     no_room (parser_view c.args.self.now) c.args.line_number (with_sample (parser_view c.args.self.now) c.args.line_number c.args.one.time (union none (ranks_between c.args.one.rank c.args.one.rank)) c.args.one.path.now)
-    (is_many c.args.self.now.paths.paths.items c.args.self.now.lines.items (sym c.is_full.ensures ∙ c.if-is_full.true))
+    (is_many c.args.self.now.paths.paths.items c.args.self.now.lines (sym c.is_full.ensures ∙ c.if-is_full.true))
     ∙ ap Err (sym c.over.ensures)
 
 -- the line is a sample of its rank
-is_sample : (c : goal.After-sample) → if_room (parser_view c.args.self.now) c.args.line_number (with_sample (parser_view c.args.self.now) c.args.line_number c.args.one.time (union none (ranks_between c.args.one.rank c.args.one.rank)) c.args.one.path.now) ≡ with_sample (parser_view c.args.self.now) c.args.line_number c.args.one.time c.in_one_word-ranks.result c.args.one.path.now
+is_sample : (c : goal.After-sample_of_one) → if_room (parser_view c.args.self.now) c.args.line_number (with_sample (parser_view c.args.self.now) c.args.line_number c.args.one.time (union none (ranks_between c.args.one.rank c.args.one.rank)) c.args.one.path.now) ≡ with_sample (parser_view c.args.self.now) c.args.line_number c.args.one.time (union none (ranks_between c.args.one.rank c.args.one.rank)) c.args.one.path.now
 is_sample c =
     room (parser_view c.args.self.now) c.args.line_number (with_sample (parser_view c.args.self.now) c.args.line_number c.args.one.time (union none (ranks_between c.args.one.rank c.args.one.rank)) c.args.one.path.now)
-    (are_few c.args.self.now.paths.paths.items c.args.self.now.lines.items (sym c.is_full.ensures ∙ c.if-is_full.false))
-    ∙ ap (λ ranks. with_sample (parser_view c.args.self.now) c.args.line_number c.args.one.time ranks c.args.one.path.now) (sym c.in_one_word-ranks.ensures)
+    (are_few c.args.self.now.paths.paths.items c.args.self.now.lines (sym c.is_full.ensures ∙ c.if-is_full.false))
 
 pub returns-clause-ok : goal.returns-clause-ok
-returns-clause-ok c = subst (λ r. OnOk c.sample.result (r ≡ Ok (parser_view c.sample.new.self))) (sym (is_sample c)) c.sample.ensures.ok
+returns-clause-ok c = subst (λ r. OnOk c.sample_of_one.result (r ≡ Ok (parser_view c.sample_of_one.new.self))) (sym (is_sample c)) c.sample_of_one.ensures.ok
 
 pub returns-clause-err : goal.returns-clause-err
-returns-clause-err c = subst (λ r. IsErrorOf c.sample.result r) (sym (is_sample c)) c.sample.ensures.err
+returns-clause-err c = subst (λ r. IsErrorOf c.sample_of_one.result r) (sym (is_sample c)) c.sample_of_one.ensures.err

@@ -31,11 +31,11 @@ pub returns-clause-ok : goal.returns-clause-ok
 returns-clause-ok c =
     let old = c.args.self.now.paths.paths.items in
     let new = c.number.new.self.paths.items in
-    let lines = c.args.self.now.lines.items in
-    let more : lines_of old lines ++ line_of new (line c) ∷ [] ≡ lines_of new c.push.new.self.items =
+    let lines = c.args.self.now.lines in
+    let more : lines_of old lines ++ line_of new (line c) ∷ [] ≡ lines_of new c.push.new.self =
     ap (λ ls. ls ++ line_of new (line c) ∷ []) (sym (same_lines old new lines c.in_ok-path.ensures.old_paths c.requires.ready.numbered))
     ∙ sym (lines_more new lines (line c))
-    ∙ ap (lines_of new) (sym c.in_ok-push.ensures.items) in
+    ∙ ap (lines_of new) (sym c.in_ok-push.ensures.ok) in
     sample_good (parser_view c.args.self.now) c.args.line_number c.args.time c.args.ranks c.args.text.now
     (ap (is_subset c.args.ranks) (sym c.requires.ready.placed) ∙ sym c.is_subset.ensures ∙ c.if-not-is_subset.false)
     (path_at c.number.new.self c.in_ok-path.path) c.in_ok-path.ensures.ok
@@ -45,14 +45,14 @@ pub returns-clause-consistent : goal.returns-clause-consistent
 returns-clause-consistent c =
     let old = c.args.self.now.paths.paths.items in
     let new = c.number.new.self.paths.items in
-    let lines = c.args.self.now.lines.items in
-    let len = ap length c.in_ok-push.ensures.items ∙ length-append lines (line c ∷ []) in
+    let lines = c.args.self.now.lines in
+    let len = ap length c.in_ok-push.ensures.ok ∙ length-append lines (line c ∷ []) in
     let one : length new ≤ length old + 1 = c.in_ok-path.ensures.at_most_one_new in
     let few = c.requires.ready.no_more_than_lines in
     record {
       paired = c.requires.ready.paired;
       placed = c.requires.ready.placed;
       paths = c.in_ok-path.ensures.holds;
-      numbered = subst (PathIndicesInRange new) (sym c.in_ok-push.ensures.items) (numbered_more old new lines (line c) c.in_ok-path.ensures.none_lost c.requires.ready.numbered c.in_ok-path.ensures.within);
+      numbered = subst (PathIndicesInRange new) (sym c.in_ok-push.ensures.ok) (numbered_more old new lines (line c) c.in_ok-path.ensures.none_lost c.requires.ready.numbered c.in_ok-path.ensures.within);
       no_more_than_lines = omega (arith, len, one, few);
     }

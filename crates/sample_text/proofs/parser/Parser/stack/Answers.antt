@@ -12,28 +12,28 @@ use Rattle.sample_text.proofs.parser.Parser.stack.Goals as goal
 pub returns-then-is_full-clause-err : goal.returns-then-is_full-clause-err
 returns-then-is_full-clause-err c = λ _.
     stack_over (parser_view c.args.self.now) c.args.line_number c.args.time.now c.args.word.now c.args.text.now
-    (is_many c.args.self.now.paths.paths.items c.args.self.now.lines.items (sym c.is_full.ensures ∙ c.if-is_full.true))
+    (is_many c.args.self.now.paths.paths.items c.args.self.now.lines (sym c.is_full.ensures ∙ c.if-is_full.true))
     ∙ ap Err (sym c.over.ensures)
 
 pub returns-in_err-time-clause-err : goal.returns-in_err-time-clause-err
 returns-in_err-time-clause-err c =
     handed_on c.from_residual.result c.in_err-time.field-0.0 (λ e. e ≢ OutOfMemory → with_stack (parser_view c.args.self.now) c.args.line_number c.args.time.now c.args.word.now c.args.text.now ≡ Err e) c.from_residual.ensures
     (λ _. stack_bad_time (parser_view c.args.self.now) c.args.line_number c.args.time.now c.args.word.now c.args.text.now
-    (are_few c.args.self.now.paths.paths.items c.args.self.now.lines.items (sym c.is_full.ensures ∙ c.if-is_full.false))
+    (are_few c.args.self.now.paths.paths.items c.args.self.now.lines (sym c.is_full.ensures ∙ c.if-is_full.false))
     c.in_err-time.field-0.0 c.in_err-time.ensures.err)
 
 pub returns-in_err-ranks-clause-err : goal.returns-in_err-ranks-clause-err
 returns-in_err-ranks-clause-err c =
     handed_on c.from_residual-in_err-ranks.result c.in_err-ranks.field-0.0 (λ e. e ≢ OutOfMemory → with_stack (parser_view c.args.self.now) c.args.line_number c.args.time.now c.args.word.now c.args.text.now ≡ Err e) c.from_residual-in_err-ranks.ensures
     (λ memory. stack_bad_ranks (parser_view c.args.self.now) c.args.line_number c.args.time.now c.args.word.now c.args.text.now
-    (are_few c.args.self.now.paths.paths.items c.args.self.now.lines.items (sym c.is_full.ensures ∙ c.if-is_full.false))
+    (are_few c.args.self.now.paths.paths.items c.args.self.now.lines (sym c.is_full.ensures ∙ c.if-is_full.false))
     c.in_ok-time.time c.in_ok-time.ensures.ok c.in_err-ranks.field-0.0 (c.in_err-ranks.ensures.err memory))
 
 -- the line is a sample of what was read
 is_sample : (c : goal.After-sample) → with_stack (parser_view c.args.self.now) c.args.line_number c.args.time.now c.args.word.now c.args.text.now ≡ with_sample (parser_view c.args.self.now) c.args.line_number c.in_ok-time.time c.in_ok-ranks.ranks c.args.text.now
 is_sample c =
     stack_read (parser_view c.args.self.now) c.args.line_number c.args.time.now c.args.word.now c.args.text.now
-    (are_few c.args.self.now.paths.paths.items c.args.self.now.lines.items (sym c.is_full.ensures ∙ c.if-is_full.false))
+    (are_few c.args.self.now.paths.paths.items c.args.self.now.lines (sym c.is_full.ensures ∙ c.if-is_full.false))
     c.in_ok-time.time c.in_ok-time.ensures.ok c.in_ok-ranks.ranks c.in_ok-ranks.ensures.ok
 
 pub returns-clause-ok : goal.returns-clause-ok

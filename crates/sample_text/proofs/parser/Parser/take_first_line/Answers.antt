@@ -23,7 +23,7 @@ returns-in-Some-cut_same_path-clause-taken c =
     let path = c.in-Some-cut_same_path.ensures.path in
     let some = path_some path.line (path_at old.paths c.in-Some-cut_same_path.path) path.read in
     let later = lines c.in-Some-cut_same_path.after.now in
-    let all = length-lines_of old.paths.paths.items old.lines.items in
+    let all = length-lines_of old.paths.paths.items old.lines in
     let few : length (parser_view old).lines < 262144 = omega (arith, all, c.in-Some-cut_same_path.ensures.room) in
     record {
       line = begins.start ++ path.line;

@@ -5,5 +5,4 @@ use Rattle.stat_plan.proofs.samples.Samples.new.Goals as goal
 
 pub parted_lines-requires-clause-lines : goal.parted_lines-requires-clause-lines
 parted_lines-requires-clause-lines c =
-    subst (λ placed. ListPlacedRanks placed c.deref-6.result.now) (sym c.deref-5.ensures.value)
-    (subst (ListPlacedRanks c.args.placed.items) (sym c.deref-6.ensures.value) (placed_ranks c.args.placed.items c.args.paths.items c.args.lines.items c.requires.samples))
+    subst (λ placed. ListPlacedRanks placed c.args.lines) (sym c.deref-5.ensures.value) (placed_ranks c.args.placed.items c.args.paths.items c.args.lines c.requires.samples)

@@ -27,7 +27,7 @@ node_lines-requires-clause-own c =
     let a = c.self.inside in
     let below : c.args.n < length a.placed.items = subst (λ (s : Sampled). c.args.n < length s.placed) (sym c.self.view_is) c.requires in
     subst (λ own. AllByRecursion (λ line. IsSubset line.ranks own) (row_at (rows_view a.parted.rows.items) c.args.n)) (sym (own_is a.placed.items c.args.n c.index-own.result.now below c.index-own.ensures))
-    (row_within a.placed.items a.paths.items a.lines.items a.parted.spread.items (rows_view a.parted.rows.items) c.self.invariant.4 c.self.invariant.0 c.args.n below)
+    (row_within a.placed.items a.paths.items a.lines.value a.parted.spread.items (rows_view a.parted.rows.items) c.self.invariant.4 c.self.invariant.0 c.args.n below)
 
 pub returns-clause-samples : goal.returns-clause-samples
 returns-clause-samples c =
@@ -40,15 +40,15 @@ returns-clause-samples c =
     let are = subst (λ own. AreNodeLines k w own (row_at (rows_view a.parted.rows.items) n) a.parted.spread.items some) (own_is a.placed.items n c.index-own.result.now below c.index-own.ensures) c.in_ok-lines.ensures in
     subst (λ paths. AreWaveLines k w (ranks_at c.args.self.now.placed n) c.args.self.now.lines (lines_of paths some)) (sym c.as_slice.ensures.value)
     (subst (λ (s : Sampled). AreWaveLines k w (ranks_at s.placed n) s.lines (lines_of a.paths.items some)) c.self.view_is
-    (wave_lines_are k w (ranks_at a.placed.items n) a.paths.items a.lines.items some (node_samples a.placed.items a.lines.items a.parted.spread.items (rows_view a.parted.rows.items) c.self.invariant.4 k w n some below are)))
+    (wave_lines_are k w (ranks_at a.placed.items n) a.paths.items a.lines.value some (node_samples a.placed.items a.lines.value a.parted.spread.items (rows_view a.parted.rows.items) c.self.invariant.4 k w n some below are)))
 
 pub returns-clause-numbered : goal.returns-clause-numbered
 returns-clause-numbered c =
     let a = c.self.inside in
     let n = c.args.n in
     let below : n < length a.placed.items = subst (λ (s : Sampled). n < length s.placed) (sym c.self.view_is) c.requires in
-    let row = row_in_range a.placed.items a.paths.items a.lines.items a.parted.spread.items (rows_view a.parted.rows.items) c.self.invariant.4 c.self.invariant.0 n below in
-    let spread = spread_in_range a.placed.items a.paths.items a.lines.items a.parted.spread.items (rows_view a.parted.rows.items) c.self.invariant.4 c.self.invariant.0 in
+    let row = row_in_range a.placed.items a.paths.items a.lines.value a.parted.spread.items (rows_view a.parted.rows.items) c.self.invariant.4 c.self.invariant.0 n below in
+    let spread = spread_in_range a.placed.items a.paths.items a.lines.value a.parted.spread.items (rows_view a.parted.rows.items) c.self.invariant.4 c.self.invariant.0 in
     record {
       in_range = subst (λ paths. PathIndicesInRange paths (held_lines c.in_ok-lines.lines)) (sym c.as_slice.ensures.value) (c.in_ok-lines.ensures.numbered (length a.paths.items) row spread);
       functions_are = c.as_slice-2.ensures.value ∙ c.self.invariant.2 ∙ ap (map (map func)) (sym c.as_slice.ensures.value);

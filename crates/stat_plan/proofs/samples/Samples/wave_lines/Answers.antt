@@ -22,13 +22,13 @@ pub united_lines-requires-clause-rows : goal.united_lines-requires-clause-rows
 united_lines-requires-clause-rows c = λ d there.
     let a = c.self.inside in
     subst (λ k. AllByRecursion (λ line. line.path < k) (row_at (rows_view a.parted.rows.items) d)) (let d = a.paths.ok.0 in let b = c.len-count.ensures in omega (arith, d, b))
-    (row_in_range a.placed.items a.paths.items a.lines.items a.parted.spread.items (rows_view a.parted.rows.items) c.self.invariant.4 c.self.invariant.0 d (subst (λ (s : Sampled). d < length s.placed) (sym c.self.view_is) (c.requires.daemons d there)))
+    (row_in_range a.placed.items a.paths.items a.lines.value a.parted.spread.items (rows_view a.parted.rows.items) c.self.invariant.4 c.self.invariant.0 d (subst (λ (s : Sampled). d < length s.placed) (sym c.self.view_is) (c.requires.daemons d there)))
 
 pub united_lines-requires-clause-spread : goal.united_lines-requires-clause-spread
 united_lines-requires-clause-spread c =
     let a = c.self.inside in
     subst (λ k. AllByRecursion (λ line. line.path < k) a.parted.spread.items) (let d = a.paths.ok.0 in let b = c.len-count.ensures in omega (arith, d, b))
-    (spread_in_range a.placed.items a.paths.items a.lines.items a.parted.spread.items (rows_view a.parted.rows.items) c.self.invariant.4 c.self.invariant.0)
+    (spread_in_range a.placed.items a.paths.items a.lines.value a.parted.spread.items (rows_view a.parted.rows.items) c.self.invariant.4 c.self.invariant.0)
 
 pub returns-clause-samples : goal.returns-clause-samples
 returns-clause-samples c =
@@ -37,13 +37,13 @@ returns-clause-samples c =
     let k = wanted.times.samples in
     let w = wanted.times.wave in
     let some = c.in_ok-lines.lines.items in
-    let rows = united_samples a.placed.items a.lines.items a.parted.spread.items (rows_view a.parted.rows.items) c.self.invariant.4 k w wanted.daemons.now wanted.ranks.now c.len-count.result some
+    let rows = united_samples a.placed.items a.lines.value a.parted.spread.items (rows_view a.parted.rows.items) c.self.invariant.4 k w wanted.daemons.now wanted.ranks.now c.len-count.result some
     (λ d there. subst (λ (s : Sampled). d < length s.placed) (sym c.self.view_is) (c.requires.daemons d there))
     (λ r own. subst (λ (s : Sampled). HasRankOn s.placed wanted.daemons.now r) (sym c.self.view_is) (c.requires.ranks r own))
     c.in_ok-lines.ensures in
     subst (λ paths. AreWaveLines k w wanted.ranks.now c.args.self.now.lines (lines_of paths some)) (sym c.as_slice.ensures.value)
     (subst (λ (s : Sampled). AreWaveLines k w wanted.ranks.now s.lines (lines_of a.paths.items some)) c.self.view_is
-    (wave_lines_are k w wanted.ranks.now a.paths.items a.lines.items some rows))
+    (wave_lines_are k w wanted.ranks.now a.paths.items a.lines.value some rows))
 
 pub returns-clause-numbered : goal.returns-clause-numbered
 returns-clause-numbered c = record {

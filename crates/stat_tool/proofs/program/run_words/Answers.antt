@@ -1,0 +1,43 @@
+use Rattle.std.proofs.Common.{◌≡◌, refl, sym, ap, subst, ◌∙◌}
+use Rattle.std.specs.Prelude.{map, string_bytes}
+use Rattle.stat_words.specs.Words.{asked}
+use Rattle.stat_tool.specs.Call.{Answered, desk_change, sink_change}
+use Rattle.stat_tool.specs.Ending.{IsEnding, ended_with}
+use Rattle.stat_tool.specs.Status.{refusal_of_status}
+use Rattle.stat_tool.specs.declared.program.Ending.{Ending}
+use Rattle.stat_tool.specs.declared.status.Status.{Status}
+use Rattle.stat_tool.specs.declared.status.Status.TheVariants.{Done, BadWords, DeskFault, BadInput, OverLimit, SinkFault, OutOfMemory, BadJournal, Unfinished, BadFrames}
+use Rattle.stat_tool.proofs.program.run_words.Goals as goal
+
+-- each status is that of its line
+status_of_line : (status : Status) → ended_with (refusal_of_status status) ≡ status
+status_of_line Done = refl
+status_of_line (BadWords fault) = refl
+status_of_line (DeskFault role) = refl
+status_of_line (BadInput file line reason) = refl
+status_of_line (OverLimit file line what most) = refl
+status_of_line (SinkFault target) = refl
+status_of_line OutOfMemory = refl
+status_of_line (BadJournal i) = refl
+status_of_line (Unfinished e) = refl
+status_of_line (BadFrames at reason) = refl
+
+-- an ending with the line of a status is one of that status
+same_status : (status : Status) (ending : Ending) → ending.refusal ≡ refusal_of_status status → status ≡ ended_with ending.refusal
+same_status status ending line = sym (ap ended_with line ∙ status_of_line status)
+
+pub returns-clause-answered : goal.returns-clause-answered
+returns-clause-answered g c = (
+  c.stat-outcome.result.journal,
+  subst (λ (status : Status). Answered (asked (map string_bytes c.args.words.now))
+      (desk_change g.D.Desk.faults g.D.Desk.last_fault g.D.Desk.gave g.D.Desk.contents c.args.desk.now c.stat-outcome.new.desk)
+      (sink_change g.O.Sink.faults g.O.Sink.took g.O.Sink.contents c.args.out.now c.stat-outcome.new.out)
+      (sink_change g.J.Sink.faults g.J.Sink.took g.J.Sink.contents c.args.journal.now c.stat-outcome.new.journal) c.stat-outcome.result.journal status)
+      (same_status c.stat-outcome.result.status c.ending_of.result c.ending_of.ensures.refusal) c.stat-outcome.ensures.answered,
+)
+
+pub returns-clause-ending : goal.returns-clause-ending
+returns-clause-ending g c =
+    subst (λ (status : Status). IsEnding status c.ending_of.result)
+    (same_status c.stat-outcome.result.status c.ending_of.result c.ending_of.ensures.refusal)
+    (record { refusal = c.ending_of.ensures.refusal; number = c.ending_of.ensures.number })
