@@ -1,7 +1,9 @@
 -- What numbers become, both ways between a cover and its places.
 use Rattle.std.proofs.Common.{◌≡◌, ℕ, ◌+◌, ◌-◌, ◌<◌, ◌≤◌, nat_lt, nat_le, Bool, true, false, ◌&&◌, ◌||◌, refl, sym, ap, ◌∙◌, subst, ◌⊎◌, inl, inr, arith}
-use Rattle.std.proofs.lemmas.Bool.{cases_Bool, cases_lt, cases_order, true≢false, and_parts, or_cases, lt-ltb, le-ltb, ltb-true}
+use Rattle.std.proofs.lemmas.Bool.{cases_Bool, cases_lt, cases_order, true≢false, and_parts, or_cases, lt-ltb, le-ltb, lt-leb, le-leb, ltb-true}
 use Rattle.rank_set.specs.Ranks.{Ranks, none, has, those, union, has-none, has-those, has-union, same_ranks}
+use Rattle.rank_set.specs.Runs.{ranks_between}
+use Rattle.rank_set.proofs.RunSets.{between_in, between_low, between_high}
 use Rattle.rank_places.specs.Places.{place, to_places}
 use Rattle.rank_places.specs.Table.{inside, Becomes, image, IsShift}
 use Rattle.rank_places.proofs.Places.{place_has, to_places-member, has-from_places, place-increases, place-injective}
@@ -187,6 +189,21 @@ module _ (back : Bool) (cover s : Ranks) (within : AreInside back cover s) where
         more q ∙ ap (λ t. has t q || (nat_le at q && bit (q - at))) is ∙ ap (λ b. b || (nat_le at q && bit (q - at))) (has-union old (image back cover (before s from)) q)
         ∙ or_assoc (has old q) (has (image back cover (before s from)) q) (nat_le at q && bit (q - at)) ∙ ap (λ b. has old q || b) (moved_on bit bits past q)
         ∙ sym (has-union old (image back cover (before s next)) q))
+
+    -- the same with a whole run of members
+    pub put_run : (was new : Ranks) → was ≡ image back cover (before s from) → new ≡ union was (ranks_between at (at + len)) → ((x : ℕ) → first ≤ x → x ≤ first + len → has s x ≡ true) → new ≡ image back cover (before s next)
+    put_run was new is more there = same_ranks _ _ (λ q.
+        ap (λ t. has t q) more ∙ has-union was (ranks_between at (at + len)) q ∙ ap (λ t. has t q || has (ranks_between at (at + len)) q) is ∙ ap (λ b. has (image back cover (before s from)) q || b) (one_run q)
+        ∙ moved_on (λ i. nat_le i len) (λ i le. le-leb i len le ∙ sym (there (first + i) (omega arith) (omega (arith, le)))) (λ i lt. lt-leb i len lt) q)
+      where
+        one_run : (q : ℕ) → has (ranks_between at (at + len)) q ≡ (nat_le at q && nat_le (q - at) len)
+        one_run q = elim (cases_lt q at) [
+          | inl lt ↦ between_low at (at + len) q lt ∙ ap (λ b. b && nat_le (q - at) len) (sym (lt-leb at q lt))
+          | inr up ↦ elim (cases_lt (at + len) q) [
+            | inl past ↦ between_high at (at + len) q past ∙ sym (and_false (nat_le at q)) ∙ ap (λ b. nat_le at q && b) (sym (lt-leb (q - at) len (omega (arith, past))))
+            | inr down ↦ between_in at (at + len) q up down ∙ sym (λ k. le-leb at q up k && le-leb (q - at) len (omega (arith, down)) k)
+          ]
+        ]
 
     -- and they are greater than what was there
     pub put_above : (old was : Ranks) → was ≡ union old (image back cover (before s from)) → has s first ≡ true → ((q x y : ℕ) → has old q ≡ true → from ≤ x → Becomes back cover x y → q < y) → (q : ℕ) → has was q ≡ true → q < at

@@ -24,6 +24,8 @@ use table::{PlacedRun, placed_runs};
 #[derive(Drop)]
 pub struct CoverPlaces {
     runs: Vec<PlacedRun>,
+    // Whether the cover is held as runs: so are its parts, most often.
+    scattered: bool,
 }
 
 impl Model for CoverPlaces {
@@ -46,6 +48,7 @@ impl CoverPlaces {
     {
         CoverPlaces {
             runs: Vec::new(alloc),
+            scattered: false,
         }
     }
 
@@ -58,6 +61,7 @@ impl CoverPlaces {
         let runs = cover.runs(alloc)?;
         Ok(CoverPlaces {
             runs: placed_runs(alloc, &runs)?,
+            scattered: cover.held_words().is_none(),
         })
     }
 
@@ -68,7 +72,7 @@ impl CoverPlaces {
         ensures in_cover { IfOk result (λ places. (p : ℕ) → Has p places → p < size self.now) }
         ensures inverse { IfOk result (λ places. from_places self.now places ≡ ranks.now) }
     {
-        moved(*self.runs.allocator(), &self.runs, false, ranks)
+        moved(*self.runs.allocator(), &self.runs, false, ranks, false)
     }
 
     /// The ranks of the cover whose places are in the set, each place below the cover's count: the way back from
@@ -79,6 +83,12 @@ impl CoverPlaces {
         ensures subset { IfOk result (λ ranks. is_subset ranks self.now ≡ true) }
         ensures inverse { IfOk result (λ ranks. to_places self.now ranks ≡ places.now) }
     {
-        moved(*self.runs.allocator(), &self.runs, true, places)
+        moved(
+            *self.runs.allocator(),
+            &self.runs,
+            true,
+            places,
+            self.scattered,
+        )
     }
 }

@@ -67,12 +67,14 @@ fn moved_words(set: &RankSet, run: Shift) -> Result<RankSet, AllocError>
     set.at_word(run.target / 64 + (set.word_offset() - run.first / 64))
 }
 
-/// What the numbers of a set become: places of the ranks of the cover, or, with `back`, ranks at places.
+/// What the numbers of a set become: places of the ranks of the cover, or, with `back`, ranks at places. It goes by the
+/// runs of the set where it has no words, or where what they become is scattered.
 pub(crate) fn moved(
     alloc: Global,
     runs: &[PlacedRun],
     back: bool,
     set: &RankSet,
+    scattered: bool,
 ) -> Result<RankSet, AllocError>
     requires placed { ArePlaced 0 0 runs.now }
     requires inside { (x : ℕ) → has set.now x ≡ true → inside back (cover_of runs.now) x ≡ true }
@@ -88,11 +90,39 @@ pub(crate) fn moved(
     if at + 1 == runs.len() && run.first % 64 == run.target % 64 {
         return moved_words(set, run);
     }
-    if let Some(words) = set.held_words() {
+    if let Some(words) = set.held_words()
+        && !scattered
+    {
         return moved_bits(alloc, runs, back, run, set, words);
     }
-    let words = set.words(alloc)?;
-    moved_bits(alloc, runs, back, run, set, &words)
+    moved_runs(alloc, runs, back, run, set)
+}
+
+// What the numbers of a set become, run by run. The shift is that of any run.
+fn moved_runs(
+    alloc: Global,
+    runs: &[PlacedRun],
+    back: bool,
+    before: Shift,
+    set: &RankSet,
+) -> Result<RankSet, AllocError>
+    requires placed { ArePlaced 0 0 runs.now }
+    requires moves { AreMoved back (cover_of runs.now) before.first before.last before.target }
+    requires inside { (x : ℕ) → has set.now x ≡ true → inside back (cover_of runs.now) x ≡ true }
+    ensures { IfOk result (λ moved. moved ≡ image back (cover_of runs.now) set.now) }
+{
+    let mut out = RankSet::with_run_capacity(alloc, 1)?;
+    let mut shift = before;
+    let (mut from, mut hint) = (0, 0);
+    while let Some(run) = set.next_run_near(from, &mut hint) {
+        shift = shift_with(runs, back, shift, run.first);
+        let len = run.last.min(shift.last) - run.first;
+        let target = shift.target + (run.first - shift.first);
+        out.collect_run(target, target + len)?;
+        from = run.first + len + 1;
+    }
+    out.settle();
+    Ok(out)
 }
 
 // What the numbers of a set become, whose words are given, bit by bit where they must. The shift is that of any run.

@@ -200,7 +200,7 @@ impl RankSet {
     }
 
     /// The empty set, in the form of runs and with room for so many: for ranks that are collected in order.
-    pub(crate) fn with_run_capacity(alloc: Global, runs: usize) -> Result<RankSet, AllocError>
+    pub fn with_run_capacity(alloc: Global, runs: usize) -> Result<RankSet, AllocError>
         ensures { IfOk result (λ set. set ≡ none) }
     {
         Ok(RankSet {
@@ -208,9 +208,10 @@ impl RankSet {
         })
     }
 
-    /// Adds the ranks of a run as `put_run` does. The form is chosen by `settle`, after the last of them.
+    /// Adds the ranks of a run, as `insert_run` does. It serves to collect ranks in order: the form of the set is chosen by
+    /// [`RankSet::settle`], after the last of them. On failure the set is unchanged.
     #[inline(always)]
-    pub(crate) fn collect_run(&mut self, first: u32, last: u32) -> Result<(), AllocError>
+    pub fn collect_run(&mut self, first: u32, last: u32) -> Result<(), AllocError>
         requires not_empty { first ≤ last }
         requires below_limit { last < RANK_LIMIT }
         ensures ok { OnOk result (self.new ≡ union self.old (ranks_between first last)) }
@@ -220,7 +221,7 @@ impl RankSet {
     }
 
     /// Takes the other form where that takes less room.
-    pub(crate) fn settle(&mut self)
+    pub fn settle(&mut self)
         ensures { self.new ≡ self.old }
     {
         self.held.settle();
@@ -390,8 +391,8 @@ impl RankSet {
         self.next_run_near(from, &mut 0)
     }
 
-    /// The same run. The hint is what an earlier call left in it, and makes the search short.
-    pub(crate) fn next_run_near(&self, from: u32, hint: &mut usize) -> Option<Run>
+    /// The run that `next_run` returns. The hint is what an earlier call left in it, 0 at first, and makes the search short.
+    pub fn next_run_near(&self, from: u32, hint: &mut usize) -> Option<Run>
         ensures none { IfNone result ((q : ℕ) → from ≤ q → has self.now q ≡ false) }
         ensures run { IfSome result (λ run. IsRun self.now from run.first run.last) }
         ensures below_limit { IfSome result (λ run. run.last < RANK_LIMIT) }

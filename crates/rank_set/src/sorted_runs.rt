@@ -13,8 +13,26 @@ use std::alloc::{AllocError, Global};
 pub(crate) type Runs = SmallVec<Run, 1>;
 
 /// The index of the first run that ends at a rank or above it, or the number of runs where none does. The hint is an
-/// index that may be near: the steps are as many as the distance has binary digits.
+/// index that may be near. Most often it is that of the run before the one that is looked for.
+#[inline(always)]
 pub(crate) fn find(runs: &[Run], hint: usize, from: u32) -> usize
+    ensures within { result ≤ length runs.now }
+    ensures before { 0 < result → (get_or (run_pairs runs.now) (result - 1) (0, 0)).1 < from }
+    ensures here { result < length runs.now → from ≤ (get_or (run_pairs runs.now) result (0, 0)).1 }
+{
+    if hint < runs.len() && runs[hint].last < from {
+        let next = hint + 1;
+        if next == runs.len() || from <= runs[next].last {
+            return next;
+        }
+        return search(runs, next + 1, from);
+    }
+    search(runs, hint, from)
+}
+
+// The same, in as many steps as the distance has binary digits.
+#[inline(never)]
+fn search(runs: &[Run], hint: usize, from: u32) -> usize
     ensures within { result ≤ length runs.now }
     ensures before { 0 < result → (get_or (run_pairs runs.now) (result - 1) (0, 0)).1 < from }
     ensures here { result < length runs.now → from ≤ (get_or (run_pairs runs.now) result (0, 0)).1 }

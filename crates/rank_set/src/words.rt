@@ -484,7 +484,10 @@ pub(crate) fn run_starts(words: &[u64]) -> u32 {
     let mut total: u32 = 0;
     let mut before = 0;
     for word in words {
-        total = total.saturating_add((word & !(word << 1 | before)).count_ones());
+        // Where there are few ranks, most words have none.
+        if *word != 0 {
+            total = total.saturating_add((word & !(word << 1 | before)).count_ones());
+        }
         before = word >> 63;
     }
     total

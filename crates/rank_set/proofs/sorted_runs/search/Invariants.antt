@@ -1,7 +1,7 @@
 use Rattle.std.proofs.Common.{◌≤◌, ◌<◌, ◌-◌, length}
 use Rattle.rank_set.specs.Runs.{run_pairs}
 use Rattle.rank_set.proofs.RunSearch.{run_at}
-use Rattle.rank_set.proofs.sorted_runs.find.Given as goal
+use Rattle.rank_set.proofs.sorted_runs.search.Given as goal
 
 abbrev pub invariant-loop-low : goal.invariant-loop-low
 invariant-loop-low l = record {

@@ -1,7 +1,7 @@
 use Rattle.std.proofs.Common.{rules, ◌≡◌, ◌<◌, ◌+◌, ◌-◌, ◌/◌, min, sym, ap, subst, arith}
 use Rattle.rank_set.specs.Runs.{run_pairs}
 use Rattle.rank_set.proofs.RunSearch.{run_at, pair_at}
-use Rattle.rank_set.proofs.sorted_runs.find.Goals as goal
+use Rattle.rank_set.proofs.sorted_runs.search.Goals as goal
 
 pub loop-low-preserved-then-runs-low : goal.loop-low-preserved-then-runs-low
 loop-low-preserved-then-runs-low c =
