@@ -1,11 +1,12 @@
 //! Steps done in an arena of nodes, which can't fail.
 
 ghost use Rattle.std.specs.Prelude.{◌≡◌, ◌≤◌, ◌<◌, ◌+◌, OnOk, Some, slice_get, length};
-ghost use Rattle.arena_tree.specs.NodeViews.{NodeView};
+ghost use Rattle.arena_tree.specs.NodeViews.{NodeView, view_of};
 ghost use Rattle.arena_tree.specs.Links.{with_change, with_first, with_next, relink, first_after, linked};
 ghost use Rattle.arena_tree.specs.Steps.{more_for, with_more_marks, with_frames, apply_step, apply_steps, nodes_added, nodes_added_by};
 
-use crate::node::{Link, Node, Step};
+use crate::node::{Link, NO_PLACE, Node, Step, Upper};
+use call_path::CallPath;
 use node_arena::{Arena, Place};
 use rank_set::RankSet;
 use std::alloc::AllocError;
@@ -37,20 +38,26 @@ pub(crate) fn unite(
 }
 
 // Leaves the node at a place its first frame and so many more, if there is one, above the node at another.
-pub(crate) fn cut(
-    nodes: &mut Arena<Node>,
-    at: Place,
-    more: u32,
-    label: RankSet,
-    ends: RankSet,
-    below: Place,
-)
+fn cut(nodes: &mut Arena<Node>, at: Place, more: u32, label: RankSet, ends: RankSet, below: Place)
     ensures items { nodes.new.items ≡ with_change at (with_frames more label ends below) nodes.old.items }
     ensures spare { nodes.new.spare ≡ nodes.old.spare }
 {
     if at < nodes.len() {
         nodes.get_mut(at).keep_frames(more, label, ends, below);
     }
+}
+
+/// Splits the node at a place, and returns the node for its last frames.
+pub(crate) fn split(nodes: &mut Arena<Node>, at: Place, upper: Upper, frames: CallPath) -> Node
+    requires at { at < length nodes.old.items }
+    requires some { 0 < length frames }
+    ensures items { nodes.new.items
+        ≡ with_change at (with_frames upper.more upper.label upper.ends upper.below) nodes.old.items }
+    ensures spare { nodes.new.spare ≡ nodes.old.spare }
+    ensures lower { (c : NodeView) → slice_get nodes.old.items at ≡ Some c
+        → result ≡ view_of frames (c.label, c.ends) c.first NO_PLACE }
+{
+    nodes.get_mut(at).split(upper, frames)
 }
 
 fn set_first(nodes: &mut Arena<Node>, at: Place, to: Place)

@@ -16,9 +16,9 @@ ghost use Rattle.arena_tree.specs.Plans.{BeginsAt, step_at, target_below};
 ghost use Rattle.arena_tree.specs.Growth.{all_at, led_by, place_below, CanGrow, grown, rows_grown, Enters, GrowsBy};
 ghost use Rattle.arena_tree.specs.Trail.{AreHints, AreOwnHints, HasSiblings, below_first, LeadsToOrdered};
 
-use crate::apply::{cut, relink, unite};
+use crate::apply::{relink, split, unite};
 use crate::merge::{Run, ends_at};
-use crate::node::{Link, NO_PLACE, Node};
+use crate::node::{Link, NO_PLACE, Node, Upper};
 use crate::shared::common_behind;
 use crate::target::{Target, seek};
 use crate::trail::{Hint, follow};
@@ -101,14 +101,20 @@ impl Growth {
         // For the proof: no more than `FRAME_LIMIT` frames.
         let _len = node.frames().len();
         let more = (shared - 1) as u32;
-        let lower = node.behind(into.skip + shared, node.first(), NO_PLACE)?;
+        let frames = node.frames().behind(into.skip + shared)?;
         let label = node.label().united(label)?;
         let ends = ends.copy()?;
         self.nodes.reserve(1)?;
-        let place = self.nodes.len();
-        cut(&mut self.nodes, into.node, more, label, ends, place);
+        let below = self.nodes.len();
+        let upper = Upper {
+            more,
+            label,
+            ends,
+            below,
+        };
+        let lower = split(&mut self.nodes, into.node, upper, frames);
         self.nodes.put(lower);
-        Ok(place)
+        Ok(below)
     }
 
     /// Gives the first `shared` frames of the target's node more ranks, and returns the target below them.

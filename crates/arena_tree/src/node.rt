@@ -45,6 +45,15 @@ pub(crate) enum Link {
     NextOf(Place),
 }
 
+/// What a node keeps when it is split: its first frame and so many more, these marks, and the place of the node below.
+#[derive(Drop)]
+pub(crate) struct Upper {
+    pub(crate) more: u32,
+    pub(crate) label: RankSet,
+    pub(crate) ends: RankSet,
+    pub(crate) below: Place,
+}
+
 /// A step of a change.
 #[derive(Drop)]
 pub(crate) enum Step {
@@ -154,6 +163,23 @@ impl Node {
         drop(mem::replace(&mut self.label, label));
         drop(mem::replace(&mut self.ends, ends));
         self.first = below;
+    }
+
+    /// Keeps its first frame and so many more, with other marks, above the node at a place. Returns a node with the frames
+    /// behind them, and the marks and the nodes below that it had. It allocates nothing.
+    pub(crate) fn split(&mut self, upper: Upper, frames: CallPath) -> Node
+        requires { 0 < length frames }
+        ensures upper { self.new ≡ with_frames upper.more upper.label upper.ends upper.below self.old }
+        ensures lower { result ≡ view_of frames (self.old.label, self.old.ends) self.old.first NO_PLACE }
+    {
+        self.frames.cut(upper.more as usize + 1);
+        Node {
+            frames,
+            label: mem::replace(&mut self.label, upper.label),
+            ends: mem::replace(&mut self.ends, upper.ends),
+            first: mem::replace(&mut self.first, upper.below),
+            next: NO_PLACE,
+        }
     }
 
     pub(crate) fn set_first(&mut self, to: Place)

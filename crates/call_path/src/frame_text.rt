@@ -17,7 +17,7 @@ use std::cmp::Ordering;
 use std::marker::Model;
 
 // Where each frame ends in a text: those of few frames are stored in place, without an allocation.
-type Ends = SmallVec<u32, 4>;
+type Ends = SmallVec<u32, 8>;
 
 /// 0 to 128 good frames, joined by `;`.
 #[derive(Drop)]
