@@ -9,7 +9,7 @@ ghost use Rattle.stat_tool.specs.Files.{files_of, names_in};
 ghost use Rattle.stat_tool.specs.Views.{output_view};
 
 use crate::generated::gen_job;
-use crate::output::{Output, capture_output, direct_plan, replay_plan, run_plan, sim_plan};
+use crate::output::{Output, capture_output, direct_plan, leave, replay_plan, run_plan, sim_plan};
 use crate::read::{read_file, read_plan};
 use crate::status::{FileRole, Status};
 use journal_text::{JournalRead, read_journal};
@@ -46,7 +46,10 @@ pub fn prepare_run<R: Threads + Wait + Sync, T: PrefixTree, D: Desk, G: Gate>(
         Err(status) => return Err(status),
     };
     match run_plan::<R, T, G>(rt, alloc, &plan, workers, gate, wanted) {
-        Ok(output) => Ok(output),
+        Ok(output) => {
+            leave(plan);
+            Ok(output)
+        }
         Err(_) => Err(Status::OutOfMemory),
     }
 }
@@ -73,7 +76,10 @@ pub fn prepare_sim<T: PrefixTree, D: Desk>(
         Err(status) => return Err(status),
     };
     match sim_plan::<T>(alloc, &plan, seed, wanted) {
-        Ok(output) => Ok(output),
+        Ok(output) => {
+            leave(plan);
+            Ok(output)
+        }
         Err(_) => Err(Status::OutOfMemory),
     }
 }
@@ -104,7 +110,9 @@ pub fn prepare_replay<T: PrefixTree, D: Desk>(
         Ok(read) => read,
         Err(status) => return Err(status),
     };
-    replay_plan::<T>(alloc, &plan, read, wanted)
+    let ended = replay_plan::<T>(alloc, &plan, read, wanted);
+    leave(plan);
+    ended
 }
 
 // The events of a journal's file.
@@ -153,7 +161,10 @@ pub fn prepare_direct<T: PrefixTree, D: Desk>(
         Err(status) => return Err(status),
     };
     match direct_plan::<T>(alloc, &plan, form) {
-        Ok(output) => Ok(output),
+        Ok(output) => {
+            leave(plan);
+            Ok(output)
+        }
         Err(_) => Err(Status::OutOfMemory),
     }
 }

@@ -37,6 +37,7 @@ use stat_desk::{Event, Gate, Journal};
 use stat_plan::Plan;
 use stat_words::{ReportForm, RunReport};
 use std::alloc::{AllocError, Global};
+use std::mem;
 use std::sync::Wait;
 use std::thread::Threads;
 
@@ -51,6 +52,12 @@ pub struct Output {
     pub report: Vec<u8>,
     /// What is written to the sink of the journal: its text, or nothing.
     pub journal_text: Vec<u8>,
+}
+
+/// Leaves a value's memory to the system, which takes all memory back at once when the program ends. To give it back piece
+/// by piece would cost a fiftieth of a run.
+pub fn leave<X: Drop>(value: X) {
+    mem::forget(value);
 }
 
 /// Runs a plan on so many workers. Each event passes the gate, while its worker does not have the turn.
@@ -72,7 +79,9 @@ pub fn run_plan<R: Threads + Wait + Sync, T: PrefixTree, G: Gate>(
         u32::from(workers),
         gate,
     )?;
-    finished(alloc, plan, &releases, journal, wanted)
+    let output = finished(alloc, plan, &releases, journal, wanted)?;
+    leave(releases);
+    Ok(output)
 }
 
 /// Runs a plan with the events that a seed picks, until none is enabled.
@@ -87,7 +96,9 @@ pub fn sim_plan<T: PrefixTree>(
     plan.invariant();
     let mut net: Net<'_, T> = Net::new(alloc, plan)?;
     let journal = net.run_picked(seed)?;
-    finished(alloc, plan, net.releases(), journal, wanted)
+    let output = finished(alloc, plan, net.releases(), journal, wanted)?;
+    leave(net);
+    Ok(output)
 }
 
 // The output of a whole run, of which this is the journal and these are the releases.
@@ -137,7 +148,10 @@ pub fn replay_plan<T: PrefixTree>(
         return Err(Status::BadJournal(number));
     }
     match replayed(alloc, plan, &net, read.events, wanted) {
-        Ok(output) => Ok(output),
+        Ok(output) => {
+            leave(net);
+            Ok(output)
+        }
         Err(_) => Err(Status::OutOfMemory),
     }
 }
@@ -179,6 +193,7 @@ pub fn direct_plan<T: PrefixTree>(
     plan.invariant();
     let releases = direct_releases::<T>(alloc, plan)?;
     let report = direct_report(alloc, plan, &releases, form)?;
+    leave(releases);
     Ok(Output {
         unfinished: None,
         journal: Journal::new(alloc),

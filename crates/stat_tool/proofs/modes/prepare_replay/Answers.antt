@@ -40,7 +40,7 @@ returns-clause-ok g c =
     let is_rest : IsRestOf desk rest planned.results
     = record { later = c.read_plan.ensures.later; now = refl; last = refl; contents = c.read_plan.ensures.contents; gave_before = planned.read.gave; gave_now = refl } in
     let read = read_view c.in-Ok-read_events.read in
-    if_ok c.replay_plan.result _ _ (λ output is. replay_prepared (names_of c.args.files) c.args.journal.now c.args.wanted desk first rest c.in-Ok.plan planned planned.read.contents is_rest read c.in-Ok-read_events.ensures.ok output.journal (output_view output) is.0 is.1) c.replay_plan.ensures.ok
+    if_ok c.replay_plan-ended.result _ _ (λ output is. replay_prepared (names_of c.args.files) c.args.journal.now c.args.wanted desk first rest c.in-Ok.plan planned planned.read.contents is_rest read c.in-Ok-read_events.ensures.ok output.journal (output_view output) is.0 is.1) c.replay_plan-ended.ensures.ok
 
 pub returns-clause-err : goal.returns-clause-err
 returns-clause-err g c =
@@ -51,7 +51,7 @@ returns-clause-err g c =
     let is_rest : IsRestOf desk rest planned.results
     = record { later = c.read_plan.ensures.later; now = refl; last = refl; contents = c.read_plan.ensures.contents; gave_before = planned.read.gave; gave_now = refl } in
     let read = read_view c.in-Ok-read_events.read in
-    if_err c.replay_plan.result _ _ (λ status is. replay_refused (names_of c.args.files) c.args.journal.now c.args.wanted desk first rest c.in-Ok.plan planned planned.read.contents is_rest read c.in-Ok-read_events.ensures.ok status is) c.replay_plan.ensures.err
+    if_err c.replay_plan-ended.result _ _ (λ status is. replay_refused (names_of c.args.files) c.args.journal.now c.args.wanted desk first rest c.in-Ok.plan planned planned.read.contents is_rest read c.in-Ok-read_events.ensures.ok status is) c.replay_plan-ended.ensures.err
 
 pub returns-clause-reads : goal.returns-clause-reads
 returns-clause-reads g c =
