@@ -55,6 +55,10 @@ pub record IsDone (v : BoardView) : Type 0 where
   pub home : AllHome v.net
   pub quiet : claimable_of v.net ≡ []
 
+-- a board that workers may leave: unless it is stopped, it is done
+abbrev pub HasEnded : BoardView → Type 0
+HasEnded v = v.stopped ≡ false → IsDone v
+
 -- The journal is whole, and the releases are exactly those of the state after it. The releases of a wave are numbered in order, and
 -- the tree of each is the direct merge of the wave's samples over the ranks that it covers.
 pub record IsWholeRun (p : Plan) (journal : List Event) (releases : List TreeRelease) : Type 0 where

@@ -1,8 +1,9 @@
 //! What a worker does.
 
-ghost use Rattle.std.specs.Prelude.{◌≡◌, true, None, IfErr, IfSome, IfNone, OnOk};
+ghost use Rattle.std.specs.Prelude.{◌≡◌, true, None, IfErr, IfOk, IfSome, IfNone, OnErr, OnOk};
 ghost use Rattle.board_turn.specs.Seats.{seat_number};
 ghost use Rattle.overlay_net.specs.Claims.{WasWorked};
+ghost use Rattle.overlay_run.specs.Boards.{HasEnded};
 ghost use Rattle.overlay_run.specs.Given.{given_board};
 ghost use Rattle.overlay_run.specs.Seats.{IsAtRest, IsAway, IsIdle, plan_of};
 
@@ -17,36 +18,39 @@ use std::alloc::Global;
 use std::sync::Wait;
 use std::thread;
 
-// Takes the turn, and claims an event if one may be claimed. None if the run is done or stopped.
+// Takes the turn, and claims an event if one may be claimed. If the run is stopped or done, it returns the board that it
+// gave back, which is so.
 fn claim_next<'p, R: Wait, T: PrefixTree>(
     rt: &R,
     turn: &Turn<NetBoard<'p, T>>,
     seat: &mut TurnSeat,
-) -> Option<Option<Claimed<T>>>
+) -> Result<Option<Claimed<T>>, Given<NetBoard<'p, T>>>
     requires idle { IsIdle turn.now seat.old }
     ensures number { seat_number seat.new ≡ seat_number seat.old }
-    ensures ended { IfNone result (IsIdle turn.now seat.new) }
-    ensures waits { IfSome result (λ o. IfNone o (IsIdle turn.now seat.new)) }
-    ensures fresh { IfSome result (λ o. IfSome o (λ c. c.left ≡ None)) }
-    ensures away { IfSome result (λ o. IfSome o (λ c. IsAway turn.now seat.new c)) }
+    ensures ended { IfErr result (λ given. HasEnded (given_board given)) }
+    ensures leaves { OnErr result (IsIdle turn.now seat.new) }
+    ensures waits { IfOk result (λ o. IfNone o (IsIdle turn.now seat.new)) }
+    ensures fresh { IfOk result (λ o. IfSome o (λ c. c.left ≡ None)) }
+    ensures away { IfOk result (λ o. IfSome o (λ c. IsAway turn.now seat.new c)) }
 {
     let mut held = turn.take(rt, seat);
     let number = seat.number();
     let board = held.board();
     if board.is_stopped() {
-        turn.give(seat, held);
-        return None;
+        return Err(give(turn, seat, held));
     }
     let Some(claim) = board.claim(number) else {
-        let done = board.is_done();
+        if board.is_done() {
+            return Err(give(turn, seat, held));
+        }
         turn.give(seat, held);
-        return if done { None } else { Some(None) };
+        return Ok(None);
     };
     board.invariant();
     let event = claim.event();
     turn.claim(seat, &mut held, event);
     turn.give(seat, held);
-    Some(Some(claim))
+    Ok(Some(claim))
 }
 
 // Takes the turn and stops the run. Returns the stopped board that it gave back.
@@ -125,8 +129,8 @@ fn do_claim<'p, R: Wait, T: PrefixTree, G: Gate>(
     }
 }
 
-/// Does events until the run is done or stopped. If memory runs out, it stops the run, and returns the stopped board that
-/// it gave back; the seat may then have a node out.
+/// Does events until the run is done or stopped, and returns the board that it gave back then. If memory runs out, it stops
+/// the run, and returns the stopped board that it gave back; the seat may then have a node out.
 pub fn work<'p, R: Wait, T: PrefixTree, G: Gate>(
     rt: &R,
     alloc: Global,
@@ -134,18 +138,19 @@ pub fn work<'p, R: Wait, T: PrefixTree, G: Gate>(
     plan: &Plan,
     gate: &G,
     seat: &mut TurnSeat,
-) -> Result<(), Given<NetBoard<'p, T>>>
+) -> Result<Given<NetBoard<'p, T>>, Given<NetBoard<'p, T>>>
     requires plan { plan_of turn.now ≡ plan.now }
     requires idle { IsIdle turn.now seat.old }
     ensures number { seat_number seat.new ≡ seat_number seat.old }
     ensures idle { OnOk result (IsIdle turn.now seat.new) }
+    ensures ended { IfOk result (λ given. HasEnded (given_board given)) }
     ensures stopped { IfErr result (λ given. (given_board given).stopped ≡ true) }
 {
     for _ in rt.forever() {
         match claim_next(rt, turn, seat) {
-            None => return Ok(()),
-            Some(None) => thread::yield_now(),
-            Some(Some(claim)) => {
+            Err(given) => return Ok(given),
+            Ok(None) => thread::yield_now(),
+            Ok(Some(claim)) => {
                 if let Err(given) = do_claim(rt, alloc, turn, plan, gate, seat, claim) {
                     return Err(given);
                 }
