@@ -34,6 +34,11 @@ last_rank_at_1 : stack_line 5 1 16383 ≡ codes "stack 1 16383 main;f3;g0"
 unfolding digits
 last_rank_at_1 = refl
 
+-- 64 / 16 = 4 and 4 % 4 = 0; (64 + 0 + 0 % 3) % 3 = 1
+first_rank_of_the_second_daemon_at_0 : stack_line 0 0 64 ≡ codes "stack 0 64 main;f0;g1"
+unfolding digits
+first_rank_of_the_second_daemon_at_0 = refl
+
 -- four middle nodes, of which m:1 and m:3 are lost
 script_of_49 :
     script_text 49

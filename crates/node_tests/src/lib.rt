@@ -13,8 +13,6 @@ mod packet_frame_tests;
 #[cfg(test)]
 mod plain_decoder;
 #[cfg(test)]
-mod stat_plan_tests;
-#[cfg(test)]
 mod sync_filter_tests;
 #[cfg(test)]
 mod wave_resend_tests;

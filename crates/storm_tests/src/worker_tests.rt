@@ -40,6 +40,18 @@ fn any_number_of_workers_writes_the_report(rt: HostRuntime) -> Result<(), AllocE
     Ok(())
 }
 
+#[test]
+fn each_number_of_workers_writes_the_report(rt: HostRuntime) -> Result<(), AllocError> {
+    let alloc = rt.alloc();
+    for workers in 1..33 {
+        let mut desk = desk_of(alloc, TWO_TOP, FOUR_SMP, ALL_SCR)?;
+        let called = run_with(&rt, alloc, &mut desk, workers)?;
+        assert_eq!(rt; called.status, Status::Done);
+        assert_eq!(rt; called.report.bytes(), FOUR_REPORT.as_bytes());
+    }
+    Ok(())
+}
+
 // ---- the gate
 
 // A gate that holds events until so many have come, or for so many turns.
