@@ -26,6 +26,7 @@ use std::thread::Threads;
 ///
 /// The files are read each once, in the order topology, samples, script, journal, and each is tested before the next is
 /// read; a capture is read alone. The report and the journal's text are built whole before their first byte is written.
+/// What else was made for them stays allocated, for the system to take back when the program ends.
 ///
 /// `answered` has the headline: where the status is Done, the files lead to a job, and the journal and the report are
 /// an output of it, `HasOutput`. The bytes of the files are those that the desk's reads gave, and the sinks took just
