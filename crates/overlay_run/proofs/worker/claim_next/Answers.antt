@@ -26,3 +26,6 @@ claim-requires-2-send-B g c κs within = turn_may_send _ (record { mir = named 0
 
 pub give-requires-2-send-B : goal.give-requires-2-send-B
 give-requires-2-send-B g c κs within = turn_may_send _ (record { mir = named 0; lft = _ }) _ g.T.PrefixTree c.type_bounds.send-T
+
+pub give-requires-then-is_done-send-B : goal.give-requires-then-is_done-send-B
+give-requires-then-is_done-send-B g c κs within = turn_may_send _ (record { mir = named 0; lft = _ }) _ g.T.PrefixTree c.type_bounds.send-T
