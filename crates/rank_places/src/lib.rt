@@ -2,8 +2,8 @@
 //!
 //! The place of a rank is the number of lesser ranks of the cover, so that the places of a cover's ranks are 0, 1, 2
 //! and so on, whatever the ranks are. A [`CoverPlaces`] is made once of a cover, and then finds the places of any of
-//! its ranks, and the ranks at any places, in a few steps for each word of a set and each run of the cover that the
-//! word touches.
+//! its ranks, and the ranks at any places, in a few steps for each word or run of a set and each run of the cover that
+//! it touches.
 #![tactic(auto)]
 
 ghost use Rattle.std.specs.Prelude.{◌≡◌, ℕ, ◌<◌, true, IfOk};
