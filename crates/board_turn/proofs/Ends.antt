@@ -3,11 +3,11 @@ use Rattle.std.proofs.Common.{◌≡◌, ℕ, List, [], ◌∷◌, ◌++◌, len
 use mathlib.Core.List.{IsPrefix}
 use Rattle.board_turn.specs.Known.{known_of}
 use Rattle.atomic_table.specs.Table.{Me, rest}
-use Rattle.stat_desk.specs.declared.event.Event.{Event}
+use Rattle.overlay_event.specs.declared.event.Event.{Event}
 use Rattle.board_turn.specs.declared.holding.Holding.{Holding}
 use Rattle.board_turn.specs.declared.view.View.{View}
 use Rattle.board_turn.specs.Entries.{holding, claim_of, commit_of, LogState, log_state, IsUnmoved}
-use Rattle.stat_desk.specs.Events.{event_node}
+use Rattle.overlay_event.specs.Events.{event_node}
 use Rattle.board_turn.specs.Turns.{with_entry, with_none_due, after_claim, after_commit, with_lift, with_no_turn, seen_state, known_state, TakesBoard}
 use Rattle.board_turn.proofs.Logs.{log_state-snoc, seen_journal_grows}
 

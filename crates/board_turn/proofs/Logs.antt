@@ -5,11 +5,11 @@ use Rattle.std.proofs.lemmas.Option.{slice_get_within}
 use mathlib.Core.List.{IsPrefix}
 use mathlib.Core.Logic.{dite}
 use native.Mathlib.Decide.{ℕ_discrete}
-use Rattle.stat_desk.specs.declared.event.Event.{Event}
+use Rattle.overlay_event.specs.declared.event.Event.{Event}
 use Rattle.board_turn.specs.declared.holding.Holding.{Holding}
 use Rattle.board_turn.specs.declared.view.LogEntry.{LogEntry}
 use Rattle.board_turn.specs.Entries.{holding, LogState, set_out, state_after_claim, state_after_commit, state_after_entry, log_state_from, log_state, IsUnmoved, out_count}
-use Rattle.stat_desk.specs.Events.{event_node}
+use Rattle.overlay_event.specs.Events.{event_node}
 use Rattle.board_turn.specs.Turns.{LogInvariant}
 
 -- a list is a prefix of itself

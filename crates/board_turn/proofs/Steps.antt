@@ -8,12 +8,12 @@ use lib.ListN.{get_elem?}
 use prog.Atomic.{either}
 use Rattle.atomic_table.specs.Table.{State, Me, Act, keeps, takes, gives, step, stepped, Valid, carried_after, Allows, Splits, Joins, opening, Final, Seen}
 use Rattle.atomic_table.proofs.Lists.{at_set, set_else, set_again, at_longer, at_snoc, exchanged}
-use Rattle.stat_desk.specs.declared.event.Event.{Event}
+use Rattle.overlay_event.specs.declared.event.Event.{Event}
 use Rattle.board_turn.specs.declared.holding.Holding.{Holding}
 use Rattle.board_turn.specs.declared.view.LogEntry.{LogEntry}
 use Rattle.board_turn.specs.declared.view.View.{View}
 use Rattle.board_turn.specs.Entries.{holding, claim_of, commit_of, LogState, state_after_entry, log_state, IsUnmoved}
-use Rattle.stat_desk.specs.Events.{event_node}
+use Rattle.overlay_event.specs.Events.{event_node}
 use Rattle.board_turn.specs.Turns.{LogInvariant, ViewInvariant, TableInvariant, first_view, with_turn, with_no_turn, with_entry, with_none_due, with_one_more, split_off, spent_view, known_state, IsKnownTo, TriesTurn, FreesTurn, CountsEntry, CommitsEvent, ClaimsEvent, with_lift, LaysDown, PicksUp}
 use Rattle.board_turn.proofs.Logs.{prefix_self, prefix_trans, out_else, out_here, all_none, invariant_start, invariant_claim, invariant_commit, log_state_from-append}
 

@@ -1,6 +1,6 @@
 -- What the steps on the table do to a seat of it.
 use Rattle.std.specs.Prelude.{◌≡◌, ◌≢◌, ℕ, false, true, List, [], ◌∷◌, ◌++◌, Option, Some}
-use Rattle.stat_desk.specs.declared.event.Event.{Event}
+use Rattle.overlay_event.specs.declared.event.Event.{Event}
 use Rattle.board_turn.specs.declared.holding.Holding.{Holding}
 use Rattle.board_turn.specs.declared.view.View.{View}
 use Rattle.atomic_table.specs.declared.shared.Seat.{Seat}

@@ -1,6 +1,6 @@
 -- The seats of the tests, which claim and commit ticks.
 use Rattle.std.specs.Prelude.{◌≡◌, ℕ, false, Some, None}
-use Rattle.stat_desk.specs.declared.event.Event.TheVariants.{Tick}
+use Rattle.overlay_event.specs.declared.event.Event.TheVariants.{Tick}
 use Rattle.board_turn.specs.declared.holding.Holding.{Holding}
 use Rattle.board_turn.specs.declared.turn.Turn.{Turn}
 use Rattle.board_turn.specs.declared.turn.TurnSeat.{TurnSeat}

@@ -4,12 +4,12 @@ use mathlib.Core.Option.{some, none}
 use mathlib.Core.List.{IsPrefix}
 use lib.ListN.{get_elem?}
 use Rattle.atomic_table.specs.Table.{State, Me, Step, rest}
-use Rattle.stat_desk.specs.declared.event.Event.{Event}
+use Rattle.overlay_event.specs.declared.event.Event.{Event}
 use Rattle.board_turn.specs.declared.holding.Holding.{Holding}
 use Rattle.board_turn.specs.declared.view.LogEntry.{LogEntry}
 use Rattle.board_turn.specs.declared.view.View.{View}
 use Rattle.board_turn.specs.Entries.{holding, claim_of, commit_of, LogState, log_state, out_count, IsUnmoved}
-use Rattle.stat_desk.specs.Events.{event_node}
+use Rattle.overlay_event.specs.Events.{event_node}
 
 -- the invariant of the state that a log leads to, of a board of n nodes, where `made` seats were split off and the log has
 -- this number of entries

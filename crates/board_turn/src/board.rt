@@ -1,6 +1,6 @@
 //! What a board of nodes must provide.
 ghost use Rattle.std.specs.Prelude.{◌≡◌, ◌<◌, ◌^◌, List, Option, length, slice_get};
-ghost use Rattle.stat_desk.specs.declared.event.Event.{Event};
+ghost use Rattle.overlay_event.specs.declared.event.Event.{Event};
 ghost use Rattle.board_turn.specs.declared.holding.Holding.{Holding};
 
 use crate::holding::Holding;

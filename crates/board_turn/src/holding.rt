@@ -1,5 +1,5 @@
 //! A claim that has a node out.
-use stat_desk::Event;
+use overlay_event::Event;
 
 /// A claim that has a node out.
 #[derive(Clone, Copy, Debug, PartialEq, Eq)]

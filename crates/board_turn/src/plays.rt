@@ -3,18 +3,18 @@
 use crate::board::Board;
 use crate::view::View;
 use atomic_table::{Join, Play, Split};
-use stat_desk::Event;
+use overlay_event::Event;
 use std::marker::{Brand, PhantomData};
 
 /// The event of one claim. Each claim picks it.
 pub trait PicksEvent {
-    ghost use Rattle.stat_desk.specs.declared.event.Event.{Event};
+    ghost use Rattle.overlay_event.specs.declared.event.Event.{Event};
 
     ghost event: { Event };
 }
 
 impl PicksEvent for Brand {
-    ghost use Rattle.stat_desk.specs.declared.event.Event.TheVariants.{Tick};
+    ghost use Rattle.overlay_event.specs.declared.event.Event.TheVariants.{Tick};
 
     ghost event = { Tick 0 };
 }

@@ -5,7 +5,7 @@ ghost use Rattle.board_turn.specs.Ticks.{HasTickOut, IsIdle, StaysSeat};
 ghost use Rattle.std.specs.Thread.{IsSync};
 
 use crate::{Board, Holding, Turn, TurnSeat};
-use stat_desk::Event;
+use overlay_event::Event;
 use std::alloc::{AllocError, Global};
 use std::process::Abort;
 use std::sync::Wait;

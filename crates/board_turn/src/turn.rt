@@ -9,7 +9,7 @@ use crate::plays::{
 };
 use crate::view::{TableSeat, TurnTable, View};
 use atomic_table::{Badge, Table};
-use stat_desk::Event;
+use overlay_event::Event;
 use std::alloc::{AllocError, AllocFailed, Global};
 use std::marker::{Brand, PhantomData};
 use std::mem;
@@ -50,7 +50,7 @@ impl<B: Board> Turn<B> {
     ghost use Rattle.std.specs.Prelude.{◌≡◌, ◌≢◌, ℕ, ◌+◌, ◌^◌, ◌<◌, true, false, [], ◌∷◌, ◌++◌, length, Some, None, IfOk, slice_get, slice_set};
     ghost use mathlib.Core.List.{IsPrefix};
     ghost use Rattle.board_turn.specs.Entries.{IsUnmoved, with_claim};
-    ghost use Rattle.stat_desk.specs.Events.{event_node};
+    ghost use Rattle.overlay_event.specs.Events.{event_node};
     ghost use Rattle.board_turn.specs.Turns.{IsKnownTo, after_claim, with_no_turn};
     ghost use Rattle.board_turn.specs.Known.{known_of};
     ghost use Rattle.board_turn.specs.TableSeats.{HasFetched, HasTriedTurn, IsLiving, IsOwner, KnowsCommit, SeatBecomes, SeatCommits, SeatStaysFree, known_by, seen_by};

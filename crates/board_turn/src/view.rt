@@ -3,7 +3,7 @@
 use crate::board::Board;
 use crate::holding::Holding;
 use atomic_table::{Seat, Table, TableRule};
-use stat_desk::Event;
+use overlay_event::Event;
 use std::alloc::Global;
 use std::collections::LinkedList;
 use std::marker::PhantomData;

@@ -4,9 +4,9 @@ use Rattle.std.proofs.lemmas.Bool.{cond_both, eqb-false}
 use Rattle.std.proofs.lemmas.Option.{none-some, same_Some}
 use Rattle.stat_plan.specs.Plans.{Plan}
 use Rattle.stat_plan.specs.Machine.Waves.{put_at}
-use Rattle.stat_desk.specs.Events.{event_node}
-use Rattle.stat_desk.specs.declared.event.Event.{Event}
-use Rattle.stat_desk.specs.declared.event.Event.TheVariants.{Sample, Recv, Tick, Lose}
+use Rattle.overlay_event.specs.Events.{event_node}
+use Rattle.overlay_event.specs.declared.event.Event.{Event}
+use Rattle.overlay_event.specs.declared.event.Event.TheVariants.{Sample, Recv, Tick, Lose}
 use Rattle.overlay_core.specs.Machine.{State, step, is_enabled}
 use Rattle.overlay_core.specs.Independent.{sender_of, AreIndependent}
 use Rattle.event_claims.specs.Claims.{Outs, MayBeOut, MayBeClaimed, all_home, claimed, come_home}

@@ -2,8 +2,8 @@
 use Rattle.std.proofs.Common.{◌≡◌, true, List, [], ◌∷◌, refl, ◌∙◌}
 use Rattle.std.specs.List.{AllByRecursion}
 use Rattle.stat_plan.specs.Plans.{Plan}
-use Rattle.stat_desk.specs.Events.{event_node}
-use Rattle.stat_desk.specs.declared.event.Event.{Event}
+use Rattle.overlay_event.specs.Events.{event_node}
+use Rattle.overlay_event.specs.declared.event.Event.{Event}
 use Rattle.overlay_core.specs.Machine.{State, step, is_enabled}
 use Rattle.overlay_core.specs.Runs.{run}
 use Rattle.overlay_core.specs.Independent.{AreIndependent}

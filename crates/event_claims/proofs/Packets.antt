@@ -2,9 +2,9 @@
 use Rattle.std.proofs.Common.{◌≡◌, ◌≢◌, ℕ, true, cond, ◌==◌, ◌&&◌, List, [], ◌∷◌, ◌++◌, take, refl, sym, ap, subst, ◌∙◌, eqb-true}
 use Rattle.std.proofs.lemmas.Bool.{cond_both, and_parts, true≢false}
 use Rattle.stat_plan.specs.Plans.{Plan, is_related, fault}
-use Rattle.stat_desk.specs.Events.{event_node}
-use Rattle.stat_desk.specs.declared.event.Event.{Event}
-use Rattle.stat_desk.specs.declared.event.Event.TheVariants.{Sample, Recv, Tick, Lose}
+use Rattle.overlay_event.specs.Events.{event_node}
+use Rattle.overlay_event.specs.declared.event.Event.{Event}
+use Rattle.overlay_event.specs.declared.event.Event.TheVariants.{Sample, Recv, Tick, Lose}
 use Rattle.overlay_core.specs.Nodes.{Packet, Down, Outcome}
 use Rattle.overlay_core.specs.Machine.{State, step, commit, with_link, lose, receive, to, keep_of, is_pending, is_enabled}
 use Rattle.overlay_core.specs.Independent.{first_from, taken, AreIndependent}

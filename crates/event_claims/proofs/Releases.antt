@@ -6,9 +6,9 @@ use Rattle.std.proofs.lemmas.Bool.{cases_Bool, cond_both}
 use Rattle.stat_plan.specs.Plans.{Plan, front, is_front, ranks, waves_at}
 use Rattle.stat_plan.specs.Machine.Kin.{is_parent, with_parent, without_child}
 use Rattle.stat_plan.specs.Machine.Waves.{Wave, Open, Closed, set_wave, covering, growing, ticked, is_fired}
-use Rattle.stat_desk.specs.Events.{event_node}
-use Rattle.stat_desk.specs.declared.event.Event.{Event}
-use Rattle.stat_desk.specs.declared.event.Event.TheVariants.{Sample, Recv, Tick, Lose}
+use Rattle.overlay_event.specs.Events.{event_node}
+use Rattle.overlay_event.specs.declared.event.Event.{Event}
+use Rattle.overlay_event.specs.declared.event.Event.TheVariants.{Sample, Recv, Tick, Lose}
 use Rattle.overlay_core.specs.Nodes.{Packet, Up, Done, Attach, Down, Node, Outcome, handled, received, begin, sampled, after_tick, received_up, received_done, received_attach, received_down, done_work}
 use Rattle.overlay_core.specs.Machine.{State, step, commit, with_link, lose, receive}
 use Rattle.overlay_core.specs.Runs.{run}

@@ -5,9 +5,9 @@ use Rattle.std.specs.List.{list_any}
 use Rattle.overlay_setup.specs.NodeSets.{up_to}
 use Rattle.stat_plan.specs.Plans.{Plan, nodes}
 use Rattle.stat_plan.specs.Machine.Waves.{put_at}
-use Rattle.stat_desk.specs.Events.{event_node}
-use Rattle.stat_desk.specs.declared.event.Event.{Event}
-use Rattle.stat_desk.specs.declared.event.Event.TheVariants.{Sample, Recv, Tick, Lose}
+use Rattle.overlay_event.specs.Events.{event_node}
+use Rattle.overlay_event.specs.declared.event.Event.{Event}
+use Rattle.overlay_event.specs.declared.event.Event.TheVariants.{Sample, Recv, Tick, Lose}
 use Rattle.overlay_core.specs.Nodes.{Node}
 use Rattle.overlay_core.specs.Machine.{State, is_enabled, enabled_events}
 use Rattle.overlay_core.specs.Independent.{sender_of, taken}

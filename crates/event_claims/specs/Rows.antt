@@ -3,7 +3,7 @@ use Rattle.std.specs.Prelude.{◌≡◌, refl, true, false, [], ◌∷◌}
 use Rattle.rank_set.specs.Ranks.{has, with_rank, union}
 use Rattle.stat_plan.specs.Plans.{ancestors, is_under, is_within, front, is_front, ranks, stream_of, daemons, mode, serves, waves_at, fault}
 use Rattle.stat_plan.specs.Machine.Kin.{complete}
-use Rattle.stat_desk.specs.declared.event.Event.TheVariants.{Sample, Recv, Tick, Lose}
+use Rattle.overlay_event.specs.declared.event.Event.TheVariants.{Sample, Recv, Tick, Lose}
 use Rattle.overlay_core.specs.Nodes.{due_at, acted, sampled, received_up}
 use Rattle.overlay_core.specs.Machine.{start, commit, with_link, is_doomed, is_active, enabled_events}
 use Rattle.overlay_core.specs.Runs.{after}

@@ -3,7 +3,7 @@ use Rattle.std.proofs.Common.{◌≡◌, ◌∙◌, ◌∷◌, ◌++◌, ◌+◌
 use Rattle.std.proofs.lemmas.List.{append-nil, take_more}
 use Rattle.std.proofs.lemmas.Option.{get_or_from_slice_get, none-some, slice_get_within}
 use Rattle.stat_plan.specs.Plans.{Plan}
-use Rattle.stat_desk.specs.declared.event.Event.{Event}
+use Rattle.overlay_event.specs.declared.event.Event.{Event}
 use Rattle.overlay_core.specs.Machine.{State, is_enabled, start, step}
 use Rattle.overlay_core.specs.Runs.{IsLegal, IsLegalFrom, after, run}
 use Rattle.overlay_net.specs.Nets.{IsReachedBy, NetView, state_of}

@@ -1,7 +1,7 @@
 -- The log of a run: the bytes of all frames, in the order in which they are received.
 use Rattle.std.specs.Prelude.{ℕ, List, [], ◌∷◌, ◌++◌, Option, None, Some}
 use Rattle.stat_plan.specs.Plans.{Plan}
-use Rattle.stat_desk.specs.declared.event.Event.{Event}
+use Rattle.overlay_event.specs.declared.event.Event.{Event}
 use Rattle.overlay_core.specs.Independent.{taken}
 use Rattle.overlay_core.specs.Nodes.{Packet}
 use Rattle.overlay_core.specs.Machine.{State, start, step}

@@ -3,7 +3,7 @@ use Rattle.std.specs.Prelude.{◌≡◌, refl, [], ◌∷◌, ◌++◌, Some}
 use Rattle.rank_set.specs.Ranks.{has, set_of, with_rank, union, those}
 use Rattle.stat_plan.specs.Plans.{Plan, ancestors, is_under, is_within, is_related, front, is_front, ranks, stream_of, daemons, mode, serves, waves_at, fault}
 use Rattle.stat_plan.specs.Machine.Kin.{complete}
-use Rattle.stat_desk.specs.declared.event.Event.TheVariants.{Recv, Tick}
+use Rattle.overlay_event.specs.declared.event.Event.TheVariants.{Recv, Tick}
 use Rattle.overlay_core.specs.Nodes.{Up, Done, Attach, due_at, dones, acted, sampled, after_tick, received_up, received_done, received_attach, received_down}
 use Rattle.overlay_core.specs.Machine.{start, commit, with_link, lose}
 use Rattle.overlay_core.specs.Rows.{one_daemon, one_daemon_journal}

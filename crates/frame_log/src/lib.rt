@@ -6,9 +6,9 @@ ghost use Rattle.frame_log.specs.FrameLog.{frame_log, received_bytes};
 ghost use Rattle.overlay_core.specs.Runs.{IsLegal};
 ghost use Rattle.overlay_net.specs.Nets.{AllHome, state_of};
 
+use overlay_event::{Event, Journal};
 use overlay_net::{Net, NetError};
 use prefix_tree::PrefixTree;
-use stat_desk::{Event, Journal};
 use stat_plan::Plan;
 use std::alloc::{AllocError, Global};
 

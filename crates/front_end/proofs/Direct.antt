@@ -24,7 +24,7 @@ use Rattle.overlay_setup.specs.Scripts.{Stream}
 use Rattle.overlay_setup.specs.declared.script.Fault.{Fault}
 use Rattle.stat_plan.proofs.FirstOver.{all_in}
 use Rattle.stat_plan.proofs.InLists.{in_append, in_filter, in_from_filter, in_from_map, in_map}
-use Rattle.stat_desk.specs.declared.event.Event.{Event}
+use Rattle.overlay_event.specs.declared.event.Event.{Event}
 use Rattle.overlay_core.specs.declared.release.Kind.TheVariants.{Final}
 use Rattle.overlay_core.specs.History.{of_wave}
 use Rattle.overlay_core.specs.Nodes.{Release}

@@ -12,7 +12,7 @@ use Rattle.overlay_setup.specs.NodeSets.{In, member}
 use Rattle.stat_plan.specs.Plans.{Plan, mode, samples, stream_ranks, waves_of}
 use Rattle.overlay_setup.specs.declared.script.Fault.{Fault}
 use Rattle.overlay_setup.specs.declared.script.Mode.TheVariants.{WaitForAll}
-use Rattle.stat_desk.specs.declared.event.Event.{Event}
+use Rattle.overlay_event.specs.declared.event.Event.{Event}
 use Rattle.overlay_core.specs.declared.release.Kind.TheVariants.{Final}
 use Rattle.overlay_core.specs.Runs.{IsWhole, after}
 use Rattle.overlay_core.specs.TreeReleases.{AreNumberedInOrder, TreeRelease, bare_releases}

@@ -9,7 +9,7 @@ ghost use Rattle.equiv_class.specs.Classes.{classes_of};
 ghost use Rattle.overlay_setup.specs.declared.script.Fault.{Fault};
 ghost use Rattle.stat_plan.specs.Invariants.{IsPlan};
 ghost use Rattle.stat_plan.specs.Plans.{Plan};
-ghost use Rattle.stat_desk.specs.declared.event.Event.{Event};
+ghost use Rattle.overlay_event.specs.declared.event.Event.{Event};
 ghost use Rattle.overlay_core.specs.Whole.{LosesNoDaemon};
 ghost use Rattle.overlay_core.specs.TreeReleases.{AreNumberedInOrder, TreeRelease};
 ghost use Rattle.front_end.specs.JsonReport.{IsJsonReport};

@@ -6,8 +6,8 @@ use Rattle.rank_set.specs.Ranks.{size}
 use Rattle.prefix_tree.specs.Tree.{Tree, tree_of, pairs_of, rows_of}
 use Rattle.equiv_class.specs.Classes.{classes_of}
 use Rattle.stat_plan.specs.Plans.{Plan, nodes, samples}
-use Rattle.stat_desk.specs.declared.event.Event.{Event}
-use Rattle.stat_desk.specs.declared.event.Event.TheVariants.{Sample, Recv, Tick, Lose}
+use Rattle.overlay_event.specs.declared.event.Event.{Event}
+use Rattle.overlay_event.specs.declared.event.Event.TheVariants.{Sample, Recv, Tick, Lose}
 use Rattle.overlay_core.specs.Nodes.{Release}
 use Rattle.overlay_core.specs.Runs.{after}
 use Rattle.overlay_core.specs.TreeReleases.{TreeRelease}

@@ -13,7 +13,7 @@ ghost use Rattle.stat_plan.specs.Samples.{prefix_count};
 ghost use Rattle.stat_plan.specs.Invariants.{IsPlan};
 ghost use Rattle.stat_plan.specs.Limits.{first_over};
 ghost use Rattle.stat_plan.specs.Plans.{nodes, samples};
-ghost use Rattle.stat_desk.specs.declared.event.Event.{Event};
+ghost use Rattle.overlay_event.specs.declared.event.Event.{Event};
 ghost use Rattle.topology_text.specs.Grammar.{Statement, written};
 ghost use Rattle.topology_text.specs.Tokens.{pieces};
 ghost use Rattle.topology_text.specs.Whole.{topology_of};

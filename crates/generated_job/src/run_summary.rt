@@ -9,8 +9,8 @@ ghost use Rattle.generated_job.specs.Summary.{count_of, ends_stream, is_final, i
 use crate::numbered::write_numbered;
 use equiv_class::classes;
 use overlay_core::{Kind, Release};
+use overlay_event::{Event, Journal};
 use prefix_tree::PrefixTree;
-use stat_desk::{Event, Journal};
 use std::alloc::{AllocError, Global};
 
 // Appends the line of the seed and the size.

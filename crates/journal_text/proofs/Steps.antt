@@ -6,7 +6,7 @@ use Rattle.std.specs.List.{position_from}
 use Rattle.std.proofs.lemmas.Grind.{flat_map-append}
 use Rattle.std.proofs.lemmas.List.{length_push, append-nil, take_more}
 use Rattle.std.proofs.lemmas.Option.{get_or_from_slice_get}
-use Rattle.stat_desk.specs.declared.event.Event.{Event}
+use Rattle.overlay_event.specs.declared.event.Event.{Event}
 use Rattle.stat_plan.specs.Plans.{Plan}
 use Rattle.journal_text.specs.Text.{line_of, journal_text}
 use Rattle.journal_text.specs.Reading.{event_of_line, events_before, bad_from, is_bad, ReadJournal}

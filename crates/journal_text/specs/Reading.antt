@@ -4,7 +4,7 @@ use Rattle.std.specs.List.{position_from}
 use Rattle.std.specs.Str.{bytes_eq}
 use Rattle.text_lines.specs.Lines.{lines}
 use Rattle.overlay_setup.specs.NodeSets.{In}
-use Rattle.stat_desk.specs.declared.event.Event.{Event}
+use Rattle.overlay_event.specs.declared.event.Event.{Event}
 use Rattle.stat_plan.specs.Plans.{Plan, waves_of}
 use Rattle.journal_text.specs.Events.{IsEventOf, events_of}
 use Rattle.journal_text.specs.Text.{line_of, wave_text}

@@ -6,7 +6,7 @@ use Rattle.overlay_setup.specs.Scripts.{stream, scripted}
 use Rattle.overlay_setup.specs.Topologies.{topology}
 use Rattle.overlay_setup.specs.declared.script.Grain.TheVariants.{Line}
 use Rattle.overlay_setup.specs.declared.script.Mode.TheVariants.{DontWait}
-use Rattle.stat_desk.specs.declared.event.Event.TheVariants.{Sample, Recv, Tick, Lose}
+use Rattle.overlay_event.specs.declared.event.Event.TheVariants.{Sample, Recv, Tick, Lose}
 use Rattle.stat_plan.specs.Plans.{Plan, plan_of, sampled}
 use Rattle.journal_text.specs.Reading.{event_of_line, events_before, bad_from, journal_of}
 use Rattle.journal_text.specs.Text.{journal_text}

@@ -1,7 +1,7 @@
 //! Laws of the text: facts for the prover, which do nothing.
 
 ghost use Rattle.std.specs.Prelude.{◌≡◌, ◌↔◌, ℕ, List, None, Some};
-ghost use Rattle.stat_desk.specs.declared.event.Event.{Event};
+ghost use Rattle.overlay_event.specs.declared.event.Event.{Event};
 ghost use Rattle.stat_plan.specs.Invariants.{IsPlan};
 ghost use Rattle.stat_plan.specs.Plans.{Plan};
 ghost use Rattle.journal_text.specs.Events.{IsEventOf, AreEventsOf};

@@ -5,7 +5,7 @@ ghost use Rattle.journal_text.specs.Reading.{event_of_line, IsEventRead, IsWaveR
 
 use crate::numbers::number_of_word;
 use crate::words::cut_at_space;
-use stat_desk::Event;
+use overlay_event::Event;
 use stat_plan::Plan;
 
 // The wave that a text says, as `STREAM WAVE`: the numbers of the stream and of the wave.

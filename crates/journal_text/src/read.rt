@@ -4,7 +4,7 @@ ghost use Rattle.std.specs.Prelude.{◌≡◌, IfOk};
 ghost use Rattle.journal_text.specs.Reading.{journal_of, read_view};
 
 use crate::lines::event_of_line;
-use stat_desk::Journal;
+use overlay_event::Journal;
 use stat_plan::Plan;
 use std::alloc::{AllocError, Global};
 use text_lines::next_line;

@@ -7,7 +7,7 @@ ghost use Rattle.journal_text.specs.Events.{IsEventOf, AreEventsOf};
 ghost use Rattle.journal_text.specs.Text.{journal_text, line_of};
 
 use crate::numbers::write_number;
-use stat_desk::{Event, Journal};
+use overlay_event::{Event, Journal};
 use stat_plan::Plan;
 use std::alloc::{AllocError, Global};
 

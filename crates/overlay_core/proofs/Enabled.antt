@@ -8,8 +8,8 @@ use Rattle.overlay_core.specs.Machine.{State, is_enabled, is_pending, samples_of
 use Rattle.overlay_core.specs.Runs.{IsQuiet}
 use Rattle.overlay_core.proofs.PlanFacts.{HasPlanFacts}
 use Rattle.overlay_core.specs.LinkInvariant.{LinkInvariant}
-use Rattle.stat_desk.specs.declared.event.Event.{Event}
-use Rattle.stat_desk.specs.declared.event.Event.TheVariants.{Sample, Recv, Tick, Lose}
+use Rattle.overlay_event.specs.declared.event.Event.{Event}
+use Rattle.overlay_event.specs.declared.event.Event.TheVariants.{Sample, Recv, Tick, Lose}
 use Rattle.overlay_core.proofs.Lists.{append_left, append_right, nil-no, filter_from}
 use Rattle.overlay_core.proofs.Outcomes.{next_is_named}
 use Rattle.overlay_core.proofs.ParentLinks.{in_filter}

@@ -6,7 +6,7 @@ use Rattle.overlay_setup.specs.NodeSets.{In}
 use Rattle.stat_plan.specs.Samples.{ranks_with, all_ranks}
 use Rattle.stat_plan.specs.Plans.{Plan, front, mode, daemons, ranks, nodes, stream_ranks, waves_of}
 use Rattle.overlay_setup.specs.declared.script.Mode.TheVariants.{WaitForAll}
-use Rattle.stat_desk.specs.declared.event.Event.{Event}
+use Rattle.overlay_event.specs.declared.event.Event.{Event}
 use Rattle.overlay_core.specs.declared.release.Kind.TheVariants.{Partial as PartialRelease, Final as FinalRelease}
 use Rattle.overlay_core.specs.Nodes.{Release}
 use Rattle.overlay_core.specs.Machine.{start}

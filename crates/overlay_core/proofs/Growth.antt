@@ -4,12 +4,12 @@ use Rattle.std.proofs.lemmas.Bool.{and_parts, cases_Bool, eqb-false}
 use Rattle.overlay_setup.specs.NodeSets.{In}
 use Rattle.stat_plan.specs.Plans.{Plan}
 use Rattle.stat_plan.specs.Machine.Waves.{Wave}
-use Rattle.stat_desk.specs.declared.event.Event.{Event}
-use Rattle.stat_desk.specs.declared.event.Event.TheVariants.{Sample, Recv, Tick, Lose}
+use Rattle.overlay_event.specs.declared.event.Event.{Event}
+use Rattle.overlay_event.specs.declared.event.Event.TheVariants.{Sample, Recv, Tick, Lose}
 use Rattle.overlay_core.specs.Nodes.{Packet, Node, Outcome, sampled, after_tick, received}
 use Rattle.overlay_core.specs.Machine.{State, step, commit, with_link, lose, receive, is_enabled}
 use Rattle.overlay_core.specs.Runs.{after, IsLegal}
-use Rattle.stat_desk.specs.Events.{event_node}
+use Rattle.overlay_event.specs.Events.{event_node}
 use Rattle.overlay_core.specs.Counts.{OnlyGrows}
 use Rattle.overlay_core.specs.LinkInvariant.{LinkInvariant}
 use Rattle.overlay_core.proofs.PlanFacts.{HasPlanFacts}

@@ -21,8 +21,8 @@ use Rattle.stat_plan.specs.declared.machine.Timer.{Timer}
 use Rattle.stat_plan.specs.declared.machine.Timer.TheVariants.{Off, Running, Fired}
 use Rattle.stat_plan.specs.declared.machine.Act.{Act}
 use Rattle.stat_plan.specs.declared.machine.Act.TheVariants.{Hold, Arm, Send, Partial, Final}
-use Rattle.stat_desk.specs.declared.event.Event.{Event}
-use Rattle.stat_desk.specs.declared.event.Event.TheVariants.{Sample, Recv, Tick, Lose}
+use Rattle.overlay_event.specs.declared.event.Event.{Event}
+use Rattle.overlay_event.specs.declared.event.Event.TheVariants.{Sample, Recv, Tick, Lose}
 use Rattle.overlay_core.proofs.Lists.{filter_from, list_all_in, subset_from_test, in_from_member, in_append, in_map_filter, in_take}
 use Rattle.overlay_core.proofs.Acts.{IsSubsetOf, each_wave_set, WorkIsSound, act_sound}
 use Rattle.overlay_core.proofs.Outcomes.{next_is_named, waves_at_named, kin_fits, begin_sound, next_is_empty, covering_sound, growing_sound, ticked_sound, received_sound}

@@ -5,13 +5,13 @@ use Rattle.std.proofs.lemmas.Bool.{cond_both, and_parts, true≢false}
 use Rattle.overlay_setup.specs.NodeSets.{member}
 use Rattle.stat_plan.specs.Plans.{Plan, daemons, waves_at, is_related, fault}
 use Rattle.stat_plan.specs.Machine.Waves.{is_running}
-use Rattle.stat_desk.specs.declared.event.Event.{Event}
-use Rattle.stat_desk.specs.declared.event.Event.TheVariants.{Sample, Recv, Tick, Lose}
+use Rattle.overlay_event.specs.declared.event.Event.{Event}
+use Rattle.overlay_event.specs.declared.event.Event.TheVariants.{Sample, Recv, Tick, Lose}
 use Rattle.overlay_core.specs.Nodes.{Packet, Down, Node, Outcome, handled}
 use Rattle.overlay_core.specs.Machine.{State, step, commit, with_link, lose, receive, to, keep_of, is_spent, is_doomed, is_active, is_pending, is_wave, next_sample, is_enabled}
 use Rattle.overlay_core.specs.Runs.{run}
 use Rattle.overlay_core.specs.Independent.{first_from, outcome, sender_of, AreIndependent}
-use Rattle.stat_desk.specs.Events.{event_node}
+use Rattle.overlay_event.specs.Events.{event_node}
 
 commit_node_else : (st : State) (k : ℕ) (o : Outcome) (n : ℕ) → k ≢ n → (commit st k o).node n ≡ st.node n
 unfolding commit

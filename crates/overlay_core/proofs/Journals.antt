@@ -3,7 +3,7 @@ use Rattle.std.proofs.Common.{◌≡◌, ◌≤◌, ◌<◌, ◌+◌, ℕ, true,
 use Rattle.std.specs.Prelude.{◌↔◌}
 use Rattle.overlay_setup.specs.NodeSets.{In}
 use Rattle.stat_plan.specs.Plans.{Plan, nodes}
-use Rattle.stat_desk.specs.declared.event.Event.{Event}
+use Rattle.overlay_event.specs.declared.event.Event.{Event}
 use Rattle.overlay_core.specs.Bound.{bound}
 use Rattle.overlay_core.specs.Losses.{IsLost}
 use Rattle.overlay_core.specs.Machine.{State, start, step, is_enabled, enabled_events}

@@ -10,8 +10,8 @@ use Rattle.stat_plan.specs.Machine.Waves.{Wave, Open, Closed, Book, set_wave, co
 use Rattle.stat_plan.specs.declared.machine.Timer.{Timer}
 use Rattle.stat_plan.specs.declared.machine.Act.{Act}
 use Rattle.stat_plan.specs.declared.machine.Act.TheVariants.{Hold, Arm, Send, Partial, Final}
-use Rattle.stat_desk.specs.declared.event.Event.{Event}
-use Rattle.stat_desk.specs.declared.event.Event.TheVariants.{Sample, Recv, Tick, Lose}
+use Rattle.overlay_event.specs.declared.event.Event.{Event}
+use Rattle.overlay_event.specs.declared.event.Event.TheVariants.{Sample, Recv, Tick, Lose}
 use Rattle.overlay_core.specs.Nodes.{Packet, Up, Done, Attach, Down, Node, Effects, Outcome, Release, begin, acted, act_as, act, act_each, done_work, due_at, received, received_up, received_done, received_attach, received_down, sampled, after_tick}
 use Rattle.overlay_core.specs.Machine.{State, start, step, commit, with_link, lose, receive, is_doomed, is_enabled, is_spent}
 use Rattle.overlay_core.specs.Runs.{run, after, IsLegal, IsLegalFrom}

@@ -10,8 +10,8 @@ use Rattle.overlay_core.specs.Machine.{State, step, commit, with_link, lose, rec
 use Rattle.overlay_core.proofs.PlanFacts.{HasPlanFacts}
 use Rattle.overlay_core.specs.LinkInvariant.{LinkInvariant, KinIsSound}
 use Rattle.overlay_core.specs.ParentChild.{IsUnderWay, ParentChildHolds, ParentChildInvariant}
-use Rattle.stat_desk.specs.declared.event.Event.{Event}
-use Rattle.stat_desk.specs.declared.event.Event.TheVariants.{Sample, Recv, Tick, Lose}
+use Rattle.overlay_event.specs.declared.event.Event.{Event}
+use Rattle.overlay_event.specs.declared.event.Event.TheVariants.{Sample, Recv, Tick, Lose}
 use Rattle.overlay_core.proofs.Lists.{append_right, in_from_member}
 use Rattle.overlay_core.proofs.Outcomes.{next_is_empty, next_is_named, sampled_sound, tick_sound, received_sound}
 use Rattle.overlay_core.proofs.Commits.{next_node, commit_link_grows}

@@ -11,7 +11,7 @@ use Rattle.overlay_core.specs.Whole.{IsSound}
 use Rattle.overlay_core.specs.Bound.{bound}
 use Rattle.overlay_core.specs.Losses.{IsLost}
 use Rattle.overlay_core.specs.Pick.{next_number, picked_event, picked_from, picked, PicksFrom, Picks, IsPickedFrom}
-use Rattle.stat_desk.specs.declared.event.Event.{Event}
+use Rattle.overlay_event.specs.declared.event.Event.{Event}
 use Rattle.overlay_core.proofs.Whole.{step_is_sound, start_is_sound, step_alive, start_below}
 use Rattle.overlay_core.proofs.Potential.{weight, step_decreases, start_weight, legal_is_short}
 use Rattle.overlay_core.proofs.Enabled.{listed_enabled, quiet_from_list}

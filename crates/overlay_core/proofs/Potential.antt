@@ -15,8 +15,8 @@ use Rattle.overlay_core.specs.Whole.{IsSound}
 use Rattle.overlay_core.specs.Bound.{bound, longest}
 use Rattle.stat_plan.specs.declared.machine.Timer.TheVariants.{Off}
 use Rattle.stat_plan.proofs.KinLemmas.{in_without}
-use Rattle.stat_desk.specs.declared.event.Event.{Event}
-use Rattle.stat_desk.specs.declared.event.Event.TheVariants.{Sample, Recv, Tick, Lose}
+use Rattle.overlay_event.specs.declared.event.Event.{Event}
+use Rattle.overlay_event.specs.declared.event.Event.TheVariants.{Sample, Recv, Tick, Lose}
 use Rattle.overlay_core.proofs.Lists.{in_from_member, without_increases, up_to_below}
 use Rattle.overlay_core.proofs.Totals.{total, total_append, total_le, total_bound, total_at, length_up_to, length_filter_le, length_below}
 use Rattle.overlay_core.proofs.Outcomes.{next_is_empty, next_is_named, growing_sound}

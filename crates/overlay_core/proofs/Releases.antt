@@ -20,8 +20,8 @@ use Rattle.overlay_setup.specs.declared.script.Mode.TheVariants.{WaitForAll, Tim
 use Rattle.stat_plan.specs.declared.machine.Timer.{Timer}
 use Rattle.stat_plan.specs.declared.machine.Act.{Act}
 use Rattle.stat_plan.specs.declared.machine.Act.TheVariants.{Hold, Arm, Send, Partial, Final}
-use Rattle.stat_desk.specs.declared.event.Event.{Event}
-use Rattle.stat_desk.specs.declared.event.Event.TheVariants.{Sample, Recv, Tick, Lose}
+use Rattle.overlay_event.specs.declared.event.Event.{Event}
+use Rattle.overlay_event.specs.declared.event.Event.TheVariants.{Sample, Recv, Tick, Lose}
 use Rattle.overlay_core.proofs.Lists.{in_append, in_from_member, filter_from}
 use Rattle.overlay_core.proofs.Acts.{IsSubsetOf, KinFits, WorkIsSound, act_sound, each_wave_set, to_parent_sound}
 use Rattle.overlay_core.proofs.Outcomes.{kin_fits, begin_sound, next_is_empty, next_is_named, waves_at_named, covering_sound, growing_sound, ticked_sound, received_sound, unsent_sound}

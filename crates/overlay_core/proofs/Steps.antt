@@ -10,8 +10,8 @@ use Rattle.overlay_core.specs.Machine.{State, start, step, with_link, receive, i
 use Rattle.overlay_core.specs.Runs.{run, after, IsLegal, IsLegalFrom}
 use Rattle.overlay_core.proofs.PlanFacts.{HasPlanFacts}
 use Rattle.overlay_core.specs.LinkInvariant.{AreRelated, LinkIsSound, EndsAtDown, LinkInvariant}
-use Rattle.stat_desk.specs.declared.event.Event.{Event}
-use Rattle.stat_desk.specs.declared.event.Event.TheVariants.{Sample, Recv, Tick, Lose}
+use Rattle.overlay_event.specs.declared.event.Event.{Event}
+use Rattle.overlay_event.specs.declared.event.Event.TheVariants.{Sample, Recv, Tick, Lose}
 use Rattle.overlay_core.proofs.Lists.{filter_increases, up_to_increases, in_from_member, in_map_filter, no_rank}
 use Rattle.overlay_core.proofs.Outcomes.{next_is_named, sampled_sound, tick_sound, received_sound, next_is_empty, heard_in}
 use Rattle.overlay_core.proofs.Commits.{IsReady, LossIsHeard, commit_sound}

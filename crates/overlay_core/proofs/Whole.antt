@@ -22,8 +22,8 @@ use Rattle.overlay_setup.specs.declared.script.Mode.{Mode}
 use Rattle.stat_plan.specs.declared.machine.Timer.{Timer}
 use Rattle.stat_plan.specs.declared.machine.Act.TheVariants.{Hold}
 use Rattle.stat_plan.proofs.KinLemmas.{nearest_in, nearest_some}
-use Rattle.stat_desk.specs.declared.event.Event.{Event}
-use Rattle.stat_desk.specs.declared.event.Event.TheVariants.{Sample, Recv, Tick, Lose}
+use Rattle.overlay_event.specs.declared.event.Event.{Event}
+use Rattle.overlay_event.specs.declared.event.Event.TheVariants.{Sample, Recv, Tick, Lose}
 use Rattle.overlay_core.proofs.Lists.{in_append, append_left, append_right, in_member, in_from_member, list_all_from, test_from_subset, no_rank, some_rank, same_true}
 use Rattle.overlay_core.proofs.Steps.{step_sound, start_sound}
 use Rattle.overlay_core.proofs.ParentLinks.{in_filter, filter_in, in_list_any, within_from_test, test_from_within, waves_above}

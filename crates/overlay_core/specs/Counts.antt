@@ -4,13 +4,13 @@ use Rattle.std.specs.List.{count_by}
 use Rattle.rank_set.specs.Ranks.{IsSubset, is_same}
 use Rattle.stat_plan.specs.Plans.{Plan}
 use Rattle.stat_plan.specs.Machine.Waves.{Wave, Open, Closed, is_open, coverage_of, has_grown}
-use Rattle.stat_desk.specs.declared.event.Event.{Event}
+use Rattle.overlay_event.specs.declared.event.Event.{Event}
 use Rattle.overlay_core.specs.declared.release.Kind.{Kind}
 use Rattle.overlay_core.specs.declared.release.Kind.TheVariants.{Partial as PartialRelease, Final as FinalRelease}
 use Rattle.overlay_core.specs.Nodes.{Packet, Up, Done, Attach, Down, Release, Effects}
 use Rattle.overlay_core.specs.Machine.{State, step}
 use Rattle.overlay_core.specs.Independent.{outcome}
-use Rattle.stat_desk.specs.Events.{event_node}
+use Rattle.overlay_event.specs.Events.{event_node}
 
 -- 1 where a test holds, and 0 elsewhere
 abbrev pub one_if : Bool → ℕ

@@ -1,8 +1,8 @@
 -- The nodes that a journal loses.
 use Rattle.std.specs.Prelude.{ℕ, List}
 use Rattle.overlay_setup.specs.NodeSets.{In}
-use Rattle.stat_desk.specs.declared.event.Event.{Event}
-use Rattle.stat_desk.specs.declared.event.Event.TheVariants.{Lose}
+use Rattle.overlay_event.specs.declared.event.Event.{Event}
+use Rattle.overlay_event.specs.declared.event.Event.TheVariants.{Lose}
 
 -- the journal loses n
 abbrev pub IsLost : List Event → ℕ → Type 0

@@ -8,8 +8,8 @@ use Rattle.stat_plan.specs.Machine.Kin.{start_kin}
 use Rattle.stat_plan.specs.Machine.Waves.{Open, put_at, is_empty_open, is_running}
 use Rattle.overlay_setup.specs.declared.script.Fault.{Fault}
 use Rattle.stat_plan.specs.declared.machine.Timer.TheVariants.{Off}
-use Rattle.stat_desk.specs.declared.event.Event.{Event}
-use Rattle.stat_desk.specs.declared.event.Event.TheVariants.{Sample, Recv, Tick, Lose}
+use Rattle.overlay_event.specs.declared.event.Event.{Event}
+use Rattle.overlay_event.specs.declared.event.Event.TheVariants.{Sample, Recv, Tick, Lose}
 use Rattle.overlay_core.specs.Nodes.{Packet, Down, Node, Release, Outcome, handled}
 
 -- which nodes live, what each is, what is on the way from each to each, and what was released so far

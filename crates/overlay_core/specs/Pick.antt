@@ -1,7 +1,7 @@
 -- The journal that a number picks.
 use Rattle.std.specs.Prelude.{◌≡◌, ℕ, zero, suc, ◌+◌, ◌*◌, ◌/◌, ◌%◌, ◌^◌, List, [], ◌∷◌, length, slice_get, Option, Some, None}
 use Rattle.stat_plan.specs.Plans.{Plan}
-use Rattle.stat_desk.specs.declared.event.Event.{Event}
+use Rattle.overlay_event.specs.declared.event.Event.{Event}
 use Rattle.overlay_core.specs.Bound.{bound}
 use Rattle.overlay_core.specs.Machine.{State, start, step, enabled_events}
 use Rattle.overlay_core.specs.Runs.{after}

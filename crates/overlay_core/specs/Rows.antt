@@ -10,8 +10,8 @@ use Rattle.overlay_setup.specs.declared.script.Grain.TheVariants.{Line}
 use Rattle.overlay_setup.specs.declared.script.Mode.{Mode}
 use Rattle.overlay_setup.specs.declared.script.Mode.TheVariants.{WaitForAll, TimeOut, DontWait}
 use Rattle.overlay_setup.specs.declared.script.Fault.{Fault}
-use Rattle.stat_desk.specs.declared.event.Event.{Event}
-use Rattle.stat_desk.specs.declared.event.Event.TheVariants.{Sample, Recv, Tick, Lose}
+use Rattle.overlay_event.specs.declared.event.Event.{Event}
+use Rattle.overlay_event.specs.declared.event.Event.TheVariants.{Sample, Recv, Tick, Lose}
 use Rattle.overlay_core.specs.declared.release.Kind.TheVariants.{Partial as PartialRelease, Final as FinalRelease}
 use Rattle.overlay_core.specs.Nodes.{Up, Attach, Down, Release, release, due_at, dones, acted, sampled, after_tick, received_up, received_done, received_attach, received_down}
 use Rattle.overlay_core.specs.Machine.{start, commit, with_link, lose, is_doomed, is_active, enabled_events}

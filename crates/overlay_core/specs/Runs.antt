@@ -1,7 +1,7 @@
 -- Journals: the states that they leave, and which of them are legal and whole.
 use Rattle.std.specs.Prelude.{◌≡◌, Bool, true, false, ◌&&◌, ⊤, List, [], ◌∷◌, IsTrue}
 use Rattle.stat_plan.specs.Plans.{Plan}
-use Rattle.stat_desk.specs.declared.event.Event.{Event}
+use Rattle.overlay_event.specs.declared.event.Event.{Event}
 use Rattle.overlay_core.specs.Machine.{State, start, step, is_enabled}
 
 -- the state that these events leave of a state

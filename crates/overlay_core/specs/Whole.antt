@@ -4,7 +4,7 @@ use Rattle.rank_set.specs.Ranks.{Has, IsSubset}
 use Rattle.overlay_setup.specs.NodeSets.{In}
 use Rattle.stat_plan.specs.Plans.{Plan, nodes, daemons, ranks, waves_of, waves_at}
 use Rattle.stat_plan.specs.Machine.Waves.{is_open}
-use Rattle.stat_desk.specs.declared.event.Event.{Event}
+use Rattle.overlay_event.specs.declared.event.Event.{Event}
 use Rattle.overlay_core.specs.declared.release.Kind.TheVariants.{Partial as PartialRelease, Final as FinalRelease}
 use Rattle.overlay_core.specs.Nodes.{Release}
 use Rattle.overlay_core.specs.Machine.{State}

@@ -17,7 +17,7 @@ ghost use Rattle.overlay_core.specs.Pick.{next_number, picked_event, picked, Pic
 ghost use Rattle.overlay_core.specs.Releases.{ReleasesAreSound};
 ghost use Rattle.overlay_core.specs.Runs.{run, after, IsLegal, IsQuiet, IsWhole};
 ghost use Rattle.overlay_core.specs.Whole.{HasEnded, HasOneRelease, IsSound, LosesNoDaemon};
-ghost use Rattle.stat_desk.specs.declared.event.Event.{Event};
+ghost use Rattle.overlay_event.specs.declared.event.Event.{Event};
 ghost use Rattle.stat_plan.specs.Invariants.{IsPlan};
 ghost use Rattle.overlay_setup.specs.NodeSets.{In};
 ghost use Rattle.stat_plan.specs.Plans.{Plan, nodes, mode, waves_of};

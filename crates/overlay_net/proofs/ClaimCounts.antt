@@ -6,9 +6,9 @@ use Rattle.std.specs.List.{AllByRecursion, list_any}
 use Rattle.overlay_setup.specs.NodeSets.{In, member, up_to}
 use Rattle.overlay_setup.specs.declared.script.Fault.{Fault}
 use Rattle.stat_plan.specs.Plans.{Plan, fault, nodes}
-use Rattle.stat_desk.specs.declared.event.Event.{Event}
-use Rattle.stat_desk.specs.declared.event.Event.TheVariants.{Sample, Recv, Tick, Lose}
-use Rattle.stat_desk.specs.Events.{event_node}
+use Rattle.overlay_event.specs.declared.event.Event.{Event}
+use Rattle.overlay_event.specs.declared.event.Event.TheVariants.{Sample, Recv, Tick, Lose}
+use Rattle.overlay_event.specs.Events.{event_node}
 use Rattle.overlay_core.proofs.Lists.{in_member, up_to_below}
 use Rattle.overlay_core.proofs.Whole.{in_up_to}
 use Rattle.event_claims.specs.Claims.{Outs, is_free, is_home, is_loss_of, receives_from}

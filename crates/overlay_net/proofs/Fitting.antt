@@ -1,8 +1,8 @@
 -- A claim that fits its net, after its work and after room was made.
 use Rattle.std.proofs.Common.{◌≡◌, ◌∙◌, ◌<◌, ◌^◌, ℕ, Bool, true, false, ◌==◌, cond, Some, None, refl, sym, ap, subst}
 use Rattle.stat_plan.specs.Plans.{Plan}
-use Rattle.stat_desk.specs.declared.event.Event.{Event}
-use Rattle.stat_desk.specs.Events.{event_node}
+use Rattle.overlay_event.specs.declared.event.Event.{Event}
+use Rattle.overlay_event.specs.Events.{event_node}
 use Rattle.overlay_core.specs.Independent.{taken}
 use Rattle.overlay_core.specs.Machine.{State, is_enabled}
 use Rattle.event_claims.specs.Claims.{Outs, claimed, come_home}

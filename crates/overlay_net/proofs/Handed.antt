@@ -1,8 +1,8 @@
 -- An event that was handed over to its node: what was taken, and what became of the node.
 use Rattle.std.proofs.Common.{◌≡◌, ◌<◌, ◌^◌, ℕ, List, length, slice_get, slice_set, Option, Some}
 use Rattle.stat_plan.specs.Plans.{Plan}
-use Rattle.stat_desk.specs.declared.event.Event.{Event}
-use Rattle.stat_desk.specs.Events.{event_node}
+use Rattle.overlay_event.specs.declared.event.Event.{Event}
+use Rattle.overlay_event.specs.Events.{event_node}
 use Rattle.overlay_core.specs.TreeReleases.{TreeRelease}
 use Rattle.overlay_node.specs.NodeViews.{IsNodeOf, MayHandle, NodeView}
 use Rattle.overlay_net.specs.Inboxes.{FrameInbox}

@@ -24,7 +24,7 @@ use Rattle.overlay_net.specs.declared.state.NetState.{NetState}
 use Rattle.std.proofs.lemmas.List.{length-replicate, map-append}
 use Rattle.std.proofs.lemmas.Option.{none-some}
 use Rattle.prefix_tree.specs.Tree.{Tree}
-use Rattle.stat_desk.specs.declared.event.Event.{Event}
+use Rattle.overlay_event.specs.declared.event.Event.{Event}
 use Rattle.event_claims.specs.Claims.{MayBeOut, Outs, all_home, is_loss_of}
 use Rattle.event_claims.proofs.Claims.{nothing_out}
 use Rattle.overlay_node.specs.Outputs.{ReleaseFits}

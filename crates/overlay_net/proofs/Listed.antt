@@ -12,7 +12,7 @@ use Rattle.stat_plan.proofs.FirstOver.{all_in}
 use Rattle.stat_plan.proofs.InLists.{in_filter, in_from_filter}
 use Rattle.overlay_core.proofs.Lists.{filter_increases, up_to_increases, up_to_below}
 use Rattle.overlay_core.proofs.Whole.{in_up_to}
-use Rattle.stat_desk.specs.declared.event.Event.{Event}
+use Rattle.overlay_event.specs.declared.event.Event.{Event}
 use Rattle.overlay_net.specs.Inboxes.{WaitingFrames}
 use Rattle.node_inbox.specs.Inboxes.{is_waiting, senders_of}
 use Rattle.overlay_net.specs.Events.{IsNth}

@@ -4,9 +4,9 @@ use Rattle.std.proofs.lemmas.Bool.{cases_Bool, eqb-false, ltb-true, ltb-false}
 use Rattle.std.proofs.lemmas.List.{length-set}
 use Rattle.stat_plan.specs.Invariants.{IsPlan}
 use Rattle.stat_plan.specs.Plans.{Plan, fault, nodes}
-use Rattle.stat_desk.specs.declared.event.Event.{Event}
-use Rattle.stat_desk.specs.declared.event.Event.TheVariants.{Sample, Recv, Tick, Lose}
-use Rattle.stat_desk.specs.Events.{event_node}
+use Rattle.overlay_event.specs.declared.event.Event.{Event}
+use Rattle.overlay_event.specs.declared.event.Event.TheVariants.{Sample, Recv, Tick, Lose}
+use Rattle.overlay_event.specs.Events.{event_node}
 use Rattle.overlay_core.specs.Machine.{State, is_enabled, keep_of}
 use Rattle.overlay_core.specs.TreeReleases.{TreeRelease}
 use Rattle.event_claims.specs.Claims.{MayBeOut}

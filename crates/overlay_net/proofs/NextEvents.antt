@@ -8,9 +8,9 @@ use Rattle.stat_plan.specs.Invariants.{IsPlan}
 use Rattle.stat_plan.specs.Machine.Waves.{Wave, Open, Closed, set_wave, covering, growing, ticked, is_fired, unsent}
 use Rattle.stat_plan.specs.Machine.Kin.{is_parent, with_parent, without_child}
 use Rattle.stat_plan.specs.Plans.{Plan, ancestors, nodes, front, is_front, is_related, is_under, is_within, serves, daemons, ranks, waves_at, waves_of}
-use Rattle.stat_desk.specs.declared.event.Event.{Event}
-use Rattle.stat_desk.specs.declared.event.Event.TheVariants.{Sample, Recv, Tick, Lose}
-use Rattle.stat_desk.specs.Events.{event_node}
+use Rattle.overlay_event.specs.declared.event.Event.{Event}
+use Rattle.overlay_event.specs.declared.event.Event.TheVariants.{Sample, Recv, Tick, Lose}
+use Rattle.overlay_event.specs.Events.{event_node}
 use Rattle.overlay_core.specs.Nodes.{Node, Packet, Up, Done, Attach, Down, Outcome, Release, handled, begin, sampled, after_tick, act_each, received, received_up, received_done, received_attach, received_down, done_work, to_parent}
 use Rattle.overlay_core.specs.Machine.{State, is_enabled, is_pending, is_wave, next_sample, commit, receive, step}
 use Rattle.overlay_core.specs.LinkInvariant.{LinkInvariant, PacketIsSound, SendIsSound}

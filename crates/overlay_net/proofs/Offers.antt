@@ -24,9 +24,9 @@ use Rattle.overlay_core.proofs.Outcomes.{next_is_named, find_passes}
 use Rattle.overlay_core.proofs.ParentLinks.{within_from_test, test_from_within}
 use Rattle.overlay_node.specs.Frames.{packet_of}
 use Rattle.overlay_node.specs.NodeViews.{NodeView, has_running, node_of}
-use Rattle.stat_desk.specs.declared.event.Event.{Event}
-use Rattle.stat_desk.specs.declared.event.Event.TheVariants.{Sample, Recv, Tick, Lose}
-use Rattle.stat_desk.specs.Events.{event_node}
+use Rattle.overlay_event.specs.declared.event.Event.{Event}
+use Rattle.overlay_event.specs.declared.event.Event.TheVariants.{Sample, Recv, Tick, Lose}
+use Rattle.overlay_event.specs.Events.{event_node}
 use Rattle.overlay_net.specs.Inboxes.{FrameInbox, WaitingFrames}
 use Rattle.node_inbox.specs.Inboxes.{HaveSent, is_waiting, queue_of, senders_of}
 use Rattle.event_claims.specs.Claims.{Outs, claimable_events, is_claimable, is_free, is_home}

@@ -3,7 +3,7 @@ use Rattle.std.proofs.Common.{◌≡◌, ◌∙◌, ◌+◌, ◌/◌, ◌%◌, �
 use Rattle.std.specs.Prelude.{◌↔◌}
 use Rattle.stat_plan.specs.Invariants.{IsPlan}
 use Rattle.stat_plan.specs.Plans.{Plan}
-use Rattle.stat_desk.specs.declared.event.Event.{Event}
+use Rattle.overlay_event.specs.declared.event.Event.{Event}
 use Rattle.overlay_core.specs.Machine.{State, enabled_events, is_enabled, start, step}
 use Rattle.overlay_core.specs.Pick.{PicksFrom, next_number, picked, picked_event}
 use Rattle.overlay_core.specs.Runs.{IsQuiet, after, run}

@@ -8,8 +8,8 @@ use Rattle.std.proofs.lemmas.Option.{none-some, slice_get-get_or, slice_get_past
 use Rattle.overlay_setup.specs.NodeSets.{member, up_to}
 use Rattle.overlay_setup.specs.Scripts.{Stream}
 use Rattle.stat_plan.specs.Plans.{Plan, nodes}
-use Rattle.stat_desk.specs.declared.event.Event.{Event}
-use Rattle.stat_desk.specs.declared.event.Event.TheVariants.{Sample, Recv, Tick, Lose}
+use Rattle.overlay_event.specs.declared.event.Event.{Event}
+use Rattle.overlay_event.specs.declared.event.Event.TheVariants.{Sample, Recv, Tick, Lose}
 use Rattle.overlay_core.specs.Machine.{next_sample}
 use Rattle.overlay_core.proofs.ParentLinks.{in_list_any}
 use Rattle.overlay_core.proofs.Whole.{in_up_to}

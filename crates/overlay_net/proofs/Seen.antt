@@ -3,7 +3,7 @@ use Rattle.std.proofs.Common.{◌≡◌, ◌∙◌, ◌≤◌, ℕ, Bool, false,
 use Rattle.std.specs.List.{AllByRecursion}
 use Rattle.prefix_tree.specs.Tree.{Tree}
 use Rattle.stat_plan.specs.Plans.{Plan}
-use Rattle.stat_desk.specs.declared.event.Event.{Event}
+use Rattle.overlay_event.specs.declared.event.Event.{Event}
 use Rattle.overlay_core.specs.Machine.{State}
 use Rattle.overlay_core.specs.TreeReleases.{TreeRelease}
 use Rattle.event_claims.specs.Claims.{MayBeOut, is_free, is_home}

@@ -12,8 +12,8 @@ use Rattle.overlay_setup.specs.NodeSets.{In, IsStrictlyIncreasing, up_to}
 use Rattle.stat_plan.specs.Plans.{Plan, nodes, waves_of}
 use Rattle.stat_plan.specs.Machine.Waves.{ticks}
 use Rattle.stat_plan.proofs.TableLemmas.{length-up_to}
-use Rattle.stat_desk.specs.declared.event.Event.{Event}
-use Rattle.stat_desk.specs.declared.event.Event.TheVariants.{Sample, Recv, Tick, Lose}
+use Rattle.overlay_event.specs.declared.event.Event.{Event}
+use Rattle.overlay_event.specs.declared.event.Event.TheVariants.{Sample, Recv, Tick, Lose}
 use Rattle.overlay_core.specs.Bound.{bound, bound_of, longest}
 use Rattle.overlay_core.specs.Nodes.{Node, Outcome, Packet, handled}
 use Rattle.overlay_core.specs.Machine.{State, commit, is_enabled, lose, receive, start, step, with_link}

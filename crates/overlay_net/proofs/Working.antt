@@ -5,8 +5,8 @@ use Rattle.std.proofs.lemmas.List.{map-append}
 use Rattle.std.proofs.lemmas.List.Elements.{filter-append}
 use Rattle.overlay_setup.specs.NodeSets.{up_to}
 use Rattle.stat_plan.specs.Plans.{Plan, is_related, is_under}
-use Rattle.stat_desk.specs.declared.event.Event.{Event}
-use Rattle.stat_desk.specs.declared.event.Event.TheVariants.{Sample, Recv, Tick, Lose}
+use Rattle.overlay_event.specs.declared.event.Event.{Event}
+use Rattle.overlay_event.specs.declared.event.Event.TheVariants.{Sample, Recv, Tick, Lose}
 use Rattle.overlay_core.specs.Nodes.{Packet, Down}
 use Rattle.overlay_node.specs.Frames.{IsFrame, IsFrameOf, packet_of}
 use Rattle.overlay_node.specs.NodeViews.{NodeView}

@@ -4,8 +4,8 @@ use Rattle.std.specs.List.{AllByRecursion, flat_map}
 use Rattle.overlay_setup.specs.NodeSets.{member}
 use Rattle.stat_plan.specs.Plans.{Plan, fault}
 use Rattle.overlay_setup.specs.Scripts.{Stream}
-use Rattle.stat_desk.specs.declared.event.Event.{Event}
-use Rattle.stat_desk.specs.declared.event.Event.TheVariants.{Sample, Recv, Tick, Lose}
+use Rattle.overlay_event.specs.declared.event.Event.{Event}
+use Rattle.overlay_event.specs.declared.event.Event.TheVariants.{Sample, Recv, Tick, Lose}
 use Rattle.overlay_core.specs.Nodes.{Node}
 use Rattle.overlay_core.specs.Machine.{State, is_spent, start_node, next_sample}
 use Rattle.overlay_core.specs.Runs.{IsLegal, after}

@@ -1,6 +1,6 @@
 -- Runs whose events are picked by numbers.
 use Rattle.std.specs.Prelude.{◌≡◌, ℕ, List, [], ◌++◌}
-use Rattle.stat_desk.specs.declared.event.Event.{Event}
+use Rattle.overlay_event.specs.declared.event.Event.{Event}
 use Rattle.overlay_core.specs.Machine.{enabled_events}
 use Rattle.overlay_core.specs.Pick.{PicksFrom}
 use Rattle.overlay_net.specs.Nets.{NetView, IsReachedBy, state_of}

@@ -1,7 +1,7 @@
 -- Where the nodes of a net are: at home, or out with an event that was claimed. What is out is seen as it was when it went out.
 use Rattle.std.specs.Prelude.{◌≡◌, ℕ, ◌==◌, nat_lt, cond, List, [], ◌∷◌, map, slice_get, slice_index_or, Option, Some, None}
-use Rattle.stat_desk.specs.declared.event.Event.{Event}
-use Rattle.stat_desk.specs.declared.event.Event.TheVariants.{Sample, Recv, Tick, Lose}
+use Rattle.overlay_event.specs.declared.event.Event.{Event}
+use Rattle.overlay_event.specs.declared.event.Event.TheVariants.{Sample, Recv, Tick, Lose}
 use Rattle.event_claims.specs.Claims.{Outs}
 use Rattle.overlay_node.specs.NodeViews.{NodeView}
 use Rattle.overlay_net.specs.Inboxes.{FrameInbox, WaitingFrames}

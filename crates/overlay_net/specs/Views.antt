@@ -1,6 +1,6 @@
 -- What contracts see of a claim.
 use Rattle.std.specs.Prelude.{◌≡◌, ℕ, List, map, Option, Some, None}
-use Rattle.stat_desk.specs.declared.event.Event.{Event}
+use Rattle.overlay_event.specs.declared.event.Event.{Event}
 use Rattle.overlay_node.specs.NodeViews.{NodeView}
 use Rattle.overlay_net.specs.Claims.{ClaimView, Left}
 use Rattle.overlay_net.specs.declared.claimed.Work.{Work}

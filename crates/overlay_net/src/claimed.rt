@@ -9,10 +9,10 @@ ghost use Rattle.overlay_core.specs.TreeReleases.{releases_view};
 ghost use Rattle.stat_plan.specs.Plans.{is_related};
 ghost use Rattle.overlay_net.specs.Claims.{IsSameClaim, Leaves, Left, MayBeWorked, WasWorked, notices};
 
+use overlay_event::Event;
 use overlay_node::{Node, Outgoing};
 use packet_frame::{Frame, Packet, encode};
 use prefix_tree::PrefixTree;
-use stat_desk::Event;
 use stat_plan::Plan;
 use std::alloc::{AllocError, Global};
 use std::marker::Model;

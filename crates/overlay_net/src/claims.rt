@@ -1,7 +1,7 @@
 //! How a node goes out for an event, and comes home.
 
 ghost use Rattle.std.specs.Prelude.{◌≡◌, ◌<◌, false, true, length, OnOk};
-ghost use Rattle.stat_desk.specs.Events.{event_node};
+ghost use Rattle.overlay_event.specs.Events.{event_node};
 ghost use Rattle.event_claims.specs.Claims.{MayBeClaimed};
 ghost use Rattle.overlay_core.specs.Machine.{is_enabled};
 ghost use Rattle.overlay_net.specs.Claims.{FitsNet, IsPrepared, WasWorked};
@@ -17,9 +17,9 @@ use crate::place::{come_home, leave};
 use crate::state::NetState;
 use count_tree::CountTree;
 use node_inbox::{Inbox, deliver, make_rooms};
+use overlay_event::Event;
 use packet_frame::Frame;
 use prefix_tree::PrefixTree;
-use stat_desk::Event;
 use stat_plan::Plan;
 use std::alloc::{AllocError, Global};
 

@@ -16,10 +16,10 @@ use crate::events::{is_doomed, is_losing, is_received_from, is_up, next_wave};
 use crate::place::Place;
 use count_tree::CountTree;
 use node_inbox::Inbox;
+use overlay_event::Event;
 use overlay_node::Node;
 use packet_frame::Frame;
 use prefix_tree::PrefixTree;
-use stat_desk::Event;
 use stat_plan::Plan;
 
 /// How many samples of a node may come next.

@@ -2,8 +2,8 @@
 
 ghost use Rattle.std.specs.Prelude.{◌≡◌, ◌<◌, ◌&&◌, ◌∷◌, [], false, Bool, filter, length, map, slice_get, ℕ, List, None};
 ghost use Rattle.std.specs.List.{flat_map, list_any, sum};
-ghost use Rattle.stat_desk.specs.declared.event.Event.{Event};
-ghost use Rattle.stat_desk.specs.declared.event.Event.TheVariants.{Lose, Recv};
+ghost use Rattle.overlay_event.specs.declared.event.Event.{Event};
+ghost use Rattle.overlay_event.specs.declared.event.Event.TheVariants.{Lose, Recv};
 ghost use Rattle.stat_plan.specs.Invariants.{IsPlan};
 ghost use Rattle.overlay_setup.specs.NodeSets.{In, member, up_to};
 ghost use Rattle.stat_plan.specs.Plans.{Plan, daemons, nodes};
@@ -22,11 +22,11 @@ ghost use Rattle.overlay_net.specs.States.{AreClaimsCounted, ArePartsOf, claims_
 use crate::place::Place;
 use count_tree::CountTree;
 use node_inbox::Inbox;
+use overlay_event::Event;
 use overlay_node::Node;
 use overlay_setup::StreamDef;
 use packet_frame::Frame;
 use prefix_tree::PrefixTree;
-use stat_desk::Event;
 use stat_plan::Plan;
 
 /// What an index finds in a list of events.

@@ -6,8 +6,8 @@ ghost use Rattle.overlay_core.specs.Machine.{keep_of};
 ghost use Rattle.overlay_net.specs.Losses.{AreCut, AreCutBy, IsCut};
 
 use node_inbox::Inbox;
+use overlay_event::Event;
 use packet_frame::Frame;
-use stat_desk::Event;
 use stat_plan::Plan;
 
 // How many of the first packets on each link out of a node stay when it is lost.

@@ -1,7 +1,7 @@
 //! The overlay: its nodes, the packets between them, and what was released.
 
 ghost use Rattle.std.specs.Prelude.{◌≡◌, ◌<◌, ◌↔◌, [], true, false, Err, IfOk, IsErr, OnErr, OnOk, List, option_copied, option_map, slice_get};
-ghost use Rattle.stat_desk.specs.declared.event.Event.{Event};
+ghost use Rattle.overlay_event.specs.declared.event.Event.{Event};
 ghost use Rattle.overlay_core.specs.Bound.{bound};
 ghost use Rattle.overlay_core.specs.Machine.{enabled_events, is_enabled};
 ghost use Rattle.overlay_core.specs.Pick.{picked};
@@ -22,9 +22,9 @@ use crate::events::{all_claims_are_counted, is_enabled, nth_claimable};
 use crate::pick::{length_bound, run_picked};
 use crate::state::{NetState, start};
 use overlay_core::Release;
+use overlay_event::{Event, Journal};
 use packet_frame::Frame;
 use prefix_tree::PrefixTree;
-use stat_desk::{Event, Journal};
 use stat_plan::Plan;
 use std::alloc::{AllocError, Global};
 use std::marker::Model;

@@ -12,9 +12,9 @@ ghost use Rattle.overlay_net.specs.States.{IsNetState, net_view, state_at};
 use crate::claims::apply;
 use crate::events::nth_claimable;
 use crate::state::NetState;
+use overlay_event::{Event, Journal};
 use overlay_setup::{Mode, StreamDef};
 use prefix_tree::PrefixTree;
-use stat_desk::{Event, Journal};
 use stat_plan::Plan;
 use std::alloc::AllocError;
 

@@ -1,14 +1,14 @@
 //! Where a node of a net is.
 
 ghost use Rattle.std.specs.Prelude.{◌≡◌, ◌<◌, Some, length, slice_get, slice_set};
-ghost use Rattle.stat_desk.specs.Events.{event_node};
+ghost use Rattle.overlay_event.specs.Events.{event_node};
 ghost use Rattle.overlay_node.specs.NodeViews.{NodeView};
 ghost use Rattle.overlay_net.specs.Places.{at_home, away, place_view, places_view};
 
+use overlay_event::Event;
 use overlay_node::Node;
 use packet_frame::Frame;
 use prefix_tree::PrefixTree;
-use stat_desk::Event;
 use std::mem;
 use std::snapshot::Snapshot;
 

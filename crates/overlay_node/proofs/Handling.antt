@@ -9,8 +9,8 @@ use Rattle.stat_plan.specs.Machine.Kin.{Kin, after_loss, is_parent, with_parent,
 use Rattle.stat_plan.specs.Invariants.{IsPlan}
 use Rattle.stat_plan.specs.Plans.{Plan, daemons, samples, waves_at}
 use Rattle.stat_plan.specs.Machine.Waves.{Wave, Open, Closed, Book, is_fired, unsent, is_empty_open}
-use Rattle.stat_desk.specs.declared.event.Event.{Event}
-use Rattle.stat_desk.specs.declared.event.Event.TheVariants.{Sample, Recv, Tick, Lose}
+use Rattle.overlay_event.specs.declared.event.Event.{Event}
+use Rattle.overlay_event.specs.declared.event.Event.TheVariants.{Sample, Recv, Tick, Lose}
 use Rattle.loss_adoption.specs.NodeKins.{IsKinOf, NodeKin}
 use Rattle.wave_resend.specs.Books.{WaveAt, book_of}
 use Rattle.merge_filter.specs.Contributions.{HasWave}

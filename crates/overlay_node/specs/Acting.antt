@@ -8,8 +8,8 @@ use Rattle.stat_plan.specs.Machine.Kin.{Kin, after_loss, is_parent, with_child}
 use Rattle.stat_plan.specs.Machine.Waves.{Wave, Open, Closed, Book, set_wave, is_closed, is_fired, ticked, covering, growing, unsent}
 use Rattle.stat_plan.specs.declared.machine.Act.{Act}
 use Rattle.stat_plan.specs.declared.machine.Act.TheVariants.{Hold}
-use Rattle.stat_desk.specs.declared.event.Event.{Event}
-use Rattle.stat_desk.specs.declared.event.Event.TheVariants.{Sample, Recv, Tick, Lose}
+use Rattle.overlay_event.specs.declared.event.Event.{Event}
+use Rattle.overlay_event.specs.declared.event.Event.TheVariants.{Sample, Recv, Tick, Lose}
 use Rattle.wave_resend.specs.Books.{WaveAt, book_of, keys_of}
 use Rattle.merge_filter.specs.Contributions.{Contrib, contrib}
 use Rattle.overlay_core.specs.declared.release.Kind.{Kind}

@@ -9,8 +9,8 @@ use Rattle.stat_plan.specs.Machine.Kin.{Kin}
 use Rattle.stat_plan.specs.Machine.Waves.{Wave, Open, Closed, Book, is_running, ticks}
 use Rattle.stat_plan.specs.declared.machine.Timer.{Timer}
 use Rattle.stat_plan.specs.declared.machine.Timer.TheVariants.{Off, Running, Fired}
-use Rattle.stat_desk.specs.declared.event.Event.{Event}
-use Rattle.stat_desk.specs.declared.event.Event.TheVariants.{Sample, Recv, Tick, Lose}
+use Rattle.overlay_event.specs.declared.event.Event.{Event}
+use Rattle.overlay_event.specs.declared.event.Event.TheVariants.{Sample, Recv, Tick, Lose}
 use Rattle.loss_adoption.specs.NodeKins.{IsKinOf, NodeKin, coded_kin}
 use Rattle.wave_resend.specs.Books.{WaveAt, book_of, keys_of}
 use Rattle.wave_resend.specs.Codes.{coded_waves}

@@ -5,9 +5,9 @@ use Rattle.std.proofs.lemmas.Bool.{and_parts}
 use Rattle.std.proofs.lemmas.List.{length-replicate}
 use Rattle.std.proofs.lemmas.Option.{slice_get_within}
 use mathlib.Core.List.{IsPrefix}
-use Rattle.stat_desk.specs.declared.event.Event.{Event}
-use Rattle.stat_desk.specs.declared.event.Event.TheVariants.{Sample, Recv, Tick, Lose}
-use Rattle.stat_desk.specs.Events.{event_node}
+use Rattle.overlay_event.specs.declared.event.Event.{Event}
+use Rattle.overlay_event.specs.declared.event.Event.TheVariants.{Sample, Recv, Tick, Lose}
+use Rattle.overlay_event.specs.Events.{event_node}
 use Rattle.overlay_setup.specs.NodeSets.{In}
 use Rattle.overlay_setup.specs.declared.topology.TheConstants.{NODE_LIMIT}
 use Rattle.stat_plan.specs.Invariants.{IsPlan}

@@ -1,8 +1,8 @@
 -- What a seat knows of its claim.
 use Rattle.std.proofs.Common.{◌≡◌, ◌∙◌, ℕ, false, List, length, slice_get, Some, None, sym, ap, subst}
 use mathlib.Core.List.{IsPrefix}
-use Rattle.stat_desk.specs.declared.event.Event.{Event}
-use Rattle.stat_desk.specs.Events.{event_node}
+use Rattle.overlay_event.specs.declared.event.Event.{Event}
+use Rattle.overlay_event.specs.Events.{event_node}
 use Rattle.stat_plan.specs.Plans.{Plan}
 use Rattle.board_turn.specs.declared.holding.Holding.{Holding}
 use Rattle.board_turn.specs.declared.turn.Turn.{Turn}

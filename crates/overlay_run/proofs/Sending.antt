@@ -17,7 +17,7 @@ use Rattle.board_turn.proofs.turn.Turn.TheSendSync as turn
 use Rattle.board_turn.proofs.holding.Holding.TheSendSync as holding
 use Rattle.overlay_net.proofs.Sending.{net_send}
 use Rattle.prefix_tree.specs.declared.PrefixTree.{Ghosts}
-use Rattle.stat_desk.proofs.journal.Journal.TheSendSync as journal
+use Rattle.overlay_event.proofs.journal.Journal.TheSendSync as journal
 use Rattle.overlay_net.proofs.PlanSharing.{plan_sync}
 use Rattle.overlay_run.specs.contracts.board.NetBoard as NetBoard
 use Rattle.overlay_run.specs.contracts.board.NetBoardBoard.TheImpl as board

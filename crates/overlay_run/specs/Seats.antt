@@ -1,7 +1,7 @@
 -- What a seat of a run knows of the claim that it has out.
 use Rattle.std.specs.Prelude.{◌≡◌, ℕ, List, length, Option, None, Some, false}
 use Rattle.stat_plan.specs.Plans.{Plan}
-use Rattle.stat_desk.specs.declared.event.Event.{Event}
+use Rattle.overlay_event.specs.declared.event.Event.{Event}
 use Rattle.board_turn.specs.declared.holding.Holding.{Holding}
 use Rattle.board_turn.specs.declared.turn.Turn.{Turn}
 use Rattle.board_turn.specs.declared.turn.TurnSeat.{TurnSeat}

@@ -2,7 +2,7 @@
 
 ghost use Rattle.std.specs.Prelude.{◌≡◌, ◌↔◌, ◌<◌, ◌^◌, ◌∷◌, ◌++◌, [], true, false, Some, None, IfOk, IfSome, IfNone, OnOk, OnErr, length, replicate, slice_get};
 ghost use Rattle.stat_plan.specs.Plans.{nodes};
-ghost use Rattle.stat_desk.specs.Events.{event_node};
+ghost use Rattle.overlay_event.specs.Events.{event_node};
 ghost use Rattle.overlay_core.specs.TreeReleases.{releases_view};
 ghost use Rattle.board_turn.specs.Entries.{with_claim, with_home};
 ghost use Rattle.overlay_net.specs.Claims.{FitsNet, WasWorked};
@@ -10,9 +10,9 @@ ghost use Rattle.overlay_run.specs.Boards.{IsBoard, IsDone, IsHeldBy, IsWholeRun
 
 use board_turn::{Board, Holding};
 use overlay_core::Release;
+use overlay_event::{Event, Journal};
 use overlay_net::{Claimed, Net};
 use prefix_tree::PrefixTree;
-use stat_desk::{Event, Journal};
 use stat_plan::Plan;
 use std::alloc::{AllocError, Global};
 use std::marker::Model;

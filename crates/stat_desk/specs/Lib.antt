@@ -4,4 +4,3 @@ pub mod Feeding
 pub mod Sink
 pub mod MemDesk
 pub mod MemSink
-pub mod Events

@@ -8,33 +8,6 @@ fn text_of(alloc: Global, text: &str) -> Result<String, AllocError> {
 }
 
 #[test]
-fn journal_lists_events(rt: HostRuntime) -> Result<(), AllocError> {
-    let events = [
-        Event::Sample {
-            node: 3,
-            stream: 1,
-            wave: 0,
-        },
-        Event::Recv { node: 0, from: 3 },
-        Event::Tick { node: 2 },
-        Event::Lose { node: 3 },
-    ];
-    let mut journal = Journal::new(rt.alloc());
-    assert!(rt; journal.is_empty());
-    for event in events {
-        journal.push(event)?;
-    }
-    assert!(rt; !journal.is_empty());
-    assert_eq!(rt; journal.len(), 4);
-    for (number, event) in events.iter().enumerate() {
-        if (number as u64) < journal.len() {
-            assert_eq!(rt; journal.at(number as u64), *event);
-        }
-    }
-    Ok(())
-}
-
-#[test]
 fn memory_desk_gives_and_fails(rt: HostRuntime) -> Result<(), AllocError> {
     let alloc = rt.alloc();
     let mut desk = MemDesk::new(alloc);

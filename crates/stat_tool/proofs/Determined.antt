@@ -7,7 +7,7 @@ use Rattle.overlay_setup.specs.Topologies.{Nodes}
 use Rattle.stat_plan.specs.Plans.{Plan, Sampled, plan_of}
 use Rattle.stat_plan.specs.Limits.{first_over}
 use Rattle.text_lines.specs.declared.text_error.TextError.{TextError}
-use Rattle.stat_desk.specs.declared.event.Event.{Event}
+use Rattle.overlay_event.specs.declared.event.Event.{Event}
 use Rattle.stat_words.specs.Words.{Asked}
 use Rattle.stat_words.specs.Words.{Run, Sim, Replay, Direct, Gen, Frames}
 use Rattle.stat_words.specs.declared.words.RunReport.{RunReport}

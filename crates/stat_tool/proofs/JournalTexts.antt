@@ -8,8 +8,8 @@ use Rattle.overlay_setup.specs.NodeSets.{In, up_to}
 use Rattle.stat_plan.specs.Invariants.{IsPlan}
 use Rattle.stat_plan.specs.Plans.{Plan, nodes, waves_of}
 use Rattle.stat_plan.proofs.InLists.{in_append, in_from_map, up_to_below}
-use Rattle.stat_desk.specs.declared.event.Event.{Event}
-use Rattle.stat_desk.specs.declared.event.Event.TheVariants.{Recv, Tick}
+use Rattle.overlay_event.specs.declared.event.Event.{Event}
+use Rattle.overlay_event.specs.declared.event.Event.TheVariants.{Recv, Tick}
 use Rattle.overlay_core.specs.Machine.{State, start, step, is_enabled, enabled_events, events_below, events_of, samples_of}
 use Rattle.overlay_core.specs.Runs.{run, after, IsLegal, IsLegalFrom}
 use Rattle.overlay_core.proofs.Journals.{after_more, legal_more, listed_where_enabled}

@@ -12,7 +12,7 @@ use Rattle.text_lines.specs.declared.text_error.TextError.TheVariants.{Bad, Over
 use Rattle.topology_text.specs.Whole.{topology_of}
 use Rattle.sample_text.specs.Whole.{samples_of_text}
 use Rattle.script_text.specs.Whole.{script_of}
-use Rattle.stat_desk.specs.declared.event.Event.{Event}
+use Rattle.overlay_event.specs.declared.event.Event.{Event}
 use Rattle.stat_words.specs.Words.{Asked, Names}
 use Rattle.stat_words.specs.declared.words.WordFault.{WordFault}
 use Rattle.stat_tool.specs.Call.{Answered, AreReadInOrder, DeskChange, Explains, Gave, GaveNothing, HasRead, IsBadText, IsPlanRefusal, IsPlanned, IsStopped, Prevents, Refuses, SinkChange, StopsAt, Tells, TookNothing}

@@ -7,7 +7,7 @@ use Rattle.overlay_core.specs.Runs.{after}
 use Rattle.stat_desk.specs.Desk.{FailedAt, IsLonger, IsWhole}
 use Rattle.stat_desk.specs.Faults.{Rose}
 use Rattle.stat_desk.specs.Sink.{AppendsPrefix}
-use Rattle.stat_desk.specs.declared.event.Event.{Event}
+use Rattle.overlay_event.specs.declared.event.Event.{Event}
 use Rattle.stat_plan.specs.Plans.{Plan}
 use Rattle.text_lines.specs.declared.text_error.TextError.{TextError}
 use Rattle.journal_text.specs.Reading.{ReadJournal, journal_of}

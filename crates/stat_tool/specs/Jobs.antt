@@ -1,7 +1,7 @@
 -- What there is to do once the files are read, and what comes of it.
 use Rattle.std.specs.Prelude.{ℕ, List, Option}
 use Rattle.stat_plan.specs.Plans.{Plan}
-use Rattle.stat_desk.specs.declared.event.Event.{Event}
+use Rattle.overlay_event.specs.declared.event.Event.{Event}
 use Rattle.stat_words.specs.declared.words.ReportForm.{ReportForm}
 use Rattle.stat_words.specs.declared.words.RunReport.{RunReport}
 

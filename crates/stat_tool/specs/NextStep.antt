@@ -1,7 +1,7 @@
 -- What a call does next, by the files that it has read, one after another.
 use Rattle.std.specs.Prelude.{ℕ, suc, List, [], ◌∷◌, Option, Some, None, Result, Ok, Err, option_map, if◌then◌else◌}
 use Rattle.stat_desk.specs.Desk.{IsLonger, IsWhole}
-use Rattle.stat_desk.specs.declared.event.Event.{Event}
+use Rattle.overlay_event.specs.declared.event.Event.{Event}
 use Rattle.stat_plan.specs.Limits.{first_over}
 use Rattle.stat_plan.specs.Plans.{Plan, Sampled, plan_of}
 use Rattle.overlay_setup.specs.Scripts.{Scripted}

@@ -5,8 +5,8 @@ use Rattle.std.proofs.Common.{ap, sym, subst, ◌∙◌}
 use Rattle.std.proofs.lemmas.Bool.{true≢false}
 use Rattle.rank_set.specs.Ranks.{has, none, set_of, with_rank}
 use Rattle.text_lines.specs.Lines.{lines, pieces}
-use Rattle.stat_desk.specs.declared.event.Event.{Event}
-use Rattle.stat_desk.specs.declared.event.Event.TheVariants.{Tick}
+use Rattle.overlay_event.specs.declared.event.Event.{Event}
+use Rattle.overlay_event.specs.declared.event.Event.TheVariants.{Tick}
 use Rattle.stat_plan.specs.Plans.{Plan}
 use Rattle.overlay_core.specs.Rows.{final, partial}
 use Rattle.journal_text.specs.Reading.{ReadJournal, events_before}

@@ -12,8 +12,9 @@ use crate::modes::{
 };
 use crate::output::Output;
 use crate::status::{Outcome, Status, Target};
+use overlay_event::{Gate, Journal};
 use prefix_tree::PrefixTree;
-use stat_desk::{Desk, Gate, Journal, Sink, write_all_to};
+use stat_desk::{Desk, Sink, write_all_to};
 use stat_words::{Command, WordsError, read_words};
 use std::alloc::Global;
 use std::sync::Wait;

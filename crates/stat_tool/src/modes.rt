@@ -13,8 +13,9 @@ use crate::output::{Output, capture_output, direct_plan, leave, replay_plan, run
 use crate::read::{read_file, read_plan};
 use crate::status::{FileRole, Status};
 use journal_text::{JournalRead, read_journal};
+use overlay_event::Gate;
 use prefix_tree::PrefixTree;
-use stat_desk::{Desk, Gate};
+use stat_desk::Desk;
 use stat_plan::Plan;
 use stat_words::{Files, ReportForm, RunReport};
 use std::alloc::Global;

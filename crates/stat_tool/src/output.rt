@@ -28,12 +28,12 @@ use front_end::{
 use journal_text::{JournalRead, write_journal};
 use merge_filter::{Contribution, direct};
 use overlay_core::{Kind, Release};
+use overlay_event::{Event, Gate, Journal};
 use overlay_net::{Net, NetError};
 use overlay_run::{Ran, run_workers};
 use overlay_setup::StreamDef;
 use packet_frame::FrameError;
 use prefix_tree::PrefixTree;
-use stat_desk::{Event, Gate, Journal};
 use stat_plan::Plan;
 use stat_words::{ReportForm, RunReport};
 use std::alloc::{AllocError, Global};

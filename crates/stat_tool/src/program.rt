@@ -1,7 +1,7 @@
 //! What the program does around the top call: it takes its words, uses the real files and standard output, and ends.
 ghost use Rattle.std.specs.Prelude.{◌≡◌, List, map, string_bytes};
 ghost use Rattle.std.specs.Process.{exit_status};
-ghost use Rattle.stat_desk.specs.declared.event.Event.{Event};
+ghost use Rattle.overlay_event.specs.declared.event.Event.{Event};
 ghost use Rattle.stat_words.specs.Words.{asked};
 ghost use Rattle.stat_tool.specs.Call.{Answered, desk_change, sink_change};
 ghost use Rattle.stat_tool.specs.Ending.{IsEnding, ended_with};
@@ -9,8 +9,9 @@ ghost use Rattle.stat_tool.specs.Status.{number_of, refusal_of_status};
 
 use crate::call::stat;
 use crate::status::Status;
+use overlay_event::{Gate, OpenGate};
 use prefix_tree::PrefixTree;
-use stat_desk::{Desk, FileDesk, FileSink, Gate, OpenGate, Sink, StdSink};
+use stat_desk::{Desk, FileDesk, FileSink, Sink, StdSink};
 use stat_words::WordFault;
 use std::alloc::Global;
 use std::env;

@@ -2,8 +2,8 @@
 ghost use Rattle.std.specs.Prelude.{◌≡◌};
 ghost use Rattle.stat_tool.specs.Status.{number_of};
 
+use overlay_event::{Event, Journal};
 use packet_frame::FrameReason;
-use stat_desk::{Event, Journal};
 use stat_words::WordFault;
 use std::fmt;
 use text_lines::{Quantity, Reason};

@@ -1,7 +1,8 @@
 //! Calls over a desk in memory, with sinks in memory.
 
+use overlay_event::{Journal, OpenGate};
 use prefix_tree::OwnedTree;
-use stat_desk::{Journal, MemDesk, MemSink, OpenGate};
+use stat_desk::{MemDesk, MemSink};
 use stat_tool::{Status, stat};
 use std::alloc::{AllocError, Global};
 use std::sync::Wait;

@@ -1,7 +1,8 @@
 //! Runs on several workers.
 use crate::calls::{call_into, is_replayed, run_with};
+use overlay_event::{Event, Gate, Journal};
 use prefix_tree::OwnedTree;
-use stat_desk::{Event, Gate, Journal, MemDesk, MemSink};
+use stat_desk::{MemDesk, MemSink};
 use stat_tool::{Status, Target, stat};
 use std::alloc::{AllocError, Global};
 use std::sync::Wait;

@@ -2,9 +2,9 @@
 
 use generated_job::{generated_plan, make_samples, make_script, make_topology, summary};
 use overlay_core::{Kind, Release};
+use overlay_event::{Event, Journal};
 use prefix_tree::{OwnedTree, PrefixTree};
 use rank_set::RankSet;
-use stat_desk::{Event, Journal};
 use std::alloc::Global;
 use std::process::Abort;
 

@@ -2,7 +2,7 @@
 
 use crate::plans::plan_of;
 use journal_text::{JournalRead, read_journal};
-use stat_desk::Event;
+use overlay_event::{Event, Journal};
 use stat_plan::Plan;
 use std::alloc::Global;
 use std::process::Abort;
@@ -110,5 +110,30 @@ fn refuses_bad_lines(rt: HostRuntime) {
     for text in &BAD {
         let read = read_journal(rt.alloc(), &plan, text).expect(&rt, "memory");
         assert!(rt; read.bad == Some(0), "{text:?}");
+    }
+}
+
+#[test]
+fn journals_list_events(rt: HostRuntime) {
+    let events = [
+        Event::Sample {
+            node: 3,
+            stream: 1,
+            wave: 0,
+        },
+        Event::Recv { node: 0, from: 3 },
+        Event::Tick { node: 2 },
+        Event::Lose { node: 3 },
+    ];
+    let mut journal = Journal::new(rt.alloc());
+    assert!(rt; journal.is_empty());
+    for event in events {
+        journal.push(event).expect(&rt, "memory");
+    }
+    assert!(rt; !journal.is_empty() && journal.len() == 4);
+    for (number, event) in events.iter().enumerate() {
+        if (number as u64) < journal.len() {
+            assert!(rt; journal.at(number as u64) == *event);
+        }
     }
 }

@@ -1,9 +1,10 @@
 //! Whole calls over a desk and a sink in memory, with worked jobs, and one over the real files.
 use crate::calls::{Called, call, call_into, call_over, report_of, run_on, script_of};
 use crate::shy_tree::ShyTree;
+use overlay_event::{Event, OpenGate};
 use packet_frame::FrameReason;
 use prefix_tree::OwnedTree;
-use stat_desk::{Event, FileDesk, FileSink, MemDesk, MemSink, OpenGate, StdSink};
+use stat_desk::{FileDesk, FileSink, MemDesk, MemSink, StdSink};
 use stat_tool::{FileRole, Status, Target, WordFault, stat};
 use stat_words::Opt;
 use std::alloc::{AllocError, Global};

@@ -1,7 +1,8 @@
 //! The frames of runs, and captures that are printed or refused.
 use crate::calls::{Called, call, call_into};
+use overlay_event::Event;
 use packet_frame::FrameReason;
-use stat_desk::{Event, MemDesk, MemSink};
+use stat_desk::{MemDesk, MemSink};
 use stat_tool::Status;
 use std::alloc::{AllocError, Global};
 use std::sync::Wait;

@@ -1,6 +1,7 @@
 //! Simulations, replays, direct merges and generated jobs: worked rows through whole calls.
 use crate::calls::call;
-use stat_desk::{Event, MemDesk};
+use overlay_event::Event;
+use stat_desk::MemDesk;
 use stat_tool::Status;
 use std::alloc::{AllocError, Global};
 use worked_jobs::desks::{REPLAY_WORDS, WORDS, desk_of, put};

@@ -1,6 +1,7 @@
 //! Desks that have the files of a job, the words of calls over them, and events.
 
-use stat_desk::{Event, MemDesk};
+use overlay_event::Event;
+use stat_desk::MemDesk;
 use std::alloc::{AllocError, Global};
 
 pub fn put(alloc: Global, desk: &mut MemDesk, name: &str, text: &[u8]) -> Result<(), AllocError> {

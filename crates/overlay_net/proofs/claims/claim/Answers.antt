@@ -1,5 +1,5 @@
 use Rattle.std.proofs.Common.{◌≡◌, ◌∙◌, [], false, Some, None, refl, sym, ap, subst, slice_get, slice_set}
-use Rattle.stat_desk.specs.Events.{event_node}
+use Rattle.overlay_event.specs.Events.{event_node}
 use Rattle.overlay_core.specs.TreeReleases.{releases_view}
 use Rattle.overlay_node.specs.NodeViews.{NodeView}
 use Rattle.std.specs.Vec.{with_items}

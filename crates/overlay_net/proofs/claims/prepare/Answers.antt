@@ -1,7 +1,7 @@
 use Rattle.std.proofs.Common.{◌≡◌, ◌∙◌, ◌-◌, [], false, refl, sym, ap, subst, length, arith}
 use Rattle.std.specs.Vec.{vec_capacity, vec_len, with_items}
 use Rattle.std.proofs.lemmas.List.{with_items_is, length-map}
-use Rattle.stat_desk.specs.Events.{event_node}
+use Rattle.overlay_event.specs.Events.{event_node}
 use Rattle.overlay_core.specs.TreeReleases.{release_view, releases_view}
 use Rattle.overlay_node.specs.Outputs.{Output}
 use Rattle.node_inbox.specs.Sends.{GoBelow, HaveRoom, inbox_at}

@@ -1,7 +1,7 @@
 use mir.Val.{bool_byte}
 use Rattle.std.proofs.Common.{◌≡◌, ◌∙◌, ◌+◌, ◌≤◌, Bool, true, false, List, [], ◌∷◌, not, cond, length, refl, sym, ap, subst}
-use Rattle.stat_desk.specs.declared.event.Event.{Event}
-use Rattle.stat_desk.specs.declared.event.Event.TheVariants.{Lose}
+use Rattle.overlay_event.specs.declared.event.Event.{Event}
+use Rattle.overlay_event.specs.declared.event.Event.TheVariants.{Lose}
 use Rattle.overlay_net.specs.Places.{events_out, nodes_in, place_view, places_view, whole_inboxes}
 use Rattle.overlay_net.proofs.EventCounts.{senders_within_limit}
 use Rattle.overlay_net.proofs.ReadPlaces.{box_below, box_read, claims_active, claims_doomed, count_active, home_box, home_fits, read_away, read_home}

@@ -1,8 +1,8 @@
 use Rattle.std.proofs.Common.{inl, inr, ◌≡◌, ◌∙◌, List, ◌∷◌, ℕ, Option, None, slice_set, sym, ap, subst}
 use Rattle.stat_plan.specs.Plans.{Plan}
-use Rattle.stat_desk.specs.declared.event.Event.{Event}
-use Rattle.stat_desk.specs.declared.event.Event.TheVariants.{Sample, Recv, Tick}
-use Rattle.stat_desk.specs.Events.{event_node}
+use Rattle.overlay_event.specs.declared.event.Event.{Event}
+use Rattle.overlay_event.specs.declared.event.Event.TheVariants.{Sample, Recv, Tick}
+use Rattle.overlay_event.specs.Events.{event_node}
 use Rattle.overlay_net.specs.Events.{AreNodes}
 use Rattle.overlay_net.specs.Places.{events_out, nodes_in, places_view, whole_inboxes}
 use Rattle.overlay_net.specs.Sends.{changed, if_lost, with_first}

@@ -1,5 +1,5 @@
 use Rattle.std.proofs.Common.{◌∙◌, ◌-◌, sym, arith}
-use Rattle.stat_desk.specs.declared.event.Event.TheVariants.{Tick}
+use Rattle.overlay_event.specs.declared.event.Event.TheVariants.{Tick}
 use Rattle.overlay_net.specs.Places.{events_out}
 use Rattle.overlay_net.specs.declared.events.Nth.TheVariants.{Found, Beyond}
 use Rattle.overlay_net.proofs.ReadPlaces.{first_tick, no_tick, nth_behind, nth_receipt, nth_sample, past_tick}

@@ -1,6 +1,6 @@
 use Rattle.std.proofs.Common.{◌≡◌, ◌∙◌, ◌+◌, List, [], ◌∷◌, not, cond, length, sym, ap, subst, arith}
-use Rattle.stat_desk.specs.declared.event.Event.{Event}
-use Rattle.stat_desk.specs.declared.event.Event.TheVariants.{Lose}
+use Rattle.overlay_event.specs.declared.event.Event.{Event}
+use Rattle.overlay_event.specs.declared.event.Event.TheVariants.{Lose}
 use Rattle.overlay_net.specs.Events.{IsNth}
 use Rattle.overlay_net.specs.Places.{place_view}
 use Rattle.overlay_net.proofs.ReadPlaces.{box_below, box_read, claims_active, claims_doomed, home_fits, read_away, read_home}

@@ -1,8 +1,8 @@
 use Rattle.std.proofs.Common.{◌≡◌, ◌∙◌, ◌<◌, ◌≤◌, ◌+◌, ℕ, [], ◌∷◌, map, slice_get, length, drop, sym, ap, subst, arith}
 use Rattle.std.specs.Prelude.{List}
 use Rattle.std.proofs.lemmas.List.{at_drop_all, length-map}
-use Rattle.stat_desk.specs.declared.event.Event.{Event}
-use Rattle.stat_desk.specs.declared.event.Event.TheVariants.{Recv}
+use Rattle.overlay_event.specs.declared.event.Event.{Event}
+use Rattle.overlay_event.specs.declared.event.Event.TheVariants.{Recv}
 use Rattle.node_inbox.specs.Inboxes.{senders_of}
 use Rattle.overlay_net.specs.Events.{IsNth, free_senders}
 use Rattle.overlay_net.specs.Places.{events_out}

@@ -1,5 +1,5 @@
 use Rattle.std.proofs.Common.{drop, map}
-use Rattle.stat_desk.specs.declared.event.Event.TheVariants.{Recv}
+use Rattle.overlay_event.specs.declared.event.Event.TheVariants.{Recv}
 use Rattle.node_inbox.specs.Inboxes.{senders_of}
 use Rattle.overlay_net.specs.Places.{events_out}
 use Rattle.overlay_net.specs.Events.{IsNth, free_senders}

@@ -3,8 +3,8 @@ use Rattle.std.specs.List.{flat_map}
 use Rattle.std.proofs.lemmas.List.{at_drop_all}
 use Rattle.overlay_setup.specs.NodeSets.{In}
 use Rattle.overlay_setup.specs.Scripts.{Stream}
-use Rattle.stat_desk.specs.declared.event.Event.{Event}
-use Rattle.stat_desk.specs.declared.event.Event.TheVariants.{Sample}
+use Rattle.overlay_event.specs.declared.event.Event.{Event}
+use Rattle.overlay_event.specs.declared.event.Event.TheVariants.{Sample}
 use Rattle.overlay_net.specs.Nets.{sample_of}
 use Rattle.overlay_net.specs.Events.{IsNth}
 use Rattle.overlay_net.specs.declared.events.Nth.TheVariants.{Found, Beyond}

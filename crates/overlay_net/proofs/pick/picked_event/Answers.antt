@@ -1,5 +1,5 @@
 use Rattle.std.proofs.Common.{◌∙◌, ◌/◌, ◌%◌, ◌^◌, List, length, slice_get, sym, ap, arith}
-use Rattle.stat_desk.specs.declared.event.Event.{Event}
+use Rattle.overlay_event.specs.declared.event.Event.{Event}
 use Rattle.event_claims.specs.Claims.{claimable_events}
 use Rattle.event_claims.proofs.Claimable.{claimable_home}
 use Rattle.overlay_core.specs.Machine.{enabled_events}

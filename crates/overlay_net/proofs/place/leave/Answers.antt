@@ -1,6 +1,6 @@
 use Rattle.std.proofs.Common.{◌≡◌, ◌∙◌, slice_set, ap, sym}
 use Rattle.std.proofs.lemmas.List.{map-set}
-use Rattle.stat_desk.specs.Events.{event_node}
+use Rattle.overlay_event.specs.Events.{event_node}
 use Rattle.overlay_net.specs.Places.{away, place_view, places_view}
 use Rattle.overlay_net.proofs.place.leave.Goals as goal
 

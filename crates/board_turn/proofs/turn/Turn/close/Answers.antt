@@ -1,5 +1,5 @@
 use Rattle.std.proofs.Common.{List, length, refl, sym, ap, ◌∙◌}
-use Rattle.stat_desk.specs.declared.event.Event.{Event}
+use Rattle.overlay_event.specs.declared.event.Event.{Event}
 use Rattle.board_turn.specs.declared.view.View.{View}
 use Rattle.board_turn.specs.Turns.{known_state}
 use Rattle.board_turn.proofs.Ends.{badge_view}

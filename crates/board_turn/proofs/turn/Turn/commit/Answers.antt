@@ -3,8 +3,8 @@ use Rattle.atomic_table.specs.Table.{Me}
 use Rattle.atomic_table.specs.declared.badge.Badge.{Badge}
 use Rattle.board_turn.specs.declared.view.View.{View}
 use Rattle.board_turn.specs.Known.{known_of}
-use Rattle.stat_desk.specs.Events.{event_node}
-use Rattle.stat_desk.specs.declared.event.Event.{Event}
+use Rattle.overlay_event.specs.Events.{event_node}
+use Rattle.overlay_event.specs.declared.event.Event.{Event}
 use Rattle.board_turn.specs.declared.holding.Holding.{Holding}
 use Rattle.board_turn.proofs.Ends.{badge_view, commit_badge, commit_view_saw}
 use Rattle.board_turn.proofs.turn.Turn.commit.Goals as goal

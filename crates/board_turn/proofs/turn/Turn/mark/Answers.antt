@@ -1,8 +1,8 @@
 use Rattle.std.proofs.Common.{rules, ◌≡◌, Option, Some, None, slice_get, ap, ◌∙◌, subst}
 use Rattle.atomic_table.specs.Table.{Me}
-use Rattle.stat_desk.specs.Events.{event_node}
+use Rattle.overlay_event.specs.Events.{event_node}
 use Rattle.board_turn.specs.Turns.{known_state}
-use Rattle.stat_desk.specs.declared.event.Event.{Event}
+use Rattle.overlay_event.specs.declared.event.Event.{Event}
 use Rattle.board_turn.specs.declared.view.View.{View}
 use Rattle.board_turn.proofs.Ends.{claim_ends, claim_saw}
 use Rattle.board_turn.proofs.Steps.{marks, counts}

@@ -1,5 +1,5 @@
 use Rattle.std.proofs.Common.{◌∙◌, List, slice_get, ap}
-use Rattle.stat_desk.specs.declared.event.Event.{Event}
+use Rattle.overlay_event.specs.declared.event.Event.{Event}
 use Rattle.event_claims.proofs.Claimable.{claimable_home}
 use Rattle.overlay_net.specs.Nets.{outs_of, state_of}
 use Rattle.overlay_net.proofs.net.Net.enabled.Goals as goal

@@ -1,6 +1,6 @@
 use Rattle.std.proofs.Common.{◌≡◌, ◌∙◌, List, [], ℕ, None, true, false, length, nat_eq, refl, sym, ap, subst}
 use Rattle.std.specs.Prelude.{◌↔◌}
-use Rattle.stat_desk.specs.declared.event.Event.{Event}
+use Rattle.overlay_event.specs.declared.event.Event.{Event}
 use Rattle.event_claims.proofs.Claimable.{claimable_home}
 use Rattle.overlay_core.specs.Machine.{enabled_events}
 use Rattle.overlay_core.specs.Runs.{IsQuiet}

@@ -1,6 +1,6 @@
 use Rattle.std.proofs.Common.{◌≡◌, ◌<◌, ◌^◌, ◌∙◌, sym, ap, subst, length, slice_get, None, Some, [], arith, refl}
-use Rattle.stat_desk.specs.declared.event.Event.{Event}
-use Rattle.stat_desk.specs.Events.{event_node}
+use Rattle.overlay_event.specs.declared.event.Event.{Event}
+use Rattle.overlay_event.specs.Events.{event_node}
 use Rattle.overlay_run.specs.Boards.{BoardView, board_view, claimable_of}
 use Rattle.overlay_run.proofs.Boards.{claim_has_room, claimed_board, claimed_home, few_out, first_none, net_may_claim}
 use Rattle.overlay_run.proofs.board.NetBoard.claim.Goals as goal

@@ -1,6 +1,6 @@
 use Rattle.std.proofs.Common.{List, sym, subst}
-use Rattle.stat_desk.specs.declared.event.Event.{Event}
-use Rattle.stat_desk.specs.Events.{event_node}
+use Rattle.overlay_event.specs.declared.event.Event.{Event}
+use Rattle.overlay_event.specs.Events.{event_node}
 use Rattle.overlay_net.specs.Claims.{FitsNet}
 use Rattle.overlay_run.specs.Boards.{BoardView, IsBoard, IsHeldBy, board_view}
 use Rattle.overlay_run.proofs.Boards.{committed_board, one_out, ready_fits, same_board}

@@ -1,5 +1,5 @@
 use Rattle.std.proofs.Common.{sym, subst, List, false}
-use Rattle.stat_desk.specs.declared.event.Event.{Event}
+use Rattle.overlay_event.specs.declared.event.Event.{Event}
 use Rattle.overlay_run.specs.Boards.{IsBoard, board_view}
 use Rattle.overlay_run.proofs.Boards.{new_board, new_count, new_holders}
 use Rattle.overlay_run.proofs.board.NetBoard.new.Goals as goal

@@ -1,7 +1,7 @@
 -- The events of the machine.
 use Rattle.std.specs.Prelude.{ℕ}
-use Rattle.stat_desk.specs.declared.event.Event.{Event}
-use Rattle.stat_desk.specs.declared.event.Event.TheVariants.{Sample, Recv, Tick, Lose}
+use Rattle.overlay_event.specs.declared.event.Event.{Event}
+use Rattle.overlay_event.specs.declared.event.Event.TheVariants.{Sample, Recv, Tick, Lose}
 
 -- the node at which an event happens
 abbrev pub event_node : Event → ℕ

@@ -15,7 +15,7 @@ pub enum Event {
 
 impl Event {
     ghost use Rattle.std.specs.Prelude.{◌≡◌};
-    ghost use Rattle.stat_desk.specs.Events.{event_node};
+    ghost use Rattle.overlay_event.specs.Events.{event_node};
 
     /// The node at which it happens.
     pub fn node(self) -> u32

@@ -14,7 +14,7 @@ pub struct Journal {
 
 impl Model for Journal {
     ghost use Rattle.std.specs.Prelude.{List};
-    ghost use Rattle.stat_desk.specs.declared.event.Event.{Event};
+    ghost use Rattle.overlay_event.specs.declared.event.Event.{Event};
 
     ghost Value = { List Event };
 
