@@ -14,7 +14,7 @@ use Rattle.board_turn.specs.declared.view.LogEntry.{LogEntry}
 use Rattle.board_turn.specs.declared.view.View.{View}
 use Rattle.board_turn.specs.Entries.{holding, claim_of, commit_of, LogState, state_after_entry, log_state, IsUnmoved}
 use Rattle.overlay_event.specs.Events.{event_node}
-use Rattle.board_turn.specs.Turns.{LogInvariant, ViewInvariant, TableInvariant, first_view, with_turn, with_no_turn, with_entry, with_none_due, with_one_more, split_off, spent_view, known_state, IsKnownTo, TriesTurn, FreesTurn, CountsEntry, CommitsEvent, ClaimsEvent, with_lift, LaysDown, PicksUp}
+use Rattle.board_turn.specs.Turns.{LogInvariant, ViewInvariant, TableInvariant, first_view, with_turn, with_no_turn, with_entry, with_none_due, with_one_more, split_off, spent_view, known_state, IsKnownTo, TriesTurn, FreesTurn, CountsEntry, CommitsEvent, ClaimsEvent, with_lift, KeepsView, LaysDown, PicksUp}
 use Rattle.board_turn.proofs.Logs.{prefix_self, prefix_trans, out_else, out_here, all_none, invariant_start, invariant_claim, invariant_commit, log_state_from-append}
 
 module _ {X Y : Type 0} (journal : X → List Event) (holders : X → List (Option Holding)) (base : X → Y) (x : X) where
@@ -89,13 +89,14 @@ module _ {X Y : Type 0} (journal : X → List Event) (holders : X → List (Opti
   some_of a b e = some-injective a b e
 
   -- the invariant holds of a new table
-  pub starts : journal x ≡ [] → ((v : ℕ) → v < N → slice_get (holders x) v ≡ Some None) → N < 2 ^ 32 → Rule (opening (0 ∷ 0 ∷ 0 ∷ []) (Some x ∷ []) (first_view N))
+  pub starts : journal x ≡ [] → ((v : ℕ) → v < N → slice_get (holders x) v ≡ Some None) → N < 2 ^ 32 → Rule (opening (0 ∷ 0 ∷ 0 ∷ 0 ∷ []) (Some x ∷ []) (first_view N))
   starts empty none_out within_limit = record {
     log = [];
     made = 0;
     owner = 0;
     pending = 0;
     entries = 0;
+    waiting = 0;
     lifted = false;
     words = refl;
     counted = refl;
@@ -140,7 +141,7 @@ module _ {X Y : Type 0} (journal : X → List Event) (holders : X → List (Opti
       let mine = ((r.living_views id v at living).turn t).0 in let theirs = ((r.living_views j u there lu).turn tu).0 in ne (r.distinct_numbers j id u v there at lu living (theirs ∙ sym mine))
 
   -- the words of the invariant, put into a step's goal
-  worded : (s : St) (r : Rule s) (P : List ℕ → Type 0) → P (r.owner ∷ length (log_state N r.log).journal ∷ r.entries ∷ []) → P s.words
+  worded : (s : St) (r : Rule s) (P : List ℕ → Type 0) → P (r.owner ∷ length (log_state N r.log).journal ∷ r.entries ∷ r.waiting ∷ []) → P s.words
   worded s r P p = subst P (sym r.words) p
 
   -- the state that a view knows
@@ -148,13 +149,14 @@ module _ {X Y : Type 0} (journal : X → List Event) (holders : X → List (Opti
   known_state_is v n log a b = λ i. log_state (a i) (b i)
 
   taken_turn : (s : St) (r : Rule s) (id k : ℕ) (v : V) (c : List (ℕ × Option X)) (b : X) → get_elem? s.views id ≡ some v → v.spent ≡ false → v.number ≡ k → r.owner ≡ 0 → s.homes ≡ some (Some b) ∷ [] → r.pending ≡ 0
-      → Rule (stepped (at_words s (r.owner ∷ length (log_state N r.log).journal ∷ r.entries ∷ [])) 0 k id c (with_turn v r.log) (takes 0 (Some b)))
+      → Rule (stepped (at_words s (r.owner ∷ length (log_state N r.log).journal ∷ r.entries ∷ r.waiting ∷ [])) 0 k id c (with_turn v r.log) (takes 0 (Some b)))
   taken_turn s r id k v c b at living is z homes settled = let f = r.living_views id v at living in let w : V = with_turn v r.log in let low = f.low in record {
     log = r.log;
     made = r.made;
     owner = k;
     pending = 0;
     entries = r.entries;
+    waiting = r.waiting;
     lifted = true;
     words = refl;
     counted = omega (arith, r.counted);
@@ -193,7 +195,7 @@ module _ {X Y : Type 0} (journal : X → List Event) (holders : X → List (Opti
   takes_turn slots id k o me living is from s r _ at _ = let v : V = me.0 in let f = r.living_views id v at living in
       let T : ℕ → St → ℕ → Type 0 = λ n t m. (w : V) × (a : Act (Option X)) × Valid s.homes me.1 a × Rule (stepped t 0 m id me.1 w a) × TriesTurn journal holders base o (step slots 0 0 k none) me n (w, carried_after me.1 a) in
       worded s r (λ ws. T (get_or ws 0 0) (at_words s ws) (either (get_or ws 0 0 == 0) k (get_or ws 0 0)))
-      (exchanged r.owner 0 k (T r.owner (at_words s (r.owner ∷ length (log_state N r.log).journal ∷ r.entries ∷ [])))
+      (exchanged r.owner 0 k (T r.owner (at_words s (r.owner ∷ length (log_state N r.log).journal ∷ r.entries ∷ r.waiting ∷ [])))
       (λ z. let home = r.slot_home z in let b : X = home.1.0 in let w : V = with_turn v r.log in let same : known_state w ≡ log_state N r.log = known_state_is w N r.log f.nodes refl in (
         w,
         takes 0 (Some b),
@@ -217,15 +219,15 @@ module _ {X Y : Type 0} (journal : X → List Event) (holders : X → List (Opti
         v,
         keeps,
         tt,
-        subst (λ (vs : List V). Rule record { words = r.owner ∷ length (log_state N r.log).journal ∷ r.entries ∷ []; homes = s.homes; views = vs }) (sym (set_again s.views id v at)) (worded' s r),
+        subst (λ (vs : List V). Rule record { words = r.owner ∷ length (log_state N r.log).journal ∷ r.entries ∷ r.waiting ∷ []; homes = s.homes; views = vs }) (sym (set_again s.views id v at)) (worded' s r),
         (λ z. absurd (ne z), λ _. refl),
       ))) where
-        worded' : (s : St) (r : Rule s) → Rule (at_words s (r.owner ∷ length (log_state N r.log).journal ∷ r.entries ∷ []))
+        worded' : (s : St) (r : Rule s) → Rule (at_words s (r.owner ∷ length (log_state N r.log).journal ∷ r.entries ∷ r.waiting ∷ []))
         worded' s r = subst (λ ws. Rule (at_words s ws)) r.words r
 
   -- the invariant's words, as a step's goal has them
   abbrev ruled_words : (s : St) → Rule s → List ℕ
-  ruled_words s r = r.owner ∷ length (log_state N r.log).journal ∷ r.entries ∷ []
+  ruled_words s r = r.owner ∷ length (log_state N r.log).journal ∷ r.entries ∷ r.waiting ∷ []
 
   -- the state after one more entry at the end
   snoc_is : (log : List LogEntry) (e : LogEntry) → log_state N (log ++ e ∷ []) ≡ state_after_entry (log_state N log) e
@@ -245,6 +247,7 @@ module _ {X Y : Type 0} (journal : X → List Event) (holders : X → List (Opti
           owner = 0;
           pending = 0;
           entries = r.entries;
+          waiting = r.waiting;
           lifted = false;
           words = refl;
           counted = omega (arith, r.counted);
@@ -304,6 +307,7 @@ module _ {X Y : Type 0} (journal : X → List Event) (holders : X → List (Opti
     owner = r.owner;
     pending = r.pending;
     entries = r.entries;
+    waiting = r.waiting;
     lifted = l;
     words = refl;
     counted = r.counted;
@@ -370,7 +374,7 @@ module _ {X Y : Type 0} (journal : X → List Event) (holders : X → List (Opti
       → LogInvariant N r.made (length r.log + 1) (state_after_entry (log_state N r.log) e)
       → o ≡ (state_after_entry (log_state N r.log) e).outs v.number
       → ((u : ℕ) → u ≢ v.number → (state_after_entry (log_state N r.log) e).outs u ≡ (log_state N r.log).outs u)
-      → set (ruled_words s r) word n ≡ r.owner ∷ length (state_after_entry (log_state N r.log) e).journal ∷ r.entries ∷ []
+      → set (ruled_words s r) word n ≡ r.owner ∷ length (state_after_entry (log_state N r.log) e).journal ∷ r.entries ∷ r.waiting ∷ []
       → Rule (stepped (at_words s (ruled_words s r)) word n id c (with_entry v e o) keeps)
   entered s r id v c e o word n at living has settled own good out others words = let f = r.living_views id v at living in let w : V = with_entry v e o in let t = f.turn has in let log : List LogEntry = r.log ++ e ∷ [] in
       let snoc : log_state N log ≡ state_after_entry (log_state N r.log) e = snoc_is r.log e in let long : length log ≡ length r.log + 1 = length-append r.log (e ∷ []) in let owned = owner_is s r id v at living has in
@@ -382,8 +386,9 @@ module _ {X Y : Type 0} (journal : X → List Event) (holders : X → List (Opti
         owner = r.owner;
         pending = 1;
         entries = r.entries;
+        waiting = r.waiting;
         lifted = r.lifted;
-        words = words ∙ ap (λ (q : LogState). r.owner ∷ length q.journal ∷ r.entries ∷ []) (sym snoc);
+        words = words ∙ ap (λ (q : LogState). r.owner ∷ length q.journal ∷ r.entries ∷ r.waiting ∷ []) (sym snoc);
         counted = omega (arith, r.counted);
         log_invariant = invariant_now;
         slot_home = λ z. absurd (owned z);
@@ -429,7 +434,7 @@ module _ {X Y : Type 0} (journal : X → List Event) (holders : X → List (Opti
             (invariant_claim N r.made (length r.log) x' v.number e r.log_invariant f.high (sym f.out ∙ free) (subst (λ (q : LogState). slice_get q.holders (event_node e) ≡ Some None) all at_home) (subst (λ (q : LogState). length q.journal < 2 ^ 62) all room))
             (ap Some same ∙ sym (out_here x'.outs v.number (Some (holding v.number e (length x'.journal)))))
             (λ u ne. out_else x'.outs v.number (Some (holding v.number e (length x'.journal))) u ne)
-            (ap (λ (z : ℕ). z ∷ length x'.journal ∷ r.entries ∷ []) (sym is ∙ n))),
+            (ap (λ (z : ℕ). z ∷ length x'.journal ∷ r.entries ∷ r.waiting ∷ []) (sym is ∙ n))),
         refl,
       )
 
@@ -446,7 +451,7 @@ module _ {X Y : Type 0} (journal : X → List Event) (holders : X → List (Opti
             (invariant_commit N r.made (length r.log) x' v.number h r.log_invariant (sym f.out ∙ out))
             (sym (out_here x'.outs v.number None))
             (λ u ne. out_else x'.outs v.number None u ne)
-            (ap (λ (z : ℕ). r.owner ∷ z ∷ r.entries ∷ []) count')),
+            (ap (λ (z : ℕ). r.owner ∷ z ∷ r.entries ∷ r.waiting ∷ []) count')),
         (λ g there. let same : h ≡ g = cc in ap (λ (z : Holding). (with_entry v (commit_of v.number z.event) None, me.1)) same),
       )
 
@@ -465,8 +470,9 @@ module _ {X Y : Type 0} (journal : X → List Event) (holders : X → List (Opti
           owner = r.owner;
           pending = 0;
           entries = r.entries + 1;
+          waiting = r.waiting;
           lifted = r.lifted;
-          words = ap (λ (m : ℕ). r.owner ∷ length (log_state N r.log).journal ∷ m ∷ []) fits;
+          words = ap (λ (m : ℕ). r.owner ∷ length (log_state N r.log).journal ∷ m ∷ r.waiting ∷ []) fits;
           counted = omega arith;
           log_invariant = r.log_invariant;
           slot_home = λ y. absurd (owned y);
@@ -528,6 +534,7 @@ module _ {X Y : Type 0} (journal : X → List Event) (holders : X → List (Opti
         owner = r.owner;
         pending = r.pending;
         entries = r.entries;
+        waiting = r.waiting;
         lifted = r.lifted;
         words = r.words;
         counted = r.counted;
@@ -590,6 +597,36 @@ module _ {X Y : Type 0} (journal : X → List Event) (holders : X → List (Opti
             (λ j u there lu e. let high : u.number ≤ r.made + 1 = seats (λ (y : V). y.number ≤ r.made + 1) s.views id left f.high (λ i y ne here ly. (r.living_views i y here ly).high) j u there lu in absurd (omega arith));
       }
 
+  -- of counting in word 3 who waits, by any seat
+  pub waits : (slots id d : ℕ) (f : ℕ → ℕ) (me : M) → Allows Rule slots id me 3 f (KeepsView (step slots 3 d 0 none) me)
+  waits slots id d f me s r _ at _ = (
+    me.0,
+    keeps,
+    tt,
+    worded s r (λ ws. Rule (stepped (at_words s ws) 3 (f (get_or ws 3 0)) id me.1 me.0 keeps))
+        (subst (λ (vs : List V). Rule record { words = r.owner ∷ length (log_state N r.log).journal ∷ r.entries ∷ f r.waiting ∷ []; homes = s.homes; views = vs }) (sym (set_again s.views id me.0 at)) (recounted s r (f r.waiting))),
+    refl,
+  ) where
+    recounted : (s : St) (r : Rule s) (n : ℕ) → Rule (at_words s (r.owner ∷ length (log_state N r.log).journal ∷ r.entries ∷ n ∷ []))
+    recounted s r n = record {
+      log = r.log;
+      made = r.made;
+      owner = r.owner;
+      pending = r.pending;
+      entries = r.entries;
+      waiting = n;
+      lifted = r.lifted;
+      words = refl;
+      counted = r.counted;
+      log_invariant = r.log_invariant;
+      slot_home = r.slot_home;
+      slot_away = r.slot_away;
+      owner_lives = r.owner_lives;
+      first_lives = r.first_lives;
+      living_views = r.living_views;
+      distinct_numbers = r.distinct_numbers;
+    }
+
   -- of joining a seat that has neither the turn nor a node out
   pub joins : (id : ℕ) (v : V) (other : ℕ) (w : V) → w.spent ≡ false → w.turn ≡ false → w.number ≢ 1 → Joins Rule id v other w v spent_view
   joins id v other w living rests not_first s r at distinct_numbers there =
@@ -601,6 +638,7 @@ module _ {X Y : Type 0} (journal : X → List Event) (holders : X → List (Opti
         owner = r.owner;
         pending = r.pending;
         entries = r.entries;
+        waiting = r.waiting;
         lifted = r.lifted;
         words = r.words;
         counted = r.counted;

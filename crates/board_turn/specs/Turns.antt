@@ -65,9 +65,11 @@ module _ {X Y : Type 0} (journal : X → List Event) (holders : X → List (Opti
     pub pending : ℕ
     -- how many entries are counted
     pub entries : ℕ
+    -- how many seats wait for the turn; it serves wakes alone, and nothing rests on it
+    pub waiting : ℕ
     -- whether the owner carries the slot
     pub lifted : Bool
-    pub words : s.words ≡ owner ∷ length (log_state (length (holders x)) log).journal ∷ entries ∷ []
+    pub words : s.words ≡ owner ∷ length (log_state (length (holders x)) log).journal ∷ entries ∷ waiting ∷ []
     pub counted : entries + pending ≡ length log
     pub log_invariant : LogInvariant (length (holders x)) made (length log) (log_state (length (holders x)) log)
     -- where no seat has the turn, the slot has the board, in the state that the log leads to
@@ -159,6 +161,10 @@ abbrev pub with_lift : View → Bool → View
 with_lift v b = record { nodes = v.nodes; number = v.number; turn = v.turn; spent = v.spent; made = v.made; due = v.due; lifts = b; seen = v.seen; known = v.known; out = v.out }
 
 module _ {S : Type 0} where
+  -- a seat is counted among those that wait, or no longer: no view changes
+  abbrev pub KeepsView : Step S → Me S View → ℕ → Me S View → Type 0
+  KeepsView st m r m' = m' ≡ m
+
   -- the owner lays the empty slot down
   abbrev pub LaysDown : Step S → Me S View → ℕ → Me S View → Type 0
   LaysDown st m r m' = m' ≡ (with_lift m.0 false, rest m.1)

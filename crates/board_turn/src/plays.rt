@@ -99,6 +99,15 @@ impl<B: Board> Play<Option<B>, View> for CountEntry {
     ghost then = { CountsEntry };
 }
 
+/// Counts a seat that waits for the turn, or one that no longer does: word 3 changes, and no view.
+pub struct CountWaiting;
+
+impl<B: Board> Play<Option<B>, View> for CountWaiting {
+    ghost use Rattle.board_turn.specs.Turns.{KeepsView};
+
+    ghost then = { KeepsView };
+}
+
 /// Splits a seat off the first one.
 pub struct SplitOff;
 

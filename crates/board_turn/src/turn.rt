@@ -4,8 +4,8 @@ ghost use Rattle.board_turn.specs.Known.{known_of};
 
 use crate::board::Board;
 use crate::plays::{
-    CountCommit, CountEntry, FreeTurn, JoinBack, LayDown, MarkClaim, PickUp, PicksBase, PicksEvent,
-    SplitOff, TakeTurn,
+    CountCommit, CountEntry, CountWaiting, FreeTurn, JoinBack, LayDown, MarkClaim, PickUp,
+    PicksBase, PicksEvent, SplitOff, TakeTurn,
 };
 use crate::view::{TableSeat, TurnTable, View};
 use atomic_table::{Badge, Table};
@@ -20,7 +20,7 @@ use std::sync::Wait;
 #[derive(Drop)]
 pub struct Turn<B: Board> {
     table: TurnTable<B>,
-    ghost counts: { (table.shared.table_id.words ≡ 3) × (table.shared.table_id.slots ≡ 1) },
+    ghost counts: { (table.shared.table_id.words ≡ 4) × (table.shared.table_id.slots ≡ 1) },
 }
 
 /// A seat may take the turn. Contracts see its number, whether it has the turn, how many seats were split off it, the
@@ -73,7 +73,7 @@ impl<B: Board> Turn<B> {
             drop(value);
             return Err(AllocError);
         }
-        match Table::new(alloc, &[0, 0, 0], slots, &about) {
+        match Table::new(alloc, &[0, 0, 0, 0], slots, &about) {
             Ok((table, table_seat)) => Ok((
                 Turn { table },
                 TurnSeat {
@@ -146,8 +146,8 @@ impl<B: Board> Turn<B> {
             .compare_exchange::<TakeTurn<E>>(table_seat, 0, 0, number as u64)
     }
 
-    // Waits until word 0 is 0, and takes the turn.
-    fn wait_turn<E: PicksBase<B::Base>, R: Wait>(
+    // Takes the turn once word 0 is 0, and parks on that word meanwhile.
+    fn park_for_turn<E: PicksBase<B::Base>, R: Wait>(
         &self,
         rt: &R,
         table_seat: &mut TableSeat<B>,
@@ -168,6 +168,31 @@ impl<B: Board> Turn<B> {
         unreachable!()
     }
 
+    // Takes the turn, and waits for it where another seat has it. A seat that waits is counted before it parks, so that
+    // one that frees the turn finds it there.
+    fn wait_turn<E: PicksBase<B::Base>, R: Wait>(
+        &self,
+        rt: &R,
+        table_seat: &mut TableSeat<B>,
+        number: u32,
+    )
+        requires base { E.base ≡ Some (turn_base B.base self.now) }
+        requires of_table { table_seat.old.table_id ≡ self.now.table.shared.table_id }
+        requires living { IsLiving table_seat.old.me.0 number }
+        ensures { HasTriedTurn B.journal B.holders B.base (turn_base B.base self.now) table_seat.old table_seat.new 0 }
+    {
+        if self.try_turn::<E>(table_seat, number) == 0 {
+            return;
+        }
+        self.table
+            .shared
+            .fetch_add::<CountWaiting>(table_seat, 3, 1);
+        self.park_for_turn::<E, R>(rt, table_seat, number);
+        self.table
+            .shared
+            .fetch_sub::<CountWaiting>(table_seat, 3, 1);
+    }
+
     // Waits for the turn, and takes the board out of its slot.
     fn fetch<R: Wait>(&self, rt: &R, table_seat: &mut TableSeat<B>, number: u32) -> B
         requires of_table { table_seat.old.table_id ≡ self.now.table.shared.table_id }
@@ -183,7 +208,7 @@ impl<B: Board> Turn<B> {
         board
     }
 
-    // Puts the board into its slot, and frees the turn.
+    // Puts the board into its slot, frees the turn, and wakes a seat if one waits.
     fn put(&self, table_seat: &mut TableSeat<B>, board: B)
         requires of_table { table_seat.old.table_id ≡ self.now.table.shared.table_id }
         requires no_slots { table_seat.old.me.1 ≡ [] }
@@ -196,7 +221,9 @@ impl<B: Board> Turn<B> {
         self.table.shared.load::<PickUp>(table_seat, 0);
         self.lay(table_seat, board);
         self.table.shared.store::<FreeTurn>(table_seat, 0, 0);
-        self.table.shared.wake_one(0);
+        if self.table.shared.peek(3) != 0 {
+            self.table.shared.wake_one(0);
+        }
     }
 
     /// Waits for the turn, and takes the board. The journal that the seat saw last is a prefix of the board's. A node
@@ -324,7 +351,7 @@ impl<B: Board> Turn<B> {
         self.table.shared.fetch_add::<CountEntry>(table_seat, 2, 1);
     }
 
-    /// Gives the board and the turn back, and wakes a seat that waits for it. Takes no memory, and does not wait.
+    /// Gives the board and the turn back, and wakes a seat if one waits for it. Takes no memory, and does not wait.
     pub fn give(&self, seat: &mut TurnSeat, held: Held<B>)
         requires seat_of_turn { IsSeatOf self.now seat.old }
         requires taken { HasTaken B.journal B.holders B.base self.now seat.old held }

@@ -40,8 +40,9 @@ pub struct View {
     pub out: Option<Holding>,
 }
 
-/// The rule of the turn. Word 0 is the number of the seat that has the turn, or 0. Word 1 is the journal's length, and
-/// word 2 the number of log entries. Slot 0 has the board, while no seat has the turn.
+/// The rule of the turn. Word 0 is the number of the seat that has the turn, or 0. Word 1 is the journal's length,
+/// word 2 the number of log entries, and word 3 how many seats wait for the turn. Slot 0 has the board, while no seat
+/// has the turn.
 pub struct TurnRule<B> {
     of: PhantomData<B>,
 }
