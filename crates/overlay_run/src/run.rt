@@ -8,7 +8,7 @@ ghost use Rattle.overlay_run.specs.Boards.{IsWholeRun};
 ghost use Rattle.overlay_run.specs.Seats.{IsIdle, plan_of};
 
 use crate::board::{NetBoard, Ran};
-use crate::worker::work;
+use crate::worker::{WorkContext, work};
 use board_turn::{Turn, TurnSeat};
 use overlay_event::Gate;
 use prefix_tree::PrefixTree;
@@ -42,18 +42,16 @@ fn split_seats<'p, T: PrefixTree>(
 // Works with the caller's own seat until the run is done or stopped, and ends the turn.
 fn finish<'p, R: Wait, T: PrefixTree, G: Gate>(
     rt: &R,
-    alloc: Global,
+    context: &WorkContext<'_, G>,
     turn: Turn<NetBoard<'p, T>>,
-    plan: &Plan,
-    gate: &G,
     seat: TurnSeat,
 ) -> Result<Ran<T>, AllocError>
-    requires plan { plan_of turn ≡ plan.now }
+    requires plan { plan_of turn ≡ context.now.plan.now }
     requires idle { IsIdle turn seat }
-    ensures { IfOk result (λ ran. IsWholeRun plan.now ran.journal (releases_view T.tree ran.releases.items)) }
+    ensures { IfOk result (λ ran. IsWholeRun context.now.plan.now ran.journal (releases_view T.tree ran.releases.items)) }
 {
     let mut seat = seat;
-    if work(rt, alloc, &turn, plan, gate, &mut seat).is_err() {
+    if work(rt, context, &turn, &mut seat).is_err() {
         return Err(AllocError);
     }
     let mut held = turn.take(rt, &mut seat);
@@ -87,9 +85,10 @@ pub fn run_workers<R: Threads + Wait + Sync, T: PrefixTree, G: Gate>(
         requires { IsSync R.row × IsSync G.row × (plan_of shared.now ≡ plan.now) × IsIdle shared.now seat }
     {
         let mut seat = seat;
-        work(rt, alloc, shared, plan, gate, &mut seat).is_ok()
+        let context = WorkContext { alloc, plan, gate };
+        work(rt, &context, shared, &mut seat).is_ok()
     };
     let ended = map_vec(rt, seats, &job)?;
     drop(ended);
-    finish(rt, alloc, turn, plan, gate, first)
+    finish(rt, &WorkContext { alloc, plan, gate }, turn, first)
 }

@@ -1,10 +1,11 @@
 //! What a worker does.
 
-ghost use Rattle.std.specs.Prelude.{◌≡◌, true, None, IfErr, IfOk, IfSome, IfNone, OnErr, OnOk};
+ghost use Rattle.std.specs.Prelude.{◌≡◌, true, None, IfErr, IfOk, OnOk};
 ghost use Rattle.board_turn.specs.Seats.{seat_number};
 ghost use Rattle.overlay_net.specs.Claims.{WasWorked};
 ghost use Rattle.overlay_run.specs.Boards.{HasEnded};
 ghost use Rattle.overlay_run.specs.Given.{given_board};
+ghost use Rattle.overlay_run.specs.Next.{IsNext};
 ghost use Rattle.overlay_run.specs.Seats.{IsAtRest, IsAway, IsIdle, plan_of};
 
 use crate::board::NetBoard;
@@ -18,39 +19,55 @@ use std::alloc::Global;
 use std::sync::Wait;
 use std::thread;
 
-// Takes the turn, and claims an event if one may be claimed. If the run is stopped or done, it returns the board that it
-// gave back, which is so.
+/// What all workers of a run work with, beside the turn.
+pub struct WorkContext<'a, G: Gate> {
+    /// For what an event makes.
+    pub alloc: Global,
+    /// The plan of the run.
+    pub plan: &'a Plan,
+    /// What each event passes between its claim and its commit.
+    pub gate: &'a G,
+}
+
+/// What a worker finds when it has the turn.
+#[derive(Drop)]
+pub enum Next<'p, T: PrefixTree> {
+    /// An event, whose node the seat has out now.
+    Claims(Claimed<T>),
+    /// No event may be claimed before another seat brings its node home.
+    Waits,
+    /// The run is done or stopped, as this board says, which was given back.
+    Ends(Given<NetBoard<'p, T>>),
+}
+
+// Takes the turn, and claims an event if one may be claimed.
 fn claim_next<'p, R: Wait, T: PrefixTree>(
     rt: &R,
     turn: &Turn<NetBoard<'p, T>>,
     seat: &mut TurnSeat,
-) -> Result<Option<Claimed<T>>, Given<NetBoard<'p, T>>>
+) -> Next<'p, T>
     requires idle { IsIdle turn.now seat.old }
     ensures number { seat_number seat.new ≡ seat_number seat.old }
-    ensures ended { IfErr result (λ given. HasEnded (given_board given)) }
-    ensures leaves { OnErr result (IsIdle turn.now seat.new) }
-    ensures waits { IfOk result (λ o. IfNone o (IsIdle turn.now seat.new)) }
-    ensures fresh { IfOk result (λ o. IfSome o (λ c. c.left ≡ None)) }
-    ensures away { IfOk result (λ o. IfSome o (λ c. IsAway turn.now seat.new c)) }
+    ensures found { IsNext turn.now seat.new result }
 {
     let mut held = turn.take(rt, seat);
     let number = seat.number();
     let board = held.board();
     if board.is_stopped() {
-        return Err(give(turn, seat, held));
+        return Next::Ends(give(turn, seat, held));
     }
     let Some(claim) = board.claim(number) else {
         if board.is_done() {
-            return Err(give(turn, seat, held));
+            return Next::Ends(give(turn, seat, held));
         }
         turn.give(seat, held);
-        return Ok(None);
+        return Next::Waits;
     };
     board.invariant();
     let event = claim.event();
     turn.claim(seat, &mut held, event);
     turn.give(seat, held);
-    Ok(Some(claim))
+    Next::Claims(claim)
 }
 
 // Takes the turn and stops the run. Returns the stopped board that it gave back.
@@ -106,14 +123,12 @@ fn commit_claim<'p, R: Wait, T: PrefixTree>(
 // board that it gave back.
 fn do_claim<'p, R: Wait, T: PrefixTree, G: Gate>(
     rt: &R,
-    alloc: Global,
+    context: &WorkContext<'_, G>,
     turn: &Turn<NetBoard<'p, T>>,
-    plan: &Plan,
-    gate: &G,
     seat: &mut TurnSeat,
     claim: Claimed<T>,
 ) -> Result<(), Given<NetBoard<'p, T>>>
-    requires plan { plan_of turn.now ≡ plan.now }
+    requires plan { plan_of turn.now ≡ context.now.plan.now }
     requires fresh { claim.left ≡ None }
     requires away { IsAway turn.now seat.old claim }
     ensures at_rest { IsAtRest turn.now seat.new }
@@ -122,9 +137,9 @@ fn do_claim<'p, R: Wait, T: PrefixTree, G: Gate>(
     ensures stopped { IfErr result (λ given. (given_board given).stopped ≡ true) }
 {
     let event = claim.event();
-    gate.pass(&event);
-    match claim.work(alloc, plan) {
-        Ok(claim) => commit_claim(rt, alloc, turn, seat, claim),
+    context.gate.pass(&event);
+    match claim.work(context.alloc, context.plan) {
+        Ok(claim) => commit_claim(rt, context.alloc, turn, seat, claim),
         Err(_) => Err(stop_run(rt, turn, seat)),
     }
 }
@@ -133,13 +148,11 @@ fn do_claim<'p, R: Wait, T: PrefixTree, G: Gate>(
 /// the run, and returns the stopped board that it gave back; the seat may then have a node out.
 pub fn work<'p, R: Wait, T: PrefixTree, G: Gate>(
     rt: &R,
-    alloc: Global,
+    context: &WorkContext<'_, G>,
     turn: &Turn<NetBoard<'p, T>>,
-    plan: &Plan,
-    gate: &G,
     seat: &mut TurnSeat,
 ) -> Result<Given<NetBoard<'p, T>>, Given<NetBoard<'p, T>>>
-    requires plan { plan_of turn.now ≡ plan.now }
+    requires plan { plan_of turn.now ≡ context.now.plan.now }
     requires idle { IsIdle turn.now seat.old }
     ensures number { seat_number seat.new ≡ seat_number seat.old }
     ensures idle { OnOk result (IsIdle turn.now seat.new) }
@@ -148,10 +161,10 @@ pub fn work<'p, R: Wait, T: PrefixTree, G: Gate>(
 {
     for _ in rt.forever() {
         match claim_next(rt, turn, seat) {
-            Err(given) => return Ok(given),
-            Ok(None) => thread::yield_now(),
-            Ok(Some(claim)) => {
-                if let Err(given) = do_claim(rt, alloc, turn, plan, gate, seat, claim) {
+            Next::Ends(given) => return Ok(given),
+            Next::Waits => thread::yield_now(),
+            Next::Claims(claim) => {
+                if let Err(given) = do_claim(rt, context, turn, seat, claim) {
                     return Err(given);
                 }
             }

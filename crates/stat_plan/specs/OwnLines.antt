@@ -1,5 +1,5 @@
 -- The lines of a node alone.
-use Rattle.std.specs.Prelude.{◌≡◌, ◌≢◌, ◌<◌, ℕ, Bool, true, ◌&&◌, ◌||◌, nat_eq, List, [], ◌∷◌, ◌++◌, length, map, slice_index_or}
+use Rattle.std.specs.Prelude.{◌≡◌, ◌≤◌, ◌≢◌, ◌<◌, ℕ, Bool, true, ◌&&◌, ◌||◌, nat_eq, List, [], ◌∷◌, ◌++◌, length, map, slice_index_or}
 use Rattle.std.specs.List.{list_any, AllByRecursion}
 use Rattle.std.specs.List.Sorted.{IsPermutation}
 use Rattle.rank_set.specs.Ranks.{Ranks, none, has, Has, IsSubset}
@@ -90,10 +90,14 @@ pub record AreIndexed (placed lines numbers : List Ranks) : Type 0 where
   pub paired : length numbers ≡ length placed
   pub each : (n i r : ℕ) → Has r (ranks_at placed n) → Has r (ranks_at lines i) → Has i (ranks_at numbers n)
 
--- a number more stands for each node that has a rank of some
-pub record AreMarked (placed : List Ranks) (IsSome : ℕ → Type 0) (number : ℕ) (old new : List Ranks) : Type 0 where
+-- the lines from `first` to before `end` list the same ranks, where these are the lines' ranks
+abbrev pub HaveSameRanks : List Ranks → ℕ → ℕ → Type 0
+HaveSameRanks lines first end = (i : ℕ) → first ≤ i → i < end → ranks_at lines i ≡ ranks_at lines first
+
+-- these numbers more stand for each node that has a rank of some
+pub record AreMarked (placed : List Ranks) (IsSome : ℕ → Type 0) (more : Ranks) (old new : List Ranks) : Type 0 where
   pub paired : length new ≡ length old
-  pub marked : (n r : ℕ) → n < length old → Has r (ranks_at placed n) → IsSome r → Has number (ranks_at new n)
+  pub marked : (n r i : ℕ) → n < length old → Has r (ranks_at placed n) → IsSome r → Has i more → Has i (ranks_at new n)
   pub kept : (n i : ℕ) → Has i (ranks_at old n) → Has i (ranks_at new n)
 
 -- each row in another order

@@ -16,9 +16,10 @@ ghost use Rattle.overlay_setup.specs.NodeSets.{In};
 ghost use Rattle.stat_plan.specs.PathOrder.{IsOrderOf, has_rank, last_path, numbered, seen_paths};
 ghost use Rattle.stat_plan.specs.Plans.{nodes, ranks_on, stream_of};
 ghost use Rattle.stat_plan.specs.OwnLines.{HasRankOn};
-ghost use Rattle.stat_plan.specs.Samples.{path_by, samples_of, seen_by, wave_lines};
+ghost use Rattle.stat_plan.specs.Samples.{path_by};
 ghost use Rattle.stat_plan.specs.Shown.{AreLinesParted, lines_view};
 ghost use Rattle.stat_plan.specs.StackLines.{PathIndicesInRange};
+ghost use Rattle.stat_plan.specs.Wanted.{samples_wanted};
 
 use crate::job::Job;
 use crate::path_order::in_order;
@@ -79,36 +80,24 @@ fn which_have_ranks(alloc: Global, sets: &[RankSet]) -> Result<Vec<bool>, AllocE
     Ok(seen)
 }
 
-// Whether the samples of a wave of a stream have at most 2,048 distinct prefixes. The stream has these ranks, and sees
-// these paths, whose order is given.
+// Whether the wanted samples have at most 2,048 distinct prefixes, as a stream of some grain sees them. The order of the
+// paths that it sees is given.
 fn wave_is_within(
     alloc: Global,
     all: Lines<'_>,
     order: &[usize],
-    stream: &StreamDef,
-    wave: u8,
-    ranks: &RankSet,
+    grain: Grain,
+    wanted: Wanted<'_>,
 ) -> Result<bool, AllocError>
     requires numbered { PathIndicesInRange all.paths.now all.lines.now.value }
     requires functions { all.functions.now ≡ map (map func) all.paths.now }
-    requires order { IsOrderOf (map (path_by stream.now.grain) all.paths.now) order.now }
+    requires order { IsOrderOf (map (path_by grain) all.paths.now) order.now }
     requires parted { AreLinesParted all }
-    requires nodes { (d : ℕ) → In d stream.now.daemons → d < length all.placed.now }
-    requires ranks { (r : ℕ) → Has r ranks.now → HasRankOn all.placed.now stream.now.daemons r }
-    ensures { IfOk result (λ within. within
-        ≡ is_within_limit (samples_of (map (seen_by stream.now.grain ranks.now)
-        (wave_lines stream.now.samples wave (lines_view all.entry))))) }
+    requires nodes { (d : ℕ) → In d wanted.daemons.now → d < length all.placed.now }
+    requires ranks { (r : ℕ) → Has r wanted.ranks.now → HasRankOn all.placed.now wanted.daemons.now r }
+    ensures { IfOk result (λ within. within ≡ is_within_limit (samples_wanted grain wanted.entry (lines_view all.entry))) }
 {
-    let paths = all.paths_by(stream.grain());
-    let times = WaveTimes {
-        samples: stream.samples(),
-        wave,
-    };
-    let wanted = Wanted {
-        daemons: stream.daemons(),
-        ranks,
-        times,
-    };
+    let paths = all.paths_by(grain);
     let sets = ranks_seen(alloc, all.parted, paths.len(), wanted)?;
     let seen = which_have_ranks(alloc, &sets)?;
     Ok(is_within(paths, order, &seen))
@@ -157,9 +146,19 @@ fn check_stream(
     ensures err { IfErr result (RefusesAt (find (is_over job.now) (stream_waves stream.now))) }
 {
     job.invariant();
-    let ranks = ranks_of(alloc, job, stream.daemons())?;
+    let daemons = stream.daemons();
+    let ranks = ranks_of(alloc, job, daemons)?;
     for wave in 0..stream.waves() {
-        if !wave_is_within(alloc, all, order, stream, wave, &ranks)? {
+        let times = WaveTimes {
+            samples: stream.samples(),
+            wave,
+        };
+        let wanted = Wanted {
+            daemons,
+            ranks: &ranks,
+            times,
+        };
+        if !wave_is_within(alloc, all, order, stream.grain(), wanted)? {
             return Err(PlanError::TooManyPrefixes {
                 stream: stream.number(),
                 wave,

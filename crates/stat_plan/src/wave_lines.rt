@@ -4,9 +4,10 @@ ghost use Rattle.std.specs.Prelude.{◌≡◌, ◌<◌, ◌&&◌, ◌||◌, ◌�
 ghost use Rattle.std.specs.List.{AllByRecursion};
 ghost use Rattle.rank_set.specs.Ranks.{Has, IsSubset, has};
 ghost use Rattle.overlay_setup.specs.NodeSets.{In};
-ghost use Rattle.stat_plan.specs.OwnLines.{AreLinesOf, AreNodeLines, AreRanksSeen, AreUnited, GainRanksSeen, GainSeen, ranks_at, ranks_of_lines, row_at};
+ghost use Rattle.stat_plan.specs.OwnLines.{AreLinesOf, AreNodeLines, GainRanksSeen, GainSeen, ranks_at, ranks_of_lines, row_at};
 ghost use Rattle.stat_plan.specs.Shown.{held_lines};
 ghost use Rattle.stat_plan.specs.Tables.{rows_view};
+ghost use Rattle.stat_plan.specs.Wanted.{AreWantedLines, AreWantedRanks};
 
 use crate::expected::empty_sets;
 use crate::parted_lines::{PartedLines, sort_row};
@@ -139,8 +140,8 @@ pub fn ranks_seen(
         → AllByRecursion (λ line. line.path < count) (row_at (rows_view parted.now.rows.items) d) }
     requires spread { AllByRecursion (λ line. line.path < count) parted.now.spread.items }
     ensures length { IfOk result (λ sets. length sets.items ≡ count) }
-    ensures seen { IfOk result (λ sets. AreRanksSeen wanted.entry.times.samples wanted.entry.times.wave wanted.entry.ranks.now
-        (rows_view parted.now.rows.items) wanted.entry.daemons.now parted.now.spread.items sets.items) }
+    ensures seen { IfOk result (λ sets.
+        AreWantedRanks wanted.entry (rows_view parted.now.rows.items) parted.now.spread.items sets.items) }
 {
     let mut sets = empty_sets(alloc, count)?;
     let rows = parted.rows.as_slice();
@@ -188,8 +189,8 @@ pub fn united_lines(
     requires rows { (d : ℕ) → In d wanted.daemons.now
         → AllByRecursion (λ line. line.path < count) (row_at (rows_view parted.now.rows.items) d) }
     requires spread { AllByRecursion (λ line. line.path < count) parted.now.spread.items }
-    ensures { IfOk result (λ lines. AreUnited wanted.entry.times.samples wanted.entry.times.wave wanted.entry.ranks.now
-        (rows_view parted.now.rows.items) wanted.entry.daemons.now parted.now.spread.items count lines.items) }
+    ensures { IfOk result (λ lines.
+        AreWantedLines wanted.entry (rows_view parted.now.rows.items) parted.now.spread.items count lines.items) }
 {
     let sets = ranks_seen(alloc, parted, count, wanted)?;
     let mut lines = lines_of_sets(alloc, sets, wanted.times.first())?;

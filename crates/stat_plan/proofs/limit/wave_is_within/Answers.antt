@@ -4,9 +4,8 @@ use Rattle.std.specs.Set.{distinct_count}
 use Rattle.std.proofs.lemmas.List.{length-map}
 use Rattle.call_path.specs.Pairs.{prefixes}
 use Rattle.call_path.specs.Path.{Path, is_path}
-use Rattle.overlay_setup.specs.NodeSets.{In}
 use Rattle.overlay_setup.specs.declared.script.Grain.{Grain}
-use Rattle.stat_plan.specs.OwnLines.{AreRanksSeen, row_at}
+use Rattle.stat_plan.specs.OwnLines.{row_at}
 use Rattle.stat_plan.specs.PathOrder.{has_rank, numbered, seen_paths}
 use Rattle.stat_plan.specs.Samples.{path_by}
 use Rattle.stat_plan.specs.Tables.{rows_view}
@@ -22,18 +21,18 @@ as_many paths seen g is = ap length is ∙ length-map paths (path_by g)
 
 pub ranks_seen-requires-clause-nodes : goal.ranks_seen-requires-clause-nodes
 ranks_seen-requires-clause-nodes c d there =
-    subst (λ k. d < k) (sym (sym (length-map c.args.all.parted.now.rows.items (λ (r : Vec StackLine Global). r.items)) ∙ c.requires.parted.paired)) (c.requires.nodes d (subst (In d) c.daemons.ensures there))
+    subst (λ k. d < k) (sym (sym (length-map c.args.all.parted.now.rows.items (λ (r : Vec StackLine Global). r.items)) ∙ c.requires.parted.paired)) (c.requires.nodes d there)
 
 pub ranks_seen-requires-clause-rows : goal.ranks_seen-requires-clause-rows
 ranks_seen-requires-clause-rows c d there =
     let all = c.args.all in
-    subst (λ k. AllByRecursion (λ (line : StackLine). line.path < k) (row_at (rows_view all.parted.now.rows.items) d)) (sym (as_many all.paths.now c.paths_by-paths.result.now c.grain.result c.paths_by-paths.ensures))
-    (row_in_range all.placed.now all.paths.now all.lines.now.value all.parted.now.spread.items (rows_view all.parted.now.rows.items) c.requires.parted c.requires.numbered d (c.requires.nodes d (subst (In d) c.daemons.ensures there)))
+    subst (λ k. AllByRecursion (λ (line : StackLine). line.path < k) (row_at (rows_view all.parted.now.rows.items) d)) (sym (as_many all.paths.now c.paths_by-paths.result.now c.args.grain c.paths_by-paths.ensures))
+    (row_in_range all.placed.now all.paths.now all.lines.now.value all.parted.now.spread.items (rows_view all.parted.now.rows.items) c.requires.parted c.requires.numbered d (c.requires.nodes d there))
 
 pub ranks_seen-requires-clause-spread : goal.ranks_seen-requires-clause-spread
 ranks_seen-requires-clause-spread c =
     let all = c.args.all in
-    subst (λ k. AllByRecursion (λ (line : StackLine). line.path < k) all.parted.now.spread.items) (sym (as_many all.paths.now c.paths_by-paths.result.now c.grain.result c.paths_by-paths.ensures))
+    subst (λ k. AllByRecursion (λ (line : StackLine). line.path < k) all.parted.now.spread.items) (sym (as_many all.paths.now c.paths_by-paths.result.now c.args.grain c.paths_by-paths.ensures))
     (spread_in_range all.placed.now all.paths.now all.lines.now.value all.parted.now.spread.items (rows_view all.parted.now.rows.items) c.requires.parted c.requires.numbered)
 
 pub returns : goal.returns
@@ -41,18 +40,15 @@ returns c =
     let all = c.args.all in
     let paths = all.paths.now in
     let lines = all.lines.now.value in
-    let stream = c.args.stream.now in
-    let own = c.args.ranks.now in
+    let w = c.args.wanted in
+    let g = c.args.grain in
     let sets = c.in_ok-sets.sets.items in
     let spread = all.parted.now.spread.items in
     let rows = rows_view all.parted.now.rows.items in
-    let table : c.paths_by-paths.result.now ≡ map (path_by stream.grain) paths = c.paths_by-paths.ensures ∙ ap (λ g. map (path_by g) paths) c.grain.ensures in
     let bits : c.deref-2.result.now ≡ map has_rank sets = c.deref-2.ensures.value ∙ c.in_ok-seen.ensures ∙ ap (map has_rank) c.deref.ensures.value in
-    let long : length (map has_rank sets) ≡ length paths = length-map sets has_rank ∙ c.in_ok-sets.ensures.length ∙ as_many paths c.paths_by-paths.result.now stream.grain table in
-    let ranks : AreRanksSeen stream.samples c.args.wave own rows stream.daemons spread sets =
-    subst (λ k. AreRanksSeen k c.args.wave own rows stream.daemons spread sets) c.samples.ensures (subst (λ ds. AreRanksSeen c.samples.result c.args.wave own rows ds spread sets) c.daemons.ensures c.in_ok-sets.ensures.seen) in
-    let seen = seen_by_sets all.placed.now lines spread rows stream.samples c.args.wave stream.daemons own sets c.requires.parted c.requires.nodes c.requires.ranks ranks in
+    let long : length (map has_rank sets) ≡ length paths = length-map sets has_rank ∙ c.in_ok-sets.ensures.length ∙ as_many paths c.paths_by-paths.result.now g c.paths_by-paths.ensures in
+    let seen = seen_by_sets all.placed.now lines spread rows w.times.samples w.times.wave w.daemons.now w.ranks.now sets c.requires.parted c.requires.nodes c.requires.ranks c.in_ok-sets.ensures.seen in
     c.is_within.ensures
-    ∙ ap (λ ps. nat_le (distinct_count is_path (flat_map prefixes (seen_paths (numbered ps c.args.order.now) c.deref-2.result.now))) 2048) table
-    ∙ ap (λ bs. nat_le (distinct_count is_path (flat_map prefixes (seen_paths (numbered (map (path_by stream.grain) paths) c.args.order.now) bs))) 2048) bits
-    ∙ ap (λ n. nat_le n 2048) (wave_count paths lines stream.samples c.args.wave stream.grain own c.requires.numbered c.args.order.now (map has_rank sets) c.requires.order long seen)
+    ∙ ap (λ ps. nat_le (distinct_count is_path (flat_map prefixes (seen_paths (numbered ps c.args.order.now) c.deref-2.result.now))) 2048) c.paths_by-paths.ensures
+    ∙ ap (λ bs. nat_le (distinct_count is_path (flat_map prefixes (seen_paths (numbered (map (path_by g) paths) c.args.order.now) bs))) 2048) bits
+    ∙ ap (λ n. nat_le n 2048) (wave_count paths lines w.times.samples w.times.wave g w.ranks.now c.requires.numbered c.args.order.now (map has_rank sets) c.requires.order long seen)

@@ -10,7 +10,7 @@ use Rattle.stat_plan.proofs.line_index.mark_nodes.Goals as goal
 
 pub loop-from-init : goal.loop-from-init
 loop-from-init c = record {
-  marked = marked_for c.args.placed.now _ _ c.args.number c.args.numbers.now c.loop-run.numbers (λ r there. (there.0, before r there.0 there.1)) c.loop-run.invariant.marked;
+  marked = marked_for c.args.placed.now _ _ (ranks_between c.args.lines.first c.args.lines.last) c.args.numbers.now c.loop-run.numbers (λ r there. (there.0, before r there.0 there.1)) c.loop-run.invariant.marked;
   begun = omega arith;
   within = let a = c.in-Some.ensures.below_limit in let b = c.in-Some.ensures.run.some in omega (arith, a, b);
 }
@@ -39,8 +39,8 @@ loop-from-preserved c =
     subst (λ k. node < k) (sym (c.loop-from.invariant.marked.paired ∙ c.requires.same_length))
     (rank_node_is c.args.placed.now c.args.rank_to_node.now from node c.requires.rank_to_node (c.requires.placed from (c.in-Some.ensures.run.within from begun c.loop-from-test.true)) c.run_at-part.ensures.number).inside in
     record {
-      marked = marked_more c.args.placed.now (λ r. Has r c.args.ranks.now × (r < from)) (λ r. Has r c.args.ranks.now × (r < part.end)) c.args.number c.args.numbers.now c.loop-from.numbers node c.mark.new.numbers inside
-          (c.in_ok-mark.ensures ∙ ap (λ s. union s (ranks_between c.args.number c.args.number)) (get_or_default c.loop-from.numbers node c.index-numbers-part.result none inside))
+      marked = marked_more c.args.placed.now (λ r. Has r c.args.ranks.now × (r < from)) (λ r. Has r c.args.ranks.now × (r < part.end)) (ranks_between c.args.lines.first c.args.lines.last) c.args.numbers.now c.loop-from.numbers node c.mark.new.numbers inside
+          (c.in_ok-mark.ensures ∙ ap (λ s. union s (ranks_between c.args.lines.first c.args.lines.last)) (get_or_default c.loop-from.numbers node c.index-numbers-part.result none inside))
           split c.loop-from.invariant.marked;
       begun = let a = c.run_at-part.ensures.passed in omega (arith, begun, a);
       within = let a = c.in-Some.ensures.below_limit in let b = c.run_at-part.ensures.within in omega (arith, a, b);
