@@ -1,8 +1,8 @@
 -- Claims: events that several workers work on at the same time. An event is claimed, its node is out with it, and later
 -- comes home.
-use Rattle.std.specs.Prelude.{◌≡◌, ◌≢◌, ℕ, Bool, true, false, ◌==◌, ◌&&◌, not, List, filter, Option, None, Some}
+use Rattle.std.specs.Prelude.{◌≡◌, ◌≢◌, ◌↔◌, ℕ, Bool, true, false, ◌==◌, ◌&&◌, not, List, filter, Option, None, Some}
 use Rattle.std.specs.List.{list_any}
-use Rattle.overlay_setup.specs.NodeSets.{up_to}
+use Rattle.overlay_setup.specs.NodeSets.{In, up_to}
 use Rattle.stat_plan.specs.Plans.{Plan, nodes}
 use Rattle.stat_plan.specs.Machine.Waves.{put_at}
 use Rattle.overlay_event.specs.Events.{event_node}
@@ -86,3 +86,7 @@ is_claimable p out e = is_home (out (event_node e)) && is_free p out e
 -- the enabled events that may be claimed, in order
 unfoldable pub claimable_events : Plan → State → Outs → List Event
 claimable_events p st out = filter (is_claimable p out) (enabled_events p st)
+
+-- whatever is out, the list has exactly the events that may be claimed
+abbrev pub ClaimsAreListed : Plan → State → Type 0
+ClaimsAreListed p st = (out : Outs) (e : Event) → MayBeOut p st out → In e (claimable_events p st out) ↔ MayBeClaimed p st out e

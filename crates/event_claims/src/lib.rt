@@ -8,9 +8,10 @@
 //! contract. A crate above calls its function, or imports the lemma that is its answer.
 #![tactic(auto)]
 
-ghost use Rattle.event_claims.specs.Claims.{Outs, MayBeOut, MayBeClaimed, FindsTheSame};
+ghost use Rattle.event_claims.specs.Claims.{ClaimsAreListed, Outs, MayBeOut, MayBeClaimed, FindsTheSame};
 ghost use Rattle.event_claims.specs.Claims.{all_home, claimed, come_home, claimable_events};
 ghost use Rattle.overlay_core.specs.Independent.{AreIndependent};
+ghost use Rattle.overlay_core.specs.Laws.{EachLegal};
 ghost use Rattle.overlay_core.specs.Machine.{State, step, is_enabled, enabled_events};
 ghost use Rattle.overlay_core.specs.Runs.{run, after, IsLegal, IsQuiet};
 ghost use Rattle.overlay_setup.specs.NodeSets.{In};
@@ -49,11 +50,9 @@ pub fn claims_may_be_out()
 /// A law: the list of claimable events has exactly the events that may be claimed. While no node is out, it is the list
 /// of enabled events, and if it is empty, the state is quiet.
 pub fn claimable_events_are_listed()
-    ensures listed { (p : Plan) (journal : List Event) (out : Outs) (e : Event) → IsPlan p → IsLegal p journal
-        → MayBeOut p (after p journal) out
-        → In e (claimable_events p (after p journal) out) ↔ MayBeClaimed p (after p journal) out e }
+    ensures listed { EachLegal (λ p journal. ClaimsAreListed p (after p journal)) }
     ensures home { (p : Plan) (st : State) (out : Outs) → ((n : ℕ) → out n ≡ None)
         → claimable_events p st out ≡ enabled_events p st }
-    ensures quiet { (p : Plan) (journal : List Event) (out : Outs) → IsPlan p → IsLegal p journal
-        → ((n : ℕ) → out n ≡ None) → claimable_events p (after p journal) out ≡ [] → IsQuiet p (after p journal) }
+    ensures quiet { EachLegal (λ p journal. (out : Outs) → ((n : ℕ) → out n ≡ None)
+        → claimable_events p (after p journal) out ≡ [] → IsQuiet p (after p journal)) }
 {}

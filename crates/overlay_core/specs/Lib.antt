@@ -16,3 +16,4 @@ pub mod Counts
 pub mod Rows
 pub mod WaveRows
 pub mod Refused
+pub mod Laws

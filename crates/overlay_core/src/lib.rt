@@ -10,6 +10,7 @@ ghost use Rattle.overlay_core.specs.Independent.{outcome, AreIndependent};
 ghost use Rattle.overlay_core.specs.Bound.{bound};
 ghost use Rattle.overlay_core.specs.Counts.{OnlyGrows, one_if, is_unsent, sends, growths, moves};
 ghost use Rattle.overlay_core.specs.History.{of_wave};
+ghost use Rattle.overlay_core.specs.Laws.{BooksGrow, EachLegal, EachWhole, KeepsOutcome, PicksNext, ReleasesOnce, SendsAreBounded};
 ghost use Rattle.overlay_core.specs.Losses.{IsLost};
 ghost use Rattle.overlay_core.specs.Machine.{State, start, step, is_enabled, enabled_events};
 ghost use Rattle.overlay_core.specs.Nodes.{Release as MachineRelease};
@@ -31,29 +32,27 @@ pub use release::{Kind, Release};
 
 /// A law: every legal journal leaves a sound state.
 pub fn legal_journals_are_sound()
-    ensures sound { (p : Plan) (journal : List Event) → IsPlan p → IsLegal p journal → IsSound p (after p journal) }
+    ensures sound { EachLegal (λ p journal. IsSound p (after p journal)) }
 {}
 
 /// A law: no legal journal is longer than the bound, so after one where an event may still come there is room for it.
 pub fn legal_journals_are_short()
-    ensures within_bound { (p : Plan) (journal : List Event) → IsPlan p → IsLegal p journal → length journal ≤ bound p }
-    ensures below_bound { (p : Plan) (journal : List Event) (e : Event) → IsPlan p → IsLegal p journal
-        → is_enabled p (after p journal) e ≡ true → length journal < bound p }
+    ensures within_bound { EachLegal (λ p journal. length journal ≤ bound p) }
+    ensures below_bound { EachLegal (λ p journal. (e : Event)
+        → is_enabled p (after p journal) e ≡ true → length journal < bound p) }
 {}
 
 /// A law: a whole journal has ended each wave. The wave has one final release, its last, which covers each daemon of
 /// the stream that the journal doesn't lose; the daemon of a missing rank is lost, and the release says so. And each
 /// living node that serves the wave has closed it.
 pub fn whole_journals_have_ended()
-    ensures ended { (p : Plan) (journal : List Event) → IsPlan p → IsWhole p journal → HasEnded p journal }
+    ensures ended { EachWhole HasEnded }
 {}
 
 /// A law: a stream that waits for all, and none of whose daemons is lost, has one release of each wave, of all its
 /// ranks.
 pub fn waiting_streams_release_once()
-    ensures once { (p : Plan) (journal : List Event) (s w : ℕ) → IsPlan p → IsWhole p journal
-        → mode p s ≡ WaitForAll → LosesNoDaemon p journal s → In (s, w) (waves_of p.streams)
-        → HasOneRelease p s (of_wave s w (after p journal).releases) }
+    ensures once { EachWhole ReleasesOnce }
 {}
 
 /// A law: the journal that a seed picks is whole.
@@ -70,26 +69,24 @@ pub fn seeds_pick_one_journal()
 
 /// A law: the events that were picked so far and the one that is picked next are picked, and what is picked is legal.
 pub fn picks_go_on()
-    ensures extended { (p : Plan) (seed : ℕ) (journal : List Event) (y : ℕ) (e : Event) → Picks p seed journal y
-        → picked_event p (after p journal) (next_number y) ≡ Some e
-        → Picks p seed (journal ++ e ∷ []) (next_number y) }
+    ensures extended { (p : Plan) (seed : ℕ) (journal : List Event) (y : ℕ) → Picks p seed journal y
+        → PicksNext p seed journal y }
     ensures legal { (p : Plan) (seed : ℕ) (journal : List Event) (y : ℕ) → Picks p seed journal y → IsLegal p journal }
 {}
 
 /// A law: each release is of a wave of the plan, covers all ranks of some daemons of its stream, and is final where the
 /// stream waits for all.
 pub fn releases_are_sound()
-    ensures sound { (p : Plan) (journal : List Event) → IsPlan p → IsLegal p journal
-        → ReleasesAreSound p (after p journal) }
+    ensures sound { EachLegal (λ p journal. ReleasesAreSound p (after p journal)) }
 {}
 
 /// A law: the list of enabled events has exactly the events that are enabled, and is empty exactly if the state is
 /// quiet.
 pub fn enabled_events_are_listed()
-    ensures listed { (p : Plan) (journal : List Event) (e : Event) → IsPlan p → IsLegal p journal
-        → (is_enabled p (after p journal) e ≡ true) ↔ In e (enabled_events p (after p journal)) }
-    ensures quiet { (p : Plan) (journal : List Event) → IsPlan p → IsLegal p journal → IsQuiet p (after p journal)
-        ↔ (enabled_events p (after p journal) ≡ []) }
+    ensures listed { EachLegal (λ p journal. (e : Event)
+        → (is_enabled p (after p journal) e ≡ true) ↔ In e (enabled_events p (after p journal))) }
+    ensures quiet { EachLegal (λ p journal. IsQuiet p (after p journal)
+        ↔ (enabled_events p (after p journal) ≡ [])) }
 {}
 
 /// A law: a journal with an event more leaves the state one step on, and is legal just where the journal is and the
@@ -111,31 +108,27 @@ pub fn lost_nodes_are_dead()
 
 /// A law: a release names only nodes that the journal loses.
 pub fn releases_name_lost_nodes()
-    ensures named { (p : Plan) (journal : List Event) (r : MachineRelease) (n : ℕ) → IsPlan p
-        → IsLegal p journal → In r (after p journal).releases → In n r.lost → IsLost journal n }
+    ensures named { EachLegal (λ p journal. (r : MachineRelease) (n : ℕ)
+        → In r (after p journal).releases → In n r.lost → IsLost journal n) }
 {}
 
 /// A law: a node sends a wave at most as often as what it covers of the wave grew or its parent changed, and once less
 /// where something isn't sent yet.
 pub fn sends_are_bounded()
-    ensures paid { (p : Plan) (journal : List Event) (n s w : ℕ)
-        → sends p (start p) journal n s w + one_if (is_unsent (((after p journal).node n).book s w))
-        ≤ growths p (start p) journal n s w + moves p (start p) journal n }
+    ensures bounded { (p : Plan) (journal : List Event) → SendsAreBounded p journal }
 {}
 
 /// A law: what a node covers of a wave only grows, and a wave that has ended doesn't begin again.
 pub fn coverages_only_grow()
-    ensures grows { (p : Plan) (journal : List Event) (e : Event) (n s w : ℕ) → IsPlan p
-        → IsLegal p (journal ++ e ∷ [])
-        → OnlyGrows (((after p journal).node n).book s w) (((after p (journal ++ e ∷ [])).node n).book s w) }
+    ensures grows { (p : Plan) (journal : List Event) (e : Event) → IsPlan p → IsLegal p (journal ++ e ∷ [])
+        → BooksGrow (after p journal) (after p (journal ++ e ∷ [])) }
 {}
 
 /// A law: an event that may come may still come after events of other nodes, where none of them is the loss of the
 /// sender of its packet, and leaves of its node what it would have left before.
 pub fn independent_events_commute()
     ensures single { (p : Plan) (st : State) (e f : Event) → AreIndependent e f → is_enabled p st e ≡ true
-        → (is_enabled p (step p st f) e ≡ true) × (outcome p (step p st f) e ≡ outcome p st e) }
+        → KeepsOutcome p e st (step p st f) }
     ensures several { (p : Plan) (st : State) (e : Event) (fs : List Event) → AllByRecursion (AreIndependent e) fs
-        → is_enabled p st e ≡ true → (is_enabled p (run p st fs) e ≡ true)
-        × (outcome p (run p st fs) e ≡ outcome p st e) }
+        → is_enabled p st e ≡ true → KeepsOutcome p e st (run p st fs) }
 {}

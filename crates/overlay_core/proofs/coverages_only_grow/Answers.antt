@@ -3,4 +3,4 @@ use Rattle.overlay_core.proofs.Growth.{coverage_grows}
 use Rattle.overlay_core.proofs.coverages_only_grow.Goals as goal
 
 pub returns : goal.returns
-returns c = record { grows = λ p journal e n s w plan. coverage_grows p journal e n s w (plan_facts p plan) }
+returns c = record { grows = λ p journal e plan legal n s w. coverage_grows p journal e n s w (plan_facts p plan) legal }
