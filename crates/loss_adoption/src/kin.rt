@@ -1,7 +1,6 @@
 //! A node's kin, and what a loss does to it.
 
 ghost use Rattle.std.specs.Prelude.{◌≡◌, ◌≢◌, ◌<◌, IfOk, OnErr, OnOk, true};
-ghost use Rattle.overlay_setup.specs.NodeSets.{member};
 ghost use Rattle.stat_plan.specs.Machine.Kin.{after_loss, complete, start_kin, with_child};
 ghost use Rattle.stat_plan.specs.Plans.{Plan, front, is_related, nodes};
 ghost use Rattle.loss_adoption.specs.NodeKins.{IsKinOf, NodeKin};
@@ -142,12 +141,5 @@ impl Kin {
         ensures { result.now ≡ self.now.kin.lost }
     {
         self.lost.as_slice()
-    }
-
-    /// Whether the node knows this one to be lost.
-    pub fn knows_lost(&self, n: u32) -> bool
-        ensures { result ≡ member n self.now.kin.lost }
-    {
-        self.lost.as_slice().contains(&n)
     }
 }

@@ -1,4 +1,20 @@
-//! What a node does about a wave that it works on: whether it holds back what has come in, or passes it on.
+//! What a node does about a wave that is open: hold back what has come in, start the wave's timer, or pass it on.
+//!
+//! [`due`] decides it from the stream's mode, from what has come in and was passed on, and from the wave's timer. It
+//! takes no memory and changes nothing: the caller performs the [`Act`].
+//!
+//! ```text
+//! match due(mode, complete, &covered, &sent, timer, is_front) {
+//!     Act::Hold => {}
+//!     Act::Arm => // start the timer
+//!     Act::Send => // send what has come in to the parent
+//!     Act::Partial => // release it, and go on
+//!     Act::Final => // release it, and close the wave
+//! }
+//! ```
+//!
+//! The rule is the due table of the machine, `due_act` in `stat_plan`'s `specs/Machine/Due.antt`. A contract sees the
+//! two sets only by whether they differ (`has_grown`).
 #![tactic(auto)]
 
 ghost use Rattle.stat_plan.specs.Machine.Due.{due_act};
