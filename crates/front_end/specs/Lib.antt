@@ -6,4 +6,5 @@ pub mod Shown
 pub mod JsonValues
 pub mod JsonTokens
 pub mod JsonReport
+pub mod Laws
 pub mod Rows

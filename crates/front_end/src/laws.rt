@@ -1,26 +1,23 @@
 //! Laws of reports. The bodies are empty: what a law says is its contract. A crate above calls its function, or imports
 //! the lemma that is its answer.
-ghost use Rattle.std.specs.Prelude.{◌≡◌, ℕ, List, []};
+ghost use Rattle.std.specs.Prelude.{◌≡◌, List, []};
 ghost use Rattle.std.specs.List.Sorted.{IsStrictlySortedBy};
 ghost use Rattle.rank_set.specs.Ranks.{Ranks};
 ghost use Rattle.call_path.specs.Pairs.{HasNoEmptyPath, Pairs};
 ghost use Rattle.prefix_tree.specs.Tree.{Tree, tree_of};
 ghost use Rattle.equiv_class.specs.Classes.{classes_of};
-ghost use Rattle.overlay_setup.specs.declared.script.Fault.{Fault};
 ghost use Rattle.stat_plan.specs.Invariants.{IsPlan};
 ghost use Rattle.stat_plan.specs.Plans.{Plan};
-ghost use Rattle.overlay_event.specs.declared.event.Event.{Event};
-ghost use Rattle.overlay_core.specs.Whole.{LosesNoDaemon};
 ghost use Rattle.overlay_core.specs.TreeReleases.{AreNumberedInOrder, TreeRelease};
 ghost use Rattle.front_end.specs.JsonReport.{IsJsonReport};
+ghost use Rattle.front_end.specs.Laws.{HasOneText, WaitingIsDirect};
 ghost use Rattle.front_end.specs.ReleaseText.{classes_in};
-ghost use Rattle.front_end.specs.Report.{AllStreamsWait, AreDistinct, AreReleasesOf, IsSortedCopy, IsReport};
+ghost use Rattle.front_end.specs.Report.{AreDistinct, IsSortedCopy, IsReport};
 ghost use Rattle.front_end.specs.Report.{direct_releases, release_cmp};
 
 /// A law: there is one report, byte for byte, of the same releases and faults of a plan where the same nodes were lost.
 pub fn reports_are_one()
-    ensures { (p : Plan) (faults : List Fault) (given : List TreeRelease) (lost text other : List ℕ)
-        → IsReport p faults given lost text → IsReport p faults given lost other → text ≡ other }
+    ensures { HasOneText IsReport }
 {}
 
 /// A law: no two releases that are numbered in order have the same stream, wave and number.
@@ -46,23 +43,16 @@ pub fn classes_of_a_tree()
 /// A law: there is one JSON report, byte for byte, of the same releases and faults of a plan where the same nodes were
 /// lost.
 pub fn json_reports_are_one()
-    ensures { (p : Plan) (faults : List Fault) (given : List TreeRelease) (lost text other : List ℕ)
-        → IsJsonReport p faults given lost text → IsJsonReport p faults given lost other → text ≡ other }
+    ensures { HasOneText IsJsonReport }
 {}
 
 /// A law: where every stream waits for all its daemons and loses none of them, the report of a run shows the releases
 /// of the direct merge, whatever its journal is. Nodes between the daemons and the front end may be lost.
 pub fn waiting_reports_are_direct()
-    ensures { (p : Plan) (faults : List Fault) (journal : List Event) (releases : List TreeRelease)
-        → (lost text : List ℕ) → IsPlan p → AllStreamsWait p → ((s : ℕ) → LosesNoDaemon p journal s)
-        → AreReleasesOf p journal releases → IsReport p faults releases lost text
-        → IsReport p faults (direct_releases p) lost text }
+    ensures { WaitingIsDirect IsReport }
 {}
 
 /// A law: so does its report as JSON.
 pub fn waiting_json_reports_are_direct()
-    ensures { (p : Plan) (faults : List Fault) (journal : List Event) (releases : List TreeRelease)
-        → (lost text : List ℕ) → IsPlan p → AllStreamsWait p → ((s : ℕ) → LosesNoDaemon p journal s)
-        → AreReleasesOf p journal releases → IsJsonReport p faults releases lost text
-        → IsJsonReport p faults (direct_releases p) lost text }
+    ensures { WaitingIsDirect IsJsonReport }
 {}
