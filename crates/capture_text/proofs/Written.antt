@@ -6,7 +6,7 @@ use Rattle.std.specs.Fmt.{decimal}
 use Rattle.rank_set.specs.Ranks.{Ranks}
 use Rattle.rank_set.specs.Text.{text_of}
 use Rattle.prefix_tree.specs.Tree.{Tree, rows_of, count_below}
-use Rattle.front_end.specs.TreeText.{rows_text}
+use Rattle.tree_text.specs.TreeText.{rows_text}
 use Rattle.capture_text.specs.CaptureText.{contents_text}
 
 rows_besides : (t : Tree) (rows : ℕ) → rows ≡ length (rows_of t) → rows - 1 ≡ count_below t

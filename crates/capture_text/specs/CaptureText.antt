@@ -8,7 +8,7 @@ use Rattle.packet_frame.specs.declared.packet.Packet.TheVariants.{Up, Done, Atta
 use Rattle.packet_frame.specs.Frame.{Message}
 use Rattle.packet_frame.specs.Sent.{packet_map}
 use Rattle.packet_frame.specs.Feeding.{packets_from}
-use Rattle.front_end.specs.TreeText.{rows_text}
+use Rattle.tree_text.specs.TreeText.{rows_text}
 
 abbrev pub wave_text : ℕ → ℕ → List ℕ
 wave_text stream wave = codes " stream " ++ decimal stream ++ codes " wave " ++ decimal wave

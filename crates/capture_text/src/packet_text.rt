@@ -4,10 +4,10 @@ ghost use Rattle.std.specs.Prelude.{◌≡◌, ◌++◌, OnOk};
 ghost use Rattle.packet_frame.specs.Sent.{packet_map};
 ghost use Rattle.capture_text.specs.CaptureText.{contents_text, packet_text, wave_text};
 
-use front_end::{write_numbered, write_rows};
 use packet_frame::Packet;
 use prefix_tree::PrefixTree;
 use std::alloc::AllocError;
+use tree_text::{write_numbered, write_rows};
 
 /// Appends what a packet is, and the rows of its tree.
 pub fn write_packet<T: PrefixTree>(packet: &Packet<T>, out: &mut Vec<u8>) -> Result<(), AllocError>

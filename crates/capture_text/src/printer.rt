@@ -5,10 +5,10 @@ ghost use Rattle.std.specs.Fmt.{decimal};
 ghost use Rattle.capture_text.specs.CaptureText.{bytes_of, packet_views, packets_text};
 
 use crate::packet_text::write_packet;
-use front_end::{write_number, write_numbered};
 use packet_frame::Packet;
 use prefix_tree::PrefixTree;
 use std::alloc::{AllocError, Global};
+use tree_text::{write_number, write_numbered};
 
 /// The text of the frames so far.
 #[derive(Drop)]

@@ -35,7 +35,7 @@ use Rattle.overlay_core.proofs.Ended.{waits_for_all}
 use Rattle.overlay_core.proofs.Lists.{none_from_subset, union_left, union_right, up_to_increases}
 use Rattle.overlay_core.proofs.PlanFacts.{plan_facts}
 use Rattle.overlay_core.proofs.Releases.{legal_log}
-use Rattle.front_end.specs.TreeText.{tree_text}
+use Rattle.tree_text.specs.TreeText.{tree_text}
 use Rattle.front_end.specs.ClassText.{classes_text}
 use Rattle.front_end.specs.ReleaseText.{classes_in, heading, kind_text, missing, missing_line, release_text}
 use Rattle.front_end.specs.Report.{AllStreamsWait, AreDistinct, AreReleasesOf, IsDirect, IsReport, IsSortedCopy, direct_release, direct_releases, fault_line, release_cmp, report_text}

@@ -11,7 +11,7 @@ use Rattle.overlay_setup.specs.NodeSets.{member}
 use Rattle.stat_plan.specs.Plans.{Plan, daemons}
 use Rattle.overlay_setup.specs.declared.script.Fault.{Fault}
 use Rattle.overlay_core.specs.TreeReleases.{TreeRelease}
-use Rattle.front_end.specs.TreeText.{tree_text}
+use Rattle.tree_text.specs.TreeText.{tree_text}
 use Rattle.front_end.specs.ClassText.{classes_text}
 use Rattle.front_end.specs.ReleaseText.{classes_in, heading, missing, missing_line, missing_text, release_text}
 use Rattle.front_end.specs.Report.{fate_text, fault_line, report_text}

@@ -1,4 +1,3 @@
-pub mod TreeText
 pub mod ClassText
 pub mod ReleaseText
 pub mod Report

@@ -13,7 +13,7 @@ use Rattle.stat_plan.specs.Plans.{Plan, daemons, ranks}
 use Rattle.overlay_core.specs.TreeReleases.{TreeRelease}
 use Rattle.overlay_core.specs.declared.release.Kind.{Kind}
 use Rattle.overlay_core.specs.declared.release.Kind.TheVariants.{Partial, Final}
-use Rattle.front_end.specs.TreeText.{tree_text}
+use Rattle.tree_text.specs.TreeText.{tree_text}
 use Rattle.front_end.specs.ClassText.{classes_text}
 
 -- the classes of a tree

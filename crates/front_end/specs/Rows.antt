@@ -22,7 +22,7 @@ use Rattle.overlay_setup.specs.declared.script.Mode.TheVariants.{WaitForAll}
 use Rattle.overlay_core.specs.TreeReleases.{TreeRelease}
 use Rattle.overlay_core.specs.declared.release.Kind.{Kind}
 use Rattle.overlay_core.specs.declared.release.Kind.TheVariants.{Partial, Final}
-use Rattle.front_end.specs.TreeText.{row_text}
+use Rattle.tree_text.specs.TreeText.{row_text}
 use Rattle.front_end.specs.ClassText.{classes_text}
 use Rattle.front_end.specs.ReleaseText.{heading, kind_text, missing_line, missing_lines, release_text}
 use Rattle.front_end.specs.JsonValues.{classes_data, count, list_of, object_of, ranks_data, row_data}

@@ -1,7 +1,6 @@
 //! The text of classes.
 ghost use Rattle.std.specs.List.{AllByRecursion, flat_map};
-ghost use Rattle.std.specs.Prelude.{◌≡◌, ◌++◌, ◌<◌, OnErr, OnOk, length, map};
-ghost use Rattle.std.specs.Fmt.{decimal};
+ghost use Rattle.std.specs.Prelude.{◌≡◌, ◌++◌, ◌<◌, OnOk, length, map};
 ghost use Rattle.equiv_class.specs.ClassList.{HaveIndices, class_view, classes_view, path_of};
 ghost use Rattle.equiv_class.specs.SeenPaths.{entries_view};
 ghost use Rattle.front_end.specs.ClassText.{class_text as text_of_class, classes_text, path_line};
@@ -9,6 +8,7 @@ ghost use Rattle.front_end.specs.ClassText.{class_text as text_of_class, classes
 use call_path::CallPath;
 use equiv_class::{Class, SeenPath, TreeClasses};
 use std::alloc::AllocError;
+use tree_text::write_number;
 
 /// Appends the classes, one after another.
 pub fn write_classes(classes: &TreeClasses<'_>, out: &mut Vec<u8>) -> Result<(), AllocError>
@@ -54,15 +54,5 @@ fn write_path(path: &CallPath, out: &mut Vec<u8>) -> Result<(), AllocError>
     out.extend_from_slice(b"  ")?;
     path.write_text(out)?;
     out.push(b'\n')?;
-    Ok(())
-}
-
-/// Appends the decimal digits of a number. On failure `out` is unchanged.
-pub fn write_number(n: usize, out: &mut Vec<u8>) -> Result<(), AllocError>
-    ensures ok { OnOk result (out.new.items ≡ out.old.items ++ decimal n) }
-    ensures err { OnErr result (out.new.items ≡ out.old.items) }
-{
-    let digits = n.to_string(*out.allocator())?;
-    out.extend_from_slice(digits.as_bytes())?;
     Ok(())
 }

@@ -10,15 +10,11 @@ mod json_tree;
 mod laws;
 mod release_text;
 mod report;
-mod tree_text;
 
-pub use class_text::write_number;
 pub use json_report::{direct_json, report_json};
 pub use laws::{
     classes_of_a_tree, direct_releases_are_distinct, json_reports_are_one,
     numbered_releases_are_distinct, ordered_releases_are_in_order, reports_are_one,
     waiting_json_reports_are_direct, waiting_reports_are_direct,
 };
-pub use release_text::write_numbered;
 pub use report::{direct_text, report_text};
-pub use tree_text::write_rows;

@@ -1,19 +1,18 @@
 //! The text of a release.
-ghost use Rattle.std.specs.Prelude.{◌≡◌, ◌++◌, ◌<◌, OnErr, OnOk};
-ghost use Rattle.std.specs.Fmt.{decimal};
+ghost use Rattle.std.specs.Prelude.{◌≡◌, ◌++◌, ◌<◌, OnOk};
 ghost use Rattle.std.specs.List.{AllByRecursion, flat_map};
 ghost use Rattle.stat_plan.specs.Plans.{daemons, nodes};
 ghost use Rattle.overlay_core.specs.TreeReleases.{release_view};
 ghost use Rattle.front_end.specs.ReleaseText.{heading, kind_text as text_of_kind, missing_line, missing_text as text_of_missing, release_text};
 
-use crate::class_text::{write_classes, write_number};
-use crate::tree_text::write_tree;
+use crate::class_text::write_classes;
 use equiv_class::classes;
 use overlay_core::{Kind, Release};
 use prefix_tree::PrefixTree;
 use rank_set::RankSet;
 use stat_plan::Plan;
 use std::alloc::AllocError;
+use tree_text::{write_numbered, write_tree};
 
 /// Appends the text of a release.
 pub fn write_release<T: PrefixTree>(
@@ -36,11 +35,8 @@ pub fn write_release<T: PrefixTree>(
     write_classes(&classes, out)
 }
 
-/// Appends the line above a release.
-pub fn write_heading<T: PrefixTree>(
-    release: &Release<T>,
-    out: &mut Vec<u8>,
-) -> Result<(), AllocError>
+// Appends the line above a release.
+fn write_heading<T: PrefixTree>(release: &Release<T>, out: &mut Vec<u8>) -> Result<(), AllocError>
     ensures { OnOk result (out.new.items ≡ out.old.items ++ heading (release_view T.tree release.now)) }
 {
     write_numbered(b"stream ", usize::from(release.stream), out)?;
@@ -49,17 +45,6 @@ pub fn write_heading<T: PrefixTree>(
     out.push(b' ')?;
     out.extend_from_slice(kind_text(release.kind))?;
     out.push(b'\n')?;
-    Ok(())
-}
-
-/// Appends a word and a number. On failure `out` is unchanged.
-pub fn write_numbered(word: &[u8], number: usize, out: &mut Vec<u8>) -> Result<(), AllocError>
-    ensures ok { OnOk result (out.new.items ≡ out.old.items ++ word.now ++ decimal number) }
-    ensures err { OnErr result (out.new.items ≡ out.old.items) }
-{
-    let mut text = Vec::from_slice(*out.allocator(), word)?;
-    write_number(number, &mut text)?;
-    out.extend_from_slice(&text)?;
     Ok(())
 }
 

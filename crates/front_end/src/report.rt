@@ -7,12 +7,13 @@ ghost use Rattle.front_end.specs.ReleaseText.{release_text};
 ghost use Rattle.front_end.specs.Report.{AreDistinct, IsSortedCopy, IsReport, fate_text, fault_line};
 ghost use Rattle.front_end.specs.Shown.{shown_releases};
 
-use crate::release_text::{write_numbered, write_release};
+use crate::release_text::write_release;
 use overlay_core::Release;
 use overlay_setup::Fault;
 use prefix_tree::PrefixTree;
 use stat_plan::Plan;
 use std::alloc::{AllocError, Global};
+use tree_text::write_numbered;
 
 /// The report of a run: its releases, by stream, wave and number, and then each fault of the plan's script with what
 /// came of it. The releases may be given in any order, and `lost` are the nodes that the run lost. Each line ends with

@@ -2,9 +2,9 @@ use Rattle.std.proofs.Common.{◌≡◌, ◌∙◌, ◌+◌, ◌-◌, ◌++◌, 
 use Rattle.std.specs.List.{flat_map}
 use Rattle.std.proofs.lemmas.Result.{on_ok_weaker}
 use Rattle.prefix_tree.specs.Chains.{chained}
-use Rattle.front_end.specs.TreeText.{seen_text, chain_text}
-use Rattle.front_end.proofs.Lines.{line_more, line_last}
-use Rattle.front_end.proofs.tree_text.write_chain.Goals as goal
+use Rattle.tree_text.specs.TreeText.{seen_text, chain_text}
+use Rattle.tree_text.proofs.Lines.{line_more, line_last}
+use Rattle.tree_text.proofs.rows.write_chain.Goals as goal
 
 pub loop-i-preserved : goal.loop-i-preserved
 loop-i-preserved c =

@@ -3,10 +3,10 @@ use Rattle.std.proofs.lemmas.List.{append-nil}
 use Rattle.std.specs.List.{flat_map}
 use Rattle.rank_set.specs.Text.{text_of}
 use Rattle.prefix_tree.specs.Tree.{rows_of}
-use Rattle.front_end.specs.TreeText.{row_text}
-use Rattle.front_end.proofs.Lines.{lines_from, lines_end}
-use Rattle.front_end.proofs.tree_text.write_below.Goals.{then-not-equals+in_ok-write_text-2, else-not-equals}
-use Rattle.front_end.proofs.tree_text.write_below.Goals as goal
+use Rattle.tree_text.specs.TreeText.{row_text}
+use Rattle.tree_text.proofs.Lines.{lines_from, lines_end}
+use Rattle.tree_text.proofs.rows.write_below.Goals.{then-not-equals+in_ok-write_text-2, else-not-equals}
+use Rattle.tree_text.proofs.rows.write_below.Goals as goal
 
 pub loop-chain-preserved : goal.loop-chain-preserved
 loop-chain-preserved g c =

@@ -1,6 +1,6 @@
 use Rattle.std.proofs.Common.{◌≡◌, ◌++◌, ◌≤◌, ◌+◌, ◌-◌}
-use Rattle.front_end.specs.TreeText.{indent}
-use Rattle.front_end.proofs.tree_text.write_indent.Given as goal
+use Rattle.tree_text.specs.TreeText.{indent}
+use Rattle.tree_text.proofs.rows.write_indent.Given as goal
 
 abbrev pub invariant-loop-left : goal.invariant-loop-left
 invariant-loop-left l = record {

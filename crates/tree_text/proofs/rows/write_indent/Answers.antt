@@ -1,8 +1,8 @@
 use Rattle.std.proofs.Common.{◌≡◌, ◌∙◌, ◌++◌, ◌+◌, ◌-◌, ap, sym, [], ◌∷◌, arith}
 use Rattle.std.proofs.lemmas.List.{append-nil}
-use Rattle.front_end.specs.TreeText.{indent}
-use Rattle.front_end.proofs.Lines.{indent_eight, indent_more}
-use Rattle.front_end.proofs.tree_text.write_indent.Goals as goal
+use Rattle.tree_text.specs.TreeText.{indent}
+use Rattle.tree_text.proofs.Lines.{indent_eight, indent_more}
+use Rattle.tree_text.proofs.rows.write_indent.Goals as goal
 
 pub loop-left-init : goal.loop-left-init
 loop-left-init c =

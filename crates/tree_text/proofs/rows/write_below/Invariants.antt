@@ -2,8 +2,8 @@ use Rattle.std.proofs.Common.{◌≡◌, ◌<◌, ◌-◌, ◌++◌, drop, lengt
 use Rattle.std.specs.List.{flat_map}
 use Rattle.rank_set.specs.Text.{text_of}
 use Rattle.prefix_tree.specs.Tree.{rows_of}
-use Rattle.front_end.specs.TreeText.{row_text, rows_text}
-use Rattle.front_end.proofs.tree_text.write_below.Given as goal
+use Rattle.tree_text.specs.TreeText.{row_text, rows_text}
+use Rattle.tree_text.proofs.rows.write_below.Given as goal
 
 abbrev pub invariant-loop-chain : goal.invariant-loop-chain
 invariant-loop-chain g l = record {

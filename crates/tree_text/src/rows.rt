@@ -3,7 +3,7 @@
 ghost use Rattle.std.specs.Prelude.{◌≡◌, ◌++◌, OnErr, OnOk};
 ghost use Rattle.rank_set.specs.Text.{text_of};
 ghost use Rattle.prefix_tree.specs.Chains.{IsGoodChain};
-ghost use Rattle.front_end.specs.TreeText.{chain_text, ends_text, indent, line_of, line_with, no_ends_text, rows_text, tree_text as text_of_tree};
+ghost use Rattle.tree_text.specs.TreeText.{chain_text, ends_text, indent, line_of, line_with, no_ends_text, rows_text, tree_text as text_of_tree};
 
 use prefix_tree::{Chain, PrefixTree, Row};
 use rank_set::RankSet;
