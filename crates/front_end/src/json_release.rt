@@ -15,11 +15,10 @@ use overlay_core::{Kind, Release};
 use prefix_tree::PrefixTree;
 use rank_set::RankSet;
 use stat_plan::Plan;
-use std::alloc::{AllocError, Global};
+use std::alloc::AllocError;
 
 /// Appends the object of a release.
 pub fn write_release<T: PrefixTree>(
-    alloc: Global,
     plan: &Plan,
     release: &Release<T>,
     out: &mut JsonText,
@@ -27,19 +26,19 @@ pub fn write_release<T: PrefixTree>(
     ensures { OnOk result
         (out.new ≡ out.old ++ value_tokens (release_data plan.now (release_view T.tree release.now))) }
 {
-    let classes = classes(alloc, &release.tree)?;
+    let classes = classes(out.allocator(), &release.tree)?;
     let covered = release.tree.row(0).label;
     out.begin_object()?;
     out.key("classes")?;
-    write_classes(alloc, &classes, out)?;
-    out.text("covered", ranks_text(alloc, covered)?.as_str())?;
+    write_classes(&classes, out)?;
+    out.text("covered", ranks_text(out.allocator(), covered)?.as_str())?;
     out.text("kind", kind_word(release.kind))?;
     out.key("missing")?;
-    write_missing(alloc, plan, release.stream, covered, &release.lost, out)?;
+    write_missing(plan, release.stream, covered, &release.lost, out)?;
     out.count("number", u64::from(release.number))?;
     out.count("stream", u64::from(release.stream))?;
     out.key("tree")?;
-    write_tree(alloc, &release.tree, out)?;
+    write_tree(&release.tree, out)?;
     out.count("wave", u64::from(release.wave))?;
     out.end_object()
 }
@@ -56,7 +55,6 @@ fn kind_word(kind: Kind) -> &'static str
 
 // Appends the list of the daemons with missing ranks.
 fn write_missing(
-    alloc: Global,
     plan: &Plan,
     stream: u8,
     covered: &RankSet,
@@ -68,14 +66,13 @@ fn write_missing(
 {
     out.begin_list()?;
     for daemon in daemons_of(plan, stream) {
-        write_daemon(alloc, plan, covered, lost, *daemon, out)?;
+        write_daemon(plan, covered, lost, *daemon, out)?;
     }
     out.end_list()
 }
 
 // Appends the object of a daemon with missing ranks, or nothing if all are covered.
 fn write_daemon(
-    alloc: Global,
     plan: &Plan,
     covered: &RankSet,
     lost: &[u32],
@@ -93,7 +90,7 @@ fn write_daemon(
     if missing.is_empty() {
         return Ok(());
     }
-    let ranks = ranks_text(alloc, &missing)?;
+    let ranks = ranks_text(out.allocator(), &missing)?;
     out.begin_object()?;
     out.text("daemon", plan.name(daemon))?;
     out.text("ranks", ranks.as_str())?;

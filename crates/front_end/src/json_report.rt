@@ -65,14 +65,13 @@ fn json_with_faults<T: PrefixTree>(
     out.key("faults")?;
     write_faults(plan, faults, lost, &mut out)?;
     out.key("releases")?;
-    write_releases(alloc, plan, &ordered, &mut out)?;
+    write_releases(plan, &ordered, &mut out)?;
     out.end_object()?;
     out.into_line()
 }
 
 // Appends the list of the releases.
 fn write_releases<T: PrefixTree>(
-    alloc: Global,
     plan: &Plan,
     releases: &[&Release<T>],
     out: &mut JsonText,
@@ -83,7 +82,7 @@ fn write_releases<T: PrefixTree>(
 {
     out.begin_list()?;
     for release in releases {
-        write_release(alloc, plan, release, out)?;
+        write_release(plan, release, out)?;
     }
     out.end_list()
 }

@@ -18,6 +18,7 @@ use std::marker::Model;
 #[derive(Drop)]
 pub struct JsonText {
     writer: Writer,
+    alloc: Global,
 }
 
 impl Model for JsonText {
@@ -40,14 +41,20 @@ impl JsonText {
     {
         JsonText {
             writer: Writer::new(Vec::new(alloc)),
+            alloc,
         }
+    }
+
+    /// The allocator of the text, which also serves what is written into it.
+    pub fn allocator(&self) -> Global {
+        self.alloc
     }
 
     /// The text and a line feed.
     pub fn into_line(self) -> Result<Vec<u8>, AllocError>
         ensures { IfOk result (λ line. line.items ≡ print self ++ 10 ∷ []) }
     {
-        let JsonText { writer } = self;
+        let JsonText { writer, .. } = self;
         let mut line = writer.into_inner();
         line.push(b'\n')?;
         Ok(line)

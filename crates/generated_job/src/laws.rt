@@ -24,6 +24,7 @@ ghost use Rattle.overlay_core.specs.TreeReleases.{TreeRelease, bare_releases};
 ghost use Rattle.generated_job.specs.Texts.{text_of, line_of, middle_count, topology_text, samples_text, script_text};
 ghost use Rattle.generated_job.specs.Written.{IsWord, IsLine, IsGoodStatement, statement_line};
 ghost use Rattle.generated_job.specs.Job.{job_nodes, job_samples, job_script, job_plan};
+ghost use Rattle.generated_job.specs.Laws.{OfReleases};
 ghost use Rattle.generated_job.specs.Summary.{HasOneLine, HasTreeOfSamples, summary_of, summary_text};
 ghost use Rattle.generated_job.specs.declared.texts.TheConstants.{SIZE_LIMIT};
 
@@ -51,18 +52,16 @@ pub fn plans_are_so_large()
 /// A law: after a whole journal the summary has exactly one line of each of the two streams, that of the release which
 /// ends its wave.
 pub fn streams_have_one_line()
-    ensures { (seed n s : ℕ) (journal : List Event) (releases : List TreeRelease) → s < 2 → IsPlan (job_plan seed n)
-        → IsWhole (job_plan seed n) journal → bare_releases releases ≡ (after (job_plan seed n) journal).releases
-        → HasOneLine s releases }
+    ensures { (seed n s : ℕ) → s < 2 → IsPlan (job_plan seed n)
+        → OfReleases seed n (λ journal releases. IsWhole (job_plan seed n) journal → HasOneLine s releases) }
 {}
 
 /// A law: where the releases are those after a journal, each with the tree of its wave's samples over the ranks that it
 /// covers, the summary is that of the journal alone.
 pub fn summaries_are_of_journals()
-    ensures { (seed n : ℕ) (journal : List Event) (releases : List TreeRelease)
-        → bare_releases releases ≡ (after (job_plan seed n) journal).releases
-        → AllByRecursion (HasTreeOfSamples (job_plan seed n)) releases
-        → summary_text seed n journal releases ≡ summary_of seed n journal }
+    ensures { (seed n : ℕ) → OfReleases seed n (λ journal releases.
+        AllByRecursion (HasTreeOfSamples (job_plan seed n)) releases
+        → summary_text seed n journal releases ≡ summary_of seed n journal) }
 {}
 
 /// A law: what is written is read back: the statements of a topology, the lines of a text, the words of a line,
