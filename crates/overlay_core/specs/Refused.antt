@@ -29,17 +29,17 @@ has_second (r ∷ []) = false
 has_second (r ∷ q ∷ rs) = true
 
 -- the last of one release is that release
-the_last : (x f : Release) (b : List Release) → x ∷ [] ≡ b ++ f ∷ [] → x ≡ f
+pub the_last : (x f : Release) (b : List Release) → x ∷ [] ≡ b ++ f ∷ [] → x ≡ f
 the_last x f [] e = ap (head_or x) e
 the_last x f (r ∷ []) e = absurd (true≢false (sym (ap has_second e)))
 the_last x f (r ∷ q ∷ rs) e = absurd (true≢false (sym (ap has_second e)))
 
 -- no releases have no last one
-no_last : (f : Release) (b : List Release) → [] ≡ b ++ f ∷ [] → ⊥
+pub no_last : (f : Release) (b : List Release) → [] ≡ b ++ f ∷ [] → ⊥
 no_last f [] e = true≢false (sym (ap is_some e))
 no_last f (r ∷ b) e = true≢false (sym (ap is_some e))
 
-abbrev is_final : Kind → Bool
+abbrev pub is_final : Kind → Bool
 is_final PartialRelease = false
 is_final FinalRelease = true
 

@@ -1,5 +1,5 @@
 -- What the call answers, and why.
-use Rattle.std.specs.Prelude.{◌≡◌, ◌⊎◌, if◌then◌else◌, nat_le, length, ℕ, List, [], ◌∷◌, ◌++◌, take, slice_get, Option, Some, None, Result, Ok, Err}
+use Rattle.std.specs.Prelude.{◌≡◌, ◌⊎◌, if◌then◌else◌, nat_le, length, ℕ, List, [], ◌∷◌, ◌++◌, take, slice_get, map, String, string_bytes, Option, Some, None, Result, Ok, Err}
 use Rattle.std.specs.Io.KnownBytes.{Appends}
 use Rattle.overlay_setup.specs.NodeSets.{In}
 use Rattle.overlay_core.specs.Machine.{enabled_events}
@@ -11,7 +11,7 @@ use Rattle.overlay_event.specs.declared.event.Event.{Event}
 use Rattle.stat_plan.specs.Plans.{Plan}
 use Rattle.text_lines.specs.declared.text_error.TextError.{TextError}
 use Rattle.journal_text.specs.Reading.{ReadJournal, journal_of}
-use Rattle.stat_words.specs.Words.{Asked, Run, Sim}
+use Rattle.stat_words.specs.Words.{Asked, Run, Sim, asked}
 use Rattle.stat_words.specs.declared.words.WordFault.{WordFault}
 use Rattle.stat_tool.specs.Files.{NamedFile, files_of, limit_of}
 use Rattle.stat_tool.specs.Jobs.{Job, RunJob, SimJob, ReplayJob, DirectJob, GenJob, CaptureJob, RunOutput}
@@ -23,6 +23,10 @@ use Rattle.stat_tool.specs.declared.status.FileRole.TheVariants.{Journal as Role
 use Rattle.stat_tool.specs.declared.status.Target.TheVariants.{Report, Journal}
 use Rattle.stat_tool.specs.declared.status.Status.{Status}
 use Rattle.stat_tool.specs.declared.status.Status.TheVariants.{Done, BadWords, DeskFault, BadInput, OverLimit, SinkFault, OutOfMemory, BadJournal, Unfinished, BadFrames}
+
+-- what the words of a command line ask for
+abbrev pub asked_by : List String → Result Asked WordFault
+asked_by words = asked (map string_bytes words)
 
 -- a desk before and after a call: its count of faults, the last name at which it rose, the bytes that its reads gave, file by
 -- file, and the contents of its files
@@ -135,10 +139,7 @@ Prevents files desk next (BadInput file line reason) = next ≡ Answers (BadInpu
 Prevents files desk next (OverLimit file line what most) = next ≡ Answers (OverLimit file line what most)
 Prevents files desk next (BadJournal i) = next ≡ Answers (BadJournal i)
 Prevents files desk next (BadFrames at reason) = next ≡ Answers (BadFrames at reason)
-Prevents files desk next Done = ⊥
-Prevents files desk next (BadWords fault) = ⊥
-Prevents files desk next (SinkFault target) = ⊥
-Prevents files desk next (Unfinished e) = ⊥
+Prevents files desk next status = ⊥
 
 -- Why a call has a status and returns events, and what it leaves in the sinks: it ran the job, or it stopped before it wrote.
 abbrev pub Explains : List NamedFile → DeskChange → SinkChange → SinkChange → Step → List Event → Status → Type 0
@@ -229,13 +230,7 @@ Refuses role name desk OutOfMemory = GaveNothing desk
 Refuses role name desk (DeskFault r) = (r ≡ role) × (GaveNothing desk × FailedAt desk.before desk.now desk.last_fault name)
 Refuses role name desk (OverLimit file line what most) =
     (OverLimit file line what most ≡ too_long role) × (GaveNothing desk × IsLonger (desk.contents name) (limit_of role))
-Refuses role name desk Done = ⊥
-Refuses role name desk (BadWords fault) = ⊥
-Refuses role name desk (BadInput file line reason) = ⊥
-Refuses role name desk (SinkFault target) = ⊥
-Refuses role name desk (BadJournal i) = ⊥
-Refuses role name desk (Unfinished e) = ⊥
-Refuses role name desk (BadFrames at reason) = ⊥
+Refuses role name desk status = ⊥
 
 -- the file of this name was read as this
 abbrev pub Tells : {A : Type 0} → DeskChange → List ℕ → ℕ → (List ℕ → Result A TextError) → A → Type 0
@@ -276,53 +271,25 @@ IsStopped files desk status =
 abbrev pub IsPlanRefusal : (AfterPlan → Step) → Status → Type 0
 IsPlanRefusal next OutOfMemory = Unit {0}
 IsPlanRefusal next (OverLimit file line what most) = (after : AfterPlan) → next after ≡ Answers (OverLimit file line what most)
-IsPlanRefusal next (DeskFault role) = ⊥
-IsPlanRefusal next (BadInput file line reason) = ⊥
-IsPlanRefusal next Done = ⊥
-IsPlanRefusal next (BadWords fault) = ⊥
-IsPlanRefusal next (SinkFault target) = ⊥
-IsPlanRefusal next (BadJournal i) = ⊥
-IsPlanRefusal next (Unfinished e) = ⊥
-IsPlanRefusal next (BadFrames at reason) = ⊥
+IsPlanRefusal next status = ⊥
 
 -- why a job that the files lead to has no output: memory is out, or the journal is refused
 abbrev pub IsJobRefusal : Step → Status → Type 0
 IsJobRefusal next OutOfMemory = Unit {0}
 IsJobRefusal next (BadJournal i) = next ≡ Answers (BadJournal i)
-IsJobRefusal next (OverLimit file line what most) = ⊥
-IsJobRefusal next (DeskFault role) = ⊥
-IsJobRefusal next (BadInput file line reason) = ⊥
-IsJobRefusal next Done = ⊥
-IsJobRefusal next (BadWords fault) = ⊥
-IsJobRefusal next (SinkFault target) = ⊥
-IsJobRefusal next (Unfinished e) = ⊥
-IsJobRefusal next (BadFrames at reason) = ⊥
+IsJobRefusal next status = ⊥
 
 -- why a capture's bytes are not printed: memory is out, or they are refused
 abbrev pub IsCaptureRefusal : Step → Status → Type 0
 IsCaptureRefusal next OutOfMemory = Unit {0}
 IsCaptureRefusal next (BadFrames at reason) = next ≡ Answers (BadFrames at reason)
-IsCaptureRefusal next (BadJournal i) = ⊥
-IsCaptureRefusal next (OverLimit file line what most) = ⊥
-IsCaptureRefusal next (DeskFault role) = ⊥
-IsCaptureRefusal next (BadInput file line reason) = ⊥
-IsCaptureRefusal next Done = ⊥
-IsCaptureRefusal next (BadWords fault) = ⊥
-IsCaptureRefusal next (SinkFault target) = ⊥
-IsCaptureRefusal next (Unfinished e) = ⊥
+IsCaptureRefusal next status = ⊥
 
 -- why an event of a journal is not done, where this is the first that may not come: memory is out, or it is this one
 abbrev pub IsEventRefusal : Option ℕ → Status → Type 0
 IsEventRefusal refused OutOfMemory = Unit {0}
 IsEventRefusal refused (BadJournal i) = refused ≡ Some i
-IsEventRefusal refused (OverLimit file line what most) = ⊥
-IsEventRefusal refused (DeskFault role) = ⊥
-IsEventRefusal refused (BadInput file line reason) = ⊥
-IsEventRefusal refused Done = ⊥
-IsEventRefusal refused (BadWords fault) = ⊥
-IsEventRefusal refused (SinkFault target) = ⊥
-IsEventRefusal refused (Unfinished e) = ⊥
-IsEventRefusal refused (BadFrames at reason) = ⊥
+IsEventRefusal refused status = ⊥
 
 -- the journal of this name was read as this
 abbrev pub HasJournal : DeskChange → List ℕ → Plan → ReadJournal → Type 0

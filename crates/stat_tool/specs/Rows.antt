@@ -1,23 +1,30 @@
 -- The limits of two files, and what the promises refuse: each row behind the first two is a case of which one of them does
 -- not hold.
-use Rattle.std.specs.Prelude.{◌≡◌, refl, codes, Bool, true, false, List, [], ◌∷◌, ◌++◌, Some, None}
-use Rattle.std.proofs.Common.{ap, sym, subst, ◌∙◌}
+use Rattle.std.specs.Prelude.{◌≡◌, refl, codes, ℕ, Bool, true, false, List, [], ◌∷◌, ◌++◌, Some, None}
+use Rattle.std.proofs.Common.{ap, sym, subst, ◌∙◌, ¬, inl, inr}
 use Rattle.std.proofs.lemmas.Bool.{true≢false}
 use Rattle.rank_set.specs.Ranks.{has, none, set_of, with_rank}
 use Rattle.text_lines.specs.Lines.{lines, pieces}
 use Rattle.overlay_event.specs.declared.event.Event.{Event}
 use Rattle.overlay_event.specs.declared.event.Event.TheVariants.{Tick}
 use Rattle.stat_plan.specs.Plans.{Plan}
+use Rattle.overlay_core.specs.Nodes.{Release}
+use Rattle.overlay_core.specs.Refused.{is_final, no_last, the_last}
 use Rattle.overlay_core.specs.Rows.{final, partial}
 use Rattle.journal_text.specs.Reading.{ReadJournal, events_before}
+use Rattle.stat_desk.specs.Faults.{Rose}
+use Rattle.front_end.specs.Report.{report_text}
+use Rattle.stat_words.specs.Words.{Gen}
+use Rattle.stat_words.specs.declared.words.ReportForm.TheVariants.{Text}
 use Rattle.stat_words.specs.declared.words.RunReport.{RunReport}
-use Rattle.stat_tool.specs.Call.{SinkChange, Written}
+use Rattle.stat_tool.specs.Call.{DeskChange, IsDetermined, SinkChange, Written}
 use Rattle.stat_tool.specs.Files.{limit_of}
 use Rattle.stat_tool.specs.Jobs.{RunOutput}
 use Rattle.stat_tool.specs.Outputs.{IsReplay, IsReplayed}
-use Rattle.stat_tool.specs.Reports.{CoveragesGrow}
-use Rattle.stat_tool.specs.declared.status.FileRole.TheVariants.{Capture, Journal}
-use Rattle.stat_tool.specs.declared.status.Status.TheVariants.{Done}
+use Rattle.stat_tool.specs.Reports.{CoveragesGrow, EndsWithAll, IsReportOf}
+use Rattle.stat_tool.specs.declared.status.FileRole.TheVariants.{Capture, Journal, Topology}
+use Rattle.stat_tool.specs.declared.status.Status.{Status}
+use Rattle.stat_tool.specs.declared.status.Status.TheVariants.{DeskFault, Done}
 
 journal_limit : limit_of Journal ≡ 1073741824
 journal_limit = refl
@@ -72,3 +79,39 @@ lacks_a_line p wanted output journal text h =
     subst (λ t. events_before p (lines t) ≡ Tick 0 ∷ []) text
     (ap (λ (r : ReadJournal). r.events) h.read_back ∙ journal) in
     true≢false (sym (ap is_some read))
+
+-- ---- how a wave ends
+
+-- no release at all
+ends_with_none : (p : Plan) (s : ℕ) → EndsWithAll p s [] → ⊥
+ends_with_none p s h = no_last h.last h.before h.all
+
+-- a last release that is partial
+ends_with_a_part : (p : Plan) (s : ℕ) → EndsWithAll p s (partial none [] ∷ []) → ⊥
+ends_with_a_part p s h = true≢false (sym (ap (λ (r : Release). is_final r.kind) (the_last (partial none []) h.last h.before h.all) ∙ ap is_final h.final))
+
+-- ---- reports
+
+-- a text has an end
+has_an_end : (text : List ℕ) → [] ≡ text ++ codes "end\n" → ⊥
+has_an_end [] e = true≢false (sym (ap is_some e))
+has_an_end (x ∷ xs) e = true≢false (sym (ap is_some e))
+
+-- the empty text is no report
+reports_nothing : (p : Plan) (journal : List Event) → IsReportOf p Text journal [] → ⊥
+unfolding report_text
+reports_nothing p journal h = has_an_end _ h.text.is
+
+-- ---- what the texts determine
+
+abbrev is_fault : Status → Bool
+is_fault (DeskFault role) = true
+is_fault status = false
+
+-- where nothing failed, a command without files does not answer that a file failed
+fails_without_a_file : (desk : DeskChange) (out journal : SinkChange) → ¬ Rose desk.before desk.now → ¬ Rose out.before out.now → ¬ Rose journal.before journal.now
+    → IsDetermined (Gen 1 0) desk out journal (DeskFault Topology) → ⊥
+fails_without_a_file desk out journal good_desk good_out good_journal h = elim (h (λ f there. absurd (true≢false (sym there))) good_desk good_out good_journal) [
+  | (inl done) ↦ true≢false (ap is_fault done)
+  | (inr memory) ↦ true≢false (ap is_fault memory)
+]

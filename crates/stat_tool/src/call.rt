@@ -1,7 +1,7 @@
 //! From words and files to a report and a journal.
-ghost use Rattle.std.specs.Prelude.{◌≡◌, ⊤, [], Ok, IfErr, IfOk, OnOk, map, string_bytes};
-ghost use Rattle.stat_words.specs.Words.{IsInRanges, asked, asked_of};
-ghost use Rattle.stat_tool.specs.Call.{Answered, AreAllRead, AreReadInOrder, HasWritten, IsDetermined};
+ghost use Rattle.std.specs.Prelude.{◌≡◌, ⊤, [], Ok, IfErr, IfOk, OnOk};
+ghost use Rattle.stat_words.specs.Words.{IsInRanges, asked_of};
+ghost use Rattle.stat_tool.specs.Call.{Answered, AreAllRead, AreReadInOrder, HasWritten, IsDetermined, asked_by};
 ghost use Rattle.stat_tool.specs.Call.{Prepared, Prevented, Written, WritesNoJournal};
 ghost use Rattle.stat_tool.specs.Call.{desk_change, sink_change};
 ghost use Rattle.stat_tool.specs.Files.{files_of, names_in};
@@ -41,23 +41,22 @@ pub fn stat<R: Threads + Wait + Sync, T: PrefixTree, D: Desk, O: Sink, J: Sink, 
     journal: &mut J,
     gate: &G,
 ) -> Outcome
-    ensures answered { Answered (asked (map string_bytes words.now))
+    ensures answered { Answered (asked_by words.now)
         (desk_change D.faults D.last_fault D.gave D.contents desk.old desk.new)
         (sink_change O.faults O.took O.contents out.old out.new)
         (sink_change J.faults J.took J.contents journal.old journal.new) result.journal result.status }
-    ensures determined { IfOk (asked (map string_bytes words.now)) (λ command. IsDetermined command
+    ensures determined { IfOk (asked_by words.now) (λ command. IsDetermined command
         (desk_change D.faults D.last_fault D.gave D.contents desk.old desk.new)
         (sink_change O.faults O.took O.contents out.old out.new)
         (sink_change J.faults J.took J.contents journal.old journal.new) result.status) }
-    ensures reads { IfOk (asked (map string_bytes words.now)) (λ command.
+    ensures reads { IfOk (asked_by words.now) (λ command.
         AreReadInOrder (D.reads desk.old) (D.reads desk.new) (names_in (files_of command))) }
-    ensures all_read { IfOk (asked (map string_bytes words.now)) (λ command. HasWritten result.status
+    ensures all_read { IfOk (asked_by words.now) (λ command. HasWritten result.status
         → AreAllRead (D.reads desk.old) (D.reads desk.new) (names_in (files_of command))) }
-    ensures unread { IfErr (asked (map string_bytes words.now)) (λ fault. desk.new ≡ desk.old) }
+    ensures unread { IfErr (asked_by words.now) (λ fault. desk.new ≡ desk.old) }
     ensures untouched { ¬ HasWritten result.status → (out.new ≡ out.old) × (journal.new ≡ journal.old) }
     ensures journal { ¬ HasWritten result.status → result.journal ≡ [] }
-    ensures kept { IfOk (asked (map string_bytes words.now))
-        (λ command. WritesNoJournal command → journal.new ≡ journal.old) }
+    ensures kept { IfOk (asked_by words.now) (λ command. WritesNoJournal command → journal.new ≡ journal.old) }
     ensures report_first { result.status ≡ Status.SinkFault Target.Report → journal.new ≡ journal.old }
 {
     run::<R, T, D, O, J, G>(rt, alloc, words, desk, out, journal, gate)
@@ -73,19 +72,18 @@ fn run<R: Threads + Wait + Sync, T: PrefixTree, D: Desk, O: Sink, J: Sink, G: Ga
     journal: &mut J,
     gate: &G,
 ) -> Outcome
-    ensures answered { Answered (asked (map string_bytes words.now))
+    ensures answered { Answered (asked_by words.now)
         (desk_change D.faults D.last_fault D.gave D.contents desk.old desk.new)
         (sink_change O.faults O.took O.contents out.old out.new)
         (sink_change J.faults J.took J.contents journal.old journal.new) result.journal result.status }
-    ensures reads { IfOk (asked (map string_bytes words.now)) (λ command.
+    ensures reads { IfOk (asked_by words.now) (λ command.
         AreReadInOrder (D.reads desk.old) (D.reads desk.new) (names_in (files_of command))) }
-    ensures all_read { IfOk (asked (map string_bytes words.now)) (λ command. HasWritten result.status
+    ensures all_read { IfOk (asked_by words.now) (λ command. HasWritten result.status
         → AreAllRead (D.reads desk.old) (D.reads desk.new) (names_in (files_of command))) }
-    ensures unread { IfErr (asked (map string_bytes words.now)) (λ fault. desk.new ≡ desk.old) }
+    ensures unread { IfErr (asked_by words.now) (λ fault. desk.new ≡ desk.old) }
     ensures untouched { ¬ HasWritten result.status → (out.new ≡ out.old) × (journal.new ≡ journal.old) }
     ensures journal { ¬ HasWritten result.status → result.journal ≡ [] }
-    ensures kept { IfOk (asked (map string_bytes words.now))
-        (λ command. WritesNoJournal command → journal.new ≡ journal.old) }
+    ensures kept { IfOk (asked_by words.now) (λ command. WritesNoJournal command → journal.new ≡ journal.old) }
     ensures report_first { result.status ≡ Status.SinkFault Target.Report → journal.new ≡ journal.old }
 {
     let command = match read_words(alloc, words) {
