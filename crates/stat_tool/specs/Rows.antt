@@ -111,7 +111,7 @@ is_fault status = false
 -- where nothing failed, a command without files does not answer that a file failed
 fails_without_a_file : (desk : DeskChange) (out journal : SinkChange) → ¬ Rose desk.before desk.now → ¬ Rose out.before out.now → ¬ Rose journal.before journal.now
     → IsDetermined (Gen 1 0) desk out journal (DeskFault Topology) → ⊥
-fails_without_a_file desk out journal good_desk good_out good_journal h = elim (h (λ f there. absurd (true≢false (sym there))) good_desk good_out good_journal) [
+fails_without_a_file desk out journal good_desk good_out good_journal h = elim (h (λ f there. absurd there) good_desk good_out good_journal) [
   | (inl done) ↦ true≢false (ap is_fault done)
   | (inr memory) ↦ true≢false (ap is_fault memory)
 ]
