@@ -84,7 +84,7 @@ impl<T: PrefixTree> Scan<T> {
         Ok(())
     }
 
-    // The coverage is whole.
+    // Ends the coverage, whose ranks were read.
     pub fn end_cover(&mut self, alloc: Global) -> Result<(), FieldError>
         requires { self.old.kind ≡ 1 }
         ensures left { OnOk result

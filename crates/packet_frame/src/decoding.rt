@@ -13,8 +13,8 @@ use std::alloc::Global;
 /// The packet at the front of the bytes, and how many bytes its frame takes. Any bytes may follow it. Frames of
 /// versions 1 and 2 are read; their fields are in docs/FORMATS.md.
 ///
-/// Where no frame begins the bytes, the answer is the refusal of the first field that is whole and breaks its rule, at
-/// the offset of its first byte, or `Short` at the field in which the input ends.
+/// If no frame begins the bytes, the error is the refusal of the first field that is whole and breaks its rule, at the
+/// offset of its first byte, or `Short` at the field in which the input ends.
 pub fn decode<T: PrefixTree>(alloc: Global, bytes: &[u8]) -> Result<(Packet<T>, usize), FrameError>
     ensures { Gives (λ x. (packet_map T.tree x.0, x.1)) result (as_packet (first_of bytes.now)) }
 {

@@ -15,7 +15,8 @@ ghost use Rattle.packet_frame.specs.Sending.{HasText, MayBeTree, MayBePacket, Ma
 ghost use Rattle.packet_frame.specs.declared.packet.Packet.TheVariants.{Up};
 
 use crate::frame::Frame;
-use crate::packet::Packet;
+use crate::packet::{ATTACH, DONE, DOWN, Packet, UP};
+use call_path::{FRAME_BYTES, FRAME_LIMIT};
 use prefix_tree::{Chain, PrefixTree};
 use rank_places::CoverPlaces;
 use rank_set::{RANK_LIMIT, RankSet, Run, WORD_LIMIT};
@@ -24,15 +25,14 @@ use std::alloc::{AllocError, Global};
 /// The version that is written.
 const VERSION: u8 = 2;
 
-// How many bytes room is made for beforehand: for each row of a tree, and besides.
+// For how many bytes room is made before a tree is written: for each of its rows, and besides.
 const BYTES_A_ROW: usize = 40;
 
 const BYTES_BESIDES: usize = 64;
 
 /// The bytes of a packet's frame, in version 2; its fields are in docs/FORMATS.md. `decode` reads the packet from them
 /// again, whatever bytes follow. The stream must be below 8, the wave below 16, and the coverage of a tree not empty.
-///
-/// An error means that memory is out.
+/// Fails only if memory runs out.
 pub fn encode<T: PrefixTree>(alloc: Global, packet: &Packet<T>) -> Result<Frame, AllocError>
     requires { MayBeEncoded (packet_map T.tree packet.now) }
     ensures spelling { IfOk result
@@ -46,10 +46,8 @@ pub fn encode<T: PrefixTree>(alloc: Global, packet: &Packet<T>) -> Result<Frame,
     Ok(Frame { bytes: out })
 }
 
-/// The bytes of the frame of an `Up` packet with this tree, which need not be put into a packet for it: as `encode` gives
-/// them.
-///
-/// An error means that memory is out.
+/// The frame that `encode` gives for an `Up` packet with this tree, without making the packet. Fails only if memory runs
+/// out.
 pub fn encode_up<T: PrefixTree>(
     alloc: Global,
     stream: u8,
@@ -80,7 +78,7 @@ fn put_up<T: PrefixTree>(
     ensures may { OnOk result (MayBePacket 2 (Up stream wave (T.tree tree.now))) }
 {
     out.reserve(BYTES_BESIDES + BYTES_A_ROW * tree.rows())?;
-    out.extend_from_slice(&[VERSION, 1, stream, wave])?;
+    out.extend_from_slice(&[VERSION, UP, stream, wave])?;
     put_tree(tree, out)
 }
 
@@ -93,9 +91,9 @@ fn put_packet<T: PrefixTree>(packet: &Packet<T>, out: &mut Vec<u8>) -> Result<()
 {
     match packet {
         Packet::Up { stream, wave, tree } => put_up(*stream, *wave, tree, out),
-        Packet::Done { stream, wave } => out.extend_from_slice(&[VERSION, 2, *stream, *wave]),
-        Packet::Attach => out.extend_from_slice(&[VERSION, 3]),
-        Packet::Down => out.extend_from_slice(&[VERSION, 4]),
+        Packet::Done { stream, wave } => out.extend_from_slice(&[VERSION, DONE, *stream, *wave]),
+        Packet::Attach => out.extend_from_slice(&[VERSION, ATTACH]),
+        Packet::Down => out.extend_from_slice(&[VERSION, DOWN]),
     }
 }
 
@@ -169,8 +167,8 @@ fn put_ends(ends: &RankSet, places: &CoverPlaces, out: &mut Vec<u8>) -> Result<(
 
 // Appends a row's depth, and its last frame: the frame's length, and its bytes.
 fn put_name(depth: usize, name: &str, out: &mut Vec<u8>) -> Result<(), AllocError>
-    requires depth { depth ≤ 128 }
-    requires name { length name.now ≤ 1023 }
+    requires depth { depth ≤ FRAME_LIMIT }
+    requires name { length name.now ≤ FRAME_BYTES }
     ensures { OnOk result (out.new.items ≡ out.old.items ++ name_bytes depth name.now) }
 {
     let [high, low] = (name.len() as u16).to_be_bytes();
@@ -180,8 +178,8 @@ fn put_name(depth: usize, name: &str, out: &mut Vec<u8>) -> Result<(), AllocErro
 
 // Appends the same behind the ends of the row above, which has none.
 fn put_name_below(depth: usize, name: &str, out: &mut Vec<u8>) -> Result<(), AllocError>
-    requires depth { depth ≤ 128 }
-    requires name { length name.now ≤ 1023 }
+    requires depth { depth ≤ FRAME_LIMIT }
+    requires name { length name.now ≤ FRAME_BYTES }
     ensures { OnOk result (out.new.items ≡ out.old.items ++ (no_ends ++ name_bytes depth name.now)) }
 {
     let [high, low] = (name.len() as u16).to_be_bytes();

@@ -81,7 +81,7 @@ fn packets_at<T: PrefixTree>(
     }
 }
 
-// The same of bytes that wait, which lose those that the frames take. On failure they stay.
+// The same for bytes that wait, from which those of the frames are taken off. On failure they stay as they were.
 fn packets_in<T: PrefixTree>(
     alloc: Global,
     reader: &mut Reader<T>,
@@ -104,7 +104,7 @@ fn packets_in<T: PrefixTree>(
 }
 
 impl<T: PrefixTree> Feeder<T> {
-    /// A stream of which no byte came yet.
+    /// A stream of which no byte has come.
     pub fn new(alloc: Global) -> Feeder<T>
         ensures before { result.before ≡ 0 }
         ensures rest { result.rest ≡ [] }
@@ -162,8 +162,8 @@ impl<T: PrefixTree> Feeder<T> {
         }
     }
 
-    /// Whether the stream may end here: all its frames are whole. Else it is the refusal that was given, or `Short` at
-    /// the field in which the last frame ends.
+    /// Checks that the stream may end here, with all its frames whole. Otherwise the error is the refusal that `feed`
+    /// returned, or `Short` at the field in which the bytes end.
     pub fn finish(&self) -> Result<(), FrameError>
         ensures { Ends self.now result }
     {

@@ -6,8 +6,15 @@ ghost use Rattle.packet_frame.specs.Scanning.{left, left_at, Takes, IsReady};
 
 use crate::error::{FieldError, FrameReason};
 use crate::number::u8_of;
+use crate::packet::{DONE, DOWN, UP};
 use crate::scan::{Field, Part, Scan};
 use prefix_tree::PrefixTree;
+
+/// Streams are below this number.
+const STREAM_LIMIT: u8 = 8;
+
+/// Waves are below this number.
+const WAVE_LIMIT: u8 = 16;
 
 impl<T: PrefixTree> Scan<T> {
     #[tactic(auto, unfolding(crate::specs::Frame::frame_form, crate::specs::Frame::version_form))]
@@ -34,11 +41,11 @@ impl<T: PrefixTree> Scan<T> {
         ensures ready { OnOk result (IsReady self.new.field self.new) }
     {
         let kind = u8_of(field);
-        if kind < 1 || kind > 4 {
+        if kind < UP || kind > DOWN {
             return Err(FieldError::Broken(FrameReason::BadKind));
         }
         self.kind = kind;
-        if kind <= 2 {
+        if kind <= DONE {
             self.field = Field::Stream;
             return Ok(());
         }
@@ -54,7 +61,7 @@ impl<T: PrefixTree> Scan<T> {
         ensures ready { OnOk result (IsReady self.new.field self.new) }
     {
         let stream = u8_of(field);
-        if stream >= 8 {
+        if stream >= STREAM_LIMIT {
             return Err(FieldError::Broken(FrameReason::OverLimit));
         }
         self.stream = stream;
@@ -70,11 +77,11 @@ impl<T: PrefixTree> Scan<T> {
         ensures ready { OnOk result (IsReady self.new.field self.new) }
     {
         let wave = u8_of(field);
-        if wave >= 16 {
+        if wave >= WAVE_LIMIT {
             return Err(FieldError::Broken(FrameReason::OverLimit));
         }
         self.wave = wave;
-        if self.kind != 1 {
+        if self.kind != UP {
             self.field = Field::End;
         } else if self.version == 1 {
             self.part = Part::Coverage;

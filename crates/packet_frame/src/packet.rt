@@ -1,5 +1,17 @@
 //! What goes over a link.
 
+/// The kind of a packet with a tree: a number, the second byte of its frame.
+pub(crate) const UP: u8 = 1;
+
+/// The kind of a packet for a wave that is done.
+pub(crate) const DONE: u8 = 2;
+
+/// The kind of a packet of a node that asks to be taken in.
+pub(crate) const ATTACH: u8 = 3;
+
+/// The kind of a packet for a lost node.
+pub(crate) const DOWN: u8 = 4;
+
 /// A packet. Streams are below 8, waves below 16.
 #[derive(Drop)]
 pub enum Packet<T> {

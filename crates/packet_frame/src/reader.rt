@@ -51,7 +51,7 @@ impl<T: PrefixTree> Reader<T> {
         }
     }
 
-    // Reads the next field: whether it is there.
+    // Reads the next field. Returns false if the input ends before the field does.
     fn read(&mut self, alloc: Global, bytes: &[u8]) -> Result<bool, FrameError>
         requires { IsOn self.old bytes.now }
         ensures on { OnOk result (IsOn self.new bytes.now) }
@@ -90,8 +90,8 @@ impl<T: PrefixTree> Reader<T> {
         Ok(())
     }
 
-    /// Reads on to the end of the frame, or of the input: whether the frame is whole. What was read before must still
-    /// stand at the front of the bytes.
+    /// Reads on to the end of the frame or of the input, and returns whether the frame is whole. The bytes must still
+    /// begin with those that were read before.
     pub fn run(&mut self, alloc: Global, bytes: &[u8]) -> Result<bool, FrameError>
         requires { IsOn self.old bytes.now }
         ensures on { OnOk result (IsOn self.new bytes.now) }

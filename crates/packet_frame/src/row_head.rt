@@ -1,4 +1,4 @@
-//! Rows as most are, read in one go: whole ones with an ASCII name, and then without ends.
+//! Rows of the common form, read in one go: they are whole and have an ASCII name, and all but the last have no ends.
 
 ghost use Rattle.std.specs.Prelude.{◌≡◌, ◌≤◌, true, false, take, [], ◌∷◌, length, IfOk, OnOk, IfSome, Ok};
 ghost use Rattle.call_path.specs.Good.{is_good_frame};
@@ -8,7 +8,7 @@ ghost use Rattle.packet_frame.specs.Scanning.{left, IsReady, ReadsOn, BeginsWith
 use crate::number::{u8_of, u16_of};
 use crate::rows::is_plain_name;
 use crate::scan::{Field, Part, Scan};
-use call_path::PathBuilder;
+use call_path::{FRAME_BYTES, FRAME_LIMIT, PathBuilder};
 use prefix_tree::PrefixTree;
 use std::alloc::AllocError;
 use std::cmp::Ordering;
@@ -62,7 +62,7 @@ fn row_head(rest: &[u8]) -> Option<(u8, &str)>
     let (length, rest) = rest.split_at(2);
     let depth = u8_of(depth);
     let length = u16_of(length) as usize;
-    if depth >= 128 || length > 1_023 || rest.len() < length {
+    if usize::from(depth) >= FRAME_LIMIT || length > FRAME_BYTES || rest.len() < length {
         return None;
     }
     let (name, _) = rest.split_at(length);
@@ -87,7 +87,7 @@ fn has_no_ends(rest: &[u8]) -> bool
 // Makes the path that of the next row, if a row may have this depth and name. Returns whether it may.
 #[inline(always)]
 fn push_row(path: &mut PathBuilder, ended: bool, depth: u8, name: &str) -> Result<bool, AllocError>
-    requires depth { depth ≤ 128 }
+    requires depth { depth ≤ FRAME_LIMIT }
     requires good { is_good_frame name.now ≡ true }
     ensures read { result ≡ Ok true → FollowsRow path.old ended depth name.now path.new }
     ensures unread { result ≡ Ok false → path.new ≡ path.old }
@@ -107,7 +107,7 @@ fn push_sibling(
     depth: u8,
     name: &str,
 ) -> Result<bool, AllocError>
-    requires depth { depth ≤ 128 }
+    requires depth { depth ≤ FRAME_LIMIT }
     requires good { is_good_frame name.now ≡ true }
     ensures read { result ≡ Ok true → FollowsRow path.old ended depth name.now path.new }
     ensures unread { result ≡ Ok false → path.new ≡ path.old }

@@ -6,7 +6,7 @@ ghost use Rattle.prefix_tree.specs.Tree.{tree_of, added, count_below};
 ghost use Rattle.packet_frame.specs.FrameRows.{grown};
 
 use call_path::{CallPath, PathBuilder};
-use prefix_tree::{PrefixTree, TreeError};
+use prefix_tree::{PREFIX_LIMIT, PrefixTree, TreeError};
 use rank_set::RankSet;
 use std::alloc::{AllocError, Global};
 use std::marker::Model;
@@ -57,7 +57,7 @@ impl<T: PrefixTree> RowTree<T> {
     ) -> Result<(), AllocError>
         requires path { 0 < length frames.old }
         requires covered { IsTrue (is_subset ends.now self.old.coverage) }
-        requires room { count_below (grown self.old ends.now frames.old) ≤ 2048 }
+        requires room { count_below (grown self.old ends.now frames.old) ≤ PREFIX_LIMIT }
         ensures tree { OnOk result (self.new ≡ grown self.old ends.now frames.old) }
         ensures path { frames.new ≡ frames.old }
     {
@@ -74,7 +74,7 @@ impl<T: PrefixTree> RowTree<T> {
     fn add(&mut self, ends: &RankSet, path: &CallPath) -> Result<(), AllocError>
         requires some { ends.now ≢ none }
         requires covered { IsTrue (is_subset ends.now self.old.coverage) }
-        requires room { count_below (added self.old ends.now path.now) ≤ 2048 }
+        requires room { count_below (added self.old ends.now path.now) ≤ PREFIX_LIMIT }
         ensures { OnOk result (self.new ≡ added self.old ends.now path.now) }
     {
         match self.tree.add_or_clear(ends, path) {

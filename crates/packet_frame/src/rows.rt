@@ -11,12 +11,13 @@ ghost use Rattle.packet_frame.specs.Scanning.{left, left_at, Takes, IsReady, IsB
 use crate::error::{FieldError, FrameReason};
 use crate::number::{u8_of, u16_of};
 use crate::scan::{Field, Part, Scan};
-use prefix_tree::PrefixTree;
+use call_path::{FRAME_BYTES, FRAME_LIMIT};
+use prefix_tree::{PREFIX_LIMIT, PrefixTree};
 use rank_set::RankSet;
 use std::alloc::Global;
 use std::cmp::Ordering;
 
-// For how many frames of a path, and bytes of them, room is made before the first row.
+// For how many frames of a path, and for how many bytes of them, room is made before the first row.
 const FRAMES_AT_ONCE: usize = 32;
 
 const BYTES_AT_ONCE: usize = 1_024;
@@ -30,7 +31,7 @@ impl<T: PrefixTree> Scan<T> {
         ensures ready { OnOk result (IsReady self.new.field self.new) }
     {
         let count = u16_of(field);
-        if count > 2_048 {
+        if usize::from(count) > PREFIX_LIMIT {
             return Err(FieldError::Broken(FrameReason::OverLimit));
         }
         self.tree.restart(alloc, &self.cover)?;
@@ -50,7 +51,7 @@ impl<T: PrefixTree> Scan<T> {
         ensures ready { OnOk result (IsReady self.new.field self.new) }
     {
         let depth = u8_of(field);
-        if depth > 128 {
+        if usize::from(depth) > FRAME_LIMIT {
             return Err(FieldError::Broken(FrameReason::OverLimit));
         }
         let next = self.path.len() + 1;
@@ -76,7 +77,7 @@ impl<T: PrefixTree> Scan<T> {
         if length == 0 {
             return Err(FieldError::Broken(FrameReason::BadLength));
         }
-        if length > 1_023 {
+        if usize::from(length) > FRAME_BYTES {
             return Err(FieldError::Broken(FrameReason::OverLimit));
         }
         self.name_length = length;
@@ -117,7 +118,7 @@ impl<T: PrefixTree> Scan<T> {
         Ok(())
     }
 
-    // The next row, if any is left.
+    // Goes on to the next row, or to the end of the frame.
     #[inline(always)]
     fn next_row(&mut self)
         requires { IsBeforeRow self.old }
@@ -131,7 +132,7 @@ impl<T: PrefixTree> Scan<T> {
         }
     }
 
-    // The row is whole.
+    // Ends a row, whose ends were read.
     #[inline(always)]
     pub fn end_row(&mut self, alloc: Global, ends: RankSet) -> Result<(), FieldError>
         requires named { IsNamed self.old }
@@ -162,25 +163,19 @@ fn are_plain(field: &[u8]) -> bool
     field.iter().all(|b| is_plain(*b))
 }
 
-fn is_plain_ascii(b: u8) -> bool
-    ensures { result ≡ is_plain_ascii b }
-{
-    (0x20 <= b) & (b < 0x7F) & (b != b';')
-}
-
-// It tests each byte, since a loop that goes to its end tests 16 bytes at once.
+// Whether all bytes are plain ASCII. It tests each of them, since a loop that goes to its end tests 16 bytes at once.
 #[inline(always)]
 fn all_plain_ascii(bytes: &[u8]) -> bool
     ensures { result ≡ list_all is_plain_ascii bytes.now }
 {
     let mut all = true;
     for b in bytes {
-        all &= is_plain_ascii(*b);
+        all &= (0x20 <= *b) & (*b < 0x7F) & (*b != b';');
     }
     all
 }
 
-// The same of WIDTH bytes to twice as many: the first and the last WIDTH, since single bytes take longer.
+// The same for WIDTH to 2 * WIDTH bytes: it tests the first and the last WIDTH, since single bytes take longer.
 #[inline(always)]
 fn two_plain_blocks<const WIDTH: usize>(field: &[u8]) -> bool
     requires at_least { WIDTH ≤ length field.now }
@@ -192,7 +187,7 @@ fn two_plain_blocks<const WIDTH: usize>(field: &[u8]) -> bool
     all_plain_ascii(first) & all_plain_ascii(last)
 }
 
-// The same of 32 to 63 bytes.
+// The same for 32 to 63 bytes.
 #[inline(always)]
 fn four_plain_blocks(field: &[u8]) -> bool
     requires at_least { 32 ≤ length field.now }
@@ -204,7 +199,7 @@ fn four_plain_blocks(field: &[u8]) -> bool
     two_plain_blocks::<16>(last) && two_plain_blocks::<16>(first)
 }
 
-// The same of 16 bytes or more: blocks of 16, and the last 16 in place of those that are left.
+// The same for 16 bytes or more: it tests blocks of 16, and the last 16 in place of a shorter block at the end.
 #[inline(never)]
 fn many_plain_blocks(field: &[u8]) -> bool
     requires { 16 ≤ length field.now }
@@ -221,25 +216,16 @@ fn many_plain_blocks(field: &[u8]) -> bool
     all
 }
 
-// Whether bytes are some, and fewer than 16, and plain ASCII.
-#[inline(always)]
-fn is_short_plain_name(field: &[u8]) -> bool
-    requires { length field.now < 16 }
-    ensures { result ≡ (nat_lt 0 (length field.now) && list_all is_plain_ascii field.now) }
-{
-    if field.len() >= 8 {
-        return two_plain_blocks::<8>(field);
-    }
-    !field.is_empty() && all_plain_ascii(field)
-}
-
-/// Whether there are bytes, and all are plain ASCII. They are tested by blocks that are as long as their length allows.
+/// Whether a name has bytes, all of them plain ASCII. They are tested in blocks as long as the name allows.
 #[inline(always)]
 pub fn is_plain_name(field: &[u8]) -> bool
     ensures { result ≡ (nat_lt 0 (length field.now) && list_all is_plain_ascii field.now) }
 {
+    if field.len() < 8 {
+        return !field.is_empty() && all_plain_ascii(field);
+    }
     if field.len() < 16 {
-        return is_short_plain_name(field);
+        return two_plain_blocks::<8>(field);
     }
     if field.len() < 32 {
         return two_plain_blocks::<16>(field);
@@ -250,7 +236,7 @@ pub fn is_plain_name(field: &[u8]) -> bool
     many_plain_blocks(field)
 }
 
-// The field as text, where it is a good name.
+// A field as text, if it is a name.
 fn name_of(field: &[u8]) -> Option<&str>
     ensures some { IfSome result (λ name. name.now ≡ field.now) }
     ensures good { IfSome result (λ name. is_name field.now ≡ true) }

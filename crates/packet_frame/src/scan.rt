@@ -5,7 +5,7 @@ ghost use Rattle.packet_frame.specs.Sent.{packet_map};
 ghost use Rattle.packet_frame.specs.Scanning.{left, left_at, Takes, IsReady, field_width, packet_read};
 
 use crate::error::FieldError;
-use crate::packet::Packet;
+use crate::packet::{ATTACH, DONE, Packet, UP};
 use crate::row_tree::RowTree;
 use call_path::PathBuilder;
 use prefix_tree::PrefixTree;
@@ -30,7 +30,7 @@ pub enum Field {
     Depth,
     NameLength,
     Name,
-    /// None: the frame is whole.
+    /// No field: the frame is whole.
     End,
 }
 
@@ -41,7 +41,7 @@ pub enum Part {
     Ends,
 }
 
-/// The fields of a frame that were read so far, and which comes next.
+/// What was read of a frame so far, and which field comes next.
 #[derive(Drop)]
 pub struct Scan<T: PrefixTree> {
     pub field: Field,
@@ -108,16 +108,16 @@ impl<T: PrefixTree> Scan<T> {
         ensures { packet_map T.tree result ≡ packet_read self.old }
     {
         match self.kind {
-            1 => Packet::Up {
+            UP => Packet::Up {
                 stream: self.stream,
                 wave: self.wave,
                 tree: self.tree.take(alloc),
             },
-            2 => Packet::Done {
+            DONE => Packet::Done {
                 stream: self.stream,
                 wave: self.wave,
             },
-            3 => Packet::Attach,
+            ATTACH => Packet::Attach,
             _ => Packet::Down,
         }
     }

@@ -12,17 +12,25 @@ ghost use Rattle.packet_frame.specs.Scanning.{left, left_at, Takes, IsReady, IsI
 use crate::error::{FieldError, FrameReason};
 use crate::number::{u16_of, u64_of};
 use crate::scan::{Field, Part, Scan};
+use call_path::FRAME_LIMIT;
 use prefix_tree::PrefixTree;
-use rank_set::{RankSet, word_is_below};
+use rank_set::{RankSet, WORD_LIMIT, word_is_below};
 use std::alloc::Global;
 use std::mem;
 
+/// The greatest number of words that a set of version 1 may reach over.
+const FIRST_WORD_LIMIT: u32 = 256;
+
 impl<T: PrefixTree> Scan<T> {
-    // How many words a set may reach over.
+    // The greatest number of words that a set may reach over.
     fn word_limit(&self) -> u32
         ensures { result ≡ word_limit self.now.version }
     {
-        if self.version == 1 { 256 } else { 16_384 }
+        if self.version == 1 {
+            FIRST_WORD_LIMIT
+        } else {
+            WORD_LIMIT
+        }
     }
 
     #[tactic(auto, unfolding(crate::specs::Frame::set_form, crate::specs::Frame::offset_form))]
@@ -48,9 +56,9 @@ impl<T: PrefixTree> Scan<T> {
     {
         match self.part {
             Part::Coverage => Some(FrameReason::BadLength),
-            Part::Ends if self.rows_left <= 1 || self.depth == 128 => Some(
-                FrameReason::NotCanonical,
-            ),
+            Part::Ends if self.rows_left <= 1 || usize::from(self.depth) == FRAME_LIMIT => {
+                Some(FrameReason::NotCanonical)
+            }
             Part::Ends => None,
         }
     }
@@ -80,8 +88,8 @@ impl<T: PrefixTree> Scan<T> {
         self.next_word(alloc)
     }
 
-    #[tactic(auto, unfolding(crate::specs::Frame::ends_rule))]
     // Whether a word of a row's ends obeys their rule.
+    #[tactic(auto, unfolding(crate::specs::Frame::ends_rule))]
     fn obeys(&self, word: u64) -> bool
         requires { IsInSet self.now }
         ensures { broken (word_rule self.now.part self.now.version self.now.cover
@@ -95,14 +103,6 @@ impl<T: PrefixTree> Scan<T> {
         }
     }
 
-    // Whether the next word is the first or the last of its set.
-    fn is_edge(&self) -> bool
-        requires { 0 < self.now.left }
-        ensures { result ≡ (nat_eq (length self.now.words.items) 0 || nat_eq (self.now.left - 1) 0) }
-    {
-        self.words.is_empty() || self.left == 1
-    }
-
     #[tactic(auto, unfolding(crate::specs::Frame::word_form))]
     pub fn take_word(&mut self, alloc: Global, field: &[u8]) -> Result<(), FieldError>
         requires ready { IsReady fields.Word self.old }
@@ -111,7 +111,7 @@ impl<T: PrefixTree> Scan<T> {
         ensures ready { OnOk result (IsReady self.new.field self.new) }
     {
         let word = u64_of(field);
-        let is_edge = self.is_edge();
+        let is_edge = self.words.is_empty() || self.left == 1;
         if is_edge && word == 0 {
             return Err(FieldError::Broken(FrameReason::NotCanonical));
         }
@@ -123,7 +123,7 @@ impl<T: PrefixTree> Scan<T> {
         self.next_word(alloc)
     }
 
-    // The next word, if any is left.
+    // Goes on to the next word, or to the end of the set.
     #[inline(always)]
     fn next_word(&mut self, alloc: Global) -> Result<(), FieldError>
         requires { IsInSet self.old }
@@ -138,7 +138,7 @@ impl<T: PrefixTree> Scan<T> {
         Ok(())
     }
 
-    // The set is whole.
+    // Ends a set, whose words were read.
     fn end_set(&mut self, alloc: Global) -> Result<(), FieldError>
         requires part { IsInPart self.old.part self.old }
         requires words { AreWords self.old.offset self.old.words.items }
