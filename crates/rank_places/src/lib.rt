@@ -14,7 +14,7 @@ mod collected;
 mod moving;
 mod table;
 
-use moving::moved;
+use moving::{Way, moved};
 use rank_set::RankSet;
 use std::alloc::{AllocError, Global};
 use std::marker::Model;
@@ -72,7 +72,11 @@ impl CoverPlaces {
         ensures in_cover { IfOk result (λ places. (p : ℕ) → Has p places → p < size self.now) }
         ensures inverse { IfOk result (λ places. from_places self.now places ≡ ranks.now) }
     {
-        moved(*self.runs.allocator(), &self.runs, false, ranks, false)
+        let way = Way {
+            runs: &self.runs,
+            back: false,
+        };
+        moved(*self.runs.allocator(), way, ranks, false)
     }
 
     /// The ranks of the cover whose places are in the set, each place below the cover's count: the way back from
@@ -83,12 +87,10 @@ impl CoverPlaces {
         ensures subset { IfOk result (λ ranks. is_subset ranks self.now ≡ true) }
         ensures inverse { IfOk result (λ ranks. to_places self.now ranks ≡ places.now) }
     {
-        moved(
-            *self.runs.allocator(),
-            &self.runs,
-            true,
-            places,
-            self.scattered,
-        )
+        let way = Way {
+            runs: &self.runs,
+            back: true,
+        };
+        moved(*self.runs.allocator(), way, places, self.scattered)
     }
 }

@@ -12,28 +12,36 @@ use crate::table::{PlacedRun, Shift, find, shift_at, shift_with};
 use rank_set::{RankSet, WORD_LIMIT};
 use std::alloc::{AllocError, Global};
 
+/// Which way numbers are moved.
+#[derive(Clone, Copy)]
+pub(crate) struct Way<'a> {
+    /// The runs of the cover, with their places.
+    pub runs: &'a [PlacedRun],
+    /// From places to ranks, and not from ranks to places.
+    pub back: bool,
+}
+
 // Adds what the numbers of a word become, where it was a run before whose shift is given. It gives the shift of the run
 // that the last of them is in.
 fn put_moved(
-    runs: &[PlacedRun],
-    back: bool,
+    way: Way<'_>,
     before: Shift,
     index: u32,
     word: u64,
     out: &mut Collected,
 ) -> Result<Shift, AllocError>
-    requires placed { ArePlaced 0 0 runs.now }
-    requires moves { AreMoved back (cover_of runs.now) before.first before.last before.target }
+    requires placed { ArePlaced 0 0 way.runs.now }
+    requires moves { AreMoved way.back (cover_of way.runs.now) before.first before.last before.target }
     requires within_limit { index < WORD_LIMIT }
     requires inside { (x : ℕ) → has (ranks_in index (word ∷ [])) x ≡ true
-        → inside back (cover_of runs.now) x ≡ true }
+        → inside way.back (cover_of way.runs.now) x ≡ true }
     requires good { IsCollected out.old }
     requires above { (q x y : ℕ) → has (collected out.old) q ≡ true → 64 * index ≤ x
-        → Becomes back (cover_of runs.now) x y → q < y }
-    ensures moves { IfOk result (λ after. AreMoved back (cover_of runs.now) after.first after.last after.target) }
+        → Becomes way.back (cover_of way.runs.now) x y → q < y }
+    ensures moves { IfOk result (λ after. AreMoved way.entry.back (cover_of way.entry.runs.now) after.first after.last after.target) }
     ensures good { OnOk result (IsCollected out.new) }
     ensures numbers { OnOk result
-        (collected out.new ≡ union (collected out.old) (image back (cover_of runs.now) (ranks_in index (word ∷ [])))) }
+        (collected out.new ≡ union (collected out.old) (image way.entry.back (cover_of way.entry.runs.now) (ranks_in index (word ∷ [])))) }
 {
     let mut run = before;
     let mut from = 64 * index;
@@ -41,7 +49,7 @@ fn put_moved(
     while rest != 0 {
         let zeros = rest.trailing_zeros();
         let first = from + zeros;
-        run = shift_with(runs, back, run, first);
+        run = shift_with(way.runs, way.back, run, first);
         let len = (run.last - first).min(63 - zeros);
         let bits = rest >> zeros;
         out.put(
@@ -67,55 +75,52 @@ fn moved_words(set: &RankSet, run: Shift) -> Result<RankSet, AllocError>
     set.at_word(run.target / 64 + (set.word_offset() - run.first / 64))
 }
 
-/// What the numbers of a set become: places of the ranks of the cover, or, with `back`, ranks at places. It goes by the
-/// runs of the set where it has no words, or where what they become is scattered.
+/// What the numbers of a set become: places of the ranks of the cover, or ranks at places. It goes by the runs of the set where it has no words, or where what they become is scattered.
 pub(crate) fn moved(
     alloc: Global,
-    runs: &[PlacedRun],
-    back: bool,
+    way: Way<'_>,
     set: &RankSet,
     scattered: bool,
 ) -> Result<RankSet, AllocError>
-    requires placed { ArePlaced 0 0 runs.now }
-    requires inside { (x : ℕ) → has set.now x ≡ true → inside back (cover_of runs.now) x ≡ true }
-    ensures { IfOk result (λ moved. moved ≡ image back (cover_of runs.now) set.now) }
+    requires placed { ArePlaced 0 0 way.runs.now }
+    requires inside { (x : ℕ) → has set.now x ≡ true → inside way.back (cover_of way.runs.now) x ≡ true }
+    ensures { IfOk result (λ moved. moved ≡ image way.entry.back (cover_of way.entry.runs.now) set.now) }
 {
     // for the proof: the numbers are below the limit of ranks
     set.invariant();
     let Some(first) = set.first() else {
         return Ok(RankSet::new(alloc));
     };
-    let at = find(runs, back, 0, first);
-    let run = shift_at(runs, back, at, first);
-    if at + 1 == runs.len() && run.first % 64 == run.target % 64 {
+    let at = find(way.runs, way.back, 0, first);
+    let run = shift_at(way.runs, way.back, at, first);
+    if at + 1 == way.runs.len() && run.first % 64 == run.target % 64 {
         return moved_words(set, run);
     }
     if let Some(words) = set.held_words()
         && !scattered
     {
-        return moved_bits(alloc, runs, back, run, set, words);
+        return moved_bits(alloc, way, run, set, words);
     }
-    moved_runs(alloc, runs, back, run, set)
+    moved_runs(alloc, way, run, set)
 }
 
 // What the numbers of a set become, run by run. The shift is that of any run.
 fn moved_runs(
     alloc: Global,
-    runs: &[PlacedRun],
-    back: bool,
+    way: Way<'_>,
     before: Shift,
     set: &RankSet,
 ) -> Result<RankSet, AllocError>
-    requires placed { ArePlaced 0 0 runs.now }
-    requires moves { AreMoved back (cover_of runs.now) before.first before.last before.target }
-    requires inside { (x : ℕ) → has set.now x ≡ true → inside back (cover_of runs.now) x ≡ true }
-    ensures { IfOk result (λ moved. moved ≡ image back (cover_of runs.now) set.now) }
+    requires placed { ArePlaced 0 0 way.runs.now }
+    requires moves { AreMoved way.back (cover_of way.runs.now) before.first before.last before.target }
+    requires inside { (x : ℕ) → has set.now x ≡ true → inside way.back (cover_of way.runs.now) x ≡ true }
+    ensures { IfOk result (λ moved. moved ≡ image way.entry.back (cover_of way.entry.runs.now) set.now) }
 {
     let mut out = RankSet::with_run_capacity(alloc, 1)?;
     let mut shift = before;
     let (mut from, mut hint) = (0, 0);
     while let Some(run) = set.next_run_near(from, &mut hint) {
-        shift = shift_with(runs, back, shift, run.first);
+        shift = shift_with(way.runs, way.back, shift, run.first);
         let len = run.last.min(shift.last) - run.first;
         let target = shift.target + (run.first - shift.first);
         out.collect_run(target, target + len)?;
@@ -128,24 +133,23 @@ fn moved_runs(
 // What the numbers of a set become, whose words are given, bit by bit where they must. The shift is that of any run.
 fn moved_bits(
     alloc: Global,
-    runs: &[PlacedRun],
-    back: bool,
+    way: Way<'_>,
     before: Shift,
     set: &RankSet,
     words: &[u64],
 ) -> Result<RankSet, AllocError>
-    requires placed { ArePlaced 0 0 runs.now }
-    requires moves { AreMoved back (cover_of runs.now) before.first before.last before.target }
+    requires placed { ArePlaced 0 0 way.runs.now }
+    requires moves { AreMoved way.back (cover_of way.runs.now) before.first before.last before.target }
     requires trimmed { AreWords (offset_of set.now) words.now }
     requires words { ranks_in (offset_of set.now) words.now ≡ set.now }
-    requires inside { (x : ℕ) → has set.now x ≡ true → inside back (cover_of runs.now) x ≡ true }
-    ensures { IfOk result (λ moved. moved ≡ image back (cover_of runs.now) set.now) }
+    requires inside { (x : ℕ) → has set.now x ≡ true → inside way.back (cover_of way.runs.now) x ≡ true }
+    ensures { IfOk result (λ moved. moved ≡ image way.entry.back (cover_of way.entry.runs.now) set.now) }
 {
     let mut out = Collected::new(alloc);
     let mut run = before;
     let mut index = set.word_offset();
     for word in words {
-        run = put_moved(runs, back, run, index, *word, &mut out)?;
+        run = put_moved(way, run, index, *word, &mut out)?;
         index += 1;
     }
     out.finish(alloc)

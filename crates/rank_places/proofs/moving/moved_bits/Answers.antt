@@ -12,7 +12,7 @@ loop-word-init c = record {
   index = omega (arith, c.word_offset-index.ensures);
   moves = c.requires.moves;
   good = c.new-out.ensures.good;
-  numbers = words_start (offset_of c.args.set.now) c.args.words.now c.args.back (cover_of c.args.runs.now) c.args.set.now c.requires.inside c.requires.words (collected c.new-out.result) c.new-out.ensures.none;
+  numbers = words_start (offset_of c.args.set.now) c.args.words.now c.args.way.back (cover_of c.args.way.runs.now) c.args.set.now c.requires.inside c.requires.words (collected c.new-out.result) c.new-out.ensures.none;
 }
 
 pub put_moved-requires-clause-within_limit : goal.put_moved-requires-clause-within_limit
@@ -20,7 +20,7 @@ put_moved-requires-clause-within_limit c = omega (arith, c.loop-word.invariant.i
 
 pub put_moved-requires-clause-inside : goal.put_moved-requires-clause-inside
 put_moved-requires-clause-inside c = λ x one.
-    word_inside (offset_of c.args.set.now) c.args.words.now c.args.back (cover_of c.args.runs.now) c.args.set.now c.requires.inside c.requires.words c.loop-word.word-index x
+    word_inside (offset_of c.args.set.now) c.args.words.now c.args.way.back (cover_of c.args.way.runs.now) c.args.set.now c.requires.inside c.requires.words c.loop-word.word-index x
     (subst (λ k. has (ranks_in k (get_or c.args.words.now c.loop-word.word-index 0 ∷ [])) x ≡ true) c.loop-word.invariant.index one)
 
 pub put_moved-requires-clause-good : goal.put_moved-requires-clause-good
@@ -28,7 +28,7 @@ put_moved-requires-clause-good c = c.loop-word.invariant.good
 
 pub put_moved-requires-clause-above : goal.put_moved-requires-clause-above
 put_moved-requires-clause-above c = λ q x y there le becomes.
-    word_above (offset_of c.args.set.now) c.args.words.now c.args.back (cover_of c.args.runs.now) c.args.set.now c.requires.inside c.requires.words c.loop-word.word-index (collected c.loop-word.out) c.loop-word.invariant.numbers q x y there
+    word_above (offset_of c.args.set.now) c.args.words.now c.args.way.back (cover_of c.args.way.runs.now) c.args.set.now c.requires.inside c.requires.words c.loop-word.word-index (collected c.loop-word.out) c.loop-word.invariant.numbers q x y there
     (omega (arith, le, c.loop-word.invariant.index)) becomes
 
 pub put_moved-requires-clause-moves : goal.put_moved-requires-clause-moves
@@ -43,8 +43,8 @@ loop-word-preserved c = record {
   moves = c.in_ok-run.ensures.moves;
   good = c.in_ok-run.ensures.good;
   numbers =
-      word_more (offset_of c.args.set.now) c.args.words.now c.args.back (cover_of c.args.runs.now) c.args.set.now c.requires.inside c.requires.words c.loop-word.word-index (collected c.loop-word.out) (collected c.put_moved.new.out) c.loop-word-test.true c.loop-word.invariant.numbers
-      (c.in_ok-run.ensures.numbers ∙ ap (λ k. union (collected c.loop-word.out) (image c.args.back (cover_of c.args.runs.now) (ranks_in k (get_or c.args.words.now c.loop-word.word-index 0 ∷ [])))) c.loop-word.invariant.index);
+      word_more (offset_of c.args.set.now) c.args.words.now c.args.way.back (cover_of c.args.way.runs.now) c.args.set.now c.requires.inside c.requires.words c.loop-word.word-index (collected c.loop-word.out) (collected c.put_moved.new.out) c.loop-word-test.true c.loop-word.invariant.numbers
+      (c.in_ok-run.ensures.numbers ∙ ap (λ k. union (collected c.loop-word.out) (image c.args.way.back (cover_of c.args.way.runs.now) (ranks_in k (get_or c.args.words.now c.loop-word.word-index 0 ∷ [])))) c.loop-word.invariant.index);
 }
 
 pub finish-requires : goal.finish-requires
@@ -52,6 +52,6 @@ finish-requires c = c.loop-word.invariant.good
 
 pub returns : goal.returns
 returns c =
-    IfOk-weaker c.finish.result (λ set. set ≡ collected c.loop-word.out) (λ moved. moved ≡ image c.args.back (cover_of c.args.runs.now) c.args.set.now)
-    (λ set made. made ∙ c.loop-word.invariant.numbers ∙ words_done (offset_of c.args.set.now) c.args.words.now c.args.back (cover_of c.args.runs.now) c.args.set.now c.requires.inside c.requires.words c.loop-word.word-index c.loop-word-test.false)
+    IfOk-weaker c.finish.result (λ set. set ≡ collected c.loop-word.out) (λ moved. moved ≡ image c.args.way.back (cover_of c.args.way.runs.now) c.args.set.now)
+    (λ set made. made ∙ c.loop-word.invariant.numbers ∙ words_done (offset_of c.args.set.now) c.args.words.now c.args.way.back (cover_of c.args.way.runs.now) c.args.set.now c.requires.inside c.requires.words c.loop-word.word-index c.loop-word-test.false)
     c.finish.ensures

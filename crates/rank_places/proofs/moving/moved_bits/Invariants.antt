@@ -8,7 +8,7 @@ use Rattle.rank_places.proofs.moving.moved_bits.Given as goal
 abbrev pub invariant-loop-word : goal.invariant-loop-word
 invariant-loop-word l = record {
   index : l.index ≡ offset_of l.set + l.word-index;
-  moves : AreMoved l.back (cover_of l.runs) l.run.first l.run.last l.run.target;
+  moves : AreMoved l.way.back (cover_of l.way.runs.now) l.run.first l.run.last l.run.target;
   good : IsCollected l.out;
-  numbers : collected l.out ≡ image l.back (cover_of l.runs) (firsts (offset_of l.set) l.words l.word-index);
+  numbers : collected l.out ≡ image l.way.back (cover_of l.way.runs.now) (firsts (offset_of l.set) l.words l.word-index);
 }

@@ -7,7 +7,7 @@ pub loop-run-init : goal.loop-run-init
 loop-run-init c = record {
   within = omega arith;
   moves = c.requires.moves;
-  numbers = c.in_ok-out.ensures ∙ sym (before_none c.args.back (cover_of c.args.runs.now) c.args.set.now 0 (λ x one. omega arith));
+  numbers = c.in_ok-out.ensures ∙ sym (before_none c.args.way.back (cover_of c.args.way.runs.now) c.args.set.now 0 (λ x one. omega arith));
 }
 
 pub loop-run-preserved : goal.loop-run-preserved
@@ -23,9 +23,9 @@ loop-run-preserved c =
       within = omega (arith, within_run, c.in-Some.ensures.below_limit);
       moves = shift.moved;
       numbers =
-          put_run c.args.back (cover_of c.args.runs.now) c.args.set.now c.requires.inside c.loop-run.from first len c.shift_with-shift.result.first c.shift_with-shift.result.last c.shift_with-shift.result.target shift fits run.start run.passed
+          put_run c.args.way.back (cover_of c.args.way.runs.now) c.args.set.now c.requires.inside c.loop-run.from first len c.shift_with-shift.result.first c.shift_with-shift.result.last c.shift_with-shift.result.target shift fits run.start run.passed
           c.loop-run.out c.collect_run.new.self c.loop-run.invariant.numbers c.in_ok-collect_run.ensures.ok (λ x up down. run.within x up (omega (arith, down, within_run)));
     }
 
 pub returns : goal.returns
-returns c = c.settle.ensures ∙ c.loop-run.invariant.numbers ∙ ap (image c.args.back (cover_of c.args.runs.now)) (before_all c.args.set.now c.loop-run.from c.in_default.ensures.none)
+returns c = c.settle.ensures ∙ c.loop-run.invariant.numbers ∙ ap (image c.args.way.back (cover_of c.args.way.runs.now)) (before_all c.args.set.now c.loop-run.from c.in_default.ensures.none)

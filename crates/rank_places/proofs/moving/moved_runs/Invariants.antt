@@ -7,8 +7,8 @@ use Rattle.rank_places.proofs.moving.moved_runs.Given as goal
 abbrev pub invariant-loop-run : goal.invariant-loop-run
 invariant-loop-run l = record {
   within : l.from ≤ RANK_LIMIT;
-  moves : AreMoved l.back (cover_of l.runs) l.shift.first l.shift.last l.shift.target;
-  numbers : l.out ≡ image l.back (cover_of l.runs) (before l.set l.from);
+  moves : AreMoved l.way.back (cover_of l.way.runs.now) l.shift.first l.shift.last l.shift.target;
+  numbers : l.out ≡ image l.way.back (cover_of l.way.runs.now) (before l.set l.from);
 }
 
 abbrev pub decreases-loop-run : goal.decreases-loop-run

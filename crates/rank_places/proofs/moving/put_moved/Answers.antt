@@ -18,7 +18,7 @@ loop-rest-init c = record {
   good = c.requires.good;
   numbers =
       union_none (collected c.args.out.now)
-      ∙ ap (union (collected c.args.out.now)) (sym (before_none c.args.back (cover_of c.args.runs.now) (ranks_in c.args.index (c.args.word ∷ [])) (64 * c.args.index) (from_word c.args.index c.args.word c.ranges.word.fits)));
+      ∙ ap (union (collected c.args.out.now)) (sym (before_none c.args.way.back (cover_of c.args.way.runs.now) (ranks_in c.args.index (c.args.word ∷ [])) (64 * c.args.index) (from_word c.args.index c.args.word c.ranges.word.fits)));
 }
 
 pub shift_with-run-requires-clause-inside : goal.shift_with-run-requires-clause-inside
@@ -39,7 +39,7 @@ put-requires-clause-above c =
     let first : ℕ = c.loop-rest.from + trailing_zeros w64 c.loop-rest.rest in
     let run = c.shift_with-run.result in
     let fits : first + c.min-len.result ≤ run.last = omega (arith, c.min-len.ensures, c.shift_with-run.ensures.end) in
-    put_above c.args.back (cover_of c.args.runs.now) (ranks_in c.args.index (c.args.word ∷ [])) c.requires.inside c.loop-rest.from first c.min-len.result run.first run.last run.target c.shift_with-run.ensures fits (omega arith)
+    put_above c.args.way.back (cover_of c.args.way.runs.now) (ranks_in c.args.index (c.args.word ∷ [])) c.requires.inside c.loop-rest.from first c.min-len.result run.first run.last run.target c.shift_with-run.ensures fits (omega arith)
     (first_gap c.args.index c.args.word c.ranges.word.fits c.loop-rest.from c.loop-rest.rest i.low i.rest some) (collected c.args.out.now) (collected c.loop-rest.out) i.numbers
     (first_there c.args.index c.args.word c.ranges.word.fits c.loop-rest.from c.loop-rest.rest i.low i.rest some) (λ q x y there le becomes. c.requires.above q x y there (omega (arith, le, i.low)) becomes)
 
@@ -58,7 +58,7 @@ loop-rest-preserved c =
       moves = c.shift_with-run.ensures.moved;
       good = c.in_ok-put.ensures.good;
       numbers =
-          put_next c.args.back (cover_of c.args.runs.now) (ranks_in c.args.index (c.args.word ∷ [])) c.requires.inside c.loop-rest.from first c.min-len.result run.first run.last run.target c.shift_with-run.ensures fits (omega arith)
+          put_next c.args.way.back (cover_of c.args.way.runs.now) (ranks_in c.args.index (c.args.word ∷ [])) c.requires.inside c.loop-rest.from first c.min-len.result run.first run.last run.target c.shift_with-run.ensures fits (omega arith)
           (first_gap c.args.index c.args.word c.ranges.word.fits c.loop-rest.from c.loop-rest.rest i.low i.rest some) (collected c.args.out.now) (collected c.loop-rest.out) (collected c.put.new.self)
           (is_bit (bits c.args.index c.args.word c.ranges.word.fits c.loop-rest.from c.loop-rest.rest i.low i.rest some c.min-len.result few)) i.numbers c.in_ok-put.ensures.numbers
           (bits_in c.args.index c.args.word c.ranges.word.fits c.loop-rest.from c.loop-rest.rest i.low i.rest some c.min-len.result few)
@@ -69,5 +69,5 @@ pub returns-clause-numbers : goal.returns-clause-numbers
 returns-clause-numbers c =
     let i = c.loop-rest.invariant in
     i.numbers
-    ∙ ap (λ s. union (collected c.args.out.now) (image c.args.back (cover_of c.args.runs.now) s))
+    ∙ ap (λ s. union (collected c.args.out.now) (image c.args.way.back (cover_of c.args.way.runs.now) s))
     (before_all (ranks_in c.args.index (c.args.word ∷ [])) c.loop-rest.from (nothing_left c.args.index c.args.word c.ranges.word.fits c.loop-rest.from c.loop-rest.rest i.low i.rest c.loop-rest-test.false))

@@ -11,9 +11,9 @@ invariant-loop-rest l = record {
   low : 64 * l.index ≤ l.from;
   near : l.from ≤ 64 * l.index + 128;
   rest : l.rest ≡ l.word / 2 ^ (l.from - 64 * l.index);
-  moves : AreMoved l.back (cover_of l.runs) l.run.first l.run.last l.run.target;
+  moves : AreMoved l.way.back (cover_of l.way.runs.now) l.run.first l.run.last l.run.target;
   good : IsCollected l.out;
-  numbers : collected l.out ≡ union (collected l.fn.out) (image l.back (cover_of l.runs) (before (ranks_in l.index (l.word ∷ [])) l.from));
+  numbers : collected l.out ≡ union (collected l.fn.out) (image l.way.back (cover_of l.way.runs.now) (before (ranks_in l.index (l.word ∷ [])) l.from));
 }
 
 abbrev pub decreases-loop-rest : goal.decreases-loop-rest
