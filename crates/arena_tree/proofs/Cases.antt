@@ -1,4 +1,4 @@
--- Changes of nodes that hold a forest of runs.
+-- Changes of nodes that hold a forest of chains.
 use Rattle.std.proofs.Common.{◌≡◌, ◌≢◌, ℕ, suc, ◌+◌, ◌<◌, ◌≤◌, List, [], ◌∷◌, ◌++◌, length, take, refl, sym, ap, ◌∙◌, arith, inl, inr, append-nil}
 use Rattle.std.specs.Prelude.{slice_get, Some}
 use Rattle.std.proofs.Math.Seq.{take-append_seam}
@@ -9,10 +9,10 @@ use Rattle.call_path.specs.Path.{Path}
 use Rattle.prefix_tree.specs.Tree.{Marks}
 use Rattle.arena_tree.specs.declared.node.Link.{Link}
 use Rattle.arena_tree.specs.declared.node.Link.TheVariants.{Top, FirstOf, NextOf}
-use Rattle.arena_tree.specs.declared.node.Step.TheVariants.{New}
+use Rattle.arena_tree.specs.declared.node.ChangeStep.TheVariants.{New}
 use Rattle.arena_tree.specs.NodeViews.{NodeView}
 use Rattle.arena_tree.specs.RowMerge.{united_marks}
-use Rattle.arena_tree.specs.RunForest.{RunForest, no_runs, run_node, row_marks, count_nodes, cut_count}
+use Rattle.arena_tree.specs.ChainForest.{ChainForest, no_chains, chain_node, row_marks, count_nodes, cut_count}
 use Rattle.arena_tree.specs.Placement.{first_place, count_place, HasDistinctPlaces, node_view, AreNodesOf}
 use Rattle.arena_tree.specs.Links.{LinkedNodes, with_change, with_first, with_next, relink, first_after, LeadsTo, IsOutside, IsNotAt}
 use Rattle.arena_tree.specs.Steps.{new_view, more_for, with_more_marks, with_frames, apply_step, shared_step, rest_over, count_among, Becomes}
@@ -20,15 +20,15 @@ use Rattle.arena_tree.proofs.More.{more_makes_union}
 use Rattle.arena_tree.proofs.Counting.{agrees, count_among-below, count_among-one, count_among-add, inside, nodes_still_hold, below_all, span_in}
 use Rattle.arena_tree.proofs.Changes.{change_same, change_other, length-with_change, length-relink, relink_other, relink_same, begins_same, at_end, before_end}
 
-pub off_else : (l : Link) (k : RunForest) (y : ℕ) → IsOutside l k → 1 ≤ count_place y k → IsNotAt l y
+pub off_else : (l : Link) (k : ChainForest) (y : ℕ) → IsOutside l k → 1 ≤ count_place y k → IsNotAt l y
 off_else Top k y off some = tt
 off_else (FirstOf a) k y off some = λ e. let z : count_place y k ≡ 0 = ap (λ v. count_place v k) e ∙ off in omega (arith, some, z)
 off_else (NextOf a) k y off some = λ e. let z : count_place y k ≡ 0 = ap (λ v. count_place v k) e ∙ off in omega (arith, some, z)
 
-abbrev pub Premises : Link → ℕ → RunForest → LinkedNodes → Type 0 → Type 0
+abbrev pub Premises : Link → ℕ → ChainForest → LinkedNodes → Type 0 → Type 0
 Premises l n k h X = length h.nodes ≡ n → AreNodesOf h.nodes k → HasDistinctPlaces k → IsOutside l k → LeadsTo l h (first_place k) → X
 
-pub nothing_new : (l : Link) (k : RunForest) (h : LinkedNodes) → AreNodesOf h.nodes k → LeadsTo l h (first_place k) → Becomes l k k 0 h h
+pub nothing_new : (l : Link) (k : ChainForest) (h : LinkedNodes) → AreNodesOf h.nodes k → LeadsTo l h (first_place k) → Becomes l k k 0 h h
 nothing_new l k h nodes_hold to = record {
   nodes_hold = nodes_hold;
   count = omega arith;
@@ -39,7 +39,7 @@ nothing_new l k h nodes_hold to = record {
 }
 
 -- a new node before the others
-module _ (l : Link) (n : ℕ) (g : List ℕ) (gs : Path) (w : Marks) (k c' t' : RunForest) (mc mt : ℕ) (h h2 h3 : LinkedNodes) where
+module _ (l : Link) (n : ℕ) (g : List ℕ) (gs : Path) (w : Marks) (k c' t' : ChainForest) (mc mt : ℕ) (h h2 h3 : LinkedNodes) where
   abbrev x : NodeView
   x = new_view g gs w (first_place k)
 
@@ -47,7 +47,7 @@ module _ (l : Link) (n : ℕ) (g : List ℕ) (gs : Path) (w : Marks) (k c' t' : 
   h1 = apply_step h (New l x)
 
   module _ (len : length h.nodes ≡ n) (nodes_hold : AreNodesOf h.nodes k) (no_common : HasDistinctPlaces k) (off : IsOutside l k)
-      (ih_c : Premises (FirstOf n) (suc n) no_runs h1 (Becomes (FirstOf n) no_runs c' mc h1 h2)) where
+      (ih_c : Premises (FirstOf n) (suc n) no_chains h1 (Becomes (FirstOf n) no_chains c' mc h1 h2)) where
     len0 : length (relink l (length h.nodes) h.nodes) ≡ n
     len0 = length-relink l (length h.nodes) h.nodes ∙ len
 
@@ -60,7 +60,7 @@ module _ (l : Link) (n : ℕ) (g : List ℕ) (gs : Path) (w : Marks) (k c' t' : 
     below1 : (y : ℕ) → y < n → slice_get h1.nodes y ≡ slice_get (relink l n h.nodes) y
     below1 y lt = before_end (relink l (length h.nodes) h.nodes) y x (omega (arith, lt, len0)) ∙ ap (λ v. slice_get (relink l v h.nodes) y) len
 
-    b1 : Becomes (FirstOf n) no_runs c' mc h1 h2
+    b1 : Becomes (FirstOf n) no_chains c' mc h1 h2
     b1 = ih_c len1 tt (λ y. omega arith) refl (x, at_n, refl)
 
     rest1 : (y : ℕ) → y < suc n → slice_get h2.nodes y ≡ slice_get (with_change n (with_first (first_place c')) h1.nodes) y
@@ -100,7 +100,7 @@ module _ (l : Link) (n : ℕ) (g : List ℕ) (gs : Path) (w : Marks) (k c' t' : 
           let there : (suc n ≤ y) × (y < suc n + mc) = span_in y (suc n) mc (omega (arith, e, some)) in
           rest2 y there.1 (off_n y (omega (arith, there.0))) ∙ change_other h2.nodes n y (with_next (first_place t')) (λ e. omega (arith, e, there.0))
 
-      pub new_case : Becomes l k (run_node n g gs w c' t') (suc (mc + mt)) h h3
+      pub new_case : Becomes l k (chain_node n g gs w c' t') (suc (mc + mt)) h h3
       new_case = record {
         nodes_hold = (at_n3, nodes_still_hold h2.nodes h3.nodes c' kept_c b1.nodes_hold, b2.nodes_hold);
         count = let e = b2.count in omega (arith, e, len, len2);
@@ -118,14 +118,14 @@ module _ (l : Link) (n : ℕ) (g : List ℕ) (gs : Path) (w : Marks) (k c' t' : 
         size = let one = b1.size in let two = b2.size in omega (arith, one, two);
       }
 
--- the first frame of a run and those that it has in common
+-- the first frame of a chain and those that it has in common
 first_frames : (f : List ℕ) (fs common mine : Path) → fs ≡ common ++ mine → take (length common + 1) (f ∷ fs) ≡ f ∷ common
 first_frames f fs common mine is =
     let long : length common + 1 ≡ suc (length common) = omega arith in
     ap (λ n. take n (f ∷ fs)) long ∙ ap (λ p. f ∷ take (length common) p) is ∙ ap (λ p. f ∷ p) (take-append_seam common mine)
 
 -- a node with other marks, which may be cut; what stands below it then
-pub record Opened (h h1 : LinkedNodes) (n a : ℕ) (f : List ℕ) (common : Path) (v : Marks) (kb b s : RunForest) (m : ℕ) : Type 0 where
+pub record Opened (h h1 : LinkedNodes) (n a : ℕ) (f : List ℕ) (common : Path) (v : Marks) (kb b s : ChainForest) (m : ℕ) : Type 0 where
   pub len : length h1.nodes ≡ m + n
   pub here : slice_get h1.nodes a ≡ Some (node_view f common v kb s)
   pub kept : (y : ℕ) → y < n → y ≢ a → slice_get h1.nodes y ≡ slice_get h.nodes y
@@ -134,7 +134,7 @@ pub record Opened (h h1 : LinkedNodes) (n a : ℕ) (f : List ℕ) (common : Path
   pub size : count_nodes kb ≡ count_nodes b + m
   pub first : h1.first ≡ h.first
 
-module _ (n a : ℕ) (f : List ℕ) (fs common : Path) (w m : Marks) (b s : RunForest) (h : LinkedNodes) (len : length h.nodes ≡ n) (nodes_hold : AreNodesOf h.nodes (run_node a f fs m b s)) (no_common : HasDistinctPlaces (run_node a f fs m b s)) where
+module _ (n a : ℕ) (f : List ℕ) (fs common : Path) (w m : Marks) (b s : ChainForest) (h : LinkedNodes) (len : length h.nodes ≡ n) (nodes_hold : AreNodesOf h.nodes (chain_node a f fs m b s)) (no_common : HasDistinctPlaces (chain_node a f fs m b s)) where
   in_all : a < length h.nodes
   in_all = slice_get_within h.nodes a (node_view f fs m b s) nodes_hold.0
 
@@ -176,8 +176,8 @@ module _ (n a : ℕ) (f : List ℕ) (fs common : Path) (w m : Marks) (b s : RunF
       }
 
 -- two nodes that begin with one frame
-module _ (l : Link) (n a : ℕ) (f : List ℕ) (fs common : Path) (m v : Marks) (b s kb b' s' : RunForest) (mo mb ms : ℕ) (h h1 h2 h3 : LinkedNodes) where
-  module _ (len : length h.nodes ≡ n) (nodes_hold : AreNodesOf h.nodes (run_node a f fs m b s)) (no_common : HasDistinctPlaces (run_node a f fs m b s))
+module _ (l : Link) (n a : ℕ) (f : List ℕ) (fs common : Path) (m v : Marks) (b s kb b' s' : ChainForest) (mo mb ms : ℕ) (h h1 h2 h3 : LinkedNodes) where
+  module _ (len : length h.nodes ≡ n) (nodes_hold : AreNodesOf h.nodes (chain_node a f fs m b s)) (no_common : HasDistinctPlaces (chain_node a f fs m b s))
       (cut_in : Opened h h1 n a f common v kb b s mo)
       (ih_b : Premises (FirstOf a) (mo + n) kb h1 (Becomes (FirstOf a) kb b' mb h1 h2)) where
     a_in : a < n
@@ -251,7 +251,7 @@ module _ (l : Link) (n a : ℕ) (f : List ℕ) (fs common : Path) (m v : Marks) 
           let lt : y < mo + n + mb = below_all h2.nodes b' (mo + n + mb) y long2 e1.nodes_hold some in
           e2.rest y (omega (arith, lt, long2)) (off_new y some) ∙ change_other h2.nodes a y (with_next (first_place s')) (other_b y some)
 
-      pub same_case : Becomes l (run_node a f fs m b s) (run_node a f common v b' s') (mo + mb + ms) h h3
+      pub same_case : Becomes l (chain_node a f fs m b s) (chain_node a f common v b' s') (mo + mb + ms) h h3
       same_case = record {
         nodes_hold = (in_3, nodes_still_hold h2.nodes h3.nodes b' kept_b e1.nodes_hold, e2.nodes_hold);
         count = let e = e2.count in omega (arith, e, len, long2);
@@ -275,8 +275,8 @@ module _ (l : Link) (n a : ℕ) (f : List ℕ) (fs common : Path) (m v : Marks) 
       }
 
 -- a node is passed
-module _ (l : Link) (n a : ℕ) (f : List ℕ) (fs : Path) (m : Marks) (b s s' : RunForest) (ms : ℕ) (h h1 : LinkedNodes) where
-  module _ (len : length h.nodes ≡ n) (nodes_hold : AreNodesOf h.nodes (run_node a f fs m b s)) (no_common : HasDistinctPlaces (run_node a f fs m b s)) (to : LeadsTo l h a)
+module _ (l : Link) (n a : ℕ) (f : List ℕ) (fs : Path) (m : Marks) (b s s' : ChainForest) (ms : ℕ) (h h1 : LinkedNodes) where
+  module _ (len : length h.nodes ≡ n) (nodes_hold : AreNodesOf h.nodes (chain_node a f fs m b s)) (no_common : HasDistinctPlaces (chain_node a f fs m b s)) (to : LeadsTo l h a)
       (ih : Premises (NextOf a) n s h (Becomes (NextOf a) s s' ms h h1)) where
     off_1 : count_place a s ≡ 0
     off_1 = let e = no_common a in let o = agrees a a refl in omega (arith, e, o)
@@ -294,7 +294,7 @@ module _ (l : Link) (n a : ℕ) (f : List ℕ) (fs : Path) (m : Marks) (b s s' :
         let z : count_place y b ≡ count_place a b = ap (λ u. count_place u b) e in
         omega (arith, some, here, o, z)
 
-    pub pass_case : Becomes l (run_node a f fs m b s) (run_node a f fs m b s') ms h h1
+    pub pass_case : Becomes l (chain_node a f fs m b s) (chain_node a f fs m b s') ms h h1
     pass_case = record {
       nodes_hold = (at_a, nodes_still_hold h.nodes h1.nodes b (λ y some. q1.rest y (below_all h.nodes b (length h.nodes) y refl nodes_hold.1 some) (let e = no_common y in omega (arith, e, some)) ∙ change_other h.nodes a y (with_next (first_place s')) (other_1 y some)) nodes_hold.1, q1.nodes_hold);
       count = q1.count;

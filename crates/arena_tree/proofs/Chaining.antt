@@ -16,27 +16,27 @@ use Rattle.prefix_tree.specs.declared.Cursor.{Cursor}
 use Rattle.prefix_tree.specs.declared.WaitingNode.{WaitingNode}
 use Rattle.arena_tree.specs.NodeViews.{NodeView}
 use Rattle.arena_tree.specs.RowForest.{forest_rows}
-use Rattle.arena_tree.specs.RunForest.{rows_of_runs}
+use Rattle.arena_tree.specs.ChainForest.{rows_of_chains}
 use Rattle.arena_tree.specs.Reading.{forest_at}
 use Rattle.arena_tree.specs.ReadingOrder.{shows, waiting_rows}
 use Rattle.arena_tree.specs.TreeView.{ArenaView, tree_view, arena_view, IsArenaTree}
 use Rattle.arena_tree.specs.Cursors.{waiting_behind, waiting_forests, waiting_count, AreWaiting, IsRowOfFirst, WalksOn, IsCursor}
-use Rattle.arena_tree.proofs.RowShows.{show, shows_rows, run_rows, length-run_rows, all_rows, length-forest}
+use Rattle.arena_tree.proofs.RowShows.{show, shows_rows, node_rows, length-node_rows, all_rows, length-forest}
 use Rattle.arena_tree.proofs.Trees.{entries_are}
 use Rattle.arena_tree.proofs.Making.{rows_past}
 use Rattle.arena_tree.proofs.Views.{tree_is}
 use Rattle.arena_tree.proofs.Walking.{drop_of_none, length_drop, row_within, behind_waiting, behind_count, behind_rows, waiting_few, first_row, taken, taken_room}
 
--- the rows of a run are a chain
-run_chained : (d : ℕ) (fs : Path) (m : Marks) → run_rows d fs m ≡ chained d fs m
-run_chained d [] m = refl
-run_chained d (f ∷ []) m = refl
-run_chained d (f ∷ g ∷ fs) m = ap (λ rows. (d, f, (m.0, none)) ∷ rows) (run_chained (suc d) (g ∷ fs) m)
+-- the rows of a chain are a chain
+node_chained : (d : ℕ) (fs : Path) (m : Marks) → node_rows d fs m ≡ chained d fs m
+node_chained d [] m = refl
+node_chained d (f ∷ []) m = refl
+node_chained d (f ∷ g ∷ fs) m = ap (λ rows. (d, f, (m.0, none)) ∷ rows) (node_chained (suc d) (g ∷ fs) m)
 
-drop_run : (d i : ℕ) (fs : Path) (m : Marks) → drop i (run_rows d fs m) ≡ chained (d + i) (drop i fs) m
-drop_run d zero fs m = let n : d ≡ d + 0 = omega arith in run_chained d fs m ∙ ap (λ n. chained n fs m) n
-drop_run d (suc i) [] m = refl
-drop_run d (suc i) (f ∷ fs) m = let n : suc d + i ≡ d + suc i = omega arith in drop_run (suc d) i fs m ∙ ap (λ n. chained n (drop i fs) m) n
+drop_chain : (d i : ℕ) (fs : Path) (m : Marks) → drop i (node_rows d fs m) ≡ chained (d + i) (drop i fs) m
+drop_chain d zero fs m = let n : d ≡ d + 0 = omega arith in node_chained d fs m ∙ ap (λ n. chained n fs m) n
+drop_chain d (suc i) [] m = refl
+drop_chain d (suc i) (f ∷ fs) m = let n : suc d + i ≡ d + suc i = omega arith in drop_chain (suc d) i fs m ∙ ap (λ n. chained n (drop i fs) m) n
 
 -- lists without their first items
 drop_more : {X : Type 0} (i n : ℕ) (xs : List X) → drop n (drop i xs) ≡ drop (i + n) xs
@@ -44,10 +44,10 @@ drop_more zero n xs = let e : n ≡ 0 + n = omega arith in ap (λ k. drop k xs) 
 drop_more (suc i) n [] = drop_of_none n ∙ sym (drop_of_none (suc i + n))
 drop_more (suc i) n (x ∷ xs) = let e : suc (i + n) ≡ suc i + n = omega arith in drop_more i n xs ∙ ap (λ k. drop k (x ∷ xs)) e
 
-past_front : {X : Type 0} (all run tail : List X) (i : ℕ) → all ≡ run ++ tail → i ≤ length run → drop i all ≡ drop i run ++ drop (length run) all
-past_front all run tail i is le =
-    ap (drop i) is ∙ drop-append-le i run tail le
-    ∙ ap (λ rest. drop i run ++ rest) (sym (drop-append_seam run tail) ∙ ap (drop (length run)) (sym is))
+past_front : {X : Type 0} (all chain tail : List X) (i : ℕ) → all ≡ chain ++ tail → i ≤ length chain → drop i all ≡ drop i chain ++ drop (length chain) all
+past_front all chain tail i is le =
+    ap (drop i) is ∙ drop-append-le i chain tail le
+    ∙ ap (λ rest. drop i chain ++ rest) (sym (drop-append_seam chain tail) ∙ ap (drop (length chain)) (sym is))
 
 -- the rest of a node's rows, on a walk
 module _ (cs : List NodeView) (w : WaitingNode) (ws : List WaitingNode) (i : ℕ) (waits : AreWaiting cs (w ∷ ws)) (frame : IsRowOfFirst cs (w ∷ ws) i) (c : NodeView) (there : slice_get cs w.place ≡ Some c)
@@ -56,10 +56,10 @@ module _ (cs : List NodeView) (w : WaitingNode) (ws : List WaitingNode) (i : ℕ
   all = waiting_rows (waiting_forests cs (w ∷ ws))
 
   abbrev rows : List (ℕ × List ℕ × Marks)
-  rows = shows 1 (rows_of_runs (forest_at cs first))
+  rows = shows 1 (rows_of_chains (forest_at cs first))
 
-  abbrev run : List (ℕ × List ℕ × Marks)
-  run = run_rows w.depth c.frames (c.label, c.ends)
+  abbrev chain : List (ℕ × List ℕ × Marks)
+  chain = node_rows w.depth c.frames (c.label, c.ends)
 
   abbrev left : ℕ
   left = length c.frames - i
@@ -76,13 +76,13 @@ module _ (cs : List NodeView) (w : WaitingNode) (ws : List WaitingNode) (i : ℕ
   pub chain_then : drop (row - 1) rows ≡ chained (w.depth + i) (drop i c.frames) (c.label, c.ends) ++ drop (row + left - 1) rows
   chain_then =
       let within = row_within cs w ws i waits frame c there in
-      let long : length run ≡ length c.frames = length-run_rows w.depth c.frames (c.label, c.ends) in
-      let below = shows (w.depth + length c.frames) (rows_of_runs (forest_at cs c.first)) in
-      let later = shows w.depth (rows_of_runs (forest_at cs c.next)) in
+      let long : length chain ≡ length c.frames = length-node_rows w.depth c.frames (c.label, c.ends) in
+      let below = shows (w.depth + length c.frames) (rows_of_chains (forest_at cs c.first)) in
+      let later = shows w.depth (rows_of_chains (forest_at cs c.next)) in
       let rest = waiting_rows (waiting_forests cs ws) in
       sym walk.rows
-      ∙ past_front all run ((below ++ later) ++ rest) i (ap (λ rs. rs ++ rest) (all_rows cs w.place c waits.0.leads there w.depth i) ∙ append_assoc run (below ++ later) rest) (omega (arith, within, long))
-      ∙ (λ j. drop_run w.depth i c.frames (c.label, c.ends) j ++ (ap (λ n. drop n all) long ∙ rest_rows) j)
+      ∙ past_front all chain ((below ++ later) ++ rest) i (ap (λ rs. rs ++ rest) (all_rows cs w.place c waits.0.leads there w.depth i) ∙ append_assoc chain (below ++ later) rest) (omega (arith, within, long))
+      ∙ (λ j. drop_chain w.depth i c.frames (c.label, c.ends) j ++ (ap (λ n. drop n all) long ∙ rest_rows) j)
 
   pub walk_past : WalksOn cs first (row + left) 0 (waiting_behind c w ws)
   walk_past =
@@ -130,10 +130,10 @@ length-chained d (f ∷ g ∷ fs) m = ap suc (length-chained (suc d) (g ∷ fs) 
 -- what a reader sees of the rows of a tree, past the root
 module _ (C : Ranks) (cs : List NodeView) (first : ℕ) (t : Tree) (seen : tree_view C cs first ≡ t) (holds : IsArenaTree C cs first) where
   abbrev below : List (ℕ × List ℕ × Marks)
-  below = shows 1 (rows_of_runs (forest_at cs first))
+  below = shows 1 (rows_of_chains (forest_at cs first))
 
-  entries_seen : map shown (forest_rows (rows_of_runs (forest_at cs first))) ≡ below
-  entries_seen = rows_seen (forest_rows (rows_of_runs (forest_at cs first))) ∙ shows_rows 0 (rows_of_runs (forest_at cs first))
+  entries_seen : map shown (forest_rows (rows_of_chains (forest_at cs first))) ≡ below
+  entries_seen = rows_seen (forest_rows (rows_of_chains (forest_at cs first))) ∙ shows_rows 0 (rows_of_chains (forest_at cs first))
 
   seen_past : (row : ℕ) → 1 ≤ row → drop row (rows_shown t) ≡ drop (row - 1) below
   seen_past zero le = absurd (omega (arith, le))
@@ -146,7 +146,7 @@ module _ (C : Ranks) (cs : List NodeView) (first : ℕ) (t : Tree) (seen : tree_
   depths : (d : ℕ) (fs : Path) (m : Marks) (more : List (ℕ × List ℕ × Marks)) (i : ℕ) → 0 < length fs → drop i below ≡ chained d fs m ++ more → (0 < d) × (d + length fs ≤ 129)
   depths d fs m more i lt is =
       chain_depths d fs m more lt
-      (subst (All HasGoodDepth) is (All-drop HasGoodDepth i below (subst (All HasGoodDepth) entries_seen (good_depths (forest_rows (rows_of_runs (forest_at cs first))) holds.good_paths))))
+      (subst (All HasGoodDepth) is (All-drop HasGoodDepth i below (subst (All HasGoodDepth) entries_seen (good_depths (forest_rows (rows_of_chains (forest_at cs first))) holds.good_paths))))
 
   module _ (d : ℕ) (fs : Path) (m : Marks) (row n : ℕ) (some : 1 ≤ row) (long : n ≡ row + length fs) (lt : 0 < length fs) (is : drop (row - 1) below ≡ chained d fs m ++ drop (n - 1) below) where
     pub chain_seen : drop row (rows_shown t) ≡ chained d fs m ++ drop n (rows_shown t)
@@ -205,8 +205,8 @@ module _ (C : Ranks) (cs : List NodeView) (first : ℕ) (v : ArenaView) (seen : 
     some : 0 < length rest
     some = let e = length_drop at.frame c.frames in omega (arith, within, e)
 
-    is : drop (at.row - 1) (shows 1 (rows_of_runs (forest_at cs first))) ≡ chained (w.depth + at.frame) rest (c.label, c.ends) ++ drop (n - 1) (shows 1 (rows_of_runs (forest_at cs first)))
-    is = chain_then cs w (reverse others) at.frame walk.waiting walk.frame c there first at.row walk ∙ ap (λ k. chained (w.depth + at.frame) rest (c.label, c.ends) ++ drop (k - 1) (shows 1 (rows_of_runs (forest_at cs first)))) (sym on)
+    is : drop (at.row - 1) (shows 1 (rows_of_chains (forest_at cs first))) ≡ chained (w.depth + at.frame) rest (c.label, c.ends) ++ drop (n - 1) (shows 1 (rows_of_chains (forest_at cs first)))
+    is = chain_then cs w (reverse others) at.frame walk.waiting walk.frame c there first at.row walk ∙ ap (λ k. chained (w.depth + at.frame) rest (c.label, c.ends) ++ drop (k - 1) (shows 1 (rows_of_chains (forest_at cs first)))) (sym on)
 
     pub rows_read : drop at.row (rows_shown v.tree) ≡ chained (w.depth + at.frame) rest (c.label, c.ends) ++ drop n (rows_shown v.tree)
     rows_read = chain_seen C cs first v.tree (tree_is seen) holds (w.depth + at.frame) rest (c.label, c.ends) at.row n walk.below_root long some is

@@ -4,7 +4,7 @@ use Rattle.std.specs.Prelude.{slice_get}
 use Rattle.std.proofs.lemmas.Bool.{cases_lt, ne_eqb, eq-eqb, eqb-true}
 use Rattle.std.proofs.lemmas.Option.{slice_get_within}
 use Rattle.arena_tree.specs.NodeViews.{NodeView}
-use Rattle.arena_tree.specs.RunForest.{RunForest, no_runs, run_node}
+use Rattle.arena_tree.specs.ChainForest.{ChainForest, no_chains, chain_node}
 use Rattle.arena_tree.specs.Placement.{count_place, AreNodesOf}
 use Rattle.arena_tree.specs.Steps.{count_among}
 
@@ -57,9 +57,9 @@ count_among-add y n (suc a) b (suc m) e =
     omega (arith, rest, there)
 
 -- the places of a forest are those of nodes
-pub inside : (cs : List NodeView) (k : RunForest) (y : ℕ) → AreNodesOf cs k → length cs ≤ y → count_place y k ≡ 0
-inside cs no_runs y nodes_hold past = refl
-inside cs (run_node a f fs m b s) y nodes_hold past =
+pub inside : (cs : List NodeView) (k : ChainForest) (y : ℕ) → AreNodesOf cs k → length cs ≤ y → count_place y k ≡ 0
+inside cs no_chains y nodes_hold past = refl
+inside cs (chain_node a f fs m b s) y nodes_hold past =
     let within = slice_get_within cs a _ nodes_hold.0 in
     let distinct = differs y a (λ e. omega (arith, within, past, e)) in
     let one = inside cs b y nodes_hold.1 past in
@@ -67,9 +67,9 @@ inside cs (run_node a f fs m b s) y nodes_hold past =
     omega (arith, distinct, one, two)
 
 -- nodes that are the same at its places hold it too
-pub nodes_still_hold : (cs ds : List NodeView) (k : RunForest) → ((y : ℕ) → 1 ≤ count_place y k → slice_get ds y ≡ slice_get cs y) → AreNodesOf cs k → AreNodesOf ds k
-nodes_still_hold cs ds no_runs same nodes_hold = tt
-nodes_still_hold cs ds (run_node a f fs m b s) same nodes_hold = (
+pub nodes_still_hold : (cs ds : List NodeView) (k : ChainForest) → ((y : ℕ) → 1 ≤ count_place y k → slice_get ds y ≡ slice_get cs y) → AreNodesOf cs k → AreNodesOf ds k
+nodes_still_hold cs ds no_chains same nodes_hold = tt
+nodes_still_hold cs ds (chain_node a f fs m b s) same nodes_hold = (
   same a (own a (count_place a b + count_place a s)) ∙ nodes_hold.0,
   nodes_still_hold cs ds b (λ y some. same y (omega (arith, some))) nodes_hold.1,
   nodes_still_hold cs ds s (λ y some. same y (omega (arith, some))) nodes_hold.2,
@@ -79,7 +79,7 @@ nodes_still_hold cs ds (run_node a f fs m b s) same nodes_hold = (
     own a r = let same = agrees a a refl in omega (arith, same)
 
 -- a place of a forest is that of a node
-pub below_all : (cs : List NodeView) (k : RunForest) (n y : ℕ) → length cs ≡ n → AreNodesOf cs k → 1 ≤ count_place y k → y < n
+pub below_all : (cs : List NodeView) (k : ChainForest) (n y : ℕ) → length cs ≡ n → AreNodesOf cs k → 1 ≤ count_place y k → y < n
 below_all cs k n y len nodes_hold some = elim (cases_lt y n) [
   | inl lt ↦ lt
   | inr ge ↦ let none = inside cs k y nodes_hold (omega (arith, len, ge)) in absurd (omega (arith, some, none))

@@ -3,9 +3,9 @@ use Rattle.std.proofs.Common.{◌≡◌, ℕ, zero, suc, ◌≤◌, List, length
 use Rattle.std.specs.Prelude.{slice_get, Some}
 use Rattle.arena_tree.specs.declared.node.Link.{Link}
 use Rattle.arena_tree.specs.declared.node.Link.TheVariants.{Top, FirstOf, NextOf}
-use Rattle.arena_tree.specs.declared.target.Target.{Target}
+use Rattle.arena_tree.specs.declared.target.MergeTarget.{MergeTarget}
 use Rattle.arena_tree.specs.NodeViews.{NodeView}
-use Rattle.arena_tree.specs.RunForest.{RunForest, count_nodes}
+use Rattle.arena_tree.specs.ChainForest.{ChainForest, count_nodes}
 use Rattle.arena_tree.specs.Placement.{first_place, count_place, HasDistinctPlaces, AreNodesOf}
 use Rattle.arena_tree.specs.Links.{IsOutside}
 use Rattle.arena_tree.specs.Reading.{forest_at, LeadsToForest}
@@ -17,7 +17,7 @@ use Rattle.arena_tree.proofs.SharedFrames.{some_at}
 use Rattle.arena_tree.proofs.Planning.{ReadsBehind, reads_behind, target_frame, after_forest, after_target}
 
 -- after a node
-pub after_grows : (cs : List NodeView) (t after : Target) (c : NodeView) → slice_get cs t.node ≡ Some c → IsAfter t c.next after → CanGrow cs t → CanGrow cs after
+pub after_grows : (cs : List NodeView) (t after : MergeTarget) (c : NodeView) → slice_get cs t.node ≡ Some c → IsAfter t c.next after → CanGrow cs t → CanGrow cs after
 after_grows cs t after c there is grows =
     let at : (f : List ℕ) × (slice_get c.frames t.skip ≡ Some f) = some_at c.frames t.skip (target_frame cs t.node t.place t.skip c grows.leads there) in
     let it : ReadsBehind cs t.node t.place t.skip c at.0 = reads_behind cs t.node t.place t.skip c at.0 grows.leads there at.1 in
@@ -44,14 +44,14 @@ place_at cs node place zero e to = to.1
 place_at cs node place (suc k) e to = absurd (omega (arith, e))
 
 -- a target at a forest that the nodes hold
-pub record Stands (cs : List NodeView) (k : RunForest) (t : Target) : Type 0 where
+pub record Stands (cs : List NodeView) (k : ChainForest) (t : MergeTarget) : Type 0 where
   pub grows : CanGrow cs t
   pub is : target_forest cs t ≡ k
 
-pub stands : (cs : List NodeView) (l : Link) (k : RunForest) (q : ℕ) (t : Target) → first_place k ≡ q → AreNodesOf cs k → count_nodes k ≤ length cs → length cs ≤ 4096 → HasDistinctPlaces k → IsOutside l k → t ≡ all_at l q → Stands cs k t
+pub stands : (cs : List NodeView) (l : Link) (k : ChainForest) (q : ℕ) (t : MergeTarget) → first_place k ≡ q → AreNodesOf cs k → count_nodes k ≤ length cs → length cs ≤ 4096 → HasDistinctPlaces k → IsOutside l k → t ≡ all_at l q → Stands cs k t
 stands cs l k q t from nodes_hold fits few distinct outside is =
     let there : target_forest cs (all_at l q) ≡ k = ap (λ x. target_forest cs (all_at l x)) (sym from) ∙ leads_to cs k nodes_hold fits few in
-    subst (λ (t : Target). Stands cs k t) (sym is) (record {
+    subst (λ (t : MergeTarget). Stands cs k t) (sym is) (record {
       grows = record {
         whole = refl;
         leads = (subst (LeadsToForest cs) from (leads_from cs k nodes_hold fits few), refl);
@@ -62,12 +62,12 @@ stands cs l k q t from nodes_hold fits few distinct outside is =
     })
 
 -- a part of the nodes
-outside_less : (l : Link) (k j : RunForest) → ((y : ℕ) → count_place y j ≤ count_place y k) → IsOutside l k → IsOutside l j
+outside_less : (l : Link) (k j : ChainForest) → ((y : ℕ) → count_place y j ≤ count_place y k) → IsOutside l k → IsOutside l j
 outside_less Top k j less off = tt
 outside_less (FirstOf a) k j less off = let le = less a in omega (arith, le, off)
 outside_less (NextOf a) k j less off = let le = less a in omega (arith, le, off)
 
-pub grows_later : (cs : List NodeView) (t new : Target) → LeadsToForest cs new.node → new.place ≡ new.node → new.skip ≡ t.skip → new.link ≡ t.link → ((y : ℕ) → count_place y (forest_at cs new.node) ≤ count_place y (forest_at cs t.node)) → CanGrow cs t → CanGrow cs new
+pub grows_later : (cs : List NodeView) (t new : MergeTarget) → LeadsToForest cs new.node → new.place ≡ new.node → new.skip ≡ t.skip → new.link ≡ t.link → ((y : ℕ) → count_place y (forest_at cs new.node) ≤ count_place y (forest_at cs t.node)) → CanGrow cs t → CanGrow cs new
 grows_later cs t new to place skip link less grows =
     let zero : new.skip ≡ 0 = skip ∙ grows.whole in
     let from : target_forest cs t ≡ forest_at cs t.node = ap (forest_behind cs t.node t.place) grows.whole in
@@ -85,5 +85,5 @@ pub leads_at : (cs : List NodeView) (node place skip : ℕ) → skip ≡ 0 → L
 leads_at cs node place zero e to = to.0
 leads_at cs node place (suc k) e to = absurd (omega (arith, e))
 
-pub whole_forest : (cs : List NodeView) (t : Target) → t.skip ≡ 0 → target_forest cs t ≡ forest_at cs t.node
+pub whole_forest : (cs : List NodeView) (t : MergeTarget) → t.skip ≡ 0 → target_forest cs t ≡ forest_at cs t.node
 whole_forest cs t e = ap (forest_behind cs t.node t.place) e

@@ -4,9 +4,9 @@ pub mod More
 pub mod Orders
 pub mod MergedRows
 pub mod BareForests
-pub mod MergingRuns
+pub mod MergingChains
 pub mod Cases
-pub mod RunningSteps
+pub mod MergedSteps
 pub mod Growing
 pub mod Reading
 pub mod Trees
@@ -16,7 +16,7 @@ pub mod Planning
 pub mod SharedFrames
 pub mod Totals
 pub mod Sharing
-pub mod PlanningRuns
+pub mod PlanningChains
 pub mod Turns
 pub mod RowShows
 pub mod Making
@@ -29,6 +29,6 @@ pub mod Entering
 pub mod EnteringNew
 pub mod MergingIn
 pub mod MakingInPlace
-pub mod AddingRuns
+pub mod AddingChains
 pub mod Parts
 pub mod Chaining

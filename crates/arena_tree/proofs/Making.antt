@@ -7,18 +7,18 @@ use Rattle.call_path.specs.Path.{Path}
 use Rattle.call_path.specs.Good.{IsGoodPath}
 use Rattle.prefix_tree.specs.Tree.{Tree, count_below, rows_of, merged, added}
 use Rattle.arena_tree.specs.declared.node.Link.TheVariants.{Top}
-use Rattle.arena_tree.specs.declared.node.Step.{Step}
-use Rattle.arena_tree.specs.declared.target.Target.{Target}
+use Rattle.arena_tree.specs.declared.node.ChangeStep.{ChangeStep}
+use Rattle.arena_tree.specs.declared.target.MergeTarget.{MergeTarget}
 use Rattle.arena_tree.specs.declared.trail.Hint.{Hint}
 use Rattle.arena_tree.specs.NodeViews.{NodeView}
 use Rattle.arena_tree.specs.RowForest.{forest_rows}
-use Rattle.arena_tree.specs.RunForest.{RunForest, no_runs, rows_of_runs, count_rows}
-use Rattle.arena_tree.specs.RunMerge.{new_nodes, new_rows}
+use Rattle.arena_tree.specs.ChainForest.{ChainForest, no_chains, rows_of_chains, count_rows}
+use Rattle.arena_tree.specs.ChainMerge.{new_nodes, new_rows}
 use Rattle.arena_tree.specs.Steps.{nodes_added, rows_added, merge_steps, apply_steps}
 use Rattle.arena_tree.specs.Links.{LinkedNodes, linked}
-use Rattle.arena_tree.specs.Reading.{run_of, forest_at}
+use Rattle.arena_tree.specs.Reading.{chain_of, forest_at}
 use Rattle.arena_tree.specs.Targets.{target_forest}
-use Rattle.arena_tree.specs.Plans.{PlanView, plan_with, next_place, HasRoom, PlansRun}
+use Rattle.arena_tree.specs.Plans.{PlanView, plan_with, next_place, HasRoom, PlansChain}
 use Rattle.arena_tree.specs.TreeView.{tree_view, IsArenaTree, path_forest}
 use Rattle.arena_tree.specs.Trail.{AreHints}
 use Rattle.arena_tree.proofs.TurnSteps.{side_steps-none}
@@ -38,25 +38,25 @@ module _ (cs : List NodeView) (n : ℕ) (p0 : PlanView) (base : p0.base ≡ n) (
       record { places = omega (arith, next_is, few, le); rows = omega (arith, zero, le) }
 
   -- a merge is planned
-  pub merge_planned : (p : PlanView) (k o : RunForest) → p ≡ plan_with p0 (merge_steps Top (next_place p0) k o) → p.steps ≡ merge_steps Top (length cs) k o
+  pub merge_planned : (p : PlanView) (k o : ChainForest) → p ≡ plan_with p0 (merge_steps Top (next_place p0) k o) → p.steps ≡ merge_steps Top (length cs) k o
   merge_planned p k o is = ap (λ (p : PlanView). p.steps) is ∙ (λ i. none i ++ merge_steps Top (next_is i) k o)
 
   -- a path is planned
-  pub add_planned : (first : ℕ) (rest below : Target) (C : Ranks) (path : Path) (p : PlanView) → PlansRun cs (record { link = Top; node = first; skip = 0; place = first }) rest below (drop 0 path) (C, C) p0 p
+  pub add_planned : (first : ℕ) (rest below : MergeTarget) (C : Ranks) (path : Path) (p : PlanView) → PlansChain cs (record { link = Top; node = first; skip = 0; place = first }) rest below (drop 0 path) (C, C) p0 p
       → p.steps ≡ merge_steps Top (length cs) (forest_at cs first) (path_forest C path)
   add_planned first rest below C path p it =
-      ap (λ (p : PlanView). p.steps) it.plan ∙ ap (λ (ss : List Step). ss ++ it.steps) none
-      ∙ sym ((λ i. merge_steps Top (sym next_is i) (forest_at cs first) (sym (path_run path) i)) ∙ it.steps_split 0 no_runs no_runs
+      ap (λ (p : PlanView). p.steps) it.plan ∙ ap (λ (ss : List ChangeStep). ss ++ it.steps) none
+      ∙ sym ((λ i. merge_steps Top (sym next_is i) (forest_at cs first) (sym (path_chain path) i)) ∙ it.steps_split 0 no_chains no_chains
       ∙ (λ i. it.steps ++ side_steps-none below.link (next_place p0 + nodes_added it.steps) (target_forest cs below) i
-      ++ side_steps-none rest.link (next_place p0 + nodes_added it.steps + new_nodes [] (target_forest cs below) [] no_runs) (target_forest cs rest) i)
+      ++ side_steps-none rest.link (next_place p0 + nodes_added it.steps + new_nodes [] (target_forest cs below) [] no_chains) (target_forest cs rest) i)
       ∙ append-nil (it.steps ++ []) ∙ append-nil it.steps)
     where
-      path_run : (path : Path) → run_of 0 path (C, C) no_runs no_runs ≡ path_forest C path
-      path_run [] = refl
-      path_run (f ∷ fs) = refl
+      path_chain : (path : Path) → chain_of 0 path (C, C) no_chains no_chains ≡ path_forest C path
+      path_chain [] = refl
+      path_chain (f ∷ fs) = refl
 
 -- how many rows are planned
-pub rows_planned : (n : ℕ) (k o : RunForest) (ss : List Step) → ss ≡ merge_steps Top n k o → rows_added ss ≡ new_rows [] k [] o
+pub rows_planned : (n : ℕ) (k o : ChainForest) (ss : List ChangeStep) → ss ≡ merge_steps Top n k o → rows_added ss ≡ new_rows [] k [] o
 rows_planned n k o ss is = ap rows_added is ∙ merge_rows Top n k o
 
 -- how many rows a tree has
@@ -74,7 +74,7 @@ rows_past C cs first t seen holds = ap (λ t. length (rows_of t)) (sym seen) ∙
 before : (i : ℕ) → (i ≡ 0 → ⊥) → i ≡ suc (i - 1)
 before i lt = omega (arith, lt)
 
-pub row_past : (C : Ranks) (cs : List NodeView) (first : ℕ) (t : Tree) → tree_view C cs first ≡ t → IsArenaTree C cs first → (i : ℕ) → (i ≡ 0 → ⊥) → slice_get (forest_rows (rows_of_runs (forest_at cs first))) (i - 1) ≡ slice_get (rows_of t) i
+pub row_past : (C : Ranks) (cs : List NodeView) (first : ℕ) (t : Tree) → tree_view C cs first ≡ t → IsArenaTree C cs first → (i : ℕ) → (i ≡ 0 → ⊥) → slice_get (forest_rows (rows_of_chains (forest_at cs first))) (i - 1) ≡ slice_get (rows_of t) i
 row_past C cs first t seen holds i lt =
     ap (λ es. slice_get es (i - 1)) (sym (entries_are C cs first holds) ∙ ap (λ (t : Tree). finmap.entries t.below) seen)
     ∙ sym (ap (slice_get (rows_of t)) (before i lt))
@@ -82,7 +82,7 @@ row_past C cs first t seen holds i lt =
 -- a path is added to a tree
 module _ (A C : Ranks) (path : Path) (cs : List NodeView) (first : ℕ) (t : Tree) (seen : tree_view A cs first ≡ t) (holds : IsArenaTree A cs first) (other : C ≢ none) (within : is_subset C t.coverage ≡ true) (good : IsGoodPath path)
     (n rows : ℕ) (p0 p : PlanView) (base : p0.base ≡ n) (empty : p0.steps ≡ []) (len : n ≡ length cs) (rows_are : rows ≡ count_rows (forest_at cs first))
-    (rest below : Target) (plans : PlansRun cs (record { link = Top; node = first; skip = 0; place = first }) rest below (drop 0 path) (C, C) p0 p) where
+    (rest below : MergeTarget) (plans : PlansChain cs (record { link = Top; node = first; skip = 0; place = first }) rest below (drop 0 path) (C, C) p0 p) where
   add_steps : p.steps ≡ merge_steps Top (length cs) (forest_at cs first) (path_forest C path)
   add_steps = add_planned cs n p0 base empty len first rest below C path p plans
 
@@ -92,12 +92,12 @@ module _ (A C : Ranks) (path : Path) (cs : List NodeView) (first : ℕ) (t : Tre
       let new = rows_planned (length cs) (forest_at cs first) (path_forest C path) p.steps add_steps in
       omega (arith, all, new, rows_are)
 
-  pub add_made : (cs1 : List NodeView) (ss : List Step) (h : LinkedNodes) → h ≡ apply_steps (linked first cs1) ss → cs1 ≡ cs → ss ≡ p.steps → rows + rows_added p.steps ≤ 2048 → Makes A h.nodes h.first (added t C path)
+  pub add_made : (cs1 : List NodeView) (ss : List ChangeStep) (h : LinkedNodes) → h ≡ apply_steps (linked first cs1) ss → cs1 ≡ cs → ss ≡ p.steps → rows + rows_added p.steps ≤ 2048 → Makes A h.nodes h.first (added t C path)
   add_made cs1 ss h done same steps few =
       let new = rows_planned (length cs) (forest_at cs first) (path_forest C path) p.steps add_steps in
       steps_make_the_added_tree A C path cs first t seen holds other within good h (done ∙ (λ i. apply_steps (linked first (same i)) ((steps ∙ add_steps) i))) (omega (arith, new, rows_are, few))
 
-  pub add_hints : (cs1 : List NodeView) (ss : List Step) (h : LinkedNodes) → h ≡ apply_steps (linked first cs1) ss → cs1 ≡ cs → ss ≡ p.steps → rows + rows_added p.steps ≤ 2048 → (hs : List Hint) → AreHints (forest_at cs first) hs → AreHints (forest_at h.nodes h.first) hs
+  pub add_hints : (cs1 : List NodeView) (ss : List ChangeStep) (h : LinkedNodes) → h ≡ apply_steps (linked first cs1) ss → cs1 ≡ cs → ss ≡ p.steps → rows + rows_added p.steps ≤ 2048 → (hs : List Hint) → AreHints (forest_at cs first) hs → AreHints (forest_at h.nodes h.first) hs
   add_hints cs1 ss h done same steps few hs right =
       let new = rows_planned (length cs) (forest_at cs first) (path_forest C path) p.steps add_steps in
       subst (λ k. AreHints k hs)
@@ -121,7 +121,7 @@ module _ (A B : Ranks) (cs os : List NodeView) (first other : ℕ) (t u : Tree) 
       let new = rows_planned (length cs) (forest_at cs first) (forest_at os other) p.steps both_steps in
       omega (arith, all, new, rows_are)
 
-  pub merge_made : (C : Ranks) (cs1 : List NodeView) (ss : List Step) (h : LinkedNodes) → h ≡ apply_steps (linked first cs1) ss → cs1 ≡ cs → ss ≡ p.steps → rows + rows_added p.steps ≤ 2048 → C ≡ union A B → Makes C h.nodes h.first (merged t u)
+  pub merge_made : (C : Ranks) (cs1 : List NodeView) (ss : List ChangeStep) (h : LinkedNodes) → h ≡ apply_steps (linked first cs1) ss → cs1 ≡ cs → ss ≡ p.steps → rows + rows_added p.steps ≤ 2048 → C ≡ union A B → Makes C h.nodes h.first (merged t u)
   merge_made C cs1 ss h done same steps few united =
       let new = rows_planned (length cs) (forest_at cs first) (forest_at os other) p.steps both_steps in
       subst (λ (C : Ranks). Makes C h.nodes h.first (merged t u)) (sym united)

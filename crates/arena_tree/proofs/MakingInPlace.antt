@@ -7,10 +7,10 @@ use Rattle.prefix_tree.specs.Tree.{Tree, merged, added, count_below}
 use Rattle.arena_tree.specs.declared.node.Link.TheVariants.{Top}
 use Rattle.arena_tree.specs.declared.trail.Hint.{Hint}
 use Rattle.arena_tree.specs.NodeViews.{NodeView}
-use Rattle.arena_tree.specs.RunForest.{RunForest, no_runs, count_rows}
-use Rattle.arena_tree.specs.RunMerge.{new_rows}
+use Rattle.arena_tree.specs.ChainForest.{ChainForest, no_chains, count_rows}
+use Rattle.arena_tree.specs.ChainMerge.{new_rows}
 use Rattle.arena_tree.specs.Links.{LinkedNodes, linked}
-use Rattle.arena_tree.specs.Reading.{run_of, forest_at}
+use Rattle.arena_tree.specs.Reading.{chain_of, forest_at}
 use Rattle.arena_tree.specs.TreeView.{tree_view, IsArenaTree, path_forest}
 use Rattle.arena_tree.specs.Trail.{AreHints}
 use Rattle.arena_tree.specs.Growth.{all_at, CanGrow, grown, rows_grown}
@@ -28,15 +28,15 @@ module _ (A : Ranks) (cs : List NodeView) (first : ℕ) (holds : IsArenaTree A c
   pub tree_few : length cs ≤ 2048
   tree_few = let all = holds.count in let few = holds.within_limit in let less = nodes_within_rows (forest_at cs first) in omega (arith, all, few, less)
 
-  abbrev more : RunForest → ℕ
+  abbrev more : ChainForest → ℕ
   more o = rows_grown (linked first cs) (all_at Top first) o
 
-  pub more_is : (o : RunForest) → more o ≡ new_rows [] (forest_at cs first) [] o
+  pub more_is : (o : ChainForest) → more o ≡ new_rows [] (forest_at cs first) [] o
   more_is o = merge_rows Top (length cs) (forest_at cs first) o
 
   -- another tree is merged
   module _ (B : Ranks) (os : List NodeView) (other : ℕ) (t u : Tree) (seen : tree_view A cs first ≡ t) (seen_other : tree_view B os other ≡ u) (others : IsArenaTree B os other) (rows : ℕ) (rows_are : rows ≡ count_rows (forest_at cs first)) where
-    abbrev o : RunForest
+    abbrev o : ChainForest
     o = forest_at os other
 
     pub grown_merge_counted : count_below (merged t u) ≡ rows + more o
@@ -56,7 +56,7 @@ module _ (A : Ranks) (cs : List NodeView) (first : ℕ) (holds : IsArenaTree A c
 
   -- a path is added
   module _ (C : Ranks) (path : Path) (t : Tree) (seen : tree_view A cs first ≡ t) (some : C ≢ none) (within : is_subset C t.coverage ≡ true) (good : IsGoodPath path) (rows : ℕ) (rows_are : rows ≡ count_rows (forest_at cs first)) where
-    abbrev one : RunForest
+    abbrev one : ChainForest
     one = path_forest C path
 
     pub grown_add_counted : count_below (added t C path) ≡ rows + more one
@@ -77,6 +77,6 @@ module _ (A : Ranks) (cs : List NodeView) (first : ℕ) (holds : IsArenaTree A c
       grown_add_rows rows1 is = let all = rows_made A h.nodes h.first (added t C path) grown_add_made in omega (arith, all, grown_add_counted, is)
 
 -- a path as a forest
-pub path_run : (C : Ranks) (path : Path) → run_of 0 path (C, C) no_runs no_runs ≡ path_forest C path
-path_run C [] = refl
-path_run C (f ∷ fs) = refl
+pub path_chain : (C : Ranks) (path : Path) → chain_of 0 path (C, C) no_chains no_chains ≡ path_forest C path
+path_chain C [] = refl
+path_chain C (f ∷ fs) = refl

@@ -9,10 +9,10 @@ use Rattle.arena_tree.specs.declared.node.Link.{Link}
 use Rattle.arena_tree.specs.declared.node.Link.TheVariants.{NextOf}
 use Rattle.arena_tree.specs.NodeViews.{NodeView}
 use Rattle.arena_tree.specs.RowForest.{frame_cmp}
-use Rattle.arena_tree.specs.RunForest.{RunForest, no_runs, run_node, count_nodes}
+use Rattle.arena_tree.specs.ChainForest.{ChainForest, no_chains, chain_node, count_nodes}
 use Rattle.arena_tree.specs.Placement.{first_place, node_view, no_place, AreNodesOf}
-use Rattle.arena_tree.specs.Reading.{run_of, forest_at, LeadsToForest, frame_side}
-use Rattle.arena_tree.specs.declared.target.Target.{Target}
+use Rattle.arena_tree.specs.Reading.{chain_of, forest_at, LeadsToForest, frame_side}
+use Rattle.arena_tree.specs.declared.target.MergeTarget.{MergeTarget}
 use Rattle.arena_tree.specs.Targets.{rest_of, forest_behind, target_forest, LeadsBehind, IsTarget, IsAfter, next_of}
 use Rattle.arena_tree.specs.Steps.{merge_steps}
 use Rattle.arena_tree.proofs.Changes.{none_some}
@@ -25,14 +25,14 @@ pub record Reads (cs : List NodeView) (at : ℕ) (c : NodeView) : Type 0 where
   pub frame : List ℕ
   pub behind : Path
   pub frames : c.frames ≡ frame ∷ behind
-  pub is : forest_at cs at ≡ run_node at frame behind (c.label, c.ends) (forest_at cs c.first) (forest_at cs c.next)
+  pub is : forest_at cs at ≡ chain_node at frame behind (c.label, c.ends) (forest_at cs c.first) (forest_at cs c.next)
   pub first : LeadsToForest cs c.first
   pub next : LeadsToForest cs c.next
 
-reads_at : (cs : List NodeView) (at : ℕ) (c : NodeView) (k : RunForest) → forest_at cs at ≡ k → first_place k ≡ at → AreNodesOf cs k → count_nodes k ≤ length cs → length cs ≤ 4096 → slice_get cs at ≡ Some c → Reads cs at c
-reads_at cs at c no_runs is from nodes_hold fits few there =
+reads_at : (cs : List NodeView) (at : ℕ) (c : NodeView) (k : ChainForest) → forest_at cs at ≡ k → first_place k ≡ at → AreNodesOf cs k → count_nodes k ≤ length cs → length cs ≤ 4096 → slice_get cs at ≡ Some c → Reads cs at c
+reads_at cs at c no_chains is from nodes_hold fits few there =
     absurd (none_some c (sym (slice_get_past cs at (omega (arith, few, from))) ∙ there))
-reads_at cs at c (run_node a f fs m b s) is from nodes_hold fits few there =
+reads_at cs at c (chain_node a f fs m b s) is from nodes_hold fits few there =
     let same : c ≡ node_view f fs m b s = same_Some c (node_view f fs m b s) (sym there ∙ ap (slice_get cs) (sym from) ∙ nodes_hold.0) in
     let at_b : forest_at cs (first_place b) ≡ b = leads_to cs b nodes_hold.1 (omega (arith, fits)) few in
     let at_s : forest_at cs (first_place s) ≡ s = leads_to cs s nodes_hold.2 (omega (arith, fits)) few in
@@ -40,7 +40,7 @@ reads_at cs at c (run_node a f fs m b s) is from nodes_hold fits few there =
       frame = f;
       behind = fs;
       frames = refl;
-      is = is ∙ (λ i. run_node (from i) f fs m (sym at_b i) (sym at_s i));
+      is = is ∙ (λ i. chain_node (from i) f fs m (sym at_b i) (sym at_s i));
       first = leads_from cs b nodes_hold.1 (omega (arith, fits)) few;
       next = leads_from cs s nodes_hold.2 (omega (arith, fits)) few;
     })
@@ -50,7 +50,7 @@ reads cs at c to there = reads_at cs at c (forest_at cs at) refl to.begins to.no
 
 -- a target's first node
 pub record ReadsBehind (cs : List NodeView) (node place skip : ℕ) (c : NodeView) (f : List ℕ) : Type 0 where
-  pub is : forest_behind cs node place skip ≡ run_node place f (drop (skip + 1) c.frames) (c.label, c.ends) (forest_at cs c.first) (forest_at cs (next_of skip c.next))
+  pub is : forest_behind cs node place skip ≡ chain_node place f (drop (skip + 1) c.frames) (c.label, c.ends) (forest_at cs c.first) (forest_at cs (next_of skip c.next))
   pub first : LeadsToForest cs c.first
   pub next : LeadsToForest cs (next_of skip c.next)
 
@@ -72,21 +72,21 @@ reads_behind cs node place zero c f to there one =
     let it = reads cs node c to.0 there in
     let frame : it.frame ≡ f = same_Some it.frame f (sym (ap (λ p. slice_get p 0) it.frames) ∙ one) in
     record {
-      is = it.is ∙ (λ i. run_node (sym to.1 i) (frame i) (ap (drop 1) (sym it.frames) i) (c.label, c.ends) (forest_at cs c.first) (forest_at cs c.next));
+      is = it.is ∙ (λ i. chain_node (sym to.1 i) (frame i) (ap (drop 1) (sym it.frames) i) (c.label, c.ends) (forest_at cs c.first) (forest_at cs c.next));
       first = it.first;
       next = it.next;
     }
 reads_behind cs node place (suc i) c f to there one =
-    let none : no_runs ≡ forest_at cs 4294967295 = sym (none_in cs to.4) in
+    let none : no_chains ≡ forest_at cs 4294967295 = sym (none_in cs to.4) in
     record {
-      is = ap (rest_of cs place (suc i)) there ∙ ap (λ p. run_of place p (c.label, c.ends) (forest_at cs c.first) no_runs) (drop_at c.frames (suc i) f one)
-          ∙ ap (λ s. run_node place f (drop (suc i + 1) c.frames) (c.label, c.ends) (forest_at cs c.first) s) none;
+      is = ap (rest_of cs place (suc i)) there ∙ ap (λ p. chain_of place p (c.label, c.ends) (forest_at cs c.first) no_chains) (drop_at c.frames (suc i) f one)
+          ∙ ap (λ s. chain_node place f (drop (suc i + 1) c.frames) (c.label, c.ends) (forest_at cs c.first) s) none;
       first = subst (λ (x : NodeView). LeadsToForest cs x.first) (same_Some to.0 c (sym to.1 ∙ there)) to.3;
       next = leads_nowhere cs to.4;
     }
 
 -- a target is none where its node is none
-pub target_none : (cs : List NodeView) (node place skip : ℕ) → LeadsBehind cs node place skip → node ≡ no_place → forest_behind cs node place skip ≡ no_runs
+pub target_none : (cs : List NodeView) (node place skip : ℕ) → LeadsBehind cs node place skip → node ≡ no_place → forest_behind cs node place skip ≡ no_chains
 target_none cs node place zero to e = ap (forest_at cs) e ∙ none_in cs to.0.within_limit
 target_none cs node place (suc i) to e = let within = slice_get_within cs node to.0 to.1 in absurd (omega (arith, within, e, to.4))
 
@@ -95,19 +95,19 @@ module _ (cs : List NodeView) (node place skip : ℕ) (c : NodeView) (f : List �
   pub side_at : frame_side g (forest_behind cs node place skip) ≡ frame_cmp g f
   side_at = ap (frame_side g) it.is
 
-  pub passes_on : frame_cmp g f ≡ Greater → (l : Link) (n x : ℕ) (gs : Path) (w : Marks) (u t : RunForest)
-      → merge_steps l n (forest_behind cs node place skip) (run_node x g gs w u t) ≡ merge_steps (NextOf place) n (forest_at cs (next_of skip c.next)) (run_node x g gs w u t)
+  pub passes_on : frame_cmp g f ≡ Greater → (l : Link) (n x : ℕ) (gs : Path) (w : Marks) (u t : ChainForest)
+      → merge_steps l n (forest_behind cs node place skip) (chain_node x g gs w u t) ≡ merge_steps (NextOf place) n (forest_at cs (next_of skip c.next)) (chain_node x g gs w u t)
   passes_on e l n x gs w u t =
-      ap (λ k. merge_steps l n k (run_node x g gs w u t)) it.is
+      ap (λ k. merge_steps l n k (chain_node x g gs w u t)) it.is
       ∙ steps_pass l n place x f g (drop (skip + 1) c.frames) gs (c.label, c.ends) w (forest_at cs c.first) (forest_at cs (next_of skip c.next)) u t e
 
   pub shorter : count_nodes (forest_at cs (next_of skip c.next)) < count_nodes (forest_behind cs node place skip)
   shorter = let e = ap count_nodes it.is in omega (arith, e)
 
 -- what follows a node
-pub after_forest : (cs : List NodeView) (t after : Target) (next : ℕ) → IsAfter t next after → target_forest cs after ≡ forest_at cs (next_of t.skip next)
+pub after_forest : (cs : List NodeView) (t after : MergeTarget) (next : ℕ) → IsAfter t next after → target_forest cs after ≡ forest_at cs (next_of t.skip next)
 after_forest cs t after next e = λ i. forest_behind cs (e.node i) (e.place i) (e.skip i)
 
-pub after_target : (cs : List NodeView) (t after : Target) (next : ℕ) → IsAfter t next after → LeadsToForest cs (next_of t.skip next) → IsTarget cs after
+pub after_target : (cs : List NodeView) (t after : MergeTarget) (next : ℕ) → IsAfter t next after → LeadsToForest cs (next_of t.skip next) → IsTarget cs after
 after_target cs t after next e to =
     subst (λ k. LeadsBehind cs after.node after.place k) (sym e.skip) (subst (LeadsToForest cs) (sym e.node) to, e.place ∙ sym e.node)

@@ -13,11 +13,11 @@ use Rattle.prefix_tree.specs.declared.Row.{Row}
 use Rattle.prefix_tree.specs.Shown.{Shows, IsGoodRow}
 use Rattle.arena_tree.specs.NodeViews.{NodeView}
 use Rattle.arena_tree.specs.RowForest.{RowForest, no_rows, row_node, size, forest_rows}
-use Rattle.arena_tree.specs.RunForest.{RunForest, run_node, row_ends, row_marks, rows_below, rows_of_runs, count_rows, count_nodes}
+use Rattle.arena_tree.specs.ChainForest.{ChainForest, chain_node, row_ends, row_marks, rows_below, rows_of_chains, count_rows, count_nodes}
 use Rattle.arena_tree.specs.Reading.{forest_at, LeadsToForest}
 use Rattle.arena_tree.specs.ReadingOrder.{shows, row_seen}
 use Rattle.arena_tree.proofs.Changes.{none_some}
-use Rattle.arena_tree.proofs.Growing.{size-rows_of_runs}
+use Rattle.arena_tree.proofs.Growing.{size-rows_of_chains}
 use Rattle.arena_tree.proofs.Planning.{Reads, reads}
 
 pub get_front : {X : Type 0} (xs ys : List X) (i : ℕ) → i < length xs → slice_get (xs ++ ys) i ≡ slice_get xs i
@@ -131,55 +131,55 @@ module _ (row : Row) where
     pub row_good : All (λ e. IsGoodPath e.0) (forest_rows k) → IsGoodRow row
     row_good h = good_if (forest_rows k) h j (slice_get (forest_rows k) j) refl read
 
--- the rows of one run
-abbrev pub run_rows : ℕ → Path → Marks → List (ℕ × List ℕ × Marks)
-run_rows d [] m = []
-run_rows d (f ∷ fs) m = (d, f, row_marks fs m) ∷ run_rows (suc d) fs m
+-- the rows of one chain
+abbrev pub node_rows : ℕ → Path → Marks → List (ℕ × List ℕ × Marks)
+node_rows d [] m = []
+node_rows d (f ∷ fs) m = (d, f, row_marks fs m) ∷ node_rows (suc d) fs m
 
-pub length-run_rows : (d : ℕ) (fs : Path) (m : Marks) → length (run_rows d fs m) ≡ length fs
-length-run_rows d [] m = refl
-length-run_rows d (f ∷ fs) m = ap suc (length-run_rows (suc d) fs m)
+pub length-node_rows : (d : ℕ) (fs : Path) (m : Marks) → length (node_rows d fs m) ≡ length fs
+length-node_rows d [] m = refl
+length-node_rows d (f ∷ fs) m = ap suc (length-node_rows (suc d) fs m)
 
-get-run_rows : (d : ℕ) (fs : Path) (m : Marks) (i : ℕ) (f : List ℕ) → slice_get fs i ≡ Some f → slice_get (run_rows d fs m) i ≡ Some (d + i, f, row_marks (drop (i + 1) fs) m)
-get-run_rows d [] m i f e = absurd (none_some f e)
-get-run_rows d (g ∷ fs) m zero f e = let n : d ≡ d + 0 = omega arith in λ j. Some (n j, same_Some g f e j, row_marks fs m)
-get-run_rows d (g ∷ fs) m (suc i) f e =
+get-node_rows : (d : ℕ) (fs : Path) (m : Marks) (i : ℕ) (f : List ℕ) → slice_get fs i ≡ Some f → slice_get (node_rows d fs m) i ≡ Some (d + i, f, row_marks (drop (i + 1) fs) m)
+get-node_rows d [] m i f e = absurd (none_some f e)
+get-node_rows d (g ∷ fs) m zero f e = let n : d ≡ d + 0 = omega arith in λ j. Some (n j, same_Some g f e j, row_marks fs m)
+get-node_rows d (g ∷ fs) m (suc i) f e =
     let n : suc d + i ≡ d + suc i = omega arith in
     let k : suc (i + 1) ≡ suc i + 1 = omega arith in
-    get-run_rows (suc d) fs m i f e ∙ (λ j. Some (n j, f, row_marks (drop (k j) (g ∷ fs)) m))
+    get-node_rows (suc d) fs m i f e ∙ (λ j. Some (n j, f, row_marks (drop (k j) (g ∷ fs)) m))
 
-shows-below : (d a : ℕ) (fs : Path) (m : Marks) (b : RowForest) → shows d (rows_below a fs m b) ≡ run_rows d fs m ++ shows (d + length fs) b
+shows-below : (d a : ℕ) (fs : Path) (m : Marks) (b : RowForest) → shows d (rows_below a fs m b) ≡ node_rows d fs m ++ shows (d + length fs) b
 shows-below d a [] m b = let n : d ≡ d + 0 = omega arith in ap (λ k. shows k b) n
 shows-below d a (f ∷ fs) m b =
     let n : suc d + length fs ≡ d + suc (length fs) = omega arith in
-    ap (λ es. (d, f, row_marks fs m) ∷ es) (append-nil (shows (suc d) (rows_below a fs m b)) ∙ shows-below (suc d) a fs m b ∙ ap (λ k. run_rows (suc d) fs m ++ shows k b) n)
+    ap (λ es. (d, f, row_marks fs m) ∷ es) (append-nil (shows (suc d) (rows_below a fs m b)) ∙ shows-below (suc d) a fs m b ∙ ap (λ k. node_rows (suc d) fs m ++ shows k b) n)
 
-shows-run : (d a : ℕ) (f : List ℕ) (fs : Path) (m : Marks) (b s : RunForest)
-    → shows d (rows_of_runs (run_node a f fs m b s)) ≡ run_rows d (f ∷ fs) m ++ (shows (d + length (f ∷ fs)) (rows_of_runs b) ++ shows d (rows_of_runs s))
-shows-run d a f fs m b s =
+shows-chain : (d a : ℕ) (f : List ℕ) (fs : Path) (m : Marks) (b s : ChainForest)
+    → shows d (rows_of_chains (chain_node a f fs m b s)) ≡ node_rows d (f ∷ fs) m ++ (shows (d + length (f ∷ fs)) (rows_of_chains b) ++ shows d (rows_of_chains s))
+shows-chain d a f fs m b s =
     let n : suc d + length fs ≡ d + suc (length fs) = omega arith in
     ap (λ es. (d, f, row_marks fs m) ∷ es)
-    ((λ i. (shows-below (suc d) a fs m (rows_of_runs b) ∙ ap (λ k. run_rows (suc d) fs m ++ shows k (rows_of_runs b)) n) i ++ shows d (rows_of_runs s))
-    ∙ append_assoc (run_rows (suc d) fs m) (shows (d + suc (length fs)) (rows_of_runs b)) (shows d (rows_of_runs s)))
+    ((λ i. (shows-below (suc d) a fs m (rows_of_chains b) ∙ ap (λ k. node_rows (suc d) fs m ++ shows k (rows_of_chains b)) n) i ++ shows d (rows_of_chains s))
+    ∙ append_assoc (node_rows (suc d) fs m) (shows (d + suc (length fs)) (rows_of_chains b)) (shows d (rows_of_chains s)))
 
-pub length-forest : (d : ℕ) (t : RunForest) → length (shows d (rows_of_runs t)) ≡ count_rows t
-length-forest d t = length-shows d (rows_of_runs t) ∙ size-rows_of_runs t
+pub length-forest : (d : ℕ) (t : ChainForest) → length (shows d (rows_of_chains t)) ≡ count_rows t
+length-forest d t = length-shows d (rows_of_chains t) ∙ size-rows_of_chains t
 
 -- a row of the node that was read, or of what is behind it
 module _ (cs : List NodeView) (at : ℕ) (c : NodeView) (to : LeadsToForest cs at) (there : slice_get cs at ≡ Some c) (d i : ℕ) where
   it : Reads cs at c
   it = reads cs at c to there
 
-  abbrev b : RunForest
+  abbrev b : ChainForest
   b = forest_at cs c.first
 
-  abbrev s : RunForest
+  abbrev s : ChainForest
   s = forest_at cs c.next
 
-  pub all_rows : shows d (rows_of_runs (forest_at cs at)) ≡ run_rows d c.frames (c.label, c.ends) ++ (shows (d + length c.frames) (rows_of_runs b) ++ shows d (rows_of_runs s))
+  pub all_rows : shows d (rows_of_chains (forest_at cs at)) ≡ node_rows d c.frames (c.label, c.ends) ++ (shows (d + length c.frames) (rows_of_chains b) ++ shows d (rows_of_chains s))
   all_rows =
-      ap (λ t. shows d (rows_of_runs t)) it.is ∙ shows-run d at it.frame it.behind (c.label, c.ends) b s
-      ∙ ap (λ p. run_rows d p (c.label, c.ends) ++ (shows (d + length p) (rows_of_runs b) ++ shows d (rows_of_runs s))) (sym it.frames)
+      ap (λ t. shows d (rows_of_chains t)) it.is ∙ shows-chain d at it.frame it.behind (c.label, c.ends) b s
+      ∙ ap (λ p. node_rows d p (c.label, c.ends) ++ (shows (d + length p) (rows_of_chains b) ++ shows d (rows_of_chains s))) (sym it.frames)
 
   pub rows_here : count_rows (forest_at cs at) ≡ length c.frames + (count_rows b + count_rows s)
   rows_here = let e = ap count_rows it.is in let long = ap length it.frames in omega (arith, e, long)
@@ -194,29 +194,29 @@ module _ (cs : List NodeView) (at : ℕ) (c : NodeView) (to : LeadsToForest cs a
   next_here = it.next
 
   pub row_of_node : (row : Row) → row.depth ≡ d + i → slice_get c.frames i ≡ Some row.frame.now → row.label.now ≡ c.label → row.ends.now ≡ row_ends (drop (i + 1) c.frames) c.ends
-      → slice_get (shows d (rows_of_runs (forest_at cs at))) i ≡ Some (row_seen row)
+      → slice_get (shows d (rows_of_chains (forest_at cs at))) i ≡ Some (row_seen row)
   row_of_node row depth frame label ends =
       let within = slice_get_within c.frames i row.frame.now frame in
-      let long = length-run_rows d c.frames (c.label, c.ends) in
-      ap (λ es. slice_get es i) all_rows ∙ get_front _ _ i (omega (arith, within, long)) ∙ get-run_rows d c.frames (c.label, c.ends) i row.frame.now frame
+      let long = length-node_rows d c.frames (c.label, c.ends) in
+      ap (λ es. slice_get es i) all_rows ∙ get_front _ _ i (omega (arith, within, long)) ∙ get-node_rows d c.frames (c.label, c.ends) i row.frame.now frame
       ∙ (λ j. Some (sym depth j, row.frame.now, (sym label j, sym ends j)))
 
   module _ (first : ℕ) (first_is : first ≡ c.first) (less : length c.frames ≤ i) where
-    from_here : slice_get (shows d (rows_of_runs (forest_at cs at))) i ≡ slice_get (shows (d + length c.frames) (rows_of_runs (forest_at cs first)) ++ shows d (rows_of_runs s)) (i - length c.frames)
+    from_here : slice_get (shows d (rows_of_chains (forest_at cs at))) i ≡ slice_get (shows (d + length c.frames) (rows_of_chains (forest_at cs first)) ++ shows d (rows_of_chains s)) (i - length c.frames)
     from_here =
-        let long = length-run_rows d c.frames (c.label, c.ends) in
+        let long = length-node_rows d c.frames (c.label, c.ends) in
         ap (λ es. slice_get es i) all_rows ∙ get_back _ _ i (i - length c.frames) (omega (arith, less, long))
-        ∙ ap (λ y. slice_get (shows (d + length c.frames) (rows_of_runs (forest_at cs y)) ++ shows d (rows_of_runs s)) (i - length c.frames)) (sym first_is)
+        ∙ ap (λ y. slice_get (shows (d + length c.frames) (rows_of_chains (forest_at cs y)) ++ shows d (rows_of_chains s)) (i - length c.frames)) (sym first_is)
 
-    pub row_below : (x : ℕ × List ℕ × Marks) → slice_get (shows (d + length c.frames) (rows_of_runs (forest_at cs first))) (i - length c.frames) ≡ Some x
-        → slice_get (shows d (rows_of_runs (forest_at cs at))) i ≡ Some x
+    pub row_below : (x : ℕ × List ℕ × Marks) → slice_get (shows (d + length c.frames) (rows_of_chains (forest_at cs first))) (i - length c.frames) ≡ Some x
+        → slice_get (shows d (rows_of_chains (forest_at cs at))) i ≡ Some x
     row_below x found = from_here ∙ get_front _ _ (i - length c.frames) (slice_get_within _ (i - length c.frames) x found) ∙ found
 
     pub row_later : (left next : ℕ) → next ≡ c.next → left + count_rows (forest_at cs first) ≡ i - length c.frames
-        → slice_get (shows d (rows_of_runs (forest_at cs at))) i ≡ slice_get (shows d (rows_of_runs (forest_at cs next))) left
+        → slice_get (shows d (rows_of_chains (forest_at cs at))) i ≡ slice_get (shows d (rows_of_chains (forest_at cs next))) left
     row_later left next next_is none =
         let long = length-forest (d + length c.frames) (forest_at cs first) in
-        from_here ∙ get_back _ _ (i - length c.frames) left (omega (arith, none, long)) ∙ ap (λ y. slice_get (shows d (rows_of_runs (forest_at cs y))) left) (sym next_is)
+        from_here ∙ get_back _ _ (i - length c.frames) left (omega (arith, none, long)) ∙ ap (λ y. slice_get (shows d (rows_of_chains (forest_at cs y))) left) (sym next_is)
 
     pub left_over : (left next total i0 : ℕ) → next ≡ c.next → left + count_rows (forest_at cs first) ≡ i - length c.frames → i + total ≡ i0 + count_rows (forest_at cs at) → left + total ≡ i0 + count_rows (forest_at cs next)
     left_over left next total i0 next_is none all =

@@ -12,7 +12,7 @@ use Rattle.call_path.specs.Path.{Path, shared_len}
 use Rattle.call_path.proofs.Shared.{shared_within}
 use Rattle.prefix_tree.specs.Owned.{by_order}
 use Rattle.arena_tree.specs.RowForest.{frame_cmp}
-use Rattle.arena_tree.specs.RunForest.{FrameSplit, no_common, with_common, split_frames, split_parts}
+use Rattle.arena_tree.specs.ChainForest.{FrameSplit, no_common, with_common, split_frames, split_parts}
 use Rattle.arena_tree.proofs.Changes.{none_some}
 use Rattle.arena_tree.proofs.Orders.{cmp_itself}
 

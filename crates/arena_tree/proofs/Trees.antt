@@ -17,18 +17,18 @@ use Rattle.prefix_tree.proofs.GoodPaths.{put_rows_good, path_rows_good}
 use Rattle.arena_tree.specs.declared.node.Link.TheVariants.{Top}
 use Rattle.arena_tree.specs.NodeViews.{NodeView}
 use Rattle.arena_tree.specs.RowForest.{no_rows, forest_rows, HasIncreasingRows}
-use Rattle.arena_tree.specs.RunForest.{RunForest, row_marks, rows_below, rows_of_runs, HasIncreasingRuns, count_nodes, count_rows}
+use Rattle.arena_tree.specs.ChainForest.{ChainForest, row_marks, rows_below, rows_of_chains, HasIncreasingChains, count_nodes, count_rows}
 use Rattle.arena_tree.specs.Placement.{first_place, count_place, HasDistinctPlaces, AreNodesOf}
-use Rattle.arena_tree.specs.RunMerge.{new_nodes, new_rows, merge_runs}
+use Rattle.arena_tree.specs.ChainMerge.{new_nodes, new_rows, merge_chains}
 use Rattle.arena_tree.specs.Links.{LinkedNodes, linked}
 use Rattle.arena_tree.specs.Steps.{apply_steps, merge_steps, count_among, Becomes}
 use Rattle.arena_tree.specs.Reading.{forest_at, LeadsToForest}
 use Rattle.arena_tree.specs.TreeView.{tree_view, IsArenaTree, path_forest}
 use Rattle.arena_tree.proofs.Counting.{count_among-below, count_among-one, inside}
-use Rattle.arena_tree.proofs.RunningSteps.{merge_done}
-use Rattle.arena_tree.proofs.Growing.{nodes_within_rows, count_rows-merge_runs, length-shown}
+use Rattle.arena_tree.proofs.MergedSteps.{merge_done}
+use Rattle.arena_tree.proofs.Growing.{nodes_within_rows, count_rows-merge_chains, length-shown}
 use Rattle.arena_tree.proofs.Orders.{rows_sorted}
-use Rattle.arena_tree.proofs.MergingRuns.{increasing-merge_sides, merge_rows_united}
+use Rattle.arena_tree.proofs.MergingChains.{increasing-merge_sides, merge_rows_united}
 use Rattle.arena_tree.proofs.Reading.{leads_to}
 
 ends_last : (C : Ranks) (q : Path) → row_marks q (C, C) ≡ last_marks q C
@@ -39,7 +39,7 @@ rows_of_rest : (C : Ranks) (q : Path) → forest_rows (rows_below 0 q (C, C) no_
 rows_of_rest C [] = refl
 rows_of_rest C (g ∷ q) = (λ i. (g ∷ [], ends_last C q i) ∷ map (below_frame g) (rows_of_rest C q i) ++ []) ∙ ap (λ es. (g ∷ [], last_marks q C) ∷ es) (append-nil (map (below_frame g) (path_rows C q)))
 
-pub rows_path : (C : Ranks) (p : Path) → forest_rows (rows_of_runs (path_forest C p)) ≡ path_rows C p
+pub rows_path : (C : Ranks) (p : Path) → forest_rows (rows_of_chains (path_forest C p)) ≡ path_rows C p
 rows_path C [] = refl
 rows_path C (f ∷ q) = (λ i. (f ∷ [], ends_last C q i) ∷ map (below_frame f) (rows_of_rest C q i) ++ []) ∙ ap (λ es. (f ∷ [], last_marks q C) ∷ es) (append-nil (map (below_frame f) (path_rows C q)))
 
@@ -47,12 +47,12 @@ increasing_rest : (C : Ranks) (q : Path) → HasIncreasingRows (rows_below 0 q (
 increasing_rest C [] = tt
 increasing_rest C (g ∷ q) = (tt, increasing_rest C q, tt)
 
-pub increasing_path : (C : Ranks) (p : Path) → HasIncreasingRuns (path_forest C p)
+pub increasing_path : (C : Ranks) (p : Path) → HasIncreasingChains (path_forest C p)
 increasing_path C [] = tt
 increasing_path C (f ∷ p) = (tt, increasing_rest C p, tt)
 
 -- places stay distinct
-pub distinct_united : (cs : List NodeView) (k new : RunForest) (m : ℕ) → AreNodesOf cs k → HasDistinctPlaces k → ((y : ℕ) → count_place y new ≡ count_place y k + count_among y (length cs) m) → HasDistinctPlaces new
+pub distinct_united : (cs : List NodeView) (k new : ChainForest) (m : ℕ) → AreNodesOf cs k → HasDistinctPlaces k → ((y : ℕ) → count_place y new ≡ count_place y k + count_among y (length cs) m) → HasDistinctPlaces new
 distinct_united cs k new m nodes_hold no_common is y =
     let count = is y in
     elim (cases_lt y (length cs)) [
@@ -65,16 +65,16 @@ pub record Makes (C : Ranks) (cs : List NodeView) (first : ℕ) (t : Tree) : Typ
   pub is : tree_view C cs first ≡ t
   pub tree : IsArenaTree C cs first
 
--- a tree of runs, and what is read of it
+-- a tree of chains, and what is read of it
 module _ (C : Ranks) (cs : List NodeView) (first : ℕ) (holds : IsArenaTree C cs first) where
-  abbrev own : RunForest
+  abbrev own : ChainForest
   own = forest_at cs first
 
   pub leads_first : LeadsToForest cs first
   leads_first = let all = holds.count in let few = holds.within_limit in let less = nodes_within_rows own in record { begins = holds.begins; nodes_hold = holds.nodes_hold; no_more_nodes = omega (arith, all); within_limit = omega (arith, all, few, less) }
 
-  pub entries_are : finmap.entries (tree_view C cs first).below ≡ forest_rows (rows_of_runs own)
-  entries_are = finmap.entries-from_sorted path_cmp (forest_rows (rows_of_runs own)) (rows_sorted (rows_of_runs own) holds.ordered)
+  pub entries_are : finmap.entries (tree_view C cs first).below ≡ forest_rows (rows_of_chains own)
+  entries_are = finmap.entries-from_sorted path_cmp (forest_rows (rows_of_chains own)) (rows_sorted (rows_of_chains own) holds.ordered)
 
   pub entry_count : length (finmap.entries (tree_view C cs first).below) ≡ count_rows own
   entry_count = ap length entries_are ∙ length-shown own
@@ -97,23 +97,23 @@ module _ (C : Ranks) (cs : List NodeView) (first : ℕ) (holds : IsArenaTree C c
   makes_covered D = over_ranks (union C D) (pairs_of (tree_view C cs first)) (union C D) (tree_covered (tree_view C cs first) holds.tree D)
 
   -- other rows put in
-  module _ (o : RunForest) (up : HasIncreasingRuns o) (good : All (λ e. IsGoodPath e.0) (forest_rows (rows_of_runs o))) (D : Ranks) (P : Pairs)
-      (is : record { coverage = D; below = insert_rows (tree_view C cs first).below (forest_rows (rows_of_runs o)) } ≡ tree_of P D) where
-    abbrev whole : RunForest
-    whole = merge_runs (length cs) own o
+  module _ (o : ChainForest) (up : HasIncreasingChains o) (good : All (λ e. IsGoodPath e.0) (forest_rows (rows_of_chains o))) (D : Ranks) (P : Pairs)
+      (is : record { coverage = D; below = insert_rows (tree_view C cs first).below (forest_rows (rows_of_chains o)) } ≡ tree_of P D) where
+    abbrev whole : ChainForest
+    whole = merge_chains (length cs) own o
 
-    rows_are : finmap.from_sorted {R = path_cmp} (forest_rows (rows_of_runs whole)) ≡ insert_rows (tree_view C cs first).below (forest_rows (rows_of_runs o))
+    rows_are : finmap.from_sorted {R = path_cmp} (forest_rows (rows_of_chains whole)) ≡ insert_rows (tree_view C cs first).below (forest_rows (rows_of_chains o))
     rows_are = merge_rows_united (length cs) own o holds.ordered up
 
-    same_entries : finmap.entries (insert_rows (tree_view C cs first).below (forest_rows (rows_of_runs o))) ≡ forest_rows (rows_of_runs whole)
-    same_entries = ap finmap.entries (sym rows_are) ∙ finmap.entries-from_sorted path_cmp (forest_rows (rows_of_runs whole)) (rows_sorted (rows_of_runs whole) (increasing-merge_sides (length cs) own o holds.ordered up))
+    same_entries : finmap.entries (insert_rows (tree_view C cs first).below (forest_rows (rows_of_chains o))) ≡ forest_rows (rows_of_chains whole)
+    same_entries = ap finmap.entries (sym rows_are) ∙ finmap.entries-from_sorted path_cmp (forest_rows (rows_of_chains whole)) (rows_sorted (rows_of_chains whole) (increasing-merge_sides (length cs) own o holds.ordered up))
 
     pub count_united : count_below (tree_of P D) ≡ count_rows own + new_rows [] own [] o
     count_united =
-        let one : count_below (tree_of P D) ≡ finmap.len (insert_rows (tree_view C cs first).below (forest_rows (rows_of_runs o))) = ap count_below (sym is) in
-        let two = finmap.len-entries (insert_rows (tree_view C cs first).below (forest_rows (rows_of_runs o))) in
+        let one : count_below (tree_of P D) ≡ finmap.len (insert_rows (tree_view C cs first).below (forest_rows (rows_of_chains o))) = ap count_below (sym is) in
+        let two = finmap.len-entries (insert_rows (tree_view C cs first).below (forest_rows (rows_of_chains o))) in
         let by_three = ap length same_entries in
-        omega (arith, one, two, by_three, length-shown whole, count_rows-merge_runs (length cs) own o)
+        omega (arith, one, two, by_three, length-shown whole, count_rows-merge_chains (length cs) own o)
 
     -- after the steps
     module _ (h : LinkedNodes) (done : h ≡ apply_steps (linked first cs) (merge_steps Top (length cs) own o)) (few : count_rows own + new_rows [] own [] o ≤ 2048) where
@@ -124,7 +124,7 @@ module _ (C : Ranks) (cs : List NodeView) (first : ℕ) (holds : IsArenaTree C c
       nodes_whole = let e = became.size in let count = became.count in let all = holds.count in omega (arith, e, count, all)
 
       rows_whole : count_rows whole ≤ 2048
-      rows_whole = omega (arith, few, count_rows-merge_runs (length cs) own o)
+      rows_whole = omega (arith, few, count_rows-merge_chains (length cs) own o)
 
       pub found : forest_at h.nodes h.first ≡ whole
       found = ap (forest_at h.nodes) became.first ∙ leads_to h.nodes whole became.nodes_hold (omega (arith, nodes_whole)) (let less = nodes_within_rows whole in omega (arith, nodes_whole, less, rows_whole))
@@ -137,23 +137,23 @@ module _ (C : Ranks) (cs : List NodeView) (first : ℕ) (holds : IsArenaTree C c
           nodes_hold = subst (AreNodesOf h.nodes) (sym found) became.nodes_hold;
           distinct = subst HasDistinctPlaces (sym found) (distinct_united cs own whole (new_nodes [] own [] o) holds.nodes_hold holds.distinct became.places);
           count = ap count_nodes found ∙ nodes_whole;
-          within_limit = subst (λ (k : RunForest). count_rows k ≤ 2048) (sym found) rows_whole;
-          ordered = subst HasIncreasingRuns (sym found) (increasing-merge_sides (length cs) own o holds.ordered up);
+          within_limit = subst (λ (k : ChainForest). count_rows k ≤ 2048) (sym found) rows_whole;
+          ordered = subst HasIncreasingChains (sym found) (increasing-merge_sides (length cs) own o holds.ordered up);
           tree = subst IsTree (sym same) (IsTree-tree_of P D);
-          good_paths = subst (λ es. All (λ e. IsGoodPath e.0) es) (same_entries ∙ ap (λ k. forest_rows (rows_of_runs k)) (sym found))
-              (put_rows_good (tree_view C cs first).below (forest_rows (rows_of_runs o)) (subst (λ es. All (λ e. IsGoodPath e.0) es) (sym entries_are) holds.good_paths) good);
+          good_paths = subst (λ es. All (λ e. IsGoodPath e.0) es) (same_entries ∙ ap (λ k. forest_rows (rows_of_chains k)) (sym found))
+              (put_rows_good (tree_view C cs first).below (forest_rows (rows_of_chains o)) (subst (λ es. All (λ e. IsGoodPath e.0) es) (sym entries_are) holds.good_paths) good);
         };
       }
         where
           same : tree_view D h.nodes h.first ≡ tree_of P D
-          same = (λ i. record { coverage = D; below = (ap (λ k. finmap.from_sorted {R = path_cmp} (forest_rows (rows_of_runs k))) found ∙ rows_are) i }) ∙ is
+          same = (λ i. record { coverage = D; below = (ap (λ k. finmap.from_sorted {R = path_cmp} (forest_rows (rows_of_chains k))) found ∙ rows_are) i }) ∙ is
 
 -- another tree's rows put in
 module _ (A B : Ranks) (cs os : List NodeView) (first other : ℕ) (holds_own : IsArenaTree A cs first) (holds_other : IsArenaTree B os other) where
   abbrev both : Tree
   both = merged (tree_view A cs first) (tree_view B os other)
 
-  is_merged : record { coverage = union A B; below = insert_rows (tree_view A cs first).below (forest_rows (rows_of_runs (forest_at os other))) } ≡ both
+  is_merged : record { coverage = union A B; below = insert_rows (tree_view A cs first).below (forest_rows (rows_of_chains (forest_at os other))) } ≡ both
   is_merged =
       ap (λ es. record { coverage = union A B; below = insert_rows (tree_view A cs first).below es }) (sym (entries_are B os other holds_other))
       ∙ tree_merged (tree_view A cs first) holds_own.tree (tree_view B os other) holds_other.tree
@@ -176,7 +176,7 @@ lies_in C A within q one = subset_has C A within q one
 
 -- a path's rows put in
 module _ (A C : Ranks) (p : Path) (cs : List NodeView) (first : ℕ) (t : Tree) (seen : tree_view A cs first ≡ t) (holds_own : IsArenaTree A cs first) (other : C ≢ none) (within : is_subset C t.coverage ≡ true) (good : IsGoodPath p) where
-  abbrev o : RunForest
+  abbrev o : ChainForest
   o = path_forest C p
 
   some : (r : ℕ) × (has C r ≡ true)
@@ -185,12 +185,12 @@ module _ (A C : Ranks) (p : Path) (cs : List NodeView) (first : ℕ) (t : Tree) 
   covers_each : (q : ℕ) → has C q ≡ true → has A q ≡ true
   covers_each = lies_in C A (ap (λ (t : Tree). is_subset C t.coverage) seen ∙ within)
 
-  is_added : record { coverage = A; below = insert_rows (tree_view A cs first).below (forest_rows (rows_of_runs o)) } ≡ added (tree_view A cs first) C p
+  is_added : record { coverage = A; below = insert_rows (tree_view A cs first).below (forest_rows (rows_of_chains o)) } ≡ added (tree_view A cs first) C p
   is_added =
       ap (λ es. record { coverage = A; below = insert_rows (tree_view A cs first).below es }) (rows_path C p)
       ∙ tree_added (tree_view A cs first) holds_own.tree C p some.0 some.1 covers_each
 
-  good_rows : All (λ e. IsGoodPath e.0) (forest_rows (rows_of_runs o))
+  good_rows : All (λ e. IsGoodPath e.0) (forest_rows (rows_of_chains o))
   good_rows = subst (λ es. All (λ e. IsGoodPath e.0) es) (sym (rows_path C p)) (path_rows_good C some.0 some.1 p good)
 
   abbrev pairs : Pairs
@@ -205,5 +205,5 @@ module _ (A C : Ranks) (p : Path) (cs : List NodeView) (first : ℕ) (t : Tree) 
       (makes_united A cs first holds_own o (increasing_path C p) good_rows A pairs is_added h done few)
 
   -- the forest then
-  pub added_forest : (h : LinkedNodes) → h ≡ apply_steps (linked first cs) (merge_steps Top (length cs) (forest_at cs first) o) → count_rows (forest_at cs first) + new_rows [] (forest_at cs first) [] o ≤ 2048 → forest_at h.nodes h.first ≡ merge_runs (length cs) (forest_at cs first) o
+  pub added_forest : (h : LinkedNodes) → h ≡ apply_steps (linked first cs) (merge_steps Top (length cs) (forest_at cs first) o) → count_rows (forest_at cs first) + new_rows [] (forest_at cs first) [] o ≤ 2048 → forest_at h.nodes h.first ≡ merge_chains (length cs) (forest_at cs first) o
   added_forest h done few = found A cs first holds_own o (increasing_path C p) good_rows A pairs is_added h done few

@@ -1,4 +1,4 @@
--- What the view of a tree of runs has.
+-- What the view of a tree of chains has.
 use Rattle.std.proofs.Common.{◌≡◌, List, ℕ, ap}
 use Rattle.rank_set.specs.Ranks.{Ranks}
 use Rattle.arena_tree.specs.NodeViews.{NodeView}

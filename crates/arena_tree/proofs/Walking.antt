@@ -11,15 +11,15 @@ use Rattle.prefix_tree.specs.declared.Cursor.{Cursor}
 use Rattle.prefix_tree.specs.declared.Row.{Row}
 use Rattle.prefix_tree.specs.declared.WaitingNode.{WaitingNode}
 use Rattle.arena_tree.specs.NodeViews.{NodeView}
-use Rattle.arena_tree.specs.RunForest.{RunForest, no_runs, run_node, row_ends, rows_of_runs, count_nodes, count_rows}
+use Rattle.arena_tree.specs.ChainForest.{ChainForest, no_chains, chain_node, row_ends, rows_of_chains, count_nodes, count_rows}
 use Rattle.arena_tree.specs.Placement.{first_place, no_place}
 use Rattle.arena_tree.specs.Reading.{forest_at, LeadsToForest}
 use Rattle.arena_tree.specs.ReadingOrder.{shows, waiting_rows, row_seen}
 use Rattle.arena_tree.specs.TreeView.{ArenaView, arena_view}
-use Rattle.arena_tree.specs.Cursors.{with_link, waiting_behind, waiting_next, frame_next, waiting_forests, waiting_count, AreWaiting, run_length, IsRowOfFirst, WalksOn, IsCursor}
+use Rattle.arena_tree.specs.Cursors.{with_link, waiting_behind, waiting_next, frame_next, waiting_forests, waiting_count, AreWaiting, chain_length, IsRowOfFirst, WalksOn, IsCursor}
 use Rattle.arena_tree.proofs.Planning.{Reads, reads}
 use Rattle.arena_tree.proofs.Reading.{none_in}
-use Rattle.arena_tree.proofs.RowShows.{run_rows, length-run_rows, get_front, all_rows, rows_here, nodes_here, row_of_node, length-forest}
+use Rattle.arena_tree.proofs.RowShows.{node_rows, length-node_rows, get_front, all_rows, rows_here, nodes_here, row_of_node, length-forest}
 
 -- lists that are walked along
 drop_one : {X : Type 0} (i : ℕ) (xs : List X) → drop 1 (drop i xs) ≡ drop (suc i) xs
@@ -51,17 +51,17 @@ cond_pairs : {A B : Type 0} (P : A → B → Type 0) (b : Bool) (x y : A) (u v :
 cond_pairs P true x y u v p q = p refl
 cond_pairs P false x y u v p q = q refl
 
-has_run : (k : RunForest) (at : ℕ) → first_place k ≡ at → at ≢ no_place → 0 < run_length k
-has_run no_runs at from off = absurd (off (sym from))
-has_run (run_node a f fs m b s) at from off = omega arith
+has_chain : (k : ChainForest) (at : ℕ) → first_place k ≡ at → at ≢ no_place → 0 < chain_length k
+has_chain no_chains at from off = absurd (off (sym from))
+has_chain (chain_node a f fs m b s) at from off = omega arith
 
-has_node : (k : RunForest) (at : ℕ) → first_place k ≡ at → at ≢ no_place → 0 < count_nodes k
-has_node no_runs at from off = absurd (off (sym from))
-has_node (run_node a f fs m b s) at from off = omega arith
+has_node : (k : ChainForest) (at : ℕ) → first_place k ≡ at → at ≢ no_place → 0 < count_nodes k
+has_node no_chains at from off = absurd (off (sym from))
+has_node (chain_node a f fs m b s) at from off = omega arith
 
-has_rows : (k : RunForest) → run_length k ≤ count_rows k
-has_rows no_runs = omega arith
-has_rows (run_node a f fs m b s) = omega arith
+has_rows : (k : ChainForest) → chain_length k ≤ count_rows k
+has_rows no_chains = omega arith
+has_rows (chain_node a f fs m b s) = omega arith
 
 pub length_drop : {X : Type 0} (i : ℕ) (xs : List X) → length (drop i xs) ≡ length xs - i
 length_drop zero xs = omega arith
@@ -83,7 +83,7 @@ module _ (cs : List NodeView) where
   -- each has a row, and a node
   pub first_row : (ws : List WaitingNode) → AreWaiting cs ws → IsRowOfFirst cs ws 0
   first_row [] h = tt
-  first_row (w ∷ ws) h = has_run (forest_at cs w.place) w.place h.0.leads.begins h.0.node
+  first_row (w ∷ ws) h = has_chain (forest_at cs w.place) w.place h.0.leads.begins h.0.node
 
   pub waiting_few : (ws : List WaitingNode) → AreWaiting cs ws → length ws ≤ waiting_count cs ws
   waiting_few [] h = omega arith
@@ -94,13 +94,13 @@ module _ (cs : List NodeView) where
 
   -- a link more
   module _ (at d : ℕ) (ws : List WaitingNode) (leads : LeadsToForest cs at) where
-    none_there : nat_eq at no_place ≡ true → forest_at cs at ≡ no_runs
+    none_there : nat_eq at no_place ≡ true → forest_at cs at ≡ no_chains
     none_there e = ap (forest_at cs) (eqb-true at no_place e) ∙ none_in cs leads.within_limit
 
-    pub link_rows : waiting_rows (waiting_forests cs (with_link at d ws)) ≡ shows d (rows_of_runs (forest_at cs at)) ++ waiting_rows (waiting_forests cs ws)
+    pub link_rows : waiting_rows (waiting_forests cs (with_link at d ws)) ≡ shows d (rows_of_chains (forest_at cs at)) ++ waiting_rows (waiting_forests cs ws)
     link_rows =
-        cond_both (nat_eq at no_place) _ _ (λ (us : List WaitingNode). waiting_rows (waiting_forests cs us) ≡ shows d (rows_of_runs (forest_at cs at)) ++ waiting_rows (waiting_forests cs ws))
-        (λ e. ap (λ k. shows d (rows_of_runs k) ++ waiting_rows (waiting_forests cs ws)) (sym (none_there e))) (λ _. refl)
+        cond_both (nat_eq at no_place) _ _ (λ (us : List WaitingNode). waiting_rows (waiting_forests cs us) ≡ shows d (rows_of_chains (forest_at cs at)) ++ waiting_rows (waiting_forests cs ws))
+        (λ e. ap (λ k. shows d (rows_of_chains k) ++ waiting_rows (waiting_forests cs ws)) (sym (none_there e))) (λ _. refl)
 
     pub link_count : waiting_count cs (with_link at d ws) ≡ count_nodes (forest_at cs at) + waiting_count cs ws
     link_count =
@@ -116,11 +116,11 @@ module _ (cs : List NodeView) where
     it : Reads cs w.place c
     it = reads cs w.place c waits.0.leads there
 
-    pub run_here : run_length (forest_at cs w.place) ≡ length c.frames
-    run_here = ap run_length it.is ∙ ap length (sym it.frames)
+    pub chain_here : chain_length (forest_at cs w.place) ≡ length c.frames
+    chain_here = ap chain_length it.is ∙ ap length (sym it.frames)
 
     pub row_within : i < length c.frames
-    row_within = omega (arith, frame, run_here)
+    row_within = omega (arith, frame, chain_here)
 
     pub behind_waiting : AreWaiting cs (waiting_behind c w ws)
     behind_waiting =
@@ -138,16 +138,16 @@ module _ (cs : List NodeView) where
 
     pub behind_rows : waiting_rows (waiting_forests cs (waiting_behind c w ws)) ≡ drop (length c.frames) (waiting_rows (waiting_forests cs (w ∷ ws)))
     behind_rows =
-        let run = run_rows w.depth c.frames (c.label, c.ends) in
-        let below = shows (w.depth + length c.frames) (rows_of_runs (forest_at cs c.first)) in
-        let later = shows w.depth (rows_of_runs (forest_at cs c.next)) in
+        let chain = node_rows w.depth c.frames (c.label, c.ends) in
+        let below = shows (w.depth + length c.frames) (rows_of_chains (forest_at cs c.first)) in
+        let later = shows w.depth (rows_of_chains (forest_at cs c.next)) in
         let rest = waiting_rows (waiting_forests cs ws) in
         link_rows c.first (w.depth + length c.frames) (with_link c.next w.depth ws) it.first
         ∙ ap (λ rs. below ++ rs) (link_rows c.next w.depth ws it.next)
         ∙ sym (append_assoc below later rest)
-        ∙ sym (drop-append_seam run ((below ++ later) ++ rest))
-        ∙ ap (λ n. drop n (run ++ ((below ++ later) ++ rest))) (length-run_rows w.depth c.frames (c.label, c.ends))
-        ∙ ap (drop (length c.frames)) (sym (append_assoc run (below ++ later) rest))
+        ∙ sym (drop-append_seam chain ((below ++ later) ++ rest))
+        ∙ ap (λ n. drop n (chain ++ ((below ++ later) ++ rest))) (length-node_rows w.depth c.frames (c.label, c.ends))
+        ∙ ap (drop (length c.frames)) (sym (append_assoc chain (below ++ later) rest))
         ∙ ap (λ rs. drop (length c.frames) (rs ++ rest)) (sym (all_rows cs w.place c waits.0.leads there w.depth i))
 
     pub next_waiting : AreWaiting cs (waiting_next c w i ws)
@@ -170,13 +170,13 @@ module _ (cs : List NodeView) where
       pub walk_next : WalksOn cs first (row + 1) (frame_next c i) (waiting_next c w i ws)
       walk_next =
           let all = waiting_rows (waiting_forests cs (w ∷ ws)) in
-          let rows = shows 1 (rows_of_runs (forest_at cs first)) in
+          let rows = shows 1 (rows_of_chains (forest_at cs first)) in
           let on = one_more all rows i row walk.below_root walk.rows in
           cond_pairs (λ (us : List WaitingNode) j. WalksOn cs first (row + 1) j us) (nat_lt (i + 1) (length c.frames)) (w ∷ ws) (waiting_behind c w ws) (i + 1) 0
           (λ e. record {
             below_root = omega arith;
             waiting = waits;
-            frame = let lt = ltb-true (i + 1) (length c.frames) e in omega (arith, lt, run_here);
+            frame = let lt = ltb-true (i + 1) (length c.frames) e in omega (arith, lt, chain_here);
             rows = on;
           })
           (λ e. record {
@@ -189,9 +189,9 @@ module _ (cs : List NodeView) where
       -- there is a row more
       pub row_below : count_rows (forest_at cs first) ≤ 2048 → row < 4096
       row_below few =
-          let own = shows w.depth (rows_of_runs (forest_at cs w.place)) in
+          let own = shows w.depth (rows_of_chains (forest_at cs w.place)) in
           let rest = waiting_rows (waiting_forests cs ws) in
-          let rows = shows 1 (rows_of_runs (forest_at cs first)) in
+          let rows = shows 1 (rows_of_chains (forest_at cs first)) in
           let long = length-forest 1 (forest_at cs first) in
           let all = length-forest w.depth (forest_at cs w.place) in
           let one = has_rows (forest_at cs w.place) in
@@ -199,12 +199,12 @@ module _ (cs : List NodeView) where
           omega (arith, some, long, few)
 
       pub row_next : (r : Row) → r.depth ≡ w.depth + i → slice_get c.frames i ≡ Some r.frame.now → r.label.now ≡ c.label → r.ends.now ≡ row_ends (drop (i + 1) c.frames) c.ends
-          → slice_get (shows 1 (rows_of_runs (forest_at cs first))) (row - 1) ≡ Some (row_seen r)
+          → slice_get (shows 1 (rows_of_chains (forest_at cs first))) (row - 1) ≡ Some (row_seen r)
       row_next r depth frame label ends =
-          let own = shows w.depth (rows_of_runs (forest_at cs w.place)) in
+          let own = shows w.depth (rows_of_chains (forest_at cs w.place)) in
           let rest = waiting_rows (waiting_forests cs ws) in
           let here : slice_get own i ≡ Some (row_seen r) = row_of_node cs w.place c waits.0.leads there w.depth i r depth frame label ends in
-          let rows = shows 1 (rows_of_runs (forest_at cs first)) in
+          let rows = shows 1 (rows_of_chains (forest_at cs first)) in
           sym (get_drop (row - 1) rows) ∙ ap (λ rs. slice_get rs 0) (sym walk.rows) ∙ get_drop i (own ++ rest) ∙ get_front own rest i (slice_get_within own i (row_seen r) here) ∙ here
 
   -- a cursor at the first row
@@ -215,7 +215,7 @@ module _ (cs : List NodeView) where
         below_root = omega arith;
         waiting = waits;
         frame = first_row (with_link first 1 []) waits;
-        rows = link_rows first 1 [] leads ∙ append-nil (shows 1 (rows_of_runs (forest_at cs first)));
+        rows = link_rows first 1 [] leads ∙ append-nil (shows 1 (rows_of_chains (forest_at cs first)));
       }
 
 -- a cursor of a tree
@@ -227,7 +227,7 @@ module _ (C : Ranks) (cs : List NodeView) (first : ℕ) (t : ArenaView) (seen : 
   pub walk_over : (left : List WaitingNode) → at.waiting.items ≡ left ++ [] → length left ≡ 0 → count_rows (forest_at cs first) < at.row
   walk_over left items none =
       let same = ap (λ us. drop at.frame (waiting_rows (waiting_forests cs (reverse us)))) (items ∙ append-nil left ∙ no_items left none) in
-      let over = drop_none (at.row - 1) (shows 1 (rows_of_runs (forest_at cs first))) (sym (same ∙ drop_of_none at.frame) ∙ here.walk.rows) in
+      let over = drop_none (at.row - 1) (shows 1 (rows_of_chains (forest_at cs first))) (sym (same ∙ drop_of_none at.frame) ∙ here.walk.rows) in
       let long = length-forest 1 (forest_at cs first) in
       let le = here.walk.below_root in
       omega (arith, over, long, le)
@@ -269,5 +269,5 @@ module _ (C : Ranks) (cs : List NodeView) (first : ℕ) (t : ArenaView) (seen : 
           })
 
       pub found : (r : Row) → r.depth ≡ w.depth + at.frame → slice_get c.frames at.frame ≡ Some r.frame.now → r.label.now ≡ c.label → r.ends.now ≡ row_ends (drop (at.frame + 1) c.frames) c.ends
-          → slice_get (shows 1 (rows_of_runs (forest_at cs first))) (at.row - 1) ≡ Some (row_seen r)
+          → slice_get (shows 1 (rows_of_chains (forest_at cs first))) (at.row - 1) ≡ Some (row_seen r)
       found = row_next cs w (reverse left) at.frame taken.waiting taken.frame c there first at.row taken

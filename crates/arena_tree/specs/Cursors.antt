@@ -4,7 +4,7 @@ use Rattle.std.specs.Vec.{vec_capacity}
 use Rattle.prefix_tree.specs.declared.Cursor.{Cursor}
 use Rattle.prefix_tree.specs.declared.WaitingNode.{WaitingNode}
 use Rattle.arena_tree.specs.NodeViews.{NodeView}
-use Rattle.arena_tree.specs.RunForest.{RunForest, no_runs, run_node, rows_of_runs, count_nodes, count_rows}
+use Rattle.arena_tree.specs.ChainForest.{ChainForest, no_chains, chain_node, rows_of_chains, count_nodes, count_rows}
 use Rattle.arena_tree.specs.Placement.{no_place}
 use Rattle.arena_tree.specs.Reading.{forest_at, LeadsToForest}
 use Rattle.arena_tree.specs.ReadingOrder.{shows, waiting_rows}
@@ -26,7 +26,7 @@ abbrev pub frame_next : NodeView → ℕ → ℕ
 frame_next c i = cond (nat_lt (i + 1) (length c.frames)) (i + 1) 0
 
 -- the forests that the nodes lead to, each with the depth of its first nodes
-abbrev pub waiting_forests : List NodeView → List WaitingNode → List (ℕ × RunForest)
+abbrev pub waiting_forests : List NodeView → List WaitingNode → List (ℕ × ChainForest)
 waiting_forests cs [] = []
 waiting_forests cs (w ∷ ws) = (w.depth, forest_at cs w.place) ∷ waiting_forests cs ws
 
@@ -46,21 +46,21 @@ AreWaiting cs [] = Unit {0}
 AreWaiting cs (w ∷ ws) = IsWaiting cs w × AreWaiting cs ws
 
 -- how many rows the first node of a forest has
-abbrev pub run_length : RunForest → ℕ
-run_length no_runs = 0
-run_length (run_node a f fs m b s) = suc (length fs)
+abbrev pub chain_length : ChainForest → ℕ
+chain_length no_chains = 0
+chain_length (chain_node a f fs m b s) = suc (length fs)
 
 -- row i of the first node that waits exists, if one waits
 abbrev pub IsRowOfFirst : List NodeView → List WaitingNode → ℕ → Type 0
 IsRowOfFirst cs [] i = Unit {0}
-IsRowOfFirst cs (w ∷ ws) i = i < run_length (forest_at cs w.place)
+IsRowOfFirst cs (w ∷ ws) i = i < chain_length (forest_at cs w.place)
 
 -- what waits, past the first i rows, are the rows of the forest from a place on, past those before the given one (the root is row 0)
 pub record WalksOn (cs : List NodeView) (first row i : ℕ) (ws : List WaitingNode) : Type 0 where
   pub below_root : 1 ≤ row
   pub waiting : AreWaiting cs ws
   pub frame : IsRowOfFirst cs ws i
-  pub rows : drop i (waiting_rows (waiting_forests cs ws)) ≡ drop (row - 1) (shows 1 (rows_of_runs (forest_at cs first)))
+  pub rows : drop i (waiting_rows (waiting_forests cs ws)) ≡ drop (row - 1) (shows 1 (rows_of_chains (forest_at cs first)))
 
 -- a cursor stands before its row; the next node is its last, and there is room for each node that may wait later
 pub record IsCursor (cs : List NodeView) (first : ℕ) (at : Cursor) : Type 0 where

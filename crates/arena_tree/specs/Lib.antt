@@ -1,8 +1,8 @@
 pub mod NodeViews
 pub mod RowForest
 pub mod RowMerge
-pub mod RunForest
-pub mod RunMerge
+pub mod ChainForest
+pub mod ChainMerge
 pub mod Placement
 pub mod Links
 pub mod Steps

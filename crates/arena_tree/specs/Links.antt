@@ -5,7 +5,7 @@ use Rattle.arena_tree.specs.declared.node.Link.{Link}
 use Rattle.arena_tree.specs.declared.node.Link.TheVariants.{Top, FirstOf, NextOf}
 use Rattle.arena_tree.specs.NodeViews.{NodeView}
 use Rattle.arena_tree.specs.Placement.{count_place}
-use Rattle.arena_tree.specs.RunForest.{RunForest}
+use Rattle.arena_tree.specs.ChainForest.{ChainForest}
 
 -- where the forest begins, and its nodes
 pub record LinkedNodes : Type 0 where
@@ -49,7 +49,7 @@ LeadsTo (FirstOf a) h v = (x : NodeView) × (slice_get h.nodes a ≡ Some x) × 
 LeadsTo (NextOf a) h v = (x : NodeView) × (slice_get h.nodes a ≡ Some x) × (x.next ≡ v)
 
 -- a link is of none of these nodes
-abbrev pub IsOutside : Link → RunForest → Type 0
+abbrev pub IsOutside : Link → ChainForest → Type 0
 IsOutside Top k = Unit {0}
 IsOutside (FirstOf a) k = count_place a k ≡ 0
 IsOutside (NextOf a) k = count_place a k ≡ 0

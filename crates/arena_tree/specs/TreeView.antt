@@ -1,4 +1,4 @@
--- What a tree of runs stands for.
+-- What a tree of chains stands for.
 use Rattle.std.specs.Prelude.{◌≡◌, refl, ℕ, ◌≤◌, All, List, [], ◌∷◌, length}
 use Rattle.std.specs.Coded.{Coded, code_by, coded×, coded_ℕ, coded_list}
 use Rattle.std.specs.FinMap as finmap
@@ -9,13 +9,13 @@ use Rattle.prefix_tree.specs.Tree.{Tree, IsTree}
 use Rattle.prefix_tree.specs.Code.{coded_tree}
 use Rattle.arena_tree.specs.NodeViews.{NodeView}
 use Rattle.arena_tree.specs.RowForest.{forest_rows}
-use Rattle.arena_tree.specs.RunForest.{RunForest, no_runs, run_node, rows_of_runs, HasIncreasingRuns, count_nodes, count_rows}
+use Rattle.arena_tree.specs.ChainForest.{ChainForest, no_chains, chain_node, rows_of_chains, HasIncreasingChains, count_nodes, count_rows}
 use Rattle.arena_tree.specs.Placement.{first_place, HasDistinctPlaces, AreNodesOf}
 use Rattle.arena_tree.specs.Reading.{forest_at}
 
 -- the nodes from a place on as a tree over a coverage
 abbrev pub tree_view : Ranks → List NodeView → ℕ → Tree
-tree_view C cs first = record { coverage = C; below = finmap.from_sorted {R = path_cmp} (forest_rows (rows_of_runs (forest_at cs first))) }
+tree_view C cs first = record { coverage = C; below = finmap.from_sorted {R = path_cmp} (forest_rows (rows_of_chains (forest_at cs first))) }
 
 -- a tree, the nodes that it is made of, and where it begins
 pub record ArenaView : Type 0 where
@@ -41,11 +41,11 @@ pub record IsArenaTree (C : Ranks) (cs : List NodeView) (first : ℕ) : Type 0 w
   pub distinct : HasDistinctPlaces (forest_at cs first)
   pub count : count_nodes (forest_at cs first) ≡ length cs
   pub within_limit : count_rows (forest_at cs first) ≤ 2048
-  pub ordered : HasIncreasingRuns (forest_at cs first)
+  pub ordered : HasIncreasingChains (forest_at cs first)
   pub tree : IsTree (tree_view C cs first)
-  pub good_paths : All (λ e. IsGoodPath e.0) (forest_rows (rows_of_runs (forest_at cs first)))
+  pub good_paths : All (λ e. IsGoodPath e.0) (forest_rows (rows_of_chains (forest_at cs first)))
 
 -- a forest of one path, whose places are of no account
-abbrev pub path_forest : Ranks → Path → RunForest
-path_forest C [] = no_runs
-path_forest C (f ∷ p) = run_node 0 f p (C, C) no_runs no_runs
+abbrev pub path_forest : Ranks → Path → ChainForest
+path_forest C [] = no_chains
+path_forest C (f ∷ p) = chain_node 0 f p (C, C) no_chains no_chains

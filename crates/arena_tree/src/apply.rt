@@ -5,7 +5,7 @@ ghost use Rattle.arena_tree.specs.NodeViews.{NodeView, view_of};
 ghost use Rattle.arena_tree.specs.Links.{with_change, with_first, with_next, relink, first_after, linked};
 ghost use Rattle.arena_tree.specs.Steps.{more_for, with_more_marks, with_frames, apply_step, apply_steps, nodes_added, nodes_added_by};
 
-use crate::node::{Link, NO_PLACE, Node, Step, Upper};
+use crate::node::{Link, NO_PLACE, Node, ChangeStep, Upper};
 use call_path::CallPath;
 use node_arena::{Arena, Place};
 use rank_set::RankSet;
@@ -92,19 +92,19 @@ pub(crate) fn relink(first: &mut Place, nodes: &mut Arena<Node>, link: Link, to:
 }
 
 // Does one step.
-fn apply_one(first: &mut Place, nodes: &mut Arena<Node>, one: Step)
+fn apply_one(first: &mut Place, nodes: &mut Arena<Node>, one: ChangeStep)
     requires { nodes_added_by one ≤ nodes.old.spare }
     ensures held { linked first.new nodes.new.items ≡ apply_step (linked first.old nodes.old.items) one }
     ensures spare { nodes.new.spare + nodes_added_by one ≡ nodes.old.spare }
 {
     match one {
-        Step::Old(at, label, ends) => mark(nodes, at, label, ends),
-        Step::Cut(at, more, label, ends, node) => {
+        ChangeStep::Old(at, label, ends) => mark(nodes, at, label, ends),
+        ChangeStep::Cut(at, more, label, ends, node) => {
             let place = nodes.len();
             cut(nodes, at, more, label, ends, place);
             nodes.put(node);
         }
-        Step::New(link, node) => {
+        ChangeStep::New(link, node) => {
             let place = nodes.len();
             relink(first, nodes, link, place);
             nodes.put(node);
@@ -113,7 +113,7 @@ fn apply_one(first: &mut Place, nodes: &mut Arena<Node>, one: Step)
 }
 
 /// Does steps one after another, for whose new nodes there is room. Returns the vector that they were in.
-pub(crate) fn apply(first: &mut Place, nodes: &mut Arena<Node>, steps: Vec<Step>) -> Vec<Step>
+pub(crate) fn apply(first: &mut Place, nodes: &mut Arena<Node>, steps: Vec<ChangeStep>) -> Vec<ChangeStep>
     requires { nodes_added steps.items ≤ nodes.old.spare }
     ensures { linked first.new nodes.new.items ≡ apply_steps (linked first.old nodes.old.items) steps.items }
 {

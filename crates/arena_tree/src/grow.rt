@@ -5,10 +5,10 @@
 ghost use Rattle.std.specs.Prelude.{◌≡◌, ◌+◌, ◌-◌, ◌<◌, ◌≤◌, ◌∷◌, Some, IfOk, OnOk, length, drop, slice_get};
 ghost use Rattle.rank_set.specs.Ranks.{none, union};
 ghost use Rattle.arena_tree.specs.declared.node.Link.TheVariants.{FirstOf, NextOf};
-ghost use Rattle.arena_tree.specs.declared.node.Step.TheVariants.{Cut, New};
+ghost use Rattle.arena_tree.specs.declared.node.ChangeStep.TheVariants.{Cut, New};
 ghost use Rattle.arena_tree.specs.NodeViews.{NodeView, view_of, view_behind};
 ghost use Rattle.arena_tree.specs.Links.{linked};
-ghost use Rattle.arena_tree.specs.RunForest.{RunForest, count_rows};
+ghost use Rattle.arena_tree.specs.ChainForest.{ChainForest, count_rows};
 ghost use Rattle.arena_tree.specs.Steps.{apply_step};
 ghost use Rattle.arena_tree.specs.Reading.{forest_at};
 ghost use Rattle.arena_tree.specs.Targets.{IsTarget, target_forest};
@@ -17,10 +17,10 @@ ghost use Rattle.arena_tree.specs.Growth.{all_at, led_by, place_below, CanGrow, 
 ghost use Rattle.arena_tree.specs.Trail.{AreHints, AreOwnHints, HasSiblings, below_first, LeadsToOrdered};
 
 use crate::apply::{relink, split, unite};
-use crate::merge::{Run, ends_at};
+use crate::merge::{NewChain, ends_at};
 use crate::node::{Link, NO_PLACE, Node, Upper};
 use crate::shared::common_behind;
-use crate::target::{Target, seek};
+use crate::target::{MergeTarget, seek};
 use crate::trail::{Hint, follow};
 use node_arena::{Arena, Place};
 use rank_set::RankSet;
@@ -38,27 +38,27 @@ pub(crate) struct Growth {
 #[derive(Clone, Copy)]
 pub(crate) struct Source<'a> {
     pub(crate) nodes: &'a Arena<Node>,
-    pub(crate) nobody: &'a RankSet,
+    pub(crate) no_ranks: &'a RankSet,
 }
 
 impl Growth {
-    /// Adds a node for a run before the node of the target, leads the target to what comes after it, and returns the
+    /// Adds a node for a chain before the node of the target, leads the target to what comes after it, and returns the
     /// target below it.
-    fn put(&mut self, into: &mut Target, run: Run<'_>) -> Result<Target, AllocError>
-        requires skip { run.skip < length run.path.now }
+    fn put(&mut self, into: &mut MergeTarget, chain: NewChain<'_>) -> Result<MergeTarget, AllocError>
+        requires skip { chain.skip < length chain.path.now }
         requires room { length self.old.nodes.items < 4096 }
         requires rows { self.old.rows ≤ 4096 }
         ensures made { OnOk result (linked self.new.first self.new.nodes.items
             ≡ apply_step (linked self.old.first self.old.nodes.items) (New into.old.link
-            (view_of (drop run.entry.skip run.entry.path.now) (run.entry.label.now, run.entry.ends.now) NO_PLACE
+            (view_of (drop chain.entry.skip chain.entry.path.now) (chain.entry.label.now, chain.entry.ends.now) NO_PLACE
             into.old.place))) }
         ensures rows { OnOk result (self.new.rows
-            ≡ self.old.rows + length (drop run.entry.skip run.entry.path.now)) }
+            ≡ self.old.rows + length (drop chain.entry.skip chain.entry.path.now)) }
         ensures below { IfOk result (λ below. below ≡ all_at (FirstOf (length self.old.nodes.items)) NO_PLACE) }
         ensures rest { OnOk result (into.new ≡ led_by (NextOf (length self.old.nodes.items)) into.old) }
     {
         let node = Node::new(
-            run.path, run.skip, run.label, run.ends, NO_PLACE, into.place,
+            chain.path, chain.skip, chain.label, chain.ends, NO_PLACE, into.place,
         )?;
         let rows = node.frames().len() as u32;
         self.nodes.reserve(1)?;
@@ -67,7 +67,7 @@ impl Growth {
         self.nodes.put(node);
         self.rows += rows;
         into.link = Link::NextOf(place);
-        Ok(Target {
+        Ok(MergeTarget {
             link: Link::FirstOf(place),
             node: NO_PLACE,
             skip: 0,
@@ -79,7 +79,7 @@ impl Growth {
     /// the place of that one.
     fn cut(
         &mut self,
-        into: Target,
+        into: MergeTarget,
         shared: usize,
         label: &RankSet,
         ends: &RankSet,
@@ -120,11 +120,11 @@ impl Growth {
     /// Gives the first `shared` frames of the target's node more ranks, and returns the target below them.
     fn share(
         &mut self,
-        into: Target,
+        into: MergeTarget,
         shared: usize,
         label: &RankSet,
         ends: &RankSet,
-    ) -> Result<Target, AllocError>
+    ) -> Result<MergeTarget, AllocError>
         requires at { into.node < length self.old.nodes.items }
         requires whole { into.place ≡ into.node }
         requires not_empty { 0 < shared }
@@ -145,7 +145,7 @@ impl Growth {
         if into.skip + shared == len {
             let first = node.first();
             unite(&mut self.nodes, into.node, label, ends)?;
-            return Ok(Target {
+            return Ok(MergeTarget {
                 link: Link::FirstOf(into.place),
                 node: first,
                 skip: 0,
@@ -153,7 +153,7 @@ impl Growth {
             });
         }
         let place = self.cut(into, shared, label, ends)?;
-        Ok(Target {
+        Ok(MergeTarget {
             link: Link::FirstOf(into.place),
             node: place,
             skip: 0,
@@ -161,66 +161,66 @@ impl Growth {
         })
     }
 
-    /// Merges the first frames of a run, which are also those of the node of the target. Leads the target to what comes
+    /// Merges the first frames of a chain, which are also those of the node of the target. Leads the target to what comes
     /// after that one, and returns the target below and how many of the path's frames are merged then.
-    fn meet(&mut self, into: &mut Target, run: Run<'_>) -> Result<(Target, usize), AllocError>
+    fn meet(&mut self, into: &mut MergeTarget, chain: NewChain<'_>) -> Result<(MergeTarget, usize), AllocError>
         requires into { CanGrow self.old.nodes.items into.old }
-        requires skip { run.skip < length run.path.now }
-        requires begins { BeginsAt self.old.nodes.items into.old run.path.now run.skip }
-        requires nobody { run.nobody.now ≡ none }
+        requires skip { chain.skip < length chain.path.now }
+        requires begins { BeginsAt self.old.nodes.items into.old chain.path.now chain.skip }
+        requires no_ranks { chain.no_ranks.now ≡ none }
         requires room { length self.old.nodes.items < 4096 }
-        ensures kept { IfOk result (λ r. (run.entry.skip < r.1) × (r.1 ≤ length run.entry.path.now)) }
+        ensures kept { IfOk result (λ r. (chain.entry.skip < r.1) × (r.1 ≤ length chain.entry.path.now)) }
         ensures uncut { IfOk result (λ r. length self.new.nodes.items ≡ length self.old.nodes.items
             → forest_at self.new.nodes.items r.0.node ≡ below_first (target_forest self.old.nodes.items into.old)) }
         ensures enters { IfOk result (λ r. Enters (linked self.old.first self.old.nodes.items)
             (linked self.new.first self.new.nodes.items) into.old into.new r.0
-            (drop run.entry.skip run.entry.path.now) (drop r.1 run.entry.path.now)
-            (run.entry.label.now, run.entry.ends.now) self.old.rows self.new.rows) }
+            (drop chain.entry.skip chain.entry.path.now) (drop r.1 chain.entry.path.now)
+            (chain.entry.label.now, chain.entry.ends.now) self.old.rows self.new.rows) }
     {
         let node = self.nodes.get(into.node);
         // For the proof: no more than `FRAME_LIMIT` frames.
-        let _lens = (node.frames().len(), run.path.len());
+        let _lens = (node.frames().len(), chain.path.len());
         let next = node.next();
-        let shared = 1 + common_behind(node.frames(), into.skip, run.path, run.skip);
-        let kept = run.skip + shared;
-        let ends = ends_at(run.path, kept, run.ends, run.nobody);
-        let below = self.share(*into, shared, run.label, ends)?;
+        let shared = 1 + common_behind(node.frames(), into.skip, chain.path, chain.skip);
+        let kept = chain.skip + shared;
+        let ends = ends_at(chain.path, kept, chain.ends, chain.no_ranks);
+        let below = self.share(*into, shared, chain.label, ends)?;
         *into = into.after(next);
         Ok((below, kept))
     }
 
-    /// Merges the first frames of a run, or all of them as a new node. Leads the target to what comes after them, and
+    /// Merges the first frames of a chain, or all of them as a new node. Leads the target to what comes after them, and
     /// returns the target below and how many of the path's frames are merged then.
-    fn enter(&mut self, into: &mut Target, run: Run<'_>) -> Result<(Target, usize), AllocError>
+    fn enter(&mut self, into: &mut MergeTarget, chain: NewChain<'_>) -> Result<(MergeTarget, usize), AllocError>
         requires into { CanGrow self.old.nodes.items into.old }
-        requires skip { run.skip < length run.path.now }
-        requires nobody { run.nobody.now ≡ none }
+        requires skip { chain.skip < length chain.path.now }
+        requires no_ranks { chain.no_ranks.now ≡ none }
         requires room { length self.old.nodes.items < 4096 }
         requires rows { self.old.rows ≤ 4096 }
-        ensures kept { IfOk result (λ r. (run.entry.skip < r.1) × (r.1 ≤ length run.entry.path.now)) }
+        ensures kept { IfOk result (λ r. (chain.entry.skip < r.1) × (r.1 ≤ length chain.entry.path.now)) }
         ensures enters { IfOk result (λ r. Enters (linked self.old.first self.old.nodes.items)
             (linked self.new.first self.new.nodes.items) into.old into.new r.0
-            (drop run.entry.skip run.entry.path.now) (drop r.1 run.entry.path.now)
-            (run.entry.label.now, run.entry.ends.now) self.old.rows self.new.rows) }
+            (drop chain.entry.skip chain.entry.path.now) (drop r.1 chain.entry.path.now)
+            (chain.entry.label.now, chain.entry.ends.now) self.old.rows self.new.rows) }
     {
-        if seek(&self.nodes, into, run.path.frame(run.skip)) {
-            let (below, kept) = self.meet(into, run)?;
+        if seek(&self.nodes, into, chain.path.frame(chain.skip)) {
+            let (below, kept) = self.meet(into, chain)?;
             return Ok((below, kept));
         }
-        let below = self.put(into, run)?;
-        Ok((below, run.path.len()))
+        let below = self.put(into, chain)?;
+        Ok((below, chain.path.len()))
     }
 
     /// Merges the nodes of another target into a target.
     pub(crate) fn merge_in(
         &mut self,
-        mut into: Target,
+        mut into: MergeTarget,
         from: Source<'_>,
-        mut other: Target,
+        mut other: MergeTarget,
     ) -> Result<(), AllocError>
         requires into { CanGrow self.old.nodes.items into }
         requires other { IsTarget from.nodes.now.items other }
-        requires nobody { from.nobody.now ≡ none }
+        requires no_ranks { from.no_ranks.now ≡ none }
         requires room { length self.old.nodes.items + count_rows (target_forest from.nodes.now.items other) ≤ 4096 }
         requires rows { self.old.rows + count_rows (target_forest from.nodes.now.items other) ≤ 4096 }
         ensures made { OnOk result (linked self.new.first self.new.nodes.items
@@ -236,98 +236,98 @@ impl Growth {
     {
         while other.node != NO_PLACE {
             let node = from.nodes.get(other.node);
-            let run = Run {
+            let chain = NewChain {
                 path: node.frames(),
                 skip: other.skip,
                 label: node.label(),
                 ends: node.ends(),
-                nobody: from.nobody,
+                no_ranks: from.no_ranks,
             };
-            let (below, kept) = self.enter(&mut into, run)?;
+            let (below, kept) = self.enter(&mut into, chain)?;
             self.merge_in(below, from, behind(other, node, kept))?;
             other = other.after(node.next());
         }
         Ok(())
     }
 
-    /// Adds a run.
-    fn add_run(&mut self, mut into: Target, run: Run<'_>) -> Result<(), AllocError>
+    /// Adds a chain.
+    fn add_chain(&mut self, mut into: MergeTarget, chain: NewChain<'_>) -> Result<(), AllocError>
         requires into { CanGrow self.old.nodes.items into }
-        requires skip { run.skip < length run.path.now }
-        requires nobody { run.nobody.now ≡ none }
-        requires room { length self.old.nodes.items + length (drop run.skip run.path.now) ≤ 4096 }
-        requires rows { self.old.rows + length (drop run.skip run.path.now) ≤ 4096 }
+        requires skip { chain.skip < length chain.path.now }
+        requires no_ranks { chain.no_ranks.now ≡ none }
+        requires room { length self.old.nodes.items + length (drop chain.skip chain.path.now) ≤ 4096 }
+        requires rows { self.old.rows + length (drop chain.skip chain.path.now) ≤ 4096 }
         ensures { OnOk result (GrowsBy (linked self.old.first self.old.nodes.items)
-            (linked self.new.first self.new.nodes.items) into (drop run.entry.skip run.entry.path.now)
-            (run.entry.label.now, run.entry.ends.now) self.old.rows self.new.rows) }
+            (linked self.new.first self.new.nodes.items) into (drop chain.entry.skip chain.entry.path.now)
+            (chain.entry.label.now, chain.entry.ends.now) self.old.rows self.new.rows) }
     {
-        let (below, kept) = self.enter(&mut into, run)?;
-        if kept < run.path.len() {
-            self.add_run(below, Run { skip: kept, ..run })?;
+        let (below, kept) = self.enter(&mut into, chain)?;
+        if kept < chain.path.len() {
+            self.add_chain(below, NewChain { skip: kept, ..chain })?;
         }
         Ok(())
     }
 
-    /// Adds a run as `add_run` does. The trail's hints, from that of the level on, say where to look for its frames,
+    /// Adds a chain as `add_chain` does. The trail's hints, from that of the level on, say where to look for its frames,
     /// and then where they were found.
     pub(crate) fn add_path(
         &mut self,
-        mut into: Target,
-        run: Run<'_>,
+        mut into: MergeTarget,
+        chain: NewChain<'_>,
         trail: &mut Vec<Hint>,
         level: usize,
     ) -> Result<(), AllocError>
         requires into { CanGrow self.old.nodes.items into }
         requires tree { LeadsToOrdered self.old.nodes.items into.node }
-        requires skip { run.skip < length run.path.now }
-        requires level { level ≤ run.skip }
-        requires nobody { run.nobody.now ≡ none }
-        requires room { length self.old.nodes.items + length (drop run.skip run.path.now) ≤ 4096 }
-        requires rows { self.old.rows + length (drop run.skip run.path.now) ≤ 4096 }
+        requires skip { chain.skip < length chain.path.now }
+        requires level { level ≤ chain.skip }
+        requires no_ranks { chain.no_ranks.now ≡ none }
+        requires room { length self.old.nodes.items + length (drop chain.skip chain.path.now) ≤ 4096 }
+        requires rows { self.old.rows + length (drop chain.skip chain.path.now) ≤ 4096 }
         requires hints { AreOwnHints (forest_at self.old.nodes.items into.node) trail.old.items }
-        ensures hints { OnOk result ((k : RunForest) → HasSiblings k (forest_at self.old.nodes.items into.node)
+        ensures hints { OnOk result ((k : ChainForest) → HasSiblings k (forest_at self.old.nodes.items into.node)
             → AreHints k trail.old.items → AreHints k trail.new.items) }
         ensures grows { OnOk result (GrowsBy (linked self.old.first self.old.nodes.items)
-            (linked self.new.first self.new.nodes.items) into (drop run.entry.skip run.entry.path.now)
-            (run.entry.label.now, run.entry.ends.now) self.old.rows self.new.rows) }
+            (linked self.new.first self.new.nodes.items) into (drop chain.entry.skip chain.entry.path.now)
+            (chain.entry.label.now, chain.entry.ends.now) self.old.rows self.new.rows) }
     {
         let root = into.node;
-        let frame = run.path.frame(run.skip);
+        let frame = chain.path.frame(chain.skip);
         if follow(&self.nodes, root, &mut into, frame, trail, level)? {
             let before = self.nodes.len();
-            let (below, kept) = self.meet(&mut into, run)?;
-            if kept == run.path.len() {
+            let (below, kept) = self.meet(&mut into, chain)?;
+            if kept == chain.path.len() {
                 return Ok(());
             }
-            let run = Run { skip: kept, ..run };
+            let chain = NewChain { skip: kept, ..chain };
             if self.nodes.len() == before {
-                self.add_path(below, run, trail, level + 1)?;
+                self.add_path(below, chain, trail, level + 1)?;
                 return Ok(());
             }
             // A node was cut: its lower part is the only node there, and the path leaves it.
-            self.add_run(below, run)?;
+            self.add_chain(below, chain)?;
             return Ok(());
         }
-        self.add_run(into, run)?;
+        self.add_chain(into, chain)?;
         Ok(())
     }
 }
 
 /// What the node of a target has behind its first `kept` frames: more frames, or the nodes below it.
-fn behind(at: Target, node: &Node, kept: usize) -> Target
+fn behind(at: MergeTarget, node: &Node, kept: usize) -> MergeTarget
     requires { kept ≤ length node.now.frames }
     ensures { result ≡ target_below at (drop kept node.now.frames) kept at.place node.now.first }
 {
     if kept == node.frames().len() {
         let first = node.first();
-        return Target {
+        return MergeTarget {
             link: Link::FirstOf(at.place),
             node: first,
             skip: 0,
             place: first,
         };
     }
-    Target {
+    MergeTarget {
         link: Link::FirstOf(at.place),
         node: at.node,
         skip: kept,

@@ -1,4 +1,4 @@
-//! A call-graph prefix tree with one node for each run of rows.
+//! A call-graph prefix tree with one node for each chain of rows.
 //!
 //! [`ArenaTree`] is a [`prefix_tree::PrefixTree`]. Rows one below the other that the same ranks pass
 //! are one node, where a tree of rows has one for each. The nodes are in an arena, and linked by first
@@ -34,8 +34,8 @@ pub fn cut_shows_the_same_rows()
     ensures { CutShowsSameRows }
 {}
 
-/// The rows of two forests of runs, merged, are the rows of both, united.
-pub fn merged_runs_show_united_rows()
+/// The rows of two forests of chains, merged, are the rows of both, united.
+pub fn merged_chains_show_united_rows()
     ensures { MergeUnitesRows }
 {}
 

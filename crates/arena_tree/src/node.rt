@@ -1,4 +1,4 @@
-//! Nodes by first child and next sibling, each for a run of rows.
+//! Nodes by first child and next sibling, each for a chain of rows.
 
 ghost use Rattle.std.specs.Prelude.{◌≡◌, ◌<◌, slice_get, Some, IfOk, OnOk, IsTrue, length, drop};
 ghost use Rattle.call_path.specs.Good.{is_good_frame};
@@ -56,7 +56,7 @@ pub(crate) struct Upper {
 
 /// A step of a change.
 #[derive(Drop)]
-pub(crate) enum Step {
+pub(crate) enum ChangeStep {
     /// The node at a place gets these marks.
     Old(Place, RankSet, RankSet),
     /// The node at a place keeps its first frame and so many more, gets these marks, and stands above a node more.

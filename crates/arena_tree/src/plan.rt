@@ -2,13 +2,13 @@
 
 ghost use Rattle.std.specs.Prelude.{◌≡◌, ◌≢◌, ◌+◌, ◌-◌, ◌<◌, ◌≤◌, [], ◌∷◌, IfOk, OnOk, length, drop};
 ghost use Rattle.rank_set.specs.Ranks.{none, union};
-ghost use Rattle.arena_tree.specs.declared.node.Step.TheVariants.{Old, Cut, New};
+ghost use Rattle.arena_tree.specs.declared.node.ChangeStep.TheVariants.{Old, Cut, New};
 ghost use Rattle.arena_tree.specs.NodeViews.{view_behind};
 ghost use Rattle.arena_tree.specs.Steps.{more_for, nodes_added, rows_added};
 ghost use Rattle.arena_tree.specs.Plans.{plan_with, next_place, HasRoom, step_at, target_below};
 
-use crate::node::{Link, NO_PLACE, Node, Step};
-use crate::target::Target;
+use crate::node::{Link, NO_PLACE, Node, ChangeStep};
+use crate::target::MergeTarget;
 use node_arena::Place;
 use rank_set::RankSet;
 use std::alloc::{AllocError, Global};
@@ -16,14 +16,14 @@ use std::marker::Model;
 
 /// Steps, with the number of nodes before them, the place of the next new node, and the number of new rows.
 #[derive(Drop)]
-pub(crate) struct Plan {
-    steps: Vec<Step>,
+pub(crate) struct ChangePlan {
+    steps: Vec<ChangeStep>,
     base: u32,
     next: u32,
     rows: u32,
 }
 
-impl Model for Plan {
+impl Model for ChangePlan {
     ghost use Rattle.std.specs.Prelude.{◌≡◌, ◌+◌};
     ghost use Rattle.arena_tree.specs.Steps.{nodes_added, rows_added};
     ghost use Rattle.arena_tree.specs.Plans.{PlanView};
@@ -38,14 +38,14 @@ impl Model for Plan {
     } };
 }
 
-impl Plan {
+impl ChangePlan {
     /// No steps, in the vector that is given, for a tree of `base` nodes.
-    pub(crate) fn in_room(mut steps: Vec<Step>, base: u32) -> Plan
+    pub(crate) fn in_room(mut steps: Vec<ChangeStep>, base: u32) -> ChangePlan
         ensures base { result.base ≡ base }
         ensures steps { result.steps ≡ [] }
     {
         steps.clear();
-        Plan {
+        ChangePlan {
             steps,
             base,
             next: base,
@@ -54,11 +54,11 @@ impl Plan {
     }
 
     /// No steps, and room for so many, for a tree of `base` nodes.
-    pub(crate) fn with_capacity(alloc: Global, base: u32, steps: u32) -> Result<Plan, AllocError>
+    pub(crate) fn with_capacity(alloc: Global, base: u32, steps: u32) -> Result<ChangePlan, AllocError>
         ensures base { IfOk result (λ plan. plan.base ≡ base) }
         ensures steps { IfOk result (λ plan. plan.steps ≡ []) }
     {
-        Ok(Plan {
+        Ok(ChangePlan {
             steps: Vec::with_capacity(alloc, steps as usize)?,
             base,
             next: base,
@@ -81,10 +81,10 @@ impl Plan {
     }
 
     /// The steps.
-    pub(crate) fn into_steps(self) -> Vec<Step>
+    pub(crate) fn into_steps(self) -> Vec<ChangeStep>
         ensures { result.items ≡ self.steps }
     {
-        let Plan {
+        let ChangePlan {
             steps,
             base: _,
             next: _,
@@ -101,7 +101,7 @@ impl Plan {
     {
         let place = self.next;
         let rows = node.frames().len() as u32;
-        self.steps.push(Step::New(link, node))?;
+        self.steps.push(ChangeStep::New(link, node))?;
         self.next = place + 1;
         self.rows += rows;
         Ok(place)
@@ -111,12 +111,12 @@ impl Plan {
     /// the frames behind them, if there are any, go to a new node. Returns the target below it.
     pub(crate) fn share(
         &mut self,
-        into: Target,
+        into: MergeTarget,
         node: &Node,
         shared: usize,
         label: &RankSet,
         ends: &RankSet,
-    ) -> Result<Target, AllocError>
+    ) -> Result<MergeTarget, AllocError>
         requires room { HasRoom self.old 1 }
         requires not_empty { 0 < shared }
         requires within { into.skip + shared ≤ length node.now.frames }
@@ -130,7 +130,7 @@ impl Plan {
         let kept = into.skip + shared;
         if kept == len {
             self.mark(into.place, node, label, ends)?;
-            return Ok(Target {
+            return Ok(MergeTarget {
                 link: Link::FirstOf(into.place),
                 node: node.first(),
                 skip: 0,
@@ -138,7 +138,7 @@ impl Plan {
             });
         }
         let place = self.cut(into, node, shared, label, ends)?;
-        Ok(Target {
+        Ok(MergeTarget {
             link: Link::FirstOf(into.place),
             node: into.node,
             skip: kept,
@@ -159,7 +159,7 @@ impl Plan {
     {
         let label = more_for(node.label(), label)?;
         let ends = more_for(node.ends(), ends)?;
-        self.steps.push(Step::Old(at, label, ends))?;
+        self.steps.push(ChangeStep::Old(at, label, ends))?;
         Ok(())
     }
 
@@ -167,7 +167,7 @@ impl Plan {
     /// them, and returns the place of that one.
     fn cut(
         &mut self,
-        into: Target,
+        into: MergeTarget,
         node: &Node,
         shared: usize,
         label: &RankSet,
@@ -189,7 +189,7 @@ impl Plan {
         let label = node.label().united(label)?;
         let ends = ends.copy()?;
         self.steps
-            .push(Step::Cut(into.place, more, label, ends, lower))?;
+            .push(ChangeStep::Cut(into.place, more, label, ends, lower))?;
         self.next = place + 1;
         Ok(place)
     }

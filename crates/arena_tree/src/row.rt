@@ -3,7 +3,7 @@
 ghost use Rattle.std.specs.Prelude.{◌≡◌, ◌+◌, ◌<◌, ◌≤◌, Some, IfOk, IfErr, length, drop, slice_get};
 ghost use Rattle.rank_set.specs.Ranks.{none};
 ghost use Rattle.prefix_tree.specs.Chains.{chain_rows, chained};
-ghost use Rattle.arena_tree.specs.RunForest.{count_rows, rows_of_runs, row_ends};
+ghost use Rattle.arena_tree.specs.ChainForest.{count_rows, rows_of_chains, row_ends};
 ghost use Rattle.arena_tree.specs.Reading.{forest_at, LeadsToForest};
 ghost use Rattle.arena_tree.specs.ReadingOrder.{shows, row_seen};
 
@@ -20,22 +20,22 @@ pub(crate) fn find_row<'a>(
     mut at: Place,
     depth: usize,
     mut i: usize,
-    nobody: &'a RankSet,
+    no_ranks: &'a RankSet,
 ) -> Result<Row<'a>, usize>
     requires leads { LeadsToForest nodes.now.items at }
-    requires nobody { nobody.now ≡ none }
+    requires no_ranks { no_ranks.now ≡ none }
     requires depth { depth + count_rows (forest_at nodes.now.items at) ≤ 8192 }
     ensures found { IfOk result (λ row.
-        slice_get (shows depth (rows_of_runs (forest_at nodes.now.items at))) i ≡ Some (row_seen row)) }
+        slice_get (shows depth (rows_of_chains (forest_at nodes.now.items at))) i ≡ Some (row_seen row)) }
     ensures left { IfErr result (λ left. left + count_rows (forest_at nodes.now.items at) ≡ i) }
 {
     while at != NO_PLACE {
         let node = nodes.get(at);
         let len = node.frames().len();
         if i < len {
-            return Ok(run_row(node, depth, i, nobody));
+            return Ok(chain_row(node, depth, i, no_ranks));
         }
-        match find_row(nodes, node.first(), depth + len, i - len, nobody) {
+        match find_row(nodes, node.first(), depth + len, i - len, no_ranks) {
             Ok(row) => return Ok(row),
             Err(left) => {
                 i = left;
@@ -47,9 +47,9 @@ pub(crate) fn find_row<'a>(
 }
 
 /// Row `i` of a node, whose first row has the given depth.
-pub(crate) fn run_row<'a>(node: &'a Node, depth: usize, i: usize, nobody: &'a RankSet) -> Row<'a>
+pub(crate) fn chain_row<'a>(node: &'a Node, depth: usize, i: usize, no_ranks: &'a RankSet) -> Row<'a>
     requires within { i < length node.now.frames }
-    requires nobody { nobody.now ≡ none }
+    requires no_ranks { no_ranks.now ≡ none }
     requires depth { depth ≤ 8192 }
     ensures depth { result.depth ≡ depth + i }
     ensures frame { slice_get node.now.frames i ≡ Some result.frame.now }
@@ -62,12 +62,12 @@ pub(crate) fn run_row<'a>(node: &'a Node, depth: usize, i: usize, nobody: &'a Ra
         depth: depth + i,
         frame: node.frame(i),
         label: node.label(),
-        ends: ends_at(node.frames(), i + 1, node.ends(), nobody),
+        ends: ends_at(node.frames(), i + 1, node.ends(), no_ranks),
     }
 }
 
 /// The rows of a node from row `i` on, where its first row has the given depth.
-pub(crate) fn run_chain(node: &Node, depth: usize, i: usize) -> Chain<'_>
+pub(crate) fn chain_from(node: &Node, depth: usize, i: usize) -> Chain<'_>
     requires within { i < length node.now.frames }
     requires depth { depth ≤ 8192 }
     ensures rows { chain_rows result

@@ -1,7 +1,7 @@
 //! Frames that two paths share.
 
 ghost use Rattle.std.specs.Prelude.{◌≡◌, ◌+◌, ◌<◌, ◌≤◌, drop, take, length, slice_get};
-ghost use Rattle.arena_tree.specs.RunForest.{split_frames, split_parts};
+ghost use Rattle.arena_tree.specs.ChainForest.{split_frames, split_parts};
 
 use call_path::CallPath;
 
@@ -37,7 +37,7 @@ pub(crate) fn common_behind(own: &CallPath, i: usize, other: &CallPath, j: usize
 {
     // For the proof: no more than `FRAME_LIMIT` frames.
     let _lens = (own.len(), other.len());
-    // A run that begins with its path is compared by blocks of bytes, and one of the two nearly always does.
+    // A chain that begins with its path is compared by blocks of bytes, and one of the two nearly always does.
     if i == 0 {
         return own.common(other, j) - 1;
     }

@@ -1,10 +1,10 @@
-//! Where a run of frames is merged, and the search for a frame among siblings.
+//! Where a chain of frames is merged, and the search for a frame among siblings.
 
 ghost use Rattle.std.specs.Prelude.{◌≡◌, ℕ, cond};
 ghost use Rattle.std.specs.declared.cmp.Ordering.TheVariants.{Less, Equal};
 ghost use Rattle.call_path.specs.Path.{Path};
 ghost use Rattle.prefix_tree.specs.Tree.{Marks};
-ghost use Rattle.arena_tree.specs.RunForest.{RunForest, run_node};
+ghost use Rattle.arena_tree.specs.ChainForest.{ChainForest, chain_node};
 ghost use Rattle.arena_tree.specs.Steps.{merge_steps};
 ghost use Rattle.arena_tree.specs.Reading.{frame_side};
 ghost use Rattle.arena_tree.specs.Targets.{IsTarget, target_forest, IsAfter};
@@ -16,7 +16,7 @@ use std::cmp::Ordering;
 
 /// A forest that nodes are merged into: the nodes from a place on, or what a node has behind some of its frames.
 #[derive(Clone, Copy)]
-pub(crate) struct Target {
+pub(crate) struct MergeTarget {
     /// The link that leads to the forest.
     pub(crate) link: Link,
     /// The node to be read.
@@ -28,13 +28,13 @@ pub(crate) struct Target {
     pub(crate) place: Place,
 }
 
-impl Target {
+impl MergeTarget {
     /// What follows the first node of the forest, whose next sibling is given.
-    pub(crate) fn after(self, next: Place) -> Target
+    pub(crate) fn after(self, next: Place) -> MergeTarget
         ensures { IsAfter self next result }
     {
         let node = if self.skip == 0 { next } else { NO_PLACE };
-        Target {
+        MergeTarget {
             link: Link::NextOf(self.place),
             node,
             skip: 0,
@@ -44,14 +44,14 @@ impl Target {
 }
 
 /// Goes on along siblings to a frame, or to the first node behind it, and says whether the frame is there.
-pub(crate) fn seek(nodes: &Arena<Node>, into: &mut Target, frame: &str) -> bool
+pub(crate) fn seek(nodes: &Arena<Node>, into: &mut MergeTarget, frame: &str) -> bool
     requires { IsTarget nodes.now.items into.old }
     ensures target { IsTarget nodes.now.items into.new }
     ensures grows { CanGrow nodes.now.items into.old → CanGrow nodes.now.items into.new }
     ensures side { frame_side frame.now (target_forest nodes.now.items into.new) ≡ cond result Equal Less }
-    ensures steps { (n x : ℕ) (gs : Path) (w : Marks) (c t : RunForest)
-        → merge_steps into.old.link n (target_forest nodes.now.items into.old) (run_node x frame.now gs w c t)
-        ≡ merge_steps into.new.link n (target_forest nodes.now.items into.new) (run_node x frame.now gs w c t) }
+    ensures steps { (n x : ℕ) (gs : Path) (w : Marks) (c t : ChainForest)
+        → merge_steps into.old.link n (target_forest nodes.now.items into.old) (chain_node x frame.now gs w c t)
+        ≡ merge_steps into.new.link n (target_forest nodes.now.items into.new) (chain_node x frame.now gs w c t) }
 {
     while into.node != NO_PLACE {
         let node = nodes.get(into.node);

@@ -3,7 +3,7 @@
 ghost use Rattle.std.specs.Prelude.{◌≡◌, ◌≢◌, ℕ, true, IfOk, IfSome};
 ghost use Rattle.call_path.specs.Path.{Path};
 ghost use Rattle.prefix_tree.specs.Tree.{Marks};
-ghost use Rattle.arena_tree.specs.RunForest.{RunForest, run_node};
+ghost use Rattle.arena_tree.specs.ChainForest.{ChainForest, chain_node};
 ghost use Rattle.arena_tree.specs.Steps.{merge_steps};
 ghost use Rattle.arena_tree.specs.Reading.{forest_at};
 ghost use Rattle.arena_tree.specs.Targets.{IsTarget, target_forest};
@@ -11,7 +11,7 @@ ghost use Rattle.arena_tree.specs.Trail.{IsLaterSibling, AreHints, AreOwnHints, 
 ghost use Rattle.arena_tree.specs.Growth.{CanGrow};
 
 use crate::node::{NO_PLACE, Node};
-use crate::target::Target;
+use crate::target::MergeTarget;
 use node_arena::{Arena, Place};
 use std::alloc::AllocError;
 use std::cmp::Ordering;
@@ -85,9 +85,9 @@ fn find_start(
 
 /// Makes a hint that of a level, and drops those of the levels below it unless it was that already.
 fn remember(trail: &mut Vec<Hint>, level: usize, hint: Hint) -> Result<(), AllocError>
-    ensures hints { (k : RunForest) → AreHints k trail.old.items → IsLaterSibling k hint.first hint.later
+    ensures hints { (k : ChainForest) → AreHints k trail.old.items → IsLaterSibling k hint.first hint.later
         → AreHints k trail.new.items }
-    ensures own { (k : RunForest) → AreOwnHints k trail.old.items → IsLaterSibling k hint.first hint.later
+    ensures own { (k : ChainForest) → AreOwnHints k trail.old.items → IsLaterSibling k hint.first hint.later
         → AreOwnHints k trail.new.items }
 {
     if let Some(&known) = trail.get(level) {
@@ -105,7 +105,7 @@ fn remember(trail: &mut Vec<Hint>, level: usize, hint: Hint) -> Result<(), Alloc
 pub(crate) fn follow(
     nodes: &Arena<Node>,
     root: Place,
-    into: &mut Target,
+    into: &mut MergeTarget,
     frame: &str,
     trail: &mut Vec<Hint>,
     level: usize,
@@ -114,7 +114,7 @@ pub(crate) fn follow(
     requires tree { LeadsToOrdered nodes.now.items root }
     requires inside { IsInTree nodes.now.items root into.old }
     requires hints { AreOwnHints (forest_at nodes.now.items root) trail.old.items }
-    ensures hints { (k : RunForest) → HasSiblings k (forest_at nodes.now.items root)
+    ensures hints { (k : ChainForest) → HasSiblings k (forest_at nodes.now.items root)
         → AreHints k trail.old.items → AreHints k trail.new.items }
     ensures own { AreOwnHints (forest_at nodes.now.items root) trail.new.items }
     ensures grows { CanGrow nodes.now.items into.old → CanGrow nodes.now.items into.new }
@@ -122,9 +122,9 @@ pub(crate) fn follow(
         → IsLaterSibling (forest_at nodes.now.items root) into.old.node into.new.node) }
     ensures target { IsTarget nodes.now.items into.new }
     ensures found { IfOk result (λ found. found ≡ true → IsFound nodes.now.items root frame.now into.new) }
-    ensures steps { (n x : ℕ) (gs : Path) (w : Marks) (c t : RunForest)
-        → merge_steps into.old.link n (target_forest nodes.now.items into.old) (run_node x frame.now gs w c t)
-        ≡ merge_steps into.new.link n (target_forest nodes.now.items into.new) (run_node x frame.now gs w c t) }
+    ensures steps { (n x : ℕ) (gs : Path) (w : Marks) (c t : ChainForest)
+        → merge_steps into.old.link n (target_forest nodes.now.items into.old) (chain_node x frame.now gs w c t)
+        ≡ merge_steps into.new.link n (target_forest nodes.now.items into.new) (chain_node x frame.now gs w c t) }
 {
     let first = into.node;
     if into.skip != 0 || first == NO_PLACE {

@@ -4,8 +4,8 @@ ghost use Rattle.std.specs.Prelude.{◌≡◌, ◌+◌, ◌<◌, ◌≤◌, ◌^
 ghost use Rattle.rank_set.specs.Ranks.{none};
 ghost use Rattle.arena_tree.specs.declared.node.Link.TheVariants.{Top};
 ghost use Rattle.arena_tree.specs.Links.{linked};
-ghost use Rattle.arena_tree.specs.RunForest.{no_runs, count_rows};
-ghost use Rattle.arena_tree.specs.Reading.{run_of, forest_at, LeadsToForest};
+ghost use Rattle.arena_tree.specs.ChainForest.{no_chains, count_rows};
+ghost use Rattle.arena_tree.specs.Reading.{chain_of, forest_at, LeadsToForest};
 ghost use Rattle.arena_tree.specs.Trail.{AreHints, AreOwnHints, LeadsToOrdered};
 ghost use Rattle.arena_tree.specs.Steps.{nodes_added, rows_added};
 ghost use Rattle.arena_tree.specs.Growth.{all_at, CanGrow, grown, rows_grown};
@@ -13,11 +13,11 @@ ghost use Rattle.arena_tree.specs.Cursors.{IsCursor};
 
 use crate::apply::apply;
 use crate::grow::{Growth, Source};
-use crate::merge::{Run, plan_merge, plan_path};
-use crate::node::{Link, NO_PLACE, Node, Step};
-use crate::plan::Plan;
-use crate::row::{find_row, run_chain, run_row};
-use crate::target::Target;
+use crate::merge::{NewChain, plan_merge, plan_path};
+use crate::node::{Link, NO_PLACE, Node, ChangeStep};
+use crate::plan::ChangePlan;
+use crate::row::{find_row, chain_from, chain_row};
+use crate::target::MergeTarget;
 use crate::trail::Hint;
 use crate::walk::{move_on, move_past, put_link};
 use call_path::CallPath;
@@ -28,15 +28,15 @@ use std::alloc::{AllocError, Global};
 use std::marker::Model;
 use std::mem;
 
-/// A tree that has one node for each run of rows with the same ranks.
+/// A tree that has one node for each chain of rows with the same ranks.
 ///
 /// A node has the frames of its rows, the ranks that pass them, and those whose path ends at the last of them. It is
 /// linked to its first child and to its next sibling; siblings are in the order of their first frames.
 #[derive(Drop)]
 pub struct ArenaTree {
     coverage: RankSet,
-    // Stays empty: the ends of the root, and of each row that is not the last of its run.
-    nobody: RankSet,
+    // Stays empty: the ends of the root, and of each row that is not the last of its chain.
+    no_ranks: RankSet,
     nodes: Arena<Node>,
     // The place of the first node below the root.
     first: Place,
@@ -45,14 +45,14 @@ pub struct ArenaTree {
     // Where the frames of the path that was added last are, by level: paths that come in their order are found at once.
     trail: Vec<Hint>,
     // Room for the steps of the next path that is added.
-    room: Vec<Step>,
+    room: Vec<ChangeStep>,
     alloc: Global,
 }
 
 impl Model for ArenaTree {
     ghost use Rattle.std.specs.Prelude.{◌≡◌};
     ghost use Rattle.rank_set.specs.Ranks.{none};
-    ghost use Rattle.arena_tree.specs.RunForest.{count_rows};
+    ghost use Rattle.arena_tree.specs.ChainForest.{count_rows};
     ghost use Rattle.arena_tree.specs.Reading.{forest_at};
     ghost use Rattle.arena_tree.specs.TreeView.{ArenaView, arena_view, coded_arena, IsArenaTree};
     ghost use Rattle.arena_tree.specs.Trail.{AreHints};
@@ -67,7 +67,7 @@ impl Model for ArenaTree {
     ghost invariant = { λ a. record {
       tree : IsArenaTree a.coverage a.nodes.items a.first;
       rows : a.rows ≡ count_rows (forest_at a.nodes.items a.first);
-      nobody : a.nobody ≡ none;
+      no_ranks : a.no_ranks ≡ none;
       hints : AreHints (forest_at a.nodes.items a.first) a.trail.items;
     } };
 }
@@ -80,7 +80,7 @@ impl PrefixTree for ArenaTree {
     fn empty(alloc: Global) -> ArenaTree {
         ArenaTree {
             coverage: RankSet::new(alloc),
-            nobody: RankSet::new(alloc),
+            no_ranks: RankSet::new(alloc),
             nodes: Arena::new(alloc),
             first: NO_PLACE,
             rows: 0,
@@ -97,27 +97,27 @@ impl PrefixTree for ArenaTree {
 
     fn add(&mut self, ranks: &RankSet, path: &CallPath) -> Result<(), TreeError> {
         let room = mem::replace(&mut self.room, Vec::new(self.alloc));
-        let mut plan = Plan::in_room(room, self.nodes.len());
+        let mut plan = ChangePlan::in_room(room, self.nodes.len());
         // For the proof: no more than `FRAME_LIMIT` frames.
         let _len = path.len();
-        let mut into = Target {
+        let mut into = MergeTarget {
             link: Link::Top,
             node: self.first,
             skip: 0,
             place: self.first,
         };
-        let run = Run {
+        let chain = NewChain {
             path,
             skip: 0,
             label: ranks,
             ends: ranks,
-            nobody: &self.nobody,
+            no_ranks: &self.no_ranks,
         };
         let _below = plan_path(
             &self.nodes,
             self.first,
             &mut into,
-            run,
+            chain,
             &mut plan,
             &mut self.trail,
             0,
@@ -131,8 +131,8 @@ impl PrefixTree for ArenaTree {
     }
 
     fn merge(&mut self, other: &ArenaTree) -> Result<(), TreeError> {
-        let mut plan = Plan::with_capacity(self.alloc, self.nodes.len(), other.nodes.len())?;
-        let into = Target {
+        let mut plan = ChangePlan::with_capacity(self.alloc, self.nodes.len(), other.nodes.len())?;
+        let into = MergeTarget {
             link: Link::Top,
             node: self.first,
             skip: 0,
@@ -143,7 +143,7 @@ impl PrefixTree for ArenaTree {
             into,
             &other.nodes,
             other.first,
-            &self.nobody,
+            &self.no_ranks,
             &mut plan,
         )?;
         if let Err(error) = make_room(&mut self.nodes, self.rows, &plan) {
@@ -164,14 +164,14 @@ impl PrefixTree for ArenaTree {
             nodes: mem::replace(&mut self.nodes, Arena::new(self.alloc)),
             rows: self.rows,
         };
-        let run = Run {
+        let chain = NewChain {
             path,
             skip: 0,
             label: ranks,
             ends: ranks,
-            nobody: &self.nobody,
+            no_ranks: &self.no_ranks,
         };
-        match grow_path(&mut growth, run, &mut self.trail) {
+        match grow_path(&mut growth, chain, &mut self.trail) {
             Ok(()) => {
                 self.first = growth.first;
                 self.rows = growth.rows;
@@ -193,7 +193,7 @@ impl PrefixTree for ArenaTree {
         };
         let from = Source {
             nodes: &other.nodes,
-            nobody: &self.nobody,
+            no_ranks: &self.no_ranks,
         };
         match grow_tree(&mut growth, from, other.first) {
             Ok(()) => {}
@@ -219,7 +219,7 @@ impl PrefixTree for ArenaTree {
     fn copy(&self) -> Result<ArenaTree, AllocError> {
         Ok(ArenaTree {
             coverage: self.coverage.copy()?,
-            nobody: self.nobody.copy()?,
+            no_ranks: self.no_ranks.copy()?,
             nodes: copy_nodes(self.alloc, &self.nodes)?,
             first: self.first,
             rows: self.rows,
@@ -239,10 +239,10 @@ impl PrefixTree for ArenaTree {
                 depth: 0,
                 frame: "/",
                 label: &self.coverage,
-                ends: &self.nobody,
+                ends: &self.no_ranks,
             };
         }
-        match find_row(&self.nodes, self.first, 1, i - 1, &self.nobody) {
+        match find_row(&self.nodes, self.first, 1, i - 1, &self.no_ranks) {
             Ok(row) => row,
             Err(_) => unreachable!(),
         }
@@ -265,7 +265,7 @@ impl PrefixTree for ArenaTree {
             None => None,
             Some(top) => {
                 let node = nodes.get(top.place);
-                let row = run_row(node, top.depth as usize, at.frame as usize, &self.nobody);
+                let row = chain_row(node, top.depth as usize, at.frame as usize, &self.no_ranks);
                 move_on(at, node, top);
                 Some(row)
             }
@@ -279,7 +279,7 @@ impl PrefixTree for ArenaTree {
             None => None,
             Some(top) => {
                 let node = nodes.get(top.place);
-                let chain = run_chain(node, top.depth as usize, at.frame as usize);
+                let chain = chain_from(node, top.depth as usize, at.frame as usize);
                 move_past(at, node, top);
                 Some(chain)
             }
@@ -288,10 +288,10 @@ impl PrefixTree for ArenaTree {
 }
 
 /// The target that begins at a place.
-fn all_from(first: Place) -> Target
+fn all_from(first: Place) -> MergeTarget
     ensures { result ≡ all_at Top first }
 {
-    Target {
+    MergeTarget {
         link: Link::Top,
         node: first,
         skip: 0,
@@ -303,7 +303,7 @@ fn all_from(first: Place) -> Target
 fn grow_tree(growth: &mut Growth, from: Source<'_>, other: Place) -> Result<(), TreeError>
     requires into { CanGrow growth.old.nodes.items (all_at Top growth.old.first) }
     requires other { LeadsToForest from.nodes.now.items other }
-    requires nobody { from.nobody.now ≡ none }
+    requires no_ranks { from.no_ranks.now ≡ none }
     requires room { length growth.old.nodes.items + count_rows (forest_at from.nodes.now.items other) ≤ 4096 }
     requires rows { growth.old.rows + count_rows (forest_at from.nodes.now.items other) ≤ 4096 }
     ensures made { OnOk result (linked growth.new.first growth.new.nodes.items
@@ -326,31 +326,31 @@ fn grow_tree(growth: &mut Growth, from: Source<'_>, other: Place) -> Result<(), 
 }
 
 /// Adds a path to the nodes of a tree.
-fn grow_path(growth: &mut Growth, run: Run<'_>, trail: &mut Vec<Hint>) -> Result<(), TreeError>
+fn grow_path(growth: &mut Growth, chain: NewChain<'_>, trail: &mut Vec<Hint>) -> Result<(), TreeError>
     requires into { CanGrow growth.old.nodes.items (all_at Top growth.old.first) }
     requires tree { LeadsToOrdered growth.old.nodes.items growth.old.first }
-    requires skip { run.skip ≡ 0 }
-    requires nobody { run.nobody.now ≡ none }
+    requires skip { chain.skip ≡ 0 }
+    requires no_ranks { chain.no_ranks.now ≡ none }
     requires room { length growth.old.nodes.items ≤ 2048 }
     requires rows { growth.old.rows ≤ 2048 }
     requires hints { AreOwnHints (forest_at growth.old.nodes.items growth.old.first) trail.old.items }
     ensures made { OnOk result (linked growth.new.first growth.new.nodes.items
         ≡ grown (linked growth.old.first growth.old.nodes.items) (all_at Top growth.old.first)
-        (run_of 0 run.entry.path.now (run.entry.label.now, run.entry.ends.now) no_runs no_runs)) }
+        (chain_of 0 chain.entry.path.now (chain.entry.label.now, chain.entry.ends.now) no_chains no_chains)) }
     ensures rows { OnOk result (growth.new.rows ≡ growth.old.rows
         + rows_grown (linked growth.old.first growth.old.nodes.items) (all_at Top growth.old.first)
-        (run_of 0 run.entry.path.now (run.entry.label.now, run.entry.ends.now) no_runs no_runs)) }
+        (chain_of 0 chain.entry.path.now (chain.entry.label.now, chain.entry.ends.now) no_chains no_chains)) }
     ensures hints { OnOk result (AreHints (forest_at growth.old.nodes.items growth.old.first) trail.old.items
         → AreHints (forest_at growth.old.nodes.items growth.old.first) trail.new.items) }
     ensures fits { OnOk result (growth.new.rows ≤ PREFIX_LIMIT) }
     ensures full { result ≡ Err TreeError.TooManyPrefixes → PREFIX_LIMIT < growth.old.rows
         + rows_grown (linked growth.old.first growth.old.nodes.items) (all_at Top growth.old.first)
-        (run_of 0 run.entry.path.now (run.entry.label.now, run.entry.ends.now) no_runs no_runs) }
+        (chain_of 0 chain.entry.path.now (chain.entry.label.now, chain.entry.ends.now) no_chains no_chains) }
 {
     // For the proof: no more than `FRAME_LIMIT` frames.
-    let _len = run.path.len();
+    let _len = chain.path.len();
     let into = all_from(growth.first);
-    growth.add_path(into, run, trail, 0)?;
+    growth.add_path(into, chain, trail, 0)?;
     if growth.rows as usize > PREFIX_LIMIT {
         return Err(TreeError::TooManyPrefixes);
     }
@@ -358,7 +358,7 @@ fn grow_path(growth: &mut Growth, run: Run<'_>, trail: &mut Vec<Hint>) -> Result
 }
 
 /// Makes room for the nodes that the steps add to a tree with so many rows.
-fn make_room(nodes: &mut Arena<Node>, rows: u32, plan: &Plan) -> Result<(), TreeError>
+fn make_room(nodes: &mut Arena<Node>, rows: u32, plan: &ChangePlan) -> Result<(), TreeError>
     requires rows { rows + rows_added plan.now.steps ≤ 16384 }
     requires nodes { length nodes.old.items + nodes_added plan.now.steps < 2 ^ 32 }
     ensures items { nodes.new.items ≡ nodes.old.items }

@@ -21,7 +21,7 @@ pub(crate) fn put_link(waiting: &mut Vec<WaitingNode>, place: Place, depth: u32)
 
 /// Moves a cursor from one row on to the next. The row is that of a node, which was taken off those that wait.
 ///
-/// Along a run the node waits again. From its last row on, its siblings wait, and the nodes below it before them.
+/// Along a chain the node waits again. From its last row on, its siblings wait, and the nodes below it before them.
 pub(crate) fn move_on(at: &mut Cursor, node: &Node, top: WaitingNode)
     requires row { at.old.row < 4096 }
     requires frame { at.old.frame < length node.now.frames }

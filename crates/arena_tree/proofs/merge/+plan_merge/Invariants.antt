@@ -1,5 +1,5 @@
 use Rattle.std.proofs.Common.{◌≡◌, ◌+◌, ◌++◌, ◌≤◌}
-use Rattle.arena_tree.specs.RunForest.{count_nodes, count_rows}
+use Rattle.arena_tree.specs.ChainForest.{count_nodes, count_rows}
 use Rattle.arena_tree.specs.Steps.{merge_steps, nodes_added, rows_added}
 use Rattle.arena_tree.specs.Reading.{forest_at, LeadsToForest}
 use Rattle.arena_tree.specs.Targets.{IsTarget, target_forest}

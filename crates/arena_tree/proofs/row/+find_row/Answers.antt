@@ -1,6 +1,6 @@
 use Rattle.std.proofs.Common.{◌≡◌, ◌∙◌, ◌<◌, ◌≤◌, ◌+◌, ◌-◌, ap, sym, subst, arith, length}
 use Rattle.std.specs.Prelude.{slice_get, Some}
-use Rattle.arena_tree.specs.RunForest.{no_runs, count_nodes, count_rows, rows_of_runs}
+use Rattle.arena_tree.specs.ChainForest.{no_chains, count_nodes, count_rows, rows_of_chains}
 use Rattle.arena_tree.specs.Reading.{forest_at, LeadsToForest}
 use Rattle.arena_tree.specs.ReadingOrder.{shows, row_seen}
 use Rattle.arena_tree.proofs.Reading.{inside_node, none_in}
@@ -13,8 +13,8 @@ get-node-requires t c = inside_node c.args.nodes.now.items c.loop-at.at c.loop-a
 pub returns-then-i-len-clause-found : goal.returns-then-i-len-clause-found
 returns-then-i-len-clause-found t c =
     c.loop-at.invariant.same
-    ∙ row_of_node c.args.nodes.now.items c.loop-at.at c.get-node.result.now c.loop-at.invariant.leads c.get-node.ensures c.args.depth c.loop-at.i c.run_row.result
-    c.run_row.ensures.depth c.run_row.ensures.frame c.run_row.ensures.label c.run_row.ensures.ends
+    ∙ row_of_node c.args.nodes.now.items c.loop-at.at c.get-node.result.now c.loop-at.invariant.leads c.get-node.ensures c.args.depth c.loop-at.i c.chain_row.result
+    c.chain_row.ensures.depth c.chain_row.ensures.frame c.chain_row.ensures.label c.chain_row.ensures.ends
 
 pub find_row-requires : goal.find_row-requires
 find_row-requires t c =
@@ -26,7 +26,7 @@ find_row-requires t c =
     let nodes = nodes_here cs c.loop-at.at c.get-node.result.now i.leads c.get-node.ensures c.args.depth c.loop-at.i in
     let rows = rows_here cs c.loop-at.at c.get-node.result.now i.leads c.get-node.ensures c.args.depth c.loop-at.i in
     let falls : count_nodes (forest_at cs c.first.result) < t = omega (arith, same, nodes, i.less, c.decreases) in
-    (falls, (subst (LeadsToForest cs) (sym c.first.ensures) (first_here cs c.loop-at.at c.get-node.result.now i.leads c.get-node.ensures c.args.depth c.loop-at.i), (c.requires.nobody, omega (arith, rows, same_rows, long, i.depth))))
+    (falls, (subst (LeadsToForest cs) (sym c.first.ensures) (first_here cs c.loop-at.at c.get-node.result.now i.leads c.get-node.ensures c.args.depth c.loop-at.i), (c.requires.no_ranks, omega (arith, rows, same_rows, long, i.depth))))
 
 pub returns-in-Ok-clause-found : goal.returns-in-Ok-clause-found
 returns-in-Ok-clause-found t c =
@@ -34,7 +34,7 @@ returns-in-Ok-clause-found t c =
     let long : c.len-len.result ≡ length c.get-node.result.now.frames = c.len-len.ensures.len ∙ ap length c.frames.ensures in
     c.loop-at.invariant.same
     ∙ row_below cs c.loop-at.at c.get-node.result.now c.loop-at.invariant.leads c.get-node.ensures c.args.depth c.loop-at.i c.first.result c.first.ensures (omega (arith, long, c.if-i-len.false)) (row_seen c.in-Ok.row)
-    (subst (λ n. slice_get (shows (c.args.depth + n) (rows_of_runs (forest_at cs c.first.result))) (c.loop-at.i - n) ≡ Some (row_seen c.in-Ok.row)) long c.in-Ok.ensures.found)
+    (subst (λ n. slice_get (shows (c.args.depth + n) (rows_of_chains (forest_at cs c.first.result))) (c.loop-at.i - n) ≡ Some (row_seen c.in-Ok.row)) long c.in-Ok.ensures.found)
 
 pub loop-at-smaller : goal.loop-at-smaller
 loop-at-smaller t c =
@@ -67,6 +67,6 @@ loop-at-preserved t c =
 pub returns-clause-left : goal.returns-clause-left
 returns-clause-left t c =
     let cs = c.args.nodes.now.items in
-    let none : forest_at cs c.loop-at.at ≡ no_runs = ap (forest_at cs) c.loop-at-test.false ∙ none_in cs c.requires.leads.within_limit in
+    let none : forest_at cs c.loop-at.at ≡ no_chains = ap (forest_at cs) c.loop-at-test.false ∙ none_in cs c.requires.leads.within_limit in
     let zero = ap count_rows none in
     omega (arith, zero, c.loop-at.invariant.left)

@@ -2,7 +2,7 @@ use Rattle.std.proofs.Common.{◌≡◌, ◌∙◌, ap, sym, subst, ◌<◌}
 use Rattle.std.specs.declared.cmp.Ordering.TheVariants.{Greater}
 use Rattle.std.specs.Cmp.Lexicographic.{same_text}
 use Rattle.arena_tree.specs.RowForest.{frame_cmp}
-use Rattle.arena_tree.specs.RunForest.{run_node, count_nodes}
+use Rattle.arena_tree.specs.ChainForest.{chain_node, count_nodes}
 use Rattle.arena_tree.specs.Steps.{merge_steps}
 use Rattle.arena_tree.specs.Reading.{frame_side}
 use Rattle.arena_tree.specs.Targets.{target_forest}
@@ -60,7 +60,7 @@ loop-into-preserved c =
       grows = λ grows. after_grows cs t c.after.result c.get-node.result.now c.get-node.ensures after (c.loop-into.invariant.grows grows);
       same = λ n x gs w u v. c.loop-into.invariant.same n x gs w u v
           ∙ passes_on cs t.node t.place t.skip c.get-node.result.now c.frame-own.result.now it c.args.frame.now greater t.link n x gs w u v
-          ∙ (λ i. merge_steps (sym after.link i) n (sym (after_forest cs t c.after.result c.get-node.result.now.next after) i) (run_node x c.args.frame.now gs w u v));
+          ∙ (λ i. merge_steps (sym after.link i) n (sym (after_forest cs t c.after.result c.get-node.result.now.next after) i) (chain_node x c.args.frame.now gs w u v));
     }
 
 pub returns-clause-side : goal.returns-clause-side

@@ -1,7 +1,7 @@
 use Rattle.std.proofs.Common.{◌≡◌, ◌∙◌, ap, sym, subst, refl}
 use Rattle.std.specs.Cmp.Lexicographic.{same_text}
 use Rattle.arena_tree.specs.RowForest.{frame_cmp}
-use Rattle.arena_tree.specs.RunForest.{run_node}
+use Rattle.arena_tree.specs.ChainForest.{chain_node}
 use Rattle.arena_tree.specs.Steps.{merge_steps}
 use Rattle.arena_tree.specs.Reading.{frame_side}
 use Rattle.arena_tree.specs.Targets.{LeadsBehind, forest_behind}
@@ -39,7 +39,7 @@ returns-clause-steps c n x gs w u t =
     let cs = c.args.nodes.now.items in
     let into = c.args.into.now in
     let at = c.in-Some.at in
-    let one = run_node x c.args.frame.now gs w u t in
+    let one = chain_node x c.args.frame.now gs w u t in
     ap (λ skip. merge_steps into.link n (forest_behind cs into.node into.place skip) one) c.if-into-ne0.false
     ∙ steps_there cs c.args.root c.requires.tree into.link into.node at c.in-Some.ensures.later c.args.frame.now c.in-Some.ensures.side n x gs w u t
     ∙ ap (λ skip. merge_steps into.link n (forest_behind cs at at skip) one) (sym c.if-into-ne0.false)

@@ -1,7 +1,7 @@
 use Rattle.std.proofs.Common.{◌≡◌, ◌≢◌, ◌<◌, ◌∙◌, ap, sym, subst, refl}
 use Rattle.std.specs.Cmp.Lexicographic.{same_text}
 use Rattle.arena_tree.specs.RowForest.{frame_cmp}
-use Rattle.arena_tree.specs.RunForest.{count_nodes}
+use Rattle.arena_tree.specs.ChainForest.{count_nodes}
 use Rattle.arena_tree.specs.Reading.{forest_at}
 use Rattle.arena_tree.specs.Trail.{IsLaterSibling}
 use Rattle.arena_tree.proofs.Orders.{cmp_itself}

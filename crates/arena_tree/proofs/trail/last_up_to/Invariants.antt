@@ -1,5 +1,5 @@
 use Rattle.std.proofs.Common.{◌≢◌, IfSome}
-use Rattle.arena_tree.specs.RunForest.{count_nodes}
+use Rattle.arena_tree.specs.ChainForest.{count_nodes}
 use Rattle.arena_tree.specs.Reading.{forest_at}
 use Rattle.arena_tree.specs.Trail.{IsLaterSibling, IsStart}
 use Rattle.arena_tree.proofs.trail.last_up_to.Given as goal

@@ -1,7 +1,7 @@
 use Rattle.std.proofs.Common.{◌≡◌, ◌<◌, ◌≤◌, ◌∙◌, ap, sym, subst, arith, refl, length}
 use Rattle.call_path.specs.Path.{Path}
 use Rattle.arena_tree.specs.Links.{linked}
-use Rattle.arena_tree.specs.RunForest.{no_runs}
+use Rattle.arena_tree.specs.ChainForest.{no_chains}
 use Rattle.arena_tree.specs.Targets.{target_forest, IsAfter}
 use Rattle.arena_tree.specs.Growth.{grown, rows_grown}
 use Rattle.arena_tree.proofs.Planning.{target_inside, target_none}
@@ -39,7 +39,7 @@ merge_in-requires t c =
     let leads = lower_leads c.args.from.nodes.now.items c.loop-other.other c.loop-other.invariant.other c.get-node.result.now c.get-node.ensures
     c.in_ok-below.kept c.behind.result c.behind.ensures c.in_ok-below.ensures.kept.0 (subst (λ (p : Path). c.in_ok-below.kept ≤ length p) c.frames.ensures c.in_ok-below.ensures.kept.1) in
     let i = c.loop-other.invariant in
-    (omega (arith, less, i.less, c.decreases), (c.in_ok-below.ensures.enters.below_grows, (leads, (c.requires.nobody, (omega (arith, nodes, i.few_nodes, c.requires.room), omega (arith, rows, i.few_rows, c.requires.rows))))))
+    (omega (arith, less, i.less, c.decreases), (c.in_ok-below.ensures.enters.below_grows, (leads, (c.requires.no_ranks, (omega (arith, nodes, i.few_nodes, c.requires.room), omega (arith, rows, i.few_rows, c.requires.rows))))))
 
 pub loop-other-smaller : goal.loop-other-smaller
 loop-other-smaller t c = later_less c.args.from.nodes.now.items c.loop-other.other c.loop-other.invariant.other c.get-node.result.now c.get-node.ensures c.after-other.result (subst (λ next. IsAfter c.loop-other.other next c.after-other.result) c.next.ensures c.after-other.ensures)
@@ -75,7 +75,7 @@ loop-other-preserved t c =
       less = omega (arith, less, i.less);
     }
 
-none_left : (t : _) (c : goal.After-loop-other t) → target_forest c.args.from.nodes.now.items c.loop-other.other ≡ no_runs
+none_left : (t : _) (c : goal.After-loop-other t) → target_forest c.args.from.nodes.now.items c.loop-other.other ≡ no_chains
 none_left t c = target_none c.args.from.nodes.now.items c.loop-other.other.node c.loop-other.other.place c.loop-other.other.skip c.loop-other.invariant.other c.loop-other-test.false
 
 pub returns-clause-made : goal.returns-clause-made

@@ -1,6 +1,6 @@
 use Rattle.std.proofs.Common.{◌≡◌, ◌+◌, ◌≤◌, length}
 use Rattle.arena_tree.specs.Links.{linked}
-use Rattle.arena_tree.specs.RunForest.{count_rows}
+use Rattle.arena_tree.specs.ChainForest.{count_rows}
 use Rattle.arena_tree.specs.Targets.{IsTarget, target_forest}
 use Rattle.arena_tree.specs.Growth.{CanGrow, grown, rows_grown}
 use Rattle.arena_tree.proofs.grow.Growth.+merge_in.Given as goal

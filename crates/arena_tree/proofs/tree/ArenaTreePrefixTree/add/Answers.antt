@@ -41,7 +41,7 @@ invariant_of-self-2 c = record {
   rows = add_rows c.self.inside.coverage c.args.ranks.now c.args.path.now c.self.inside.nodes.items c.self.inside.first c.args.self.now.tree (tree_is c.self.view_is) c.self.invariant.tree c.requires.not_empty c.requires.in_coverage c.len-len.ensures.good
       c.len.result c.self.inside.rows c.in_room-plan.result c.plan_path.new.plan c.in_room-plan.ensures.base c.in_room-plan.ensures.steps c.len.ensures c.self.invariant.rows c.plan_path.new.into c.in_ok-_below._below c.in_ok-_below.ensures.plans
       c.apply.new.nodes.items c.apply.new.first c.rows.result (makes c) c.rows.ensures;
-  nobody = c.self.invariant.nobody;
+  no_ranks = c.self.invariant.no_ranks;
   hints = add_hints c.self.inside.coverage c.args.ranks.now c.args.path.now c.self.inside.nodes.items c.self.inside.first c.args.self.now.tree (tree_is c.self.view_is) c.self.invariant.tree c.requires.not_empty c.requires.in_coverage c.len-len.ensures.good
       c.len.result c.self.inside.rows c.in_room-plan.result c.plan_path.new.plan c.in_room-plan.ensures.base c.in_room-plan.ensures.steps c.len.ensures c.self.invariant.rows c.plan_path.new.into c.in_ok-_below._below c.in_ok-_below.ensures.plans
       c.make_room.new.nodes.items c.into_steps.result.items (linked c.apply.new.first c.apply.new.nodes.items) c.apply.ensures c.in_default.ensures.items c.into_steps.ensures c.in_default.ensures.fits

@@ -3,15 +3,15 @@ use Rattle.prefix_tree.specs.Tree.{added, Adds}
 use Rattle.prefix_tree.proofs.TreeLaws.{added_adds}
 use Rattle.arena_tree.specs.declared.node.Link.TheVariants.{Top}
 use Rattle.arena_tree.specs.NodeViews.{NodeView}
-use Rattle.arena_tree.specs.RunForest.{no_runs}
+use Rattle.arena_tree.specs.ChainForest.{no_chains}
 use Rattle.arena_tree.specs.Links.{LinkedNodes, linked}
-use Rattle.arena_tree.specs.Reading.{run_of, forest_at}
+use Rattle.arena_tree.specs.Reading.{chain_of, forest_at}
 use Rattle.arena_tree.specs.TreeView.{path_forest}
 use Rattle.arena_tree.specs.Trail.{AreHints, LeadsToOrdered}
 use Rattle.arena_tree.specs.Growth.{all_at, CanGrow, grown, rows_grown}
 use Rattle.arena_tree.proofs.Views.{tree_is}
 use Rattle.arena_tree.proofs.Trees.{Makes, leads_first}
-use Rattle.arena_tree.proofs.MakingInPlace.{tree_grows, tree_few, grown_add_counted, grown_add_made, grown_add_hints, grown_add_rows, path_run}
+use Rattle.arena_tree.proofs.MakingInPlace.{tree_grows, tree_few, grown_add_counted, grown_add_made, grown_add_hints, grown_add_rows, path_chain}
 use Rattle.arena_tree.proofs.tree.ArenaTreePrefixTree.add_or_clear.Goals.{After-drop-self-inside}
 use Rattle.arena_tree.proofs.tree.ArenaTreePrefixTree.add_or_clear.Goals as goal
 
@@ -30,10 +30,10 @@ abbrev after : (c : After-drop-self-inside) → LinkedNodes
 after c = linked c.grow_path.new.growth.first c.grow_path.new.growth.nodes.items
 
 rows_so : (c : After-drop-self-inside) → c.grow_path.new.growth.rows ≡ c.self.inside.rows + rows_grown (linked c.self.inside.first c.self.inside.nodes.items) (all_at Top c.self.inside.first) (path_forest c.args.ranks.now c.args.path.now)
-rows_so c = c.in-Ok.ensures.rows ∙ (λ i. c.self.inside.rows + rows_grown (linked c.self.inside.first (c.replace.ensures.value i).items) (all_at Top c.self.inside.first) (path_run c.args.ranks.now c.args.path.now i))
+rows_so c = c.in-Ok.ensures.rows ∙ (λ i. c.self.inside.rows + rows_grown (linked c.self.inside.first (c.replace.ensures.value i).items) (all_at Top c.self.inside.first) (path_chain c.args.ranks.now c.args.path.now i))
 
 made_so : (c : After-drop-self-inside) → after c ≡ grown (linked c.self.inside.first c.self.inside.nodes.items) (all_at Top c.self.inside.first) (path_forest c.args.ranks.now c.args.path.now)
-made_so c = c.in-Ok.ensures.made ∙ (λ i. grown (linked c.self.inside.first (c.replace.ensures.value i).items) (all_at Top c.self.inside.first) (path_run c.args.ranks.now c.args.path.now i))
+made_so c = c.in-Ok.ensures.made ∙ (λ i. grown (linked c.self.inside.first (c.replace.ensures.value i).items) (all_at Top c.self.inside.first) (path_chain c.args.ranks.now c.args.path.now i))
 
 fits_so : (c : After-drop-self-inside) → c.self.inside.rows + rows_grown (linked c.self.inside.first c.self.inside.nodes.items) (all_at Top c.self.inside.first) (path_forest c.args.ranks.now c.args.path.now) ≤ 2048
 fits_so c = let fits = c.in-Ok.ensures.fits in omega (arith, fits, rows_so c)
@@ -47,7 +47,7 @@ invariant_of-self c = record {
   tree = (makes c).tree;
   rows = grown_add_rows c.self.inside.coverage c.self.inside.nodes.items c.self.inside.first c.self.invariant.tree
       c.args.ranks.now c.args.path.now c.args.self.now.tree (tree_is c.self.view_is) c.requires.not_empty c.requires.in_coverage c.len-len.ensures.good c.self.inside.rows c.self.invariant.rows (after c) (made_so c) (fits_so c) c.grow_path.new.growth.rows (rows_so c);
-  nobody = c.self.invariant.nobody;
+  no_ranks = c.self.invariant.no_ranks;
   hints = grown_add_hints c.self.inside.coverage c.self.inside.nodes.items c.self.inside.first c.self.invariant.tree
       c.args.ranks.now c.args.path.now c.args.self.now.tree (tree_is c.self.view_is) c.requires.not_empty c.requires.in_coverage c.len-len.ensures.good c.self.inside.rows c.self.invariant.rows (after c) (made_so c) (fits_so c) c.grow_path.new.trail.items
       (subst (λ (cs : List NodeView). AreHints (forest_at cs c.self.inside.first) c.grow_path.new.trail.items) (ap (λ a. a.items) c.replace.ensures.value)
@@ -72,7 +72,7 @@ returns-in-Err-clause-full c e =
     let over = c.in-Err.ensures.full e in
     let all = grown_add_counted c.self.inside.coverage c.self.inside.nodes.items c.self.inside.first c.self.invariant.tree
     c.args.ranks.now c.args.path.now c.args.self.now.tree (tree_is c.self.view_is) c.requires.not_empty c.requires.in_coverage c.len-len.ensures.good c.self.inside.rows c.self.invariant.rows in
-    let same : c.self.inside.rows + rows_grown (linked c.self.inside.first c.replace.result.items) (all_at Top c.self.inside.first) (run_of 0 c.args.path.now (c.args.ranks.now, c.args.ranks.now) no_runs no_runs)
+    let same : c.self.inside.rows + rows_grown (linked c.self.inside.first c.replace.result.items) (all_at Top c.self.inside.first) (chain_of 0 c.args.path.now (c.args.ranks.now, c.args.ranks.now) no_chains no_chains)
     ≡ c.self.inside.rows + rows_grown (linked c.self.inside.first c.self.inside.nodes.items) (all_at Top c.self.inside.first) (path_forest c.args.ranks.now c.args.path.now) =
-    (λ i. c.self.inside.rows + rows_grown (linked c.self.inside.first (c.replace.ensures.value i).items) (all_at Top c.self.inside.first) (path_run c.args.ranks.now c.args.path.now i)) in
+    (λ i. c.self.inside.rows + rows_grown (linked c.self.inside.first (c.replace.ensures.value i).items) (all_at Top c.self.inside.first) (path_chain c.args.ranks.now c.args.path.now i)) in
     omega (arith, all, over, same)

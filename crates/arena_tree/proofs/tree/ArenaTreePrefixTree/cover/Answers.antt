@@ -13,7 +13,7 @@ makes c =
     (makes_covered c.self.inside.coverage c.self.inside.nodes.items c.self.inside.first c.self.invariant.tree c.args.ranks.now))
 
 pub invariant_of-self-2 : goal.invariant_of-self-2
-invariant_of-self-2 c = record { tree = (makes c).tree; rows = c.self.invariant.rows; nobody = c.self.invariant.nobody; hints = c.self.invariant.hints }
+invariant_of-self-2 c = record { tree = (makes c).tree; rows = c.self.invariant.rows; no_ranks = c.self.invariant.no_ranks; hints = c.self.invariant.hints }
 
 pub returns-clause-ok : goal.returns-clause-ok
 returns-clause-ok c = (makes c).is

@@ -1,7 +1,7 @@
 use Rattle.std.proofs.Common.{◌≡◌, ◌∙◌, ap, sym, subst, List, []}
 use Rattle.rank_set.specs.Ranks.{Ranks, none}
 use Rattle.arena_tree.specs.NodeViews.{NodeView}
-use Rattle.arena_tree.specs.RunForest.{count_rows}
+use Rattle.arena_tree.specs.ChainForest.{count_rows}
 use Rattle.arena_tree.specs.Reading.{forest_at}
 use Rattle.std.proofs.lemmas.List.Elements.{All-nil}
 use Rattle.arena_tree.specs.Trail.{IsLaterSibling, AreHints}
@@ -16,7 +16,7 @@ pub invariant_of-result : goal.invariant_of-result
 invariant_of-result c = record {
   tree = at_both _ _ (sym c.new.ensures) (sym c.new-3.ensures.items);
   rows = ap (λ (cs : List NodeView). count_rows (forest_at cs 4294967295)) (sym c.new-3.ensures.items);
-  nobody = c.new-2.ensures;
+  no_ranks = c.new-2.ensures;
   hints = subst (AreHints (forest_at c.new-3.result.items 4294967295)) (sym c.new-4.ensures.items) (All-nil (λ h. IsLaterSibling (forest_at c.new-3.result.items 4294967295) h.first h.later));
 }
 

@@ -40,7 +40,7 @@ invariant_of-self-2 c = record {
   rows = merge_has_rows c.self.inside.coverage c.other.inside.coverage c.self.inside.nodes.items c.other.inside.nodes.items c.self.inside.first c.other.inside.first c.args.self.now.tree c.args.other.now.tree (tree_is c.self.view_is) (tree_is c.other.view_is) c.self.invariant.tree c.other.invariant.tree
       c.len.result c.self.inside.rows c.in_ok-plan.plan c.plan_merge.new.plan c.in_ok-plan.ensures.base c.in_ok-plan.ensures.steps c.len.ensures c.self.invariant.rows c.in_ok-plan_merge.ensures.steps
       c.union_into.new.self c.apply-room.new.nodes.items c.apply-room.new.first c.rows.result (makes c) c.rows.ensures;
-  nobody = c.self.invariant.nobody;
+  no_ranks = c.self.invariant.no_ranks;
   hints = subst (AreHints (forest_at c.apply-room.new.nodes.items c.apply-room.new.first)) (sym c.clear.ensures.items) (All-nil (λ h. IsLaterSibling (forest_at c.apply-room.new.nodes.items c.apply-room.new.first) h.first h.later));
 }
 

@@ -53,7 +53,7 @@ invariant_of-self-2 c = record {
   tree = (makes c).tree;
   rows = grown_merge_rows c.self.inside.coverage c.self.inside.nodes.items c.self.inside.first c.self.invariant.tree
       c.other.inside.coverage c.other.inside.nodes.items c.other.inside.first c.args.self.now.tree c.args.other.now.tree (tree_is c.self.view_is) (tree_is c.other.view_is) c.other.invariant.tree c.self.inside.rows c.self.invariant.rows c.union_into.new.self c.grow_tree.new.growth.nodes.items c.grow_tree.new.growth.first c.grow_tree.new.growth.rows (makes c) (rows_so c);
-  nobody = c.self.invariant.nobody;
+  no_ranks = c.self.invariant.no_ranks;
   hints = subst (AreHints (forest_at c.grow_tree.new.growth.nodes.items c.grow_tree.new.growth.first)) (sym c.clear.ensures.items) (All-nil (λ h. IsLaterSibling (forest_at c.grow_tree.new.growth.nodes.items c.grow_tree.new.growth.first) h.first h.later));
 }
 

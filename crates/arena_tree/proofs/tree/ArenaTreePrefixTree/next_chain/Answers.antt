@@ -19,11 +19,11 @@ get-node-requires c =
     let walk = taken c.self.inside.coverage c.self.inside.nodes.items c.self.inside.first c.args.self.now c.self.view_is c.args.at.now c.requires.cursor c.pop.new.self.items c.in-Some.top c.in-Some.ensures.items in
     inside_node c.self.inside.nodes.items c.in-Some.top.place walk.waiting.0.leads walk.waiting.0.node
 
-pub run_chain-chain-requires-clause-within : goal.run_chain-chain-requires-clause-within
-run_chain-chain-requires-clause-within c = frame_within c.self.inside.coverage c.self.inside.nodes.items c.self.inside.first c.args.self.now c.self.view_is c.args.at.now c.requires.cursor c.pop.new.self.items c.in-Some.top c.in-Some.ensures.items c.get-node.result.now c.get-node.ensures
+pub chain_from-chain-requires-clause-within : goal.chain_from-chain-requires-clause-within
+chain_from-chain-requires-clause-within c = frame_within c.self.inside.coverage c.self.inside.nodes.items c.self.inside.first c.args.self.now c.self.view_is c.args.at.now c.requires.cursor c.pop.new.self.items c.in-Some.top c.in-Some.ensures.items c.get-node.result.now c.get-node.ensures
 
-pub run_chain-chain-requires-clause-depth : goal.run_chain-chain-requires-clause-depth
-run_chain-chain-requires-clause-depth c =
+pub chain_from-chain-requires-clause-depth : goal.chain_from-chain-requires-clause-depth
+chain_from-chain-requires-clause-depth c =
     let walk = taken c.self.inside.coverage c.self.inside.nodes.items c.self.inside.first c.args.self.now c.self.view_is c.args.at.now c.requires.cursor c.pop.new.self.items c.in-Some.top c.in-Some.ensures.items in
     let deep = walk.waiting.0.depth in
     omega (arith, deep)
@@ -49,7 +49,7 @@ pub returns-in-Some-clause-rows : goal.returns-in-Some-clause-rows
 returns-in-Some-clause-rows c =
     rows_read c.self.inside.coverage c.self.inside.nodes.items c.self.inside.first c.args.self.now c.self.view_is c.args.at.now c.requires.cursor c.pop.new.self.items c.in-Some.top c.in-Some.ensures.items c.get-node.result.now c.get-node.ensures
     c.self.invariant.tree c.move_past.new.at.row c.move_past.ensures.row
-    ∙ ap (λ rows. rows ++ drop c.move_past.new.at.row (rows_shown c.args.self.now.tree)) (sym c.run_chain-chain.ensures.rows)
+    ∙ ap (λ rows. rows ++ drop c.move_past.new.at.row (rows_shown c.args.self.now.tree)) (sym c.chain_from-chain.ensures.rows)
 
 pub returns-in-Some-clause-within : goal.returns-in-Some-clause-within
 returns-in-Some-clause-within c =
@@ -60,7 +60,7 @@ pub returns-in-Some-clause-good : goal.returns-in-Some-clause-good
 returns-in-Some-clause-good c =
     read_good c.self.inside.coverage c.self.inside.nodes.items c.self.inside.first c.args.self.now c.self.view_is c.args.at.now c.requires.cursor c.pop.new.self.items c.in-Some.top c.in-Some.ensures.items c.get-node.result.now c.get-node.ensures
     c.self.invariant.tree c.move_past.new.at.row c.move_past.ensures.row
-    c.run_chain-chain.result c.run_chain-chain.ensures.depth c.run_chain-chain.ensures.frames c.run_chain-chain.ensures.skip
+    c.chain_from-chain.result c.chain_from-chain.ensures.depth c.chain_from-chain.ensures.frames c.chain_from-chain.ensures.skip
 
 pub returns-in-Some-clause-cursor : goal.returns-in-Some-clause-cursor
 returns-in-Some-clause-cursor c =

@@ -1,6 +1,6 @@
 use Rattle.std.proofs.Common.{arith}
 use Rattle.arena_tree.proofs.Totals.{nodes_added-one, rows_added-one}
-use Rattle.arena_tree.proofs.plan.Plan.cut.Goals as goal
+use Rattle.arena_tree.proofs.plan.ChangePlan.mark.Goals as goal
 
 pub invariant_of-self-2 : goal.invariant_of-self-2
 invariant_of-self-2 c =

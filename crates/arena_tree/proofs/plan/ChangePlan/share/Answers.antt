@@ -2,7 +2,7 @@ use Rattle.std.proofs.Common.{◌∙◌, ◌<◌, ap, arith, ◌∷◌, []}
 use Rattle.std.proofs.Common.{length, drop, ◌+◌, ◌-◌}
 use Rattle.arena_tree.specs.Plans.{plan_with}
 use Rattle.arena_tree.proofs.Sharing.{drop_some, step_cut}
-use Rattle.arena_tree.proofs.plan.Plan.share.Goals as goal
+use Rattle.arena_tree.proofs.plan.ChangePlan.share.Goals as goal
 
 pub returns-clause-plan : goal.returns-clause-plan
 returns-clause-plan c =

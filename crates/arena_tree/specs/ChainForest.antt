@@ -1,4 +1,4 @@
--- Forests of runs: a node stands for rows one below the other.
+-- Forests of chains: a node stands for rows one below the other.
 use Rattle.std.specs.Prelude.{ℕ, suc, ◌+◌, List, [], ◌∷◌, length}
 use Rattle.rank_set.specs.Ranks.{Ranks, none}
 use Rattle.call_path.specs.Path.{Path}
@@ -6,43 +6,43 @@ use Rattle.prefix_tree.specs.Tree.{Marks}
 use Rattle.prefix_tree.specs.Owned.{by_order}
 use Rattle.arena_tree.specs.RowForest.{RowForest, no_rows, row_node, frame_cmp, HasIncreasingRows}
 
--- a place, the first frame of the run and those behind it, the marks of its last row, the nodes below it, and its later siblings
-pub data RunForest : Type 0 where
-  no_runs : RunForest
-  run_node : ℕ → List ℕ → Path → Marks → RunForest → RunForest → RunForest
+-- a place, the first frame of the chain and those behind it, the marks of its last row, the nodes below it, and its later siblings
+pub data ChainForest : Type 0 where
+  no_chains : ChainForest
+  chain_node : ℕ → List ℕ → Path → Marks → ChainForest → ChainForest → ChainForest
 
--- the ends of a row, where frames of its run are behind it
+-- the ends of a row, where frames of its chain are behind it
 abbrev pub row_ends : Path → Ranks → Ranks
 row_ends [] e = e
 row_ends (f ∷ fs) e = none
 
--- the marks of a row, where frames of its run are behind it
+-- the marks of a row, where frames of its chain are behind it
 abbrev pub row_marks : Path → Marks → Marks
 row_marks fs m = (m.0, row_ends fs m.1)
 
--- what is below a row, where frames of its run are behind it: one node for each of them, and the forest below the last
+-- what is below a row, where frames of its chain are behind it: one node for each of them, and the forest below the last
 abbrev pub rows_below : ℕ → Path → Marks → RowForest → RowForest
 rows_below a [] m b = b
 rows_below a (f ∷ fs) m b = row_node a f (row_marks fs m) (rows_below a fs m b) no_rows
 
--- the rows that a forest of runs shows, a node for each row
-abbrev pub rows_of_runs : RunForest → RowForest
-rows_of_runs no_runs = no_rows
-rows_of_runs (run_node a f fs m b s) = row_node a f (row_marks fs m) (rows_below a fs m (rows_of_runs b)) (rows_of_runs s)
+-- the rows that a forest of chains shows, a node for each row
+abbrev pub rows_of_chains : ChainForest → RowForest
+rows_of_chains no_chains = no_rows
+rows_of_chains (chain_node a f fs m b s) = row_node a f (row_marks fs m) (rows_below a fs m (rows_of_chains b)) (rows_of_chains s)
 
 -- siblings rise by their first frame, everywhere
-abbrev pub HasIncreasingRuns : RunForest → Type 0
-HasIncreasingRuns t = HasIncreasingRows (rows_of_runs t)
+abbrev pub HasIncreasingChains : ChainForest → Type 0
+HasIncreasingChains t = HasIncreasingRows (rows_of_chains t)
 
 -- how many nodes
-abbrev pub count_nodes : RunForest → ℕ
-count_nodes no_runs = 0
-count_nodes (run_node a f fs m b s) = suc (count_nodes b + count_nodes s)
+abbrev pub count_nodes : ChainForest → ℕ
+count_nodes no_chains = 0
+count_nodes (chain_node a f fs m b s) = suc (count_nodes b + count_nodes s)
 
 -- how many rows
-abbrev pub count_rows : RunForest → ℕ
-count_rows no_runs = 0
-count_rows (run_node a f fs m b s) = suc (length fs + (count_rows b + count_rows s))
+abbrev pub count_rows : ChainForest → ℕ
+count_rows no_chains = 0
+count_rows (chain_node a f fs m b s) = suc (length fs + (count_rows b + count_rows s))
 
 -- the frames that two paths begin with, and what each has behind them
 pub record FrameSplit : Type 0 where
@@ -73,6 +73,6 @@ cut_count [] = 0
 cut_count (f ∷ fs) = 1
 
 -- the nodes with the places from n on
-abbrev pub renumbered : ℕ → RunForest → RunForest
-renumbered n no_runs = no_runs
-renumbered n (run_node x g gs w c t) = run_node n g gs w (renumbered (suc n) c) (renumbered (suc n + count_nodes c) t)
+abbrev pub renumbered : ℕ → ChainForest → ChainForest
+renumbered n no_chains = no_chains
+renumbered n (chain_node x g gs w c t) = chain_node n g gs w (renumbered (suc n) c) (renumbered (suc n + count_nodes c) t)
