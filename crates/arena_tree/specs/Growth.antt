@@ -1,17 +1,26 @@
 -- A tree that grows in one pass.
 -- No clause of a public call cites this file: it says how a change is done.
-use Rattle.std.specs.Prelude.{◌≡◌, ℕ, ◌+◌, ◌≤◌, List, [], ◌∷◌, length}
+use Rattle.std.specs.Prelude.{◌≡◌, ℕ, ◌+◌, ◌≤◌, List, [], ◌∷◌, length, drop}
 use Rattle.call_path.specs.Path.{Path}
 use Rattle.prefix_tree.specs.Tree.{Marks}
 use Rattle.arena_tree.specs.declared.node.Link.{Link}
+use Rattle.arena_tree.specs.declared.node.Link.TheVariants.{Top, FirstOf}
+use Rattle.arena_tree.specs.declared.node.ChangeStep.{ChangeStep}
+use Rattle.arena_tree.specs.declared.grow.Growth.{Growth}
+use Rattle.arena_tree.specs.declared.merge.NewChain.{NewChain}
 use Rattle.arena_tree.specs.declared.target.MergeTarget.{MergeTarget}
 use Rattle.arena_tree.specs.NodeViews.{NodeView}
 use Rattle.arena_tree.specs.ChainForest.{ChainForest, no_chains}
 use Rattle.arena_tree.specs.Placement.{HasDistinctPlaces}
-use Rattle.arena_tree.specs.Links.{LinkedNodes, IsOutside}
-use Rattle.arena_tree.specs.Steps.{rows_added, merge_steps, apply_steps, rest_over}
+use Rattle.arena_tree.specs.Links.{LinkedNodes, linked, IsOutside}
+use Rattle.arena_tree.specs.Steps.{rows_added, merge_steps, apply_step, apply_steps, rest_over}
 use Rattle.arena_tree.specs.Reading.{chain_of}
 use Rattle.arena_tree.specs.Targets.{IsTarget, target_forest}
+use Rattle.arena_tree.specs.NewChains.{new_marks, new_frames}
+
+-- the nodes of a tree that grows
+abbrev pub growth_view : Growth → LinkedNodes
+growth_view g = linked g.first g.nodes.items
 
 -- the nodes from a place on
 abbrev pub all_at : Link → ℕ → MergeTarget
@@ -25,6 +34,18 @@ led_by l t = record { link = l; node = t.node; skip = t.skip; place = t.place }
 abbrev pub place_below : Path → ℕ → ℕ → ℕ
 place_below [] new first = first
 place_below (g ∷ gs) new first = new
+
+-- the target below the frames of a target that its node c keeps, where a new node gets the place
+abbrev pub below_shared : MergeTarget → ℕ → ℕ → NodeView → MergeTarget
+below_shared into shared new c = all_at (FirstOf into.place) (place_below (drop (into.skip + shared) c.frames) new c.first)
+
+-- all nodes of a tree that grows
+abbrev pub whole_tree : Growth → MergeTarget
+whole_tree g = all_at Top g.first
+
+-- a step was done in a tree that grows
+abbrev pub DoesStep : Growth → Growth → ChangeStep → Type 0
+DoesStep old new step = growth_view new ≡ apply_step (growth_view old) step
 
 -- a target whose nodes may be changed: whole nodes, each once, and the link is of none of them
 pub record CanGrow (cs : List NodeView) (into : MergeTarget) : Type 0 where
@@ -61,3 +82,11 @@ pub record GrowsBy (h h2 : LinkedNodes) (into : MergeTarget) (fs : Path) (w : Ma
   pub rows : r2 ≡ r + rows_grown h into (chain_of 0 fs w no_chains no_chains)
   pub few_nodes : length h2.nodes ≤ length h.nodes + length fs
   pub few_rows : r2 ≤ r + length fs
+
+-- a tree that grows gets the first frames of a chain: all but those behind so many of its path, which come in the target below
+abbrev pub EntersChain : Growth → Growth → MergeTarget → MergeTarget → NewChain → MergeTarget × ℕ → Type 0
+EntersChain old new into rest chain r = Enters (growth_view old) (growth_view new) into rest r.0 (new_frames chain) (drop r.1 chain.path.now) (new_marks chain.marks) old.rows new.rows
+
+-- a tree that grows gets a chain
+abbrev pub GrowsByChain : Growth → Growth → MergeTarget → NewChain → Type 0
+GrowsByChain old new into chain = GrowsBy (growth_view old) (growth_view new) into (new_frames chain) (new_marks chain.marks) old.rows new.rows

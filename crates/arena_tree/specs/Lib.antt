@@ -14,4 +14,5 @@ pub mod TreeView
 pub mod ReadingOrder
 pub mod Cursors
 pub mod Trail
+pub mod NewChains
 pub mod Growth

@@ -1,14 +1,15 @@
 -- Steps that are planned, and what it means that they plan a chain.
 -- No clause of a public call cites this file: it says how a change is planned and done.
-use Rattle.std.specs.Prelude.{◌≡◌, ℕ, ◌+◌, ◌≤◌, List, [], ◌∷◌, ◌++◌, length, Some, slice_get}
+use Rattle.std.specs.Prelude.{◌≡◌, ℕ, ◌+◌, ◌-◌, ◌≤◌, List, [], ◌∷◌, ◌++◌, length, drop, Some, slice_get}
 use Rattle.std.specs.declared.cmp.Ordering.TheVariants.{Equal}
+use Rattle.rank_set.specs.Ranks.{union}
 use Rattle.call_path.specs.Path.{Path}
 use Rattle.prefix_tree.specs.Tree.{Marks}
 use Rattle.arena_tree.specs.declared.node.Link.TheVariants.{FirstOf}
 use Rattle.arena_tree.specs.declared.node.ChangeStep.{ChangeStep}
 use Rattle.arena_tree.specs.declared.node.ChangeStep.TheVariants.{Old, Cut}
 use Rattle.arena_tree.specs.declared.target.MergeTarget.{MergeTarget}
-use Rattle.arena_tree.specs.NodeViews.{NodeView, view_of}
+use Rattle.arena_tree.specs.NodeViews.{NodeView, view_of, view_behind}
 use Rattle.arena_tree.specs.Placement.{no_place}
 use Rattle.arena_tree.specs.RowMerge.{united_marks}
 use Rattle.arena_tree.specs.ChainForest.{ChainForest, row_marks}
@@ -39,6 +40,14 @@ pub record HasRoom (p : PlanView) (k : ℕ) : Type 0 where
 abbrev pub step_at : ℕ → ℕ → Path → Marks → Marks → ℕ → ChangeStep
 step_at a more [] w m first = Old a (more_for m.0 w.0) (more_for m.1 w.1)
 step_at a more (g ∷ gs) w m first = Cut a more (united_marks (row_marks (g ∷ gs) m) w).0 (united_marks (row_marks (g ∷ gs) m) w).1 (view_of (g ∷ gs) m first no_place)
+
+-- the step of the node c of a target, which keeps so many of the target's frames and gets the marks w besides
+abbrev pub share_step : MergeTarget → ℕ → Marks → NodeView → ChangeStep
+share_step into shared w c = step_at into.place (shared - 1) (drop (into.skip + shared) c.frames) w (c.label, c.ends) c.first
+
+-- the same where it has more frames
+abbrev pub cut_step : MergeTarget → ℕ → Marks → NodeView → ChangeStep
+cut_step into shared w c = Cut into.place (shared - 1) (union c.label w.0) w.1 (view_behind (into.skip + shared) c.first no_place c)
 
 -- the target below a node then
 abbrev pub target_below : MergeTarget → Path → ℕ → ℕ → ℕ → MergeTarget

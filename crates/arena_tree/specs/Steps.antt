@@ -33,6 +33,10 @@ with_more s more = cond (is_empty more) s more
 abbrev pub with_more_marks : Ranks → Ranks → NodeView → NodeView
 with_more_marks l e c = record { frames = c.frames; label = with_more c.label l; ends = with_more c.ends e; first = c.first; next = c.next }
 
+-- a node with the marks w united into those of the node c
+abbrev pub with_united : Marks → NodeView → NodeView → NodeView
+with_united w c = with_more_marks (more_for c.label w.0) (more_for c.ends w.1)
+
 -- a node with its first frame and so many more, with other marks, above the node at a place
 abbrev pub with_frames : ℕ → Ranks → Ranks → ℕ → NodeView → NodeView
 with_frames more l e n c = record { frames = take (more + 1) c.frames; label = l; ends = e; first = n; next = c.next }

@@ -1,11 +1,14 @@
 -- Where a chain of frames is merged.
 -- No clause of a public call cites this file: it says how a change is planned and done.
 use Rattle.std.specs.Prelude.{◌≡◌, ℕ, zero, suc, ◌<◌, ◌≤◌, List, length, drop, Option, Some, None, slice_get}
+use Rattle.call_path.specs.Path.{Path}
+use Rattle.prefix_tree.specs.Tree.{Marks}
 use Rattle.arena_tree.specs.declared.node.Link.TheVariants.{NextOf}
 use Rattle.arena_tree.specs.declared.target.MergeTarget.{MergeTarget}
 use Rattle.arena_tree.specs.NodeViews.{NodeView}
 use Rattle.arena_tree.specs.Placement.{no_place}
-use Rattle.arena_tree.specs.ChainForest.{ChainForest, no_chains}
+use Rattle.arena_tree.specs.ChainForest.{ChainForest, no_chains, chain_node}
+use Rattle.arena_tree.specs.Steps.{merge_steps}
 use Rattle.arena_tree.specs.Reading.{chain_of, forest_at, LeadsToForest}
 
 -- what a node has behind its first frames, as one node at a place
@@ -43,3 +46,8 @@ pub record IsAfter (t : MergeTarget) (next : ℕ) (after : MergeTarget) : Type 0
   pub node : after.node ≡ next_of t.skip next
   pub skip : after.skip ≡ 0
   pub place : after.place ≡ next_of t.skip next
+
+-- merging a chain that begins with the frame into the new target takes the same steps as merging it into the old one
+abbrev pub SkipsSiblings : List NodeView → List ℕ → MergeTarget → MergeTarget → Type 0
+SkipsSiblings cs frame old new = (n x : ℕ) (gs : Path) (w : Marks) (c t : ChainForest)
+    → merge_steps old.link n (target_forest cs old) (chain_node x frame gs w c t) ≡ merge_steps new.link n (target_forest cs new) (chain_node x frame gs w c t)

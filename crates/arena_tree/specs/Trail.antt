@@ -4,6 +4,7 @@ use Rattle.std.specs.Prelude.{◌≡◌, ◌≢◌, ◌⊎◌, ℕ, All, List, S
 use Rattle.std.specs.declared.cmp.Ordering.TheVariants.{Less, Equal}
 use Rattle.arena_tree.specs.declared.target.MergeTarget.{MergeTarget}
 use Rattle.arena_tree.specs.declared.trail.Hint.{Hint}
+use Rattle.arena_tree.specs.declared.trail.Search.{Search}
 use Rattle.arena_tree.specs.NodeViews.{NodeView}
 use Rattle.arena_tree.specs.Placement.{no_place}
 use Rattle.arena_tree.specs.ChainForest.{ChainForest, no_chains, chain_node, HasIncreasingChains}
@@ -36,6 +37,10 @@ HasSiblings k j = (x t : ℕ) → IsLaterSibling j x t → IsLaterSibling k x t
 abbrev pub below_first : ChainForest → ChainForest
 below_first no_chains = no_chains
 below_first (chain_node a f fs m b s) = b
+
+-- the forest in which frames are looked for
+abbrev pub searched : Search → ChainForest
+searched s = forest_at s.nodes.now.items s.root
 
 -- a place leads to a forest in which siblings rise
 pub record LeadsToOrdered (cs : List NodeView) (at : ℕ) : Type 0 where

@@ -1,11 +1,12 @@
-//! Steps done in an arena of nodes, which can't fail.
+//! What a change does to the nodes of an arena. Only `unite` allocates, so nothing else here can fail.
 
 ghost use Rattle.std.specs.Prelude.{◌≡◌, ◌≤◌, ◌<◌, ◌+◌, OnOk, Some, slice_get, length};
 ghost use Rattle.arena_tree.specs.NodeViews.{NodeView, view_of};
 ghost use Rattle.arena_tree.specs.Links.{with_change, with_first, with_next, relink, first_after, linked};
-ghost use Rattle.arena_tree.specs.Steps.{more_for, with_more_marks, with_frames, apply_step, apply_steps, nodes_added, nodes_added_by};
+ghost use Rattle.arena_tree.specs.NewChains.{new_marks};
+ghost use Rattle.arena_tree.specs.Steps.{with_more_marks, with_united, with_frames, apply_step, apply_steps, nodes_added, nodes_added_by};
 
-use crate::node::{Link, NO_PLACE, Node, ChangeStep, Upper};
+use crate::node::{ChangeStep, Link, NO_PLACE, NewMarks, Node, Upper};
 use call_path::CallPath;
 use node_arena::{Arena, Place};
 use rank_set::RankSet;
@@ -26,24 +27,24 @@ fn mark(nodes: &mut Arena<Node>, at: Place, label: RankSet, ends: RankSet)
 pub(crate) fn unite(
     nodes: &mut Arena<Node>,
     at: Place,
-    label: &RankSet,
-    ends: &RankSet,
+    marks: NewMarks<'_>,
 ) -> Result<(), AllocError>
     requires { at < length nodes.old.items }
-    ensures { (c : NodeView) → slice_get nodes.old.items at ≡ Some c → OnOk result (nodes.new.items
-        ≡ with_change at (with_more_marks (more_for c.label label.now) (more_for c.ends ends.now)) nodes.old.items) }
+    ensures { (c : NodeView) → slice_get nodes.old.items at ≡ Some c
+        → OnOk result (nodes.new.items ≡ with_change at (with_united (new_marks marks.entry) c) nodes.old.items) }
 {
-    nodes.get_mut(at).unite(label, ends)?;
+    nodes.get_mut(at).unite(marks)?;
     Ok(())
 }
 
 // Leaves the node at a place its first frame and so many more, if there is one, above the node at another.
-fn cut(nodes: &mut Arena<Node>, at: Place, more: u32, label: RankSet, ends: RankSet, below: Place)
-    ensures items { nodes.new.items ≡ with_change at (with_frames more label ends below) nodes.old.items }
+fn cut(nodes: &mut Arena<Node>, at: Place, upper: Upper)
+    ensures items { nodes.new.items
+        ≡ with_change at (with_frames upper.more upper.label upper.ends upper.below) nodes.old.items }
     ensures spare { nodes.new.spare ≡ nodes.old.spare }
 {
     if at < nodes.len() {
-        nodes.get_mut(at).keep_frames(more, label, ends, below);
+        nodes.get_mut(at).keep_frames(upper);
     }
 }
 
@@ -100,8 +101,13 @@ fn apply_one(first: &mut Place, nodes: &mut Arena<Node>, one: ChangeStep)
     match one {
         ChangeStep::Old(at, label, ends) => mark(nodes, at, label, ends),
         ChangeStep::Cut(at, more, label, ends, node) => {
-            let place = nodes.len();
-            cut(nodes, at, more, label, ends, place);
+            let upper = Upper {
+                more,
+                label,
+                ends,
+                below: nodes.len(),
+            };
+            cut(nodes, at, upper);
             nodes.put(node);
         }
         ChangeStep::New(link, node) => {
@@ -113,7 +119,11 @@ fn apply_one(first: &mut Place, nodes: &mut Arena<Node>, one: ChangeStep)
 }
 
 /// Does steps one after another, for whose new nodes there is room. Returns the vector that they were in.
-pub(crate) fn apply(first: &mut Place, nodes: &mut Arena<Node>, steps: Vec<ChangeStep>) -> Vec<ChangeStep>
+pub(crate) fn apply(
+    first: &mut Place,
+    nodes: &mut Arena<Node>,
+    steps: Vec<ChangeStep>,
+) -> Vec<ChangeStep>
     requires { nodes_added steps.items ≤ nodes.old.spare }
     ensures { linked first.new nodes.new.items ≡ apply_steps (linked first.old nodes.old.items) steps.items }
 {

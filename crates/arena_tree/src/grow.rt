@@ -1,27 +1,26 @@
 //! A change of a tree in one pass: nodes are changed and added as soon as they are found.
 //!
-//! Where it fails, a part of the change is done, and the nodes are to be dropped.
+//! If it fails, a part of the change is done, and the nodes must be dropped.
 
-ghost use Rattle.std.specs.Prelude.{◌≡◌, ◌+◌, ◌-◌, ◌<◌, ◌≤◌, ◌∷◌, Some, IfOk, OnOk, length, drop, slice_get};
-ghost use Rattle.rank_set.specs.Ranks.{none, union};
+ghost use Rattle.std.specs.Prelude.{◌≡◌, ◌+◌, ◌-◌, ◌<◌, ◌≤◌, Some, IfOk, OnOk, length, drop, slice_get};
+ghost use Rattle.rank_set.specs.Ranks.{none};
 ghost use Rattle.arena_tree.specs.declared.node.Link.TheVariants.{FirstOf, NextOf};
-ghost use Rattle.arena_tree.specs.declared.node.ChangeStep.TheVariants.{Cut, New};
-ghost use Rattle.arena_tree.specs.NodeViews.{NodeView, view_of, view_behind};
-ghost use Rattle.arena_tree.specs.Links.{linked};
+ghost use Rattle.arena_tree.specs.declared.node.ChangeStep.TheVariants.{New};
+ghost use Rattle.arena_tree.specs.NodeViews.{NodeView, view_of};
 ghost use Rattle.arena_tree.specs.ChainForest.{ChainForest, count_rows};
-ghost use Rattle.arena_tree.specs.Steps.{apply_step};
 ghost use Rattle.arena_tree.specs.Reading.{forest_at};
 ghost use Rattle.arena_tree.specs.Targets.{IsTarget, target_forest};
-ghost use Rattle.arena_tree.specs.Plans.{BeginsAt, step_at, target_below};
-ghost use Rattle.arena_tree.specs.Growth.{all_at, led_by, place_below, CanGrow, grown, rows_grown, Enters, GrowsBy};
+ghost use Rattle.arena_tree.specs.Plans.{BeginsAt, share_step, cut_step, target_below};
+ghost use Rattle.arena_tree.specs.NewChains.{new_marks, new_frames};
+ghost use Rattle.arena_tree.specs.Growth.{growth_view, all_at, led_by, below_shared, DoesStep, CanGrow, grown, rows_grown, EntersChain, GrowsByChain};
 ghost use Rattle.arena_tree.specs.Trail.{AreHints, AreOwnHints, HasSiblings, below_first, LeadsToOrdered};
 
 use crate::apply::{relink, split, unite};
-use crate::merge::{NewChain, ends_at};
-use crate::node::{Link, NO_PLACE, Node, Upper};
+use crate::merge::{NewChain, Source, ends_at};
+use crate::node::{Link, NO_PLACE, NewMarks, Node, Upper};
 use crate::shared::common_behind;
 use crate::target::{MergeTarget, seek};
-use crate::trail::{Hint, follow};
+use crate::trail::{Hint, Search, follow};
 use node_arena::{Arena, Place};
 use rank_set::RankSet;
 use std::alloc::AllocError;
@@ -34,32 +33,24 @@ pub(crate) struct Growth {
     pub(crate) rows: u32,
 }
 
-/// The nodes of another tree, and the empty set.
-#[derive(Clone, Copy)]
-pub(crate) struct Source<'a> {
-    pub(crate) nodes: &'a Arena<Node>,
-    pub(crate) no_ranks: &'a RankSet,
-}
-
 impl Growth {
     /// Adds a node for a chain before the node of the target, leads the target to what comes after it, and returns the
     /// target below it.
-    fn put(&mut self, into: &mut MergeTarget, chain: NewChain<'_>) -> Result<MergeTarget, AllocError>
+    fn put(
+        &mut self,
+        into: &mut MergeTarget,
+        chain: NewChain<'_>,
+    ) -> Result<MergeTarget, AllocError>
         requires skip { chain.skip < length chain.path.now }
         requires room { length self.old.nodes.items < 4096 }
         requires rows { self.old.rows ≤ 4096 }
-        ensures made { OnOk result (linked self.new.first self.new.nodes.items
-            ≡ apply_step (linked self.old.first self.old.nodes.items) (New into.old.link
-            (view_of (drop chain.entry.skip chain.entry.path.now) (chain.entry.label.now, chain.entry.ends.now) NO_PLACE
-            into.old.place))) }
-        ensures rows { OnOk result (self.new.rows
-            ≡ self.old.rows + length (drop chain.entry.skip chain.entry.path.now)) }
+        ensures made { OnOk result (DoesStep self.old self.new (New into.old.link
+            (view_of (new_frames chain.entry) (new_marks chain.entry.marks) NO_PLACE into.old.place))) }
+        ensures rows { OnOk result (self.new.rows ≡ self.old.rows + length (new_frames chain.entry)) }
         ensures below { IfOk result (λ below. below ≡ all_at (FirstOf (length self.old.nodes.items)) NO_PLACE) }
         ensures rest { OnOk result (into.new ≡ led_by (NextOf (length self.old.nodes.items)) into.old) }
     {
-        let node = Node::new(
-            chain.path, chain.skip, chain.label, chain.ends, NO_PLACE, into.place,
-        )?;
+        let node = Node::new(chain.path, chain.skip, chain.marks, NO_PLACE, into.place)?;
         let rows = node.frames().len() as u32;
         self.nodes.reserve(1)?;
         let place = self.nodes.len();
@@ -81,8 +72,7 @@ impl Growth {
         &mut self,
         into: MergeTarget,
         shared: usize,
-        label: &RankSet,
-        ends: &RankSet,
+        marks: NewMarks<'_>,
     ) -> Result<Place, AllocError>
         requires at { into.node < length self.old.nodes.items }
         requires whole { into.place ≡ into.node }
@@ -90,20 +80,18 @@ impl Growth {
         requires within { (c : NodeView) → slice_get self.old.nodes.items into.node ≡ Some c
             → into.skip + shared < length c.frames }
         requires room { length self.old.nodes.items < 4096 }
-        ensures made { (c : NodeView) → slice_get self.old.nodes.items into.node ≡ Some c → OnOk result
-            (linked self.new.first self.new.nodes.items
-            ≡ apply_step (linked self.old.first self.old.nodes.items) (Cut into.place (shared - 1)
-            (union c.label label.now) ends.now (view_behind (into.skip + shared) c.first NO_PLACE c))) }
+        ensures made { (c : NodeView) → slice_get self.old.nodes.items into.node ≡ Some c
+            → OnOk result (DoesStep self.old self.new (cut_step into shared (new_marks marks.entry) c)) }
         ensures rows { self.new.rows ≡ self.old.rows }
         ensures place { IfOk result (λ place. place ≡ length self.old.nodes.items) }
     {
         let node = self.nodes.get(into.node);
-        // For the proof: no more than `FRAME_LIMIT` frames.
+        // for the proof: a node has at most `FRAME_LIMIT` frames
         let _len = node.frames().len();
         let more = (shared - 1) as u32;
         let frames = node.frames().behind(into.skip + shared)?;
-        let label = node.label().united(label)?;
-        let ends = ends.copy()?;
+        let label = node.label().united(marks.label)?;
+        let ends = marks.ends.copy()?;
         self.nodes.reserve(1)?;
         let below = self.nodes.len();
         let upper = Upper {
@@ -122,8 +110,7 @@ impl Growth {
         &mut self,
         into: MergeTarget,
         shared: usize,
-        label: &RankSet,
-        ends: &RankSet,
+        marks: NewMarks<'_>,
     ) -> Result<MergeTarget, AllocError>
         requires at { into.node < length self.old.nodes.items }
         requires whole { into.place ≡ into.node }
@@ -131,20 +118,17 @@ impl Growth {
         requires within { (c : NodeView) → slice_get self.old.nodes.items into.node ≡ Some c
             → into.skip + shared ≤ length c.frames }
         requires room { length self.old.nodes.items < 4096 }
-        ensures made { (c : NodeView) → slice_get self.old.nodes.items into.node ≡ Some c → OnOk result
-            (linked self.new.first self.new.nodes.items
-            ≡ apply_step (linked self.old.first self.old.nodes.items) (step_at into.place (shared - 1)
-            (drop (into.skip + shared) c.frames) (label.now, ends.now) (c.label, c.ends) c.first)) }
+        ensures made { (c : NodeView) → slice_get self.old.nodes.items into.node ≡ Some c
+            → OnOk result (DoesStep self.old self.new (share_step into shared (new_marks marks.entry) c)) }
         ensures rows { self.new.rows ≡ self.old.rows }
         ensures below { (c : NodeView) → slice_get self.old.nodes.items into.node ≡ Some c
-            → IfOk result (λ below. below ≡ all_at (FirstOf into.place)
-            (place_below (drop (into.skip + shared) c.frames) (length self.old.nodes.items) c.first)) }
+            → IfOk result (λ below. below ≡ below_shared into shared (length self.old.nodes.items) c) }
     {
         let node = self.nodes.get(into.node);
         let len = node.frames().len();
         if into.skip + shared == len {
             let first = node.first();
-            unite(&mut self.nodes, into.node, label, ends)?;
+            unite(&mut self.nodes, into.node, marks)?;
             return Ok(MergeTarget {
                 link: Link::FirstOf(into.place),
                 node: first,
@@ -152,7 +136,7 @@ impl Growth {
                 place: first,
             });
         }
-        let place = self.cut(into, shared, label, ends)?;
+        let place = self.cut(into, shared, marks)?;
         Ok(MergeTarget {
             link: Link::FirstOf(into.place),
             node: place,
@@ -163,7 +147,11 @@ impl Growth {
 
     /// Merges the first frames of a chain, which are also those of the node of the target. Leads the target to what comes
     /// after that one, and returns the target below and how many of the path's frames are merged then.
-    fn meet(&mut self, into: &mut MergeTarget, chain: NewChain<'_>) -> Result<(MergeTarget, usize), AllocError>
+    fn meet(
+        &mut self,
+        into: &mut MergeTarget,
+        chain: NewChain<'_>,
+    ) -> Result<(MergeTarget, usize), AllocError>
         requires into { CanGrow self.old.nodes.items into.old }
         requires skip { chain.skip < length chain.path.now }
         requires begins { BeginsAt self.old.nodes.items into.old chain.path.now chain.skip }
@@ -172,36 +160,37 @@ impl Growth {
         ensures kept { IfOk result (λ r. (chain.entry.skip < r.1) × (r.1 ≤ length chain.entry.path.now)) }
         ensures uncut { IfOk result (λ r. length self.new.nodes.items ≡ length self.old.nodes.items
             → forest_at self.new.nodes.items r.0.node ≡ below_first (target_forest self.old.nodes.items into.old)) }
-        ensures enters { IfOk result (λ r. Enters (linked self.old.first self.old.nodes.items)
-            (linked self.new.first self.new.nodes.items) into.old into.new r.0
-            (drop chain.entry.skip chain.entry.path.now) (drop r.1 chain.entry.path.now)
-            (chain.entry.label.now, chain.entry.ends.now) self.old.rows self.new.rows) }
+        ensures enters { IfOk result (EntersChain self.old self.new into.old into.new chain.entry) }
     {
         let node = self.nodes.get(into.node);
-        // For the proof: no more than `FRAME_LIMIT` frames.
+        // for the proof: a path has at most `FRAME_LIMIT` frames
         let _lens = (node.frames().len(), chain.path.len());
         let next = node.next();
         let shared = 1 + common_behind(node.frames(), into.skip, chain.path, chain.skip);
         let kept = chain.skip + shared;
-        let ends = ends_at(chain.path, kept, chain.ends, chain.no_ranks);
-        let below = self.share(*into, shared, chain.label, ends)?;
+        let marks = NewMarks {
+            label: chain.marks.label,
+            ends: ends_at(chain.path, kept, chain.marks.ends, chain.no_ranks),
+        };
+        let below = self.share(*into, shared, marks)?;
         *into = into.after(next);
         Ok((below, kept))
     }
 
     /// Merges the first frames of a chain, or all of them as a new node. Leads the target to what comes after them, and
     /// returns the target below and how many of the path's frames are merged then.
-    fn enter(&mut self, into: &mut MergeTarget, chain: NewChain<'_>) -> Result<(MergeTarget, usize), AllocError>
+    fn enter(
+        &mut self,
+        into: &mut MergeTarget,
+        chain: NewChain<'_>,
+    ) -> Result<(MergeTarget, usize), AllocError>
         requires into { CanGrow self.old.nodes.items into.old }
         requires skip { chain.skip < length chain.path.now }
         requires no_ranks { chain.no_ranks.now ≡ none }
         requires room { length self.old.nodes.items < 4096 }
         requires rows { self.old.rows ≤ 4096 }
         ensures kept { IfOk result (λ r. (chain.entry.skip < r.1) × (r.1 ≤ length chain.entry.path.now)) }
-        ensures enters { IfOk result (λ r. Enters (linked self.old.first self.old.nodes.items)
-            (linked self.new.first self.new.nodes.items) into.old into.new r.0
-            (drop chain.entry.skip chain.entry.path.now) (drop r.1 chain.entry.path.now)
-            (chain.entry.label.now, chain.entry.ends.now) self.old.rows self.new.rows) }
+        ensures enters { IfOk result (EntersChain self.old self.new into.old into.new chain.entry) }
     {
         if seek(&self.nodes, into, chain.path.frame(chain.skip)) {
             let (below, kept) = self.meet(into, chain)?;
@@ -223,12 +212,10 @@ impl Growth {
         requires no_ranks { from.no_ranks.now ≡ none }
         requires room { length self.old.nodes.items + count_rows (target_forest from.nodes.now.items other) ≤ 4096 }
         requires rows { self.old.rows + count_rows (target_forest from.nodes.now.items other) ≤ 4096 }
-        ensures made { OnOk result (linked self.new.first self.new.nodes.items
-            ≡ grown (linked self.old.first self.old.nodes.items) into
-            (target_forest from.entry.nodes.now.items other)) }
+        ensures made { OnOk result (growth_view self.new
+            ≡ grown (growth_view self.old) into (target_forest from.entry.nodes.now.items other)) }
         ensures rows { OnOk result (self.new.rows ≡ self.old.rows
-            + rows_grown (linked self.old.first self.old.nodes.items) into
-            (target_forest from.entry.nodes.now.items other)) }
+            + rows_grown (growth_view self.old) into (target_forest from.entry.nodes.now.items other)) }
         ensures few_nodes { OnOk result (length self.new.nodes.items ≤ length self.old.nodes.items
             + count_rows (target_forest from.entry.nodes.now.items other)) }
         ensures few_rows { OnOk result (self.new.rows ≤ self.old.rows
@@ -239,8 +226,10 @@ impl Growth {
             let chain = NewChain {
                 path: node.frames(),
                 skip: other.skip,
-                label: node.label(),
-                ends: node.ends(),
+                marks: NewMarks {
+                    label: node.label(),
+                    ends: node.ends(),
+                },
                 no_ranks: from.no_ranks,
             };
             let (below, kept) = self.enter(&mut into, chain)?;
@@ -255,15 +244,19 @@ impl Growth {
         requires into { CanGrow self.old.nodes.items into }
         requires skip { chain.skip < length chain.path.now }
         requires no_ranks { chain.no_ranks.now ≡ none }
-        requires room { length self.old.nodes.items + length (drop chain.skip chain.path.now) ≤ 4096 }
-        requires rows { self.old.rows + length (drop chain.skip chain.path.now) ≤ 4096 }
-        ensures { OnOk result (GrowsBy (linked self.old.first self.old.nodes.items)
-            (linked self.new.first self.new.nodes.items) into (drop chain.entry.skip chain.entry.path.now)
-            (chain.entry.label.now, chain.entry.ends.now) self.old.rows self.new.rows) }
+        requires room { length self.old.nodes.items + length (new_frames chain) ≤ 4096 }
+        requires rows { self.old.rows + length (new_frames chain) ≤ 4096 }
+        ensures { OnOk result (GrowsByChain self.old self.new into chain.entry) }
     {
         let (below, kept) = self.enter(&mut into, chain)?;
         if kept < chain.path.len() {
-            self.add_chain(below, NewChain { skip: kept, ..chain })?;
+            self.add_chain(
+                below,
+                NewChain {
+                    skip: kept,
+                    ..chain
+                },
+            )?;
         }
         Ok(())
     }
@@ -282,24 +275,29 @@ impl Growth {
         requires skip { chain.skip < length chain.path.now }
         requires level { level ≤ chain.skip }
         requires no_ranks { chain.no_ranks.now ≡ none }
-        requires room { length self.old.nodes.items + length (drop chain.skip chain.path.now) ≤ 4096 }
-        requires rows { self.old.rows + length (drop chain.skip chain.path.now) ≤ 4096 }
+        requires room { length self.old.nodes.items + length (new_frames chain) ≤ 4096 }
+        requires rows { self.old.rows + length (new_frames chain) ≤ 4096 }
         requires hints { AreOwnHints (forest_at self.old.nodes.items into.node) trail.old.items }
         ensures hints { OnOk result ((k : ChainForest) → HasSiblings k (forest_at self.old.nodes.items into.node)
             → AreHints k trail.old.items → AreHints k trail.new.items) }
-        ensures grows { OnOk result (GrowsBy (linked self.old.first self.old.nodes.items)
-            (linked self.new.first self.new.nodes.items) into (drop chain.entry.skip chain.entry.path.now)
-            (chain.entry.label.now, chain.entry.ends.now) self.old.rows self.new.rows) }
+        ensures grows { OnOk result (GrowsByChain self.old self.new into chain.entry) }
     {
-        let root = into.node;
+        let search = Search {
+            nodes: &self.nodes,
+            root: into.node,
+            level,
+        };
         let frame = chain.path.frame(chain.skip);
-        if follow(&self.nodes, root, &mut into, frame, trail, level)? {
+        if follow(search, &mut into, frame, trail)? {
             let before = self.nodes.len();
             let (below, kept) = self.meet(&mut into, chain)?;
             if kept == chain.path.len() {
                 return Ok(());
             }
-            let chain = NewChain { skip: kept, ..chain };
+            let chain = NewChain {
+                skip: kept,
+                ..chain
+            };
             if self.nodes.len() == before {
                 self.add_path(below, chain, trail, level + 1)?;
                 return Ok(());

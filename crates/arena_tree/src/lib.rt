@@ -1,15 +1,26 @@
-//! A call-graph prefix tree with one node for each chain of rows.
+//! A path-compressed prefix tree (radix tree) of call paths, with its nodes in an arena.
 //!
-//! [`ArenaTree`] is a [`prefix_tree::PrefixTree`]. Rows one below the other that the same ranks pass
-//! are one node, where a tree of rows has one for each. The nodes are in an arena, and linked by first
-//! child and next sibling.
+//! [`ArenaTree`] is a [`prefix_tree::PrefixTree`]. Rows one below the other that the same ranks pass are a *chain*. A
+//! chain is one node here, where a tree of rows has a node for each row. Each node is linked to its first child and to
+//! its next sibling, and siblings are in the order of their first frames.
 //!
-//! A change has two passes. The first one only reads: it plans the steps of the change, and makes all
-//! sets, frames and room that they need. The second one does the steps and cannot fail, so a change
-//! that is refused leaves the tree as it was.
+//! ```text
+//! let mut tree = ArenaTree::empty(alloc);
+//! tree.cover(&ranks)?;                  // these ranks were looked at
+//! tree.add(&waiting, &path)?;           // and these of them were seen in this path
+//! tree.merge(&other)?;
+//! let mut at = tree.cursor(alloc)?;
+//! tree.next_row(&mut at)                // the first row below the root
+//! ```
 //!
-//! A change that may leave an empty tree where it fails has one pass: nodes are changed and added as
-//! soon as they are found. It makes what the steps make.
+//! `add` and `merge` have two passes. The first one only reads: it plans the steps of the change, and makes all sets,
+//! frames and room that they need. The second one does the steps and can't fail, so a change that is refused leaves the
+//! tree as it was. `add_or_clear` and `merge_or_clear` have one pass, since they may leave an empty tree if they fail:
+//! nodes are changed and added as soon as they are found. They make what the steps make.
+//!
+//! The contracts are those of `PrefixTree`, which see a tree as its coverage and its rows. `specs/TreeView.antt` says
+//! which tree the nodes stand for, `specs/ChainForest.antt` what a forest of chains is and which rows it shows,
+//! `specs/ChainMerge.antt` how two of them are merged, and `specs/Steps.antt` which steps do it.
 #![tactic(auto)]
 
 ghost use Rattle.arena_tree.specs.Laws.{CutShowsSameRows, MergeUnitesRows, StepsMakeMerge};
@@ -29,22 +40,22 @@ mod walk;
 
 pub use tree::ArenaTree;
 
-/// A node that is cut shows the same rows.
+/// A law: a node that is cut in two shows the same rows.
 pub fn cut_shows_the_same_rows()
     ensures { CutShowsSameRows }
 {}
 
-/// The rows of two forests of chains, merged, are the rows of both, united.
+/// A law: the rows of two merged forests of chains are the united rows of both.
 pub fn merged_chains_show_united_rows()
     ensures { MergeUnitesRows }
 {}
 
-/// The steps of a merge make the merged forest.
+/// A law: the steps of a merge make the merged forest.
 pub(crate) fn steps_make_the_merged_forest()
     ensures { StepsMakeMerge }
 {}
 
-/// How rows are read one after another.
+/// A law: how rows are read one after another.
 pub(crate) fn rows_are_read_in_order()
     ensures { ReadsInOrder }
 {}

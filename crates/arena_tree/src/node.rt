@@ -3,8 +3,9 @@
 ghost use Rattle.std.specs.Prelude.{◌≡◌, ◌<◌, slice_get, Some, IfOk, OnOk, IsTrue, length, drop};
 ghost use Rattle.call_path.specs.Good.{is_good_frame};
 ghost use Rattle.arena_tree.specs.NodeViews.{view_of, view_behind};
+ghost use Rattle.arena_tree.specs.NewChains.{new_marks};
 ghost use Rattle.arena_tree.specs.Links.{with_first, with_next};
-ghost use Rattle.arena_tree.specs.Steps.{more_for, with_more, with_more_marks, with_frames};
+ghost use Rattle.arena_tree.specs.Steps.{with_more, with_more_marks, with_united, with_frames};
 
 use call_path::CallPath;
 use node_arena::Place;
@@ -43,6 +44,13 @@ pub(crate) enum Link {
     FirstOf(Place),
     /// The next sibling of a node.
     NextOf(Place),
+}
+
+/// The marks of a chain: the ranks that pass its rows, and those whose path ends at the last of them.
+#[derive(Clone, Copy)]
+pub(crate) struct NewMarks<'a> {
+    pub(crate) label: &'a RankSet,
+    pub(crate) ends: &'a RankSet,
 }
 
 /// What a node keeps when it is split: its first frame and so many more, these marks, and the place of the node below.
@@ -110,25 +118,28 @@ impl Node {
         requires { skip < length self.now.frames }
         ensures { IfOk result (λ node. node ≡ view_behind skip first next self.now) }
     {
-        Node::new(&self.frames, skip, &self.label, &self.ends, first, next)
+        let marks = NewMarks {
+            label: &self.label,
+            ends: &self.ends,
+        };
+        Node::new(&self.frames, skip, marks, first, next)
     }
 
     /// A node with the frames of a path behind the first `skip`.
     pub(crate) fn new(
         frames: &CallPath,
         skip: usize,
-        label: &RankSet,
-        ends: &RankSet,
+        marks: NewMarks<'_>,
         first: Place,
         next: Place,
     ) -> Result<Node, AllocError>
         requires { skip < length frames.now }
-        ensures { IfOk result (λ node. node ≡ view_of (drop skip frames.now) (label.now, ends.now) first next) }
+        ensures { IfOk result (λ node. node ≡ view_of (drop skip frames.now) (new_marks marks.entry) first next) }
     {
         Ok(Node {
             frames: frames_behind(frames, skip)?,
-            label: label.copy()?,
-            ends: ends.copy()?,
+            label: marks.label.copy()?,
+            ends: marks.ends.copy()?,
             first,
             next,
         })
@@ -143,26 +154,25 @@ impl Node {
     }
 
     /// Unites ranks into its marks. Where it fails, a part of them may be there.
-    pub(crate) fn unite(&mut self, label: &RankSet, ends: &RankSet) -> Result<(), AllocError>
-        ensures { OnOk result (self.new ≡ with_more_marks
-            (more_for self.old.label label.now) (more_for self.old.ends ends.now) self.old) }
+    pub(crate) fn unite(&mut self, marks: NewMarks<'_>) -> Result<(), AllocError>
+        ensures { OnOk result (self.new ≡ with_united (new_marks marks.entry) self.old self.old) }
     {
-        self.label.union_into(label)?;
+        self.label.union_into(marks.label)?;
         // Most often no path ends at the node.
-        if !ends.is_empty() {
-            self.ends.union_into(ends)?;
+        if !marks.ends.is_empty() {
+            self.ends.union_into(marks.ends)?;
         }
         Ok(())
     }
 
     /// Keeps its first frame and so many more, above the node at a place. It allocates nothing.
-    pub(crate) fn keep_frames(&mut self, more: u32, label: RankSet, ends: RankSet, below: Place)
-        ensures { self.new ≡ with_frames more label ends below self.old }
+    pub(crate) fn keep_frames(&mut self, upper: Upper)
+        ensures { self.new ≡ with_frames upper.more upper.label upper.ends upper.below self.old }
     {
-        self.frames.cut(more as usize + 1);
-        drop(mem::replace(&mut self.label, label));
-        drop(mem::replace(&mut self.ends, ends));
-        self.first = below;
+        self.frames.cut(upper.more as usize + 1);
+        drop(mem::replace(&mut self.label, upper.label));
+        drop(mem::replace(&mut self.ends, upper.ends));
+        self.first = upper.below;
     }
 
     /// Keeps its first frame and so many more, with other marks, above the node at a place. Returns a node with the frames

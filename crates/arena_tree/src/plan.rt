@@ -1,13 +1,12 @@
 //! The steps of a change, planned before anything is changed.
 
-ghost use Rattle.std.specs.Prelude.{◌≡◌, ◌≢◌, ◌+◌, ◌-◌, ◌<◌, ◌≤◌, [], ◌∷◌, IfOk, OnOk, length, drop};
-ghost use Rattle.rank_set.specs.Ranks.{none, union};
+ghost use Rattle.std.specs.Prelude.{◌≡◌, ◌+◌, ◌-◌, ◌<◌, ◌≤◌, [], ◌∷◌, IfOk, OnOk, length, drop};
 ghost use Rattle.arena_tree.specs.declared.node.ChangeStep.TheVariants.{Old, Cut, New};
-ghost use Rattle.arena_tree.specs.NodeViews.{view_behind};
+ghost use Rattle.arena_tree.specs.NewChains.{new_marks};
 ghost use Rattle.arena_tree.specs.Steps.{more_for, nodes_added, rows_added};
-ghost use Rattle.arena_tree.specs.Plans.{plan_with, next_place, HasRoom, step_at, target_below};
+ghost use Rattle.arena_tree.specs.Plans.{plan_with, next_place, HasRoom, share_step, cut_step, target_below};
 
-use crate::node::{Link, NO_PLACE, Node, ChangeStep};
+use crate::node::{ChangeStep, Link, NO_PLACE, NewMarks, Node};
 use crate::target::MergeTarget;
 use node_arena::Place;
 use rank_set::RankSet;
@@ -54,7 +53,11 @@ impl ChangePlan {
     }
 
     /// No steps, and room for so many, for a tree of `base` nodes.
-    pub(crate) fn with_capacity(alloc: Global, base: u32, steps: u32) -> Result<ChangePlan, AllocError>
+    pub(crate) fn with_capacity(
+        alloc: Global,
+        base: u32,
+        steps: u32,
+    ) -> Result<ChangePlan, AllocError>
         ensures base { IfOk result (λ plan. plan.base ≡ base) }
         ensures steps { IfOk result (λ plan. plan.steps ≡ []) }
     {
@@ -114,22 +117,20 @@ impl ChangePlan {
         into: MergeTarget,
         node: &Node,
         shared: usize,
-        label: &RankSet,
-        ends: &RankSet,
+        marks: NewMarks<'_>,
     ) -> Result<MergeTarget, AllocError>
         requires room { HasRoom self.old 1 }
         requires not_empty { 0 < shared }
         requires within { into.skip + shared ≤ length node.now.frames }
-        ensures plan { OnOk result (self.new ≡ plan_with self.old (step_at into.place (shared - 1)
-            (drop (into.skip + shared) node.now.frames)
-            (label.now, ends.now) (node.now.label, node.now.ends) node.now.first ∷ [])) }
+        ensures plan { OnOk result (self.new
+            ≡ plan_with self.old (share_step into shared (new_marks marks.entry) node.now ∷ [])) }
         ensures below { IfOk result (λ below. below ≡ target_below into (drop (into.skip + shared) node.now.frames)
             (into.skip + shared) (next_place self.old) node.now.first) }
     {
         let len = node.frames().len();
         let kept = into.skip + shared;
         if kept == len {
-            self.mark(into.place, node, label, ends)?;
+            self.mark(into.place, node, marks)?;
             return Ok(MergeTarget {
                 link: Link::FirstOf(into.place),
                 node: node.first(),
@@ -137,7 +138,7 @@ impl ChangePlan {
                 place: node.first(),
             });
         }
-        let place = self.cut(into, node, shared, label, ends)?;
+        let place = self.cut(into, node, shared, marks)?;
         Ok(MergeTarget {
             link: Link::FirstOf(into.place),
             node: into.node,
@@ -147,18 +148,12 @@ impl ChangePlan {
     }
 
     /// Plans that a node has the ranks besides its own.
-    fn mark(
-        &mut self,
-        at: Place,
-        node: &Node,
-        label: &RankSet,
-        ends: &RankSet,
-    ) -> Result<(), AllocError>
-        ensures { OnOk result (self.new ≡ plan_with self.old
-            (Old at (more_for node.now.label label.now) (more_for node.now.ends ends.now) ∷ [])) }
+    fn mark(&mut self, at: Place, node: &Node, marks: NewMarks<'_>) -> Result<(), AllocError>
+        ensures { OnOk result (self.new ≡ plan_with self.old (Old at
+            (more_for node.now.label marks.entry.label.now) (more_for node.now.ends marks.entry.ends.now) ∷ [])) }
     {
-        let label = more_for(node.label(), label)?;
-        let ends = more_for(node.ends(), ends)?;
+        let label = more_for(node.label(), marks.label)?;
+        let ends = more_for(node.ends(), marks.ends)?;
         self.steps.push(ChangeStep::Old(at, label, ends))?;
         Ok(())
     }
@@ -170,24 +165,22 @@ impl ChangePlan {
         into: MergeTarget,
         node: &Node,
         shared: usize,
-        label: &RankSet,
-        ends: &RankSet,
+        marks: NewMarks<'_>,
     ) -> Result<Place, AllocError>
         requires room { HasRoom self.old 1 }
         requires not_empty { 0 < shared }
         requires within { into.skip + shared < length node.now.frames }
         ensures place { IfOk result (λ place. place ≡ next_place self.old) }
-        ensures plan { OnOk result (self.new ≡ plan_with self.old (Cut into.place (shared - 1)
-            (union node.now.label label.now) ends.now
-            (view_behind (into.skip + shared) node.now.first NO_PLACE node.now) ∷ [])) }
+        ensures plan { OnOk result (self.new
+            ≡ plan_with self.old (cut_step into shared (new_marks marks.entry) node.now ∷ [])) }
     {
         let place = self.next;
-        // For the proof: no more than `FRAME_LIMIT` frames.
+        // for the proof: a node has at most `FRAME_LIMIT` frames
         let _len = node.frames().len();
         let more = (shared - 1) as u32;
         let lower = node.behind(into.skip + shared, node.first(), NO_PLACE)?;
-        let label = node.label().united(label)?;
-        let ends = ends.copy()?;
+        let label = node.label().united(marks.label)?;
+        let ends = marks.ends.copy()?;
         self.steps
             .push(ChangeStep::Cut(into.place, more, label, ends, lower))?;
         self.next = place + 1;

@@ -47,7 +47,12 @@ pub(crate) fn find_row<'a>(
 }
 
 /// Row `i` of a node, whose first row has the given depth.
-pub(crate) fn chain_row<'a>(node: &'a Node, depth: usize, i: usize, no_ranks: &'a RankSet) -> Row<'a>
+pub(crate) fn chain_row<'a>(
+    node: &'a Node,
+    depth: usize,
+    i: usize,
+    no_ranks: &'a RankSet,
+) -> Row<'a>
     requires within { i < length node.now.frames }
     requires no_ranks { no_ranks.now ≡ none }
     requires depth { depth ≤ 8192 }
@@ -56,7 +61,7 @@ pub(crate) fn chain_row<'a>(node: &'a Node, depth: usize, i: usize, no_ranks: &'
     ensures label { result.label.now ≡ node.now.label }
     ensures ends { result.ends.now ≡ row_ends (drop (i + 1) node.now.frames) node.now.ends }
 {
-    // For the proof: no more than `FRAME_LIMIT` frames.
+    // for the proof: a node has at most `FRAME_LIMIT` frames
     let _len = node.frames().len();
     Row {
         depth: depth + i,
@@ -76,7 +81,7 @@ pub(crate) fn chain_from(node: &Node, depth: usize, i: usize) -> Chain<'_>
     ensures frames { result.frames.now ≡ node.now.frames }
     ensures skip { result.skip ≡ i }
 {
-    // For the proof: no more than `FRAME_LIMIT` frames.
+    // for the proof: a node has at most `FRAME_LIMIT` frames
     let _len = node.frames().len();
     Chain {
         depth: depth + i,

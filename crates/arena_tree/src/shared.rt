@@ -35,7 +35,7 @@ pub(crate) fn common_behind(own: &CallPath, i: usize, other: &CallPath, j: usize
     ensures split { split_frames (drop (i + 1) own.now) (drop (j + 1) other.now) ≡ split_parts
         (take result (drop (i + 1) own.now)) (drop (i + 1 + result) own.now) (drop (j + 1 + result) other.now) }
 {
-    // For the proof: no more than `FRAME_LIMIT` frames.
+    // for the proof: a path has at most `FRAME_LIMIT` frames
     let _lens = (own.len(), other.len());
     // A chain that begins with its path is compared by blocks of bytes, and one of the two nearly always does.
     if i == 0 {

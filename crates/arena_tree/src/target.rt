@@ -1,13 +1,9 @@
-//! Where a chain of frames is merged, and the search for a frame among siblings.
+//! Where a chain is merged, and the search for a frame among siblings.
 
-ghost use Rattle.std.specs.Prelude.{◌≡◌, ℕ, cond};
+ghost use Rattle.std.specs.Prelude.{◌≡◌, cond};
 ghost use Rattle.std.specs.declared.cmp.Ordering.TheVariants.{Less, Equal};
-ghost use Rattle.call_path.specs.Path.{Path};
-ghost use Rattle.prefix_tree.specs.Tree.{Marks};
-ghost use Rattle.arena_tree.specs.ChainForest.{ChainForest, chain_node};
-ghost use Rattle.arena_tree.specs.Steps.{merge_steps};
 ghost use Rattle.arena_tree.specs.Reading.{frame_side};
-ghost use Rattle.arena_tree.specs.Targets.{IsTarget, target_forest, IsAfter};
+ghost use Rattle.arena_tree.specs.Targets.{IsTarget, target_forest, IsAfter, SkipsSiblings};
 ghost use Rattle.arena_tree.specs.Growth.{CanGrow};
 
 use crate::node::{Link, NO_PLACE, Node};
@@ -49,9 +45,7 @@ pub(crate) fn seek(nodes: &Arena<Node>, into: &mut MergeTarget, frame: &str) -> 
     ensures target { IsTarget nodes.now.items into.new }
     ensures grows { CanGrow nodes.now.items into.old → CanGrow nodes.now.items into.new }
     ensures side { frame_side frame.now (target_forest nodes.now.items into.new) ≡ cond result Equal Less }
-    ensures steps { (n x : ℕ) (gs : Path) (w : Marks) (c t : ChainForest)
-        → merge_steps into.old.link n (target_forest nodes.now.items into.old) (chain_node x frame.now gs w c t)
-        ≡ merge_steps into.new.link n (target_forest nodes.now.items into.new) (chain_node x frame.now gs w c t) }
+    ensures steps { SkipsSiblings nodes.now.items frame.now into.old into.new }
 {
     while into.node != NO_PLACE {
         let node = nodes.get(into.node);

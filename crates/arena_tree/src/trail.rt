@@ -1,13 +1,10 @@
 //! Hints of where the next path begins among siblings, and the search that starts at them.
 
-ghost use Rattle.std.specs.Prelude.{◌≡◌, ◌≢◌, ℕ, true, IfOk, IfSome};
-ghost use Rattle.call_path.specs.Path.{Path};
-ghost use Rattle.prefix_tree.specs.Tree.{Marks};
-ghost use Rattle.arena_tree.specs.ChainForest.{ChainForest, chain_node};
-ghost use Rattle.arena_tree.specs.Steps.{merge_steps};
+ghost use Rattle.std.specs.Prelude.{◌≡◌, ◌≢◌, true, IfOk, IfSome};
+ghost use Rattle.arena_tree.specs.ChainForest.{ChainForest};
 ghost use Rattle.arena_tree.specs.Reading.{forest_at};
-ghost use Rattle.arena_tree.specs.Targets.{IsTarget, target_forest};
-ghost use Rattle.arena_tree.specs.Trail.{IsLaterSibling, AreHints, AreOwnHints, HasSiblings, LeadsToOrdered, IsInTree, IsStart, IsFound};
+ghost use Rattle.arena_tree.specs.Targets.{IsTarget, SkipsSiblings};
+ghost use Rattle.arena_tree.specs.Trail.{IsLaterSibling, AreHints, AreOwnHints, HasSiblings, searched, LeadsToOrdered, IsInTree, IsStart, IsFound};
 ghost use Rattle.arena_tree.specs.Growth.{CanGrow};
 
 use crate::node::{NO_PLACE, Node};
@@ -22,6 +19,15 @@ use std::cmp::Ordering;
 pub(crate) struct Hint {
     pub(crate) first: Place,
     pub(crate) later: Place,
+}
+
+/// Where the frames of a path are looked for: the nodes of a tree, the place of its first node, and the level of the
+/// trail.
+#[derive(Clone, Copy)]
+pub(crate) struct Search<'a> {
+    pub(crate) nodes: &'a Arena<Node>,
+    pub(crate) root: Place,
+    pub(crate) level: usize,
 }
 
 /// The last of the siblings from `next` on whose first frame isn't greater than a frame. They are siblings of the node
@@ -59,28 +65,22 @@ fn last_up_to(
 
 /// The last of the siblings from `first` on whose first frame isn't greater than a frame. The search starts at the hint
 /// of the level, if that is for these siblings and doesn't come too late.
-fn find_start(
-    nodes: &Arena<Node>,
-    root: Place,
-    first: Place,
-    trail: &Vec<Hint>,
-    level: usize,
-    frame: &str,
-) -> Option<Place>
-    requires tree { LeadsToOrdered nodes.now.items root }
-    requires first { IsLaterSibling (forest_at nodes.now.items root) first first }
-    requires hints { AreOwnHints (forest_at nodes.now.items root) trail.now.items }
-    ensures { IfSome result (λ at. IsStart nodes.now.items root first frame.now at) }
+fn find_start(search: Search<'_>, first: Place, trail: &Vec<Hint>, frame: &str) -> Option<Place>
+    requires tree { LeadsToOrdered search.nodes.now.items search.root }
+    requires first { IsLaterSibling (searched search) first first }
+    requires hints { AreOwnHints (searched search) trail.now.items }
+    ensures { IfSome result (λ at.
+        IsStart search.entry.nodes.now.items search.entry.root first frame.now at) }
 {
-    if let Some(&hint) = trail.get(level) {
+    if let Some(&hint) = trail.get(search.level) {
         if hint.first == first {
-            let start = last_up_to(nodes, root, first, hint.later, frame);
+            let start = last_up_to(search.nodes, search.root, first, hint.later, frame);
             if start.is_some() {
                 return start;
             }
         }
     }
-    last_up_to(nodes, root, first, first, frame)
+    last_up_to(search.nodes, search.root, first, first, frame)
 }
 
 /// Makes a hint that of a level, and drops those of the levels below it unless it was that already.
@@ -103,38 +103,35 @@ fn remember(trail: &mut Vec<Hint>, level: usize, hint: Hint) -> Result<(), Alloc
 /// Leads a target on to the last sibling whose first frame isn't greater than a frame, if there is one, and says
 /// whether that is the frame. Starts at the hint of the level, and leaves one there.
 pub(crate) fn follow(
-    nodes: &Arena<Node>,
-    root: Place,
+    search: Search<'_>,
     into: &mut MergeTarget,
     frame: &str,
     trail: &mut Vec<Hint>,
-    level: usize,
 ) -> Result<bool, AllocError>
-    requires target { IsTarget nodes.now.items into.old }
-    requires tree { LeadsToOrdered nodes.now.items root }
-    requires inside { IsInTree nodes.now.items root into.old }
-    requires hints { AreOwnHints (forest_at nodes.now.items root) trail.old.items }
-    ensures hints { (k : ChainForest) → HasSiblings k (forest_at nodes.now.items root)
+    requires target { IsTarget search.nodes.now.items into.old }
+    requires tree { LeadsToOrdered search.nodes.now.items search.root }
+    requires inside { IsInTree search.nodes.now.items search.root into.old }
+    requires hints { AreOwnHints (searched search) trail.old.items }
+    ensures hints { (k : ChainForest) → HasSiblings k (searched search.entry)
         → AreHints k trail.old.items → AreHints k trail.new.items }
-    ensures own { AreOwnHints (forest_at nodes.now.items root) trail.new.items }
-    ensures grows { CanGrow nodes.now.items into.old → CanGrow nodes.now.items into.new }
+    ensures own { AreOwnHints (searched search.entry) trail.new.items }
+    ensures grows { CanGrow search.entry.nodes.now.items into.old → CanGrow search.entry.nodes.now.items into.new }
     ensures later { IfOk result (λ found. found ≡ true
-        → IsLaterSibling (forest_at nodes.now.items root) into.old.node into.new.node) }
-    ensures target { IsTarget nodes.now.items into.new }
-    ensures found { IfOk result (λ found. found ≡ true → IsFound nodes.now.items root frame.now into.new) }
-    ensures steps { (n x : ℕ) (gs : Path) (w : Marks) (c t : ChainForest)
-        → merge_steps into.old.link n (target_forest nodes.now.items into.old) (chain_node x frame.now gs w c t)
-        ≡ merge_steps into.new.link n (target_forest nodes.now.items into.new) (chain_node x frame.now gs w c t) }
+        → IsLaterSibling (searched search.entry) into.old.node into.new.node) }
+    ensures target { IsTarget search.entry.nodes.now.items into.new }
+    ensures found { IfOk result (λ found. found ≡ true
+        → IsFound search.entry.nodes.now.items search.entry.root frame.now into.new) }
+    ensures steps { SkipsSiblings search.entry.nodes.now.items frame.now into.old into.new }
 {
     let first = into.node;
     if into.skip != 0 || first == NO_PLACE {
         return Ok(false);
     }
-    let Some(at) = find_start(nodes, root, first, trail, level, frame) else {
+    let Some(at) = find_start(search, first, trail, frame) else {
         return Ok(false);
     };
-    remember(trail, level, Hint { first, later: at })?;
+    remember(trail, search.level, Hint { first, later: at })?;
     into.node = at;
     into.place = at;
-    Ok(frame == nodes.get(at).frame(0))
+    Ok(frame == search.nodes.get(at).frame(0))
 }

@@ -3,22 +3,22 @@
 ghost use Rattle.std.specs.Prelude.{◌≡◌, ◌+◌, ◌<◌, ◌≤◌, ◌^◌, IfOk, OnOk, length};
 ghost use Rattle.rank_set.specs.Ranks.{none};
 ghost use Rattle.arena_tree.specs.declared.node.Link.TheVariants.{Top};
-ghost use Rattle.arena_tree.specs.Links.{linked};
-ghost use Rattle.arena_tree.specs.ChainForest.{no_chains, count_rows};
-ghost use Rattle.arena_tree.specs.Reading.{chain_of, forest_at, LeadsToForest};
+ghost use Rattle.arena_tree.specs.ChainForest.{count_rows};
+ghost use Rattle.arena_tree.specs.Reading.{forest_at, LeadsToForest};
 ghost use Rattle.arena_tree.specs.Trail.{AreHints, AreOwnHints, LeadsToOrdered};
 ghost use Rattle.arena_tree.specs.Steps.{nodes_added, rows_added};
-ghost use Rattle.arena_tree.specs.Growth.{all_at, CanGrow, grown, rows_grown};
+ghost use Rattle.arena_tree.specs.NewChains.{one_chain};
+ghost use Rattle.arena_tree.specs.Growth.{growth_view, all_at, whole_tree, CanGrow, grown, rows_grown};
 ghost use Rattle.arena_tree.specs.Cursors.{IsCursor};
 
 use crate::apply::apply;
-use crate::grow::{Growth, Source};
-use crate::merge::{NewChain, plan_merge, plan_path};
-use crate::node::{Link, NO_PLACE, Node, ChangeStep};
+use crate::grow::Growth;
+use crate::merge::{NewChain, Source, plan_merge, plan_path};
+use crate::node::{ChangeStep, Link, NO_PLACE, NewMarks, Node};
 use crate::plan::ChangePlan;
-use crate::row::{find_row, chain_from, chain_row};
+use crate::row::{chain_from, chain_row, find_row};
 use crate::target::MergeTarget;
-use crate::trail::Hint;
+use crate::trail::{Hint, Search};
 use crate::walk::{move_on, move_past, put_link};
 use call_path::CallPath;
 use node_arena::{Arena, Place};
@@ -98,7 +98,7 @@ impl PrefixTree for ArenaTree {
     fn add(&mut self, ranks: &RankSet, path: &CallPath) -> Result<(), TreeError> {
         let room = mem::replace(&mut self.room, Vec::new(self.alloc));
         let mut plan = ChangePlan::in_room(room, self.nodes.len());
-        // For the proof: no more than `FRAME_LIMIT` frames.
+        // for the proof: a path has at most `FRAME_LIMIT` frames
         let _len = path.len();
         let mut into = MergeTarget {
             link: Link::Top,
@@ -109,19 +109,18 @@ impl PrefixTree for ArenaTree {
         let chain = NewChain {
             path,
             skip: 0,
-            label: ranks,
-            ends: ranks,
+            marks: NewMarks {
+                label: ranks,
+                ends: ranks,
+            },
             no_ranks: &self.no_ranks,
         };
-        let _below = plan_path(
-            &self.nodes,
-            self.first,
-            &mut into,
-            chain,
-            &mut plan,
-            &mut self.trail,
-            0,
-        )?;
+        let search = Search {
+            nodes: &self.nodes,
+            root: self.first,
+            level: 0,
+        };
+        let _below = plan_path(search, &mut into, chain, &mut plan, &mut self.trail)?;
         if let Err(error) = make_room(&mut self.nodes, self.rows, &plan) {
             return Err(error);
         }
@@ -138,14 +137,11 @@ impl PrefixTree for ArenaTree {
             skip: 0,
             place: self.first,
         };
-        plan_merge(
-            &self.nodes,
-            into,
-            &other.nodes,
-            other.first,
-            &self.no_ranks,
-            &mut plan,
-        )?;
+        let from = Source {
+            nodes: &other.nodes,
+            no_ranks: &self.no_ranks,
+        };
+        plan_merge(&self.nodes, into, from, other.first, &mut plan)?;
         if let Err(error) = make_room(&mut self.nodes, self.rows, &plan) {
             return Err(error);
         }
@@ -157,7 +153,7 @@ impl PrefixTree for ArenaTree {
     }
 
     fn add_or_clear(&mut self, ranks: &RankSet, path: &CallPath) -> Result<(), TreeError> {
-        // For the proof: the frames are good.
+        // for the proof: the path's frames are good
         let _len = path.len();
         let mut growth = Growth {
             first: self.first,
@@ -167,8 +163,10 @@ impl PrefixTree for ArenaTree {
         let chain = NewChain {
             path,
             skip: 0,
-            label: ranks,
-            ends: ranks,
+            marks: NewMarks {
+                label: ranks,
+                ends: ranks,
+            },
             no_ranks: &self.no_ranks,
         };
         match grow_path(&mut growth, chain, &mut self.trail) {
@@ -259,7 +257,7 @@ impl PrefixTree for ArenaTree {
     }
 
     fn next_row(&self, at: &mut Cursor) -> Option<Row<'_>> {
-        // For the proof: the invariant of the value.
+        // for the proof: the invariant of the tree
         let nodes = &self.nodes;
         match at.waiting.pop() {
             None => None,
@@ -273,7 +271,7 @@ impl PrefixTree for ArenaTree {
     }
 
     fn next_chain(&self, at: &mut Cursor) -> Option<Chain<'_>> {
-        // For the proof: the invariant of the value.
+        // for the proof: the invariant of the tree
         let nodes = &self.nodes;
         match at.waiting.pop() {
             None => None,
@@ -301,21 +299,19 @@ fn all_from(first: Place) -> MergeTarget
 
 /// Merges the nodes of another tree, from a place on, into those of a tree.
 fn grow_tree(growth: &mut Growth, from: Source<'_>, other: Place) -> Result<(), TreeError>
-    requires into { CanGrow growth.old.nodes.items (all_at Top growth.old.first) }
+    requires into { CanGrow growth.old.nodes.items (whole_tree growth.old) }
     requires other { LeadsToForest from.nodes.now.items other }
     requires no_ranks { from.no_ranks.now ≡ none }
     requires room { length growth.old.nodes.items + count_rows (forest_at from.nodes.now.items other) ≤ 4096 }
     requires rows { growth.old.rows + count_rows (forest_at from.nodes.now.items other) ≤ 4096 }
-    ensures made { OnOk result (linked growth.new.first growth.new.nodes.items
-        ≡ grown (linked growth.old.first growth.old.nodes.items) (all_at Top growth.old.first)
-        (forest_at from.entry.nodes.now.items other)) }
-    ensures rows { OnOk result (growth.new.rows ≡ growth.old.rows
-        + rows_grown (linked growth.old.first growth.old.nodes.items) (all_at Top growth.old.first)
-        (forest_at from.entry.nodes.now.items other)) }
+    ensures made { OnOk result (growth_view growth.new ≡ grown (growth_view growth.old)
+        (whole_tree growth.old) (forest_at from.entry.nodes.now.items other)) }
+    ensures rows { OnOk result (growth.new.rows ≡ growth.old.rows + rows_grown (growth_view growth.old)
+        (whole_tree growth.old) (forest_at from.entry.nodes.now.items other)) }
     ensures fits { OnOk result (growth.new.rows ≤ PREFIX_LIMIT) }
-    ensures full { result ≡ Err TreeError.TooManyPrefixes → PREFIX_LIMIT < growth.old.rows
-        + rows_grown (linked growth.old.first growth.old.nodes.items) (all_at Top growth.old.first)
-        (forest_at from.entry.nodes.now.items other) }
+    ensures full { result ≡ Err TreeError.TooManyPrefixes
+        → PREFIX_LIMIT < growth.old.rows + rows_grown (growth_view growth.old)
+        (whole_tree growth.old) (forest_at from.entry.nodes.now.items other) }
 {
     let into = all_from(growth.first);
     growth.merge_in(into, from, all_from(other))?;
@@ -326,28 +322,29 @@ fn grow_tree(growth: &mut Growth, from: Source<'_>, other: Place) -> Result<(), 
 }
 
 /// Adds a path to the nodes of a tree.
-fn grow_path(growth: &mut Growth, chain: NewChain<'_>, trail: &mut Vec<Hint>) -> Result<(), TreeError>
-    requires into { CanGrow growth.old.nodes.items (all_at Top growth.old.first) }
+fn grow_path(
+    growth: &mut Growth,
+    chain: NewChain<'_>,
+    trail: &mut Vec<Hint>,
+) -> Result<(), TreeError>
+    requires into { CanGrow growth.old.nodes.items (whole_tree growth.old) }
     requires tree { LeadsToOrdered growth.old.nodes.items growth.old.first }
     requires skip { chain.skip ≡ 0 }
     requires no_ranks { chain.no_ranks.now ≡ none }
-    requires room { length growth.old.nodes.items ≤ 2048 }
-    requires rows { growth.old.rows ≤ 2048 }
+    requires room { length growth.old.nodes.items ≤ PREFIX_LIMIT }
+    requires rows { growth.old.rows ≤ PREFIX_LIMIT }
     requires hints { AreOwnHints (forest_at growth.old.nodes.items growth.old.first) trail.old.items }
-    ensures made { OnOk result (linked growth.new.first growth.new.nodes.items
-        ≡ grown (linked growth.old.first growth.old.nodes.items) (all_at Top growth.old.first)
-        (chain_of 0 chain.entry.path.now (chain.entry.label.now, chain.entry.ends.now) no_chains no_chains)) }
+    ensures made { OnOk result (growth_view growth.new
+        ≡ grown (growth_view growth.old) (whole_tree growth.old) (one_chain chain.entry)) }
     ensures rows { OnOk result (growth.new.rows ≡ growth.old.rows
-        + rows_grown (linked growth.old.first growth.old.nodes.items) (all_at Top growth.old.first)
-        (chain_of 0 chain.entry.path.now (chain.entry.label.now, chain.entry.ends.now) no_chains no_chains)) }
+        + rows_grown (growth_view growth.old) (whole_tree growth.old) (one_chain chain.entry)) }
     ensures hints { OnOk result (AreHints (forest_at growth.old.nodes.items growth.old.first) trail.old.items
         → AreHints (forest_at growth.old.nodes.items growth.old.first) trail.new.items) }
     ensures fits { OnOk result (growth.new.rows ≤ PREFIX_LIMIT) }
-    ensures full { result ≡ Err TreeError.TooManyPrefixes → PREFIX_LIMIT < growth.old.rows
-        + rows_grown (linked growth.old.first growth.old.nodes.items) (all_at Top growth.old.first)
-        (chain_of 0 chain.entry.path.now (chain.entry.label.now, chain.entry.ends.now) no_chains no_chains) }
+    ensures full { result ≡ Err TreeError.TooManyPrefixes → PREFIX_LIMIT
+        < growth.old.rows + rows_grown (growth_view growth.old) (whole_tree growth.old) (one_chain chain.entry) }
 {
-    // For the proof: no more than `FRAME_LIMIT` frames.
+    // for the proof: a path has at most `FRAME_LIMIT` frames
     let _len = chain.path.len();
     let into = all_from(growth.first);
     growth.add_path(into, chain, trail, 0)?;
@@ -381,7 +378,7 @@ fn copy_nodes(alloc: Global, nodes: &Arena<Node>) -> Result<Arena<Node>, AllocEr
     all.reserve(nodes.len())?;
     for place in 0..nodes.len() {
         let node = nodes.get(place);
-        // For the proof: a node has a frame.
+        // for the proof: a node has a frame
         let _len = node.frames().len();
         let copy = node.behind(0, node.first(), node.next())?;
         all.put(copy);

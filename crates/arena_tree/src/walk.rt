@@ -1,6 +1,6 @@
 //! A walk over the rows of a tree, from node to node.
 
-ghost use Rattle.std.specs.Prelude.{◌≡◌, ◌+◌, ◌-◌, ◌<◌, ◌≤◌, ◌∷◌, length, reverse};
+ghost use Rattle.std.specs.Prelude.{◌≡◌, ◌+◌, ◌-◌, ◌<◌, ◌≤◌, length, reverse};
 ghost use Rattle.std.specs.Vec.{vec_capacity};
 ghost use Rattle.arena_tree.specs.Cursors.{with_link, waiting_behind, waiting_next, frame_next};
 

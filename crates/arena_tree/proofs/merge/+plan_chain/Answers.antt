@@ -10,7 +10,7 @@ pub returns-then-kept-len : goal.returns-then-kept-len
 returns-then-kept-len t c =
     let cs = c.args.nodes.now.items in
     let p = c.args.chain.path.now in
-    let w : Marks = (c.args.chain.label.now, c.args.chain.ends.now) in
+    let w : Marks = (c.args.chain.marks.label.now, c.args.chain.marks.ends.now) in
     plans_one cs c.args.into.now c.seek.new.into c.share_chain.new.into c.in_ok-below.below (drop c.args.chain.skip p) (drop c.in_ok-below.kept p) w c.args.plan.now c.share_chain.new.plan
     (sought_all cs c.args.into.now c.seek.new.into p c.args.chain.skip c.frame.result.now w (next_place c.args.plan.now) c.frame.ensures.frame (λ x gs u v. c.if-seek.ensures.steps (next_place c.args.plan.now) x gs w u v))
     c.in_ok-below.ensures.shares (drop_all p c.in_ok-below.kept (c.if-kept-len.true ∙ c.len.ensures.len)) (drop_some p c.args.chain.skip c.requires.skip)
@@ -21,7 +21,7 @@ plan_chain-requires t c =
     let kept = c.in_ok-below.ensures.kept in
     let within : c.in_ok-below.kept < length p = omega (arith, kept.1, c.if-kept-len.false, c.len.ensures.len) in
     let falls : length p - c.in_ok-below.kept < t = omega (arith, c.decreases, kept.0, within) in
-    let room = room_left c.args.nodes.now.items c.seek.new.into c.share_chain.new.into c.in_ok-below.below (drop c.args.chain.skip p) (drop c.in_ok-below.kept p) (c.args.chain.label.now, c.args.chain.ends.now) c.args.plan.now c.share_chain.new.plan (length p - c.args.chain.skip) (length p - c.in_ok-below.kept)
+    let room = room_left c.args.nodes.now.items c.seek.new.into c.share_chain.new.into c.in_ok-below.below (drop c.args.chain.skip p) (drop c.in_ok-below.kept p) (c.args.chain.marks.label.now, c.args.chain.marks.ends.now) c.args.plan.now c.share_chain.new.plan (length p - c.args.chain.skip) (length p - c.in_ok-below.kept)
     c.in_ok-below.ensures.shares c.requires.room (omega (arith, kept.0, within)) in
     (falls, (c.in_ok-below.ensures.shares.below_leads, (within, (c.requires.no_ranks, room))))
 
@@ -29,7 +29,7 @@ pub returns-then-seek : goal.returns-then-seek
 returns-then-seek t c =
     let cs = c.args.nodes.now.items in
     let p = c.args.chain.path.now in
-    let w : Marks = (c.args.chain.label.now, c.args.chain.ends.now) in
+    let w : Marks = (c.args.chain.marks.label.now, c.args.chain.marks.ends.now) in
     let kept = c.in_ok-below.ensures.kept in
     let within : c.in_ok-below.kept < length p = omega (arith, kept.1, c.if-kept-len.false, c.len.ensures.len) in
     let long = length-drop c.args.chain.skip p in
@@ -42,7 +42,7 @@ pub returns : goal.returns
 returns t c =
     let cs = c.args.nodes.now.items in
     let p = c.args.chain.path.now in
-    let w : Marks = (c.args.chain.label.now, c.args.chain.ends.now) in
+    let w : Marks = (c.args.chain.marks.label.now, c.args.chain.marks.ends.now) in
     plans_new cs c.args.into.now c.seek.new.into _ _ p c.args.chain.skip c.frame.result.now c.frame.ensures.frame w c.args.plan.now c.put.new.self
     (sought_all cs c.args.into.now c.seek.new.into p c.args.chain.skip c.frame.result.now w (next_place c.args.plan.now) c.frame.ensures.frame (λ x gs u v. c.if-seek.ensures.steps (next_place c.args.plan.now) x gs w u v))
     c.if-seek.ensures.target c.if-seek.ensures.side c.in_ok-node.node c.in_ok-node.ensures c.in_ok-place.place c.in_ok-place.ensures.place c.in_ok-place.ensures.plan refl refl

@@ -12,15 +12,15 @@ use Rattle.arena_tree.proofs.merge.+plan_merge.Goals.{After-get-node, In_ok-belo
 use Rattle.arena_tree.proofs.merge.+plan_merge.Goals as goal
 
 pub get-node-requires : goal.get-node-requires
-get-node-requires t c = inside_node c.args.others.now.items c.loop-other.other c.loop-other.invariant.leads c.loop-other-test.true
+get-node-requires t c = inside_node c.args.from.nodes.now.items c.loop-other.other c.loop-other.invariant.leads c.loop-other-test.true
 
 pub plan_chain-requires-clause-skip : goal.plan_chain-requires-clause-skip
 plan_chain-requires-clause-skip t c =
-    subst (λ (p : Path). 0 < length p) (sym c.frames.ensures) (rows_of_chain c.args.others.now.items c.loop-other.other c.get-node.result.now c.loop-other.invariant.leads c.get-node.ensures).0
+    subst (λ (p : Path). 0 < length p) (sym c.frames.ensures) (rows_of_chain c.args.from.nodes.now.items c.loop-other.other c.get-node.result.now c.loop-other.invariant.leads c.get-node.ensures).0
 
 pub plan_chain-requires-clause-room : goal.plan_chain-requires-clause-room
 plan_chain-requires-clause-room t c =
-    let os = c.args.others.now.items in
+    let os = c.args.from.nodes.now.items in
     let i = c.loop-other.invariant in
     let few = (rows_of_chain os c.loop-other.other c.get-node.result.now i.leads c.get-node.ensures).1 in
     let long = ap length c.frames.ensures in
@@ -31,7 +31,7 @@ plan_chain-requires-clause-room t c =
 pub plan_merge-requires : goal.plan_merge-requires
 plan_merge-requires t c =
     let cs = c.args.nodes.now.items in
-    let os = c.args.others.now.items in
+    let os = c.args.from.nodes.now.items in
     let i = c.loop-other.invariant in
     let here = c.loop-other.other in
     let node = c.get-node.result.now in
@@ -57,13 +57,13 @@ plan_merge-requires t c =
 
 pub loop-other-smaller : goal.loop-other-smaller
 loop-other-smaller t c =
-    fewer c.args.nodes.now.items c.args.others.now.items c.loop-other.other c.loop-other.invariant.leads c.get-node.result.now c.get-node.ensures c.loop-other.into c.plan_chain.new.into c.in_ok-below.below c.frames.result.now c.label.result.now c.ends.result.now c.frames.ensures c.label.ensures c.ends.ensures c.loop-other.plan c.plan_chain.new.plan c.in_ok-below.ensures
+    fewer c.args.nodes.now.items c.args.from.nodes.now.items c.loop-other.other c.loop-other.invariant.leads c.get-node.result.now c.get-node.ensures c.loop-other.into c.plan_chain.new.into c.in_ok-below.below c.frames.result.now c.label.result.now c.ends.result.now c.frames.ensures c.label.ensures c.ends.ensures c.loop-other.plan c.plan_chain.new.plan c.in_ok-below.ensures
     c.first.result c.first.ensures c.plan_merge.new.plan c.in_ok-plan_merge.ensures.steps c.in_ok-plan_merge.ensures.places c.in_ok-plan_merge.ensures.rows c.next-other.result c.next-other.ensures
 
 pub loop-other-preserved : goal.loop-other-preserved
 loop-other-preserved t c =
     let cs = c.args.nodes.now.items in
-    let os = c.args.others.now.items in
+    let os = c.args.from.nodes.now.items in
     let i = c.loop-other.invariant in
     let here = c.loop-other.other in
     let node = c.get-node.result.now in
@@ -90,7 +90,7 @@ loop-other-preserved t c =
 pub returns-clause-steps : goal.returns-clause-steps
 returns-clause-steps t c =
     let cs = c.args.nodes.now.items in
-    let os = c.args.others.now.items in
+    let os = c.args.from.nodes.now.items in
     let k = target_forest cs c.loop-other.into in
     let none : forest_at os c.loop-other.other ≡ no_chains = ap (forest_at os) c.loop-other-test.false ∙ none_in os c.requires.other.within_limit in
     turns_end c.loop-other.plan c.args.plan.now _ _ c.loop-other.invariant.base c.loop-other.invariant.same

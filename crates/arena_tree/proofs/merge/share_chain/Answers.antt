@@ -20,7 +20,7 @@ returns-clause-shares c =
     shares c.args.nodes.now.items into c.get-node.result.now c.requires.target c.get-node.ensures p k n c.requires.begins
     (subst (λ (q : Path). split_frames (drop (into.skip + 1) q) (drop (k + 1) p) ≡ split_parts (take n (drop (into.skip + 1) q)) (drop (into.skip + 1 + n) q) (drop (k + 1 + n) p)) c.frames-2.ensures c.common_behind-shared.ensures.split)
     (subst (λ (q : Path). into.skip + 1 + n ≤ length q) c.frames-2.ensures c.common_behind-shared.ensures.within_own)
-    c.args.chain.label.now c.args.chain.ends.now c.ends_at-ends.result.now c.ends_at-ends.ensures c.after.result c.in_ok-below.below c.args.plan.now c.share.new.self
+    c.args.chain.marks.label.now c.args.chain.marks.ends.now c.ends_at.result.now c.ends_at.ensures c.after.result c.in_ok-below.below c.args.plan.now c.share.new.self
     c.in_ok-below.ensures.plan c.in_ok-below.ensures.below
     (subst (λ next. IsAfter into next c.after.result) c.next.ensures c.after.ensures)
 

@@ -10,7 +10,7 @@ pub returns-then-seek-clause-enters : goal.returns-then-seek-clause-enters
 returns-then-seek-clause-enters c =
     let cs = c.args.self.now.nodes.items in
     let p = c.args.chain.path.now in
-    let w : Marks = (c.args.chain.label.now, c.args.chain.ends.now) in
+    let w : Marks = (c.args.chain.marks.label.now, c.args.chain.marks.ends.now) in
     enters_sought (linked c.args.self.now.first cs) (linked c.meet.new.self.first c.meet.new.self.nodes.items) c.args.into.now c.seek.new.into c.meet.new.into c.in_ok-below.below (drop c.args.chain.skip p) (drop c.in_ok-below.kept p) w c.args.self.now.rows c.meet.new.self.rows
     (sought_all cs c.args.into.now c.seek.new.into p c.args.chain.skip c.frame.result.now w (length cs) c.frame.ensures.frame (λ x gs u v. c.if-seek.ensures.steps (length cs) x gs w u v))
     c.in_ok-below.ensures.enters
@@ -19,7 +19,7 @@ pub returns-clause-enters : goal.returns-clause-enters
 returns-clause-enters c =
     let cs = c.args.self.now.nodes.items in
     let p = c.args.chain.path.now in
-    let w : Marks = (c.args.chain.label.now, c.args.chain.ends.now) in
+    let w : Marks = (c.args.chain.marks.label.now, c.args.chain.marks.ends.now) in
     enters_sought (linked c.args.self.now.first cs) (linked c.put.new.self.first c.put.new.self.nodes.items) c.args.into.now c.seek.new.into c.put.new.into c.in_ok-below-2.below (drop c.args.chain.skip p) (drop c.len.result p) w c.args.self.now.rows c.put.new.self.rows
     (sought_all cs c.args.into.now c.seek.new.into p c.args.chain.skip c.frame.result.now w (length cs) c.frame.ensures.frame (λ x gs u v. c.if-seek.ensures.steps (length cs) x gs w u v))
     (enters_new (linked c.args.self.now.first cs) c.seek.new.into (c.if-seek.ensures.grows c.requires.into) p c.args.chain.skip c.frame.result.now c.frame.ensures.frame w c.if-seek.ensures.side c.requires.room

@@ -26,7 +26,7 @@ returns-clause-enters c =
     enters_shared (linked c.args.self.now.first c.args.self.now.nodes.items) into c.get-node.result.now c.requires.into c.get-node.ensures p k n c.requires.begins
     (subst (λ (q : Path). split_frames (drop (into.skip + 1) q) (drop (k + 1) p) ≡ split_parts (take n (drop (into.skip + 1) q)) (drop (into.skip + 1 + n) q) (drop (k + 1 + n) p)) c.frames-2.ensures c.common_behind-shared.ensures.split)
     (subst (λ (q : Path). into.skip + 1 + n ≤ length q) c.frames-2.ensures c.common_behind-shared.ensures.within_own)
-    c.args.chain.label.now c.args.chain.ends.now c.ends_at-ends.result.now c.ends_at-ends.ensures c.requires.room
+    c.args.chain.marks.label.now c.args.chain.marks.ends.now c.ends_at.result.now c.ends_at.ensures c.requires.room
     (linked c.share.new.self.first c.share.new.self.nodes.items) (c.in_ok-below.ensures.made c.get-node.result.now c.get-node.ensures)
     c.in_ok-below.below (c.in_ok-below.ensures.below c.get-node.result.now c.get-node.ensures)
     c.after.result (subst (λ next. IsAfter into next c.after.result) c.next-next.ensures c.after.ensures)
@@ -42,6 +42,6 @@ returns-clause-uncut c =
     below_uncut (linked c.args.self.now.first c.args.self.now.nodes.items) into c.get-node.result.now c.requires.into c.get-node.ensures p k n c.requires.begins
     (subst (λ (q : Path). split_frames (drop (into.skip + 1) q) (drop (k + 1) p) ≡ split_parts (take n (drop (into.skip + 1) q)) (drop (into.skip + 1 + n) q) (drop (k + 1 + n) p)) c.frames-2.ensures c.common_behind-shared.ensures.split)
     (subst (λ (q : Path). into.skip + 1 + n ≤ length q) c.frames-2.ensures c.common_behind-shared.ensures.within_own)
-    c.args.chain.label.now c.args.chain.ends.now c.ends_at-ends.result.now c.ends_at-ends.ensures c.requires.room
+    c.args.chain.marks.label.now c.args.chain.marks.ends.now c.ends_at.result.now c.ends_at.ensures c.requires.room
     (linked c.share.new.self.first c.share.new.self.nodes.items) (c.in_ok-below.ensures.made c.get-node.result.now c.get-node.ensures)
     c.in_ok-below.below (c.in_ok-below.ensures.below c.get-node.result.now c.get-node.ensures)

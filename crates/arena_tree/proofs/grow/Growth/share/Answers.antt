@@ -15,4 +15,4 @@ returns-clause-made c v there =
     let some : 0 < length (drop kept v.frames) = drop_some v.frames kept (omega (arith, c.requires.within v there, c.if-into-shared.false, c.len-len.ensures.len, long, frames)) in
     c.in_ok-place.ensures.made v there
     ∙ ap (apply_step (linked c.args.self.now.first c.args.self.now.nodes.items))
-    (step_cut c.args.into.place (c.args.shared - 1) (drop kept v.frames) (v.label, v.ends) (c.args.label.now, c.args.ends.now) v.first some)
+    (step_cut c.args.into.place (c.args.shared - 1) (drop kept v.frames) (v.label, v.ends) (c.args.marks.label.now, c.args.marks.ends.now) v.first some)

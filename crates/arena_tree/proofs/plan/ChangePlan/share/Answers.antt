@@ -12,4 +12,4 @@ returns-clause-plan c =
     let some : 0 < length (drop kept frames) = drop_some frames kept (omega (arith, c.requires.within, c.if-kept-len.false, c.len-len.ensures.len, long)) in
     c.in_ok-place.ensures.plan
     ∙ ap (λ s. plan_with c.args.self.now (s ∷ []))
-    (step_cut c.args.into.place (c.args.shared - 1) (drop kept frames) (c.args.node.now.label, c.args.node.now.ends) (c.args.label.now, c.args.ends.now) c.args.node.now.first some)
+    (step_cut c.args.into.place (c.args.shared - 1) (drop kept frames) (c.args.node.now.label, c.args.node.now.ends) (c.args.marks.label.now, c.args.marks.ends.now) c.args.node.now.first some)
