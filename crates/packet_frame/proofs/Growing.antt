@@ -66,14 +66,14 @@ module _ {X : Type 0} (s : Scan X) (is : IsNamed s) (ends : Ranks) where
   named_path : path_behind is.before row ≡ s.path
   named_path = ap (λ front. front ++ get_or s.path (s.depth - 1) [] ∷ []) (sym is.kept) ∙ last_frame s.path s.depth is.len is.depth
 
-  pub named_more : HasGrown s.cover (grown s.tree ends s.path) s.path (s.rows_left - 1)
-  named_more = subst (λ p. HasGrown s.cover (grown s.tree ends p) p (s.rows_left - 1)) named_path (row_more s.cover s.tree is.before s.rows_left is.grown is.some row)
+  pub named_more : HasGrown s.cover.ranks (grown s.tree ends s.path) s.path (s.rows_left - 1)
+  named_more = subst (λ p. HasGrown s.cover.ranks (grown s.tree ends p) p (s.rows_left - 1)) named_path (row_more s.cover.ranks s.tree is.before s.rows_left is.grown is.some row)
 
   pub named_room : count_below (grown s.tree ends s.path) ≤ 2048
-  named_room = subst (λ p. count_below (grown s.tree ends p) ≤ 2048) named_path (row_room s.cover s.tree is.before s.rows_left is.grown is.some row)
+  named_room = subst (λ p. count_below (grown s.tree ends p) ≤ 2048) named_path (row_room s.cover.ranks s.tree is.before s.rows_left is.grown is.some row)
 
-  pub named_covered : IsTrue (is_subset ends s.cover) → IsTrue (is_subset ends s.tree.coverage)
-  named_covered = subst (λ cover. IsTrue (is_subset ends cover)) (sym (ap (λ t. t.coverage) is.grown.tree ∙ coverage-tree_of _ s.cover))
+  pub named_covered : IsTrue (is_subset ends s.cover.ranks) → IsTrue (is_subset ends s.tree.coverage)
+  named_covered = subst (λ cover. IsTrue (is_subset ends cover)) (sym (ap (λ t. t.coverage) is.grown.tree ∙ coverage-tree_of _ s.cover.ranks))
 
 -- the tree of no rows
 no_rows : (t u : Tree) (cover : Ranks) → t ≡ tree_of [] none → Covers t cover u → u ≡ tree_of [] cover

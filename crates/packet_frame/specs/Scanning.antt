@@ -57,7 +57,7 @@ after_set parts.Coverage version stream wave cover t path count numbers = after_
 after_set parts.Ends version stream wave cover t path count numbers = after_ends version stream wave cover t path count (ranks_at version cover numbers)
 
 abbrev pub set_then : {X : Type 0} → Scan X → Ranks → Form (Packet Tree)
-set_then s = after_set s.part s.version s.stream s.wave s.cover s.tree s.path s.rows_left
+set_then s = after_set s.part s.version s.stream s.wave s.cover.ranks s.tree s.path s.rows_left
 
 -- a row is the last one where no other is left
 abbrev pub is_last : ℕ → Bool
@@ -83,12 +83,12 @@ packet_read s = cond (nat_eq s.kind 1) (Up s.stream s.wave s.tree) (cond (nat_eq
 
 -- the words that are left of a set, and what follows it
 abbrev pub set_left : {X : Type 0} → Scan X → Form (Packet Tree)
-set_left s = words_left (word_rule s.part s.version s.cover) s.offset s.words.items s.left >>= set_then s
+set_left s = words_left (word_rule s.part s.version s.cover.ranks) s.offset s.words.items s.left >>= set_then s
 
 -- ---- what is left before each field
 
 abbrev pub name_then : {X : Type 0} → Scan X → List ℕ → Form (Packet Tree)
-name_then s name = ends_form s.version s.cover s.depth (is_last s.rows_left) >>= after_ends s.version s.stream s.wave s.cover s.tree (path_at s.path s.depth name) s.rows_left
+name_then s name = ends_form s.version s.cover.ranks s.depth (is_last s.rows_left) >>= after_ends s.version s.stream s.wave s.cover.ranks s.tree (path_at s.path s.depth name) s.rows_left
 
 -- a message, as the packet with its tree
 abbrev pub with_tree : Message → Form (Packet Tree)
@@ -100,13 +100,13 @@ left_at fields.Kind s = (kind_form >>= packet_form s.version) >>= with_tree
 left_at fields.Stream s = (stream_form >>= λ stream. wave_form >>= content_form s.version s.kind stream) >>= with_tree
 left_at fields.Wave s = (wave_form >>= content_form s.version s.kind s.stream) >>= with_tree
 left_at fields.RunCount s = run_count_form >>= runs_left s.version s.stream s.wave none 0
-left_at fields.FirstRank s = runs_left s.version s.stream s.wave s.cover s.least s.left
-left_at fields.LastRank s = last_rank_form s.least >>= λ last. runs_left s.version s.stream s.wave (union s.cover (ranks_between s.least last)) (last + 2) (s.left - 1)
-left_at fields.Offset s = set_form (word_limit s.version) (needed s.part s.depth s.rows_left) (word_rule s.part s.version s.cover) >>= set_then s
-left_at fields.WordCount s = word_count_form (word_limit s.version) (needed s.part s.depth s.rows_left) s.offset >>= λ count. words_left (word_rule s.part s.version s.cover) s.offset [] count >>= set_then s
+left_at fields.FirstRank s = runs_left s.version s.stream s.wave s.cover.ranks s.least s.left
+left_at fields.LastRank s = last_rank_form s.least >>= λ last. runs_left s.version s.stream s.wave (union s.cover.ranks (ranks_between s.least last)) (last + 2) (s.left - 1)
+left_at fields.Offset s = set_form (word_limit s.version) (needed s.part s.depth s.rows_left) (word_rule s.part s.version s.cover.ranks) >>= set_then s
+left_at fields.WordCount s = word_count_form (word_limit s.version) (needed s.part s.depth s.rows_left) s.offset >>= λ count. words_left (word_rule s.part s.version s.cover.ranks) s.offset [] count >>= set_then s
 left_at fields.Word s = set_left s
-left_at fields.RowCount s = after_cover s.version s.stream s.wave s.cover
-left_at fields.Depth s = rows_left s.version s.stream s.wave s.cover s.tree s.path s.ended s.rows_left
+left_at fields.RowCount s = after_cover s.version s.stream s.wave s.cover.ranks
+left_at fields.Depth s = rows_left s.version s.stream s.wave s.cover.ranks s.tree s.path s.ended s.rows_left
 left_at fields.NameLength s = name_length_form >>= λ len. name_form s.path s.depth len >>= name_then s
 left_at fields.Name s = name_form s.path s.depth s.name_length >>= name_then s
 left_at fields.End s = whole (packet_read s)
@@ -141,8 +141,8 @@ IsCovered count places cover = (count ≡ size cover) × (places ≡ cover)
 -- before a row, or behind the last
 pub record IsBeforeRow {X : Type 0} (s : Scan X) : Type 0 where
   pub kind : s.kind ≡ 1
-  pub covered : IsCovered s.covered s.places s.cover
-  pub grown : HasGrown s.cover s.tree s.path s.rows_left
+  pub covered : IsCovered s.cover.count s.cover.places s.cover.ranks
+  pub grown : HasGrown s.cover.ranks s.tree s.path s.rows_left
 
 -- a row's depth was read
 pub record IsInRow {X : Type 0} (s : Scan X) : Type 0 where
@@ -155,13 +155,13 @@ pub record IsInRow {X : Type 0} (s : Scan X) : Type 0 where
 -- a row's name was read, and stands at the end of the path, behind the first frames of the path of the row before
 pub record IsNamed {X : Type 0} (s : Scan X) : Type 0 where
   pub kind : s.kind ≡ 1
-  pub covered : IsCovered s.covered s.places s.cover
+  pub covered : IsCovered s.cover.count s.cover.places s.cover.ranks
   pub some : 0 < s.rows_left
   pub depth : 1 ≤ s.depth
   pub depth_limit : s.depth ≤ 128
   pub len : length s.path ≡ s.depth
   pub before : Path
-  pub grown : HasGrown s.cover s.tree before s.rows_left
+  pub grown : HasGrown s.cover.ranks s.tree before s.rows_left
   pub kept : take (s.depth - 1) s.path ≡ take (s.depth - 1) before
 
 abbrev pub IsInPart : {X : Type 0} → Part → Scan X → Type 0
@@ -203,7 +203,7 @@ pub record IsInSet {X : Type 0} (s : Scan X) : Type 0 where
   pub first : 0 < length s.words.items → 0 < get_or s.words.items 0 0
   pub last : s.left ≡ 0 → 0 < length s.words.items → 0 < get_or s.words.items (length s.words.items - 1) 0
   pub nothing : s.left ≡ 0 → length s.words.items ≡ 0 → s.offset ≡ 0
-  pub ends : s.part ≡ parts.Ends → MayEnd s.version s.cover (ranks_in s.offset s.words.items)
+  pub ends : s.part ≡ parts.Ends → MayEnd s.version s.cover.ranks (ranks_in s.offset s.words.items)
 
 -- what the next field needs of those before it
 abbrev pub IsReady : {X : Type 0} → Field → Scan X → Type 0
@@ -217,7 +217,7 @@ IsReady fields.LastRank s = (s.kind ≡ 1) × (0 < s.left) × (s.least < RANK_LI
 IsReady fields.Offset s = IsInPart s.part s
 IsReady fields.WordCount s = IsInPart s.part s
 IsReady fields.Word s = IsInSet s × (0 < s.left)
-IsReady fields.RowCount s = (s.kind ≡ 1) × IsCovered s.covered s.places s.cover
+IsReady fields.RowCount s = (s.kind ≡ 1) × IsCovered s.cover.count s.cover.places s.cover.ranks
 IsReady fields.Depth s = IsBeforeRow s × (0 < s.rows_left)
 IsReady fields.NameLength s = IsInRow s
 IsReady fields.Name s = IsInRow s × (1 ≤ s.name_length) × (s.name_length ≤ 1023)

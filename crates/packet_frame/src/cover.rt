@@ -30,7 +30,7 @@ impl<T: PrefixTree> Scan<T> {
         if count > RUN_LIMIT {
             return Err(FieldError::Broken(FrameReason::OverLimit));
         }
-        self.cover = RankSet::new(alloc);
+        self.cover.ranks = RankSet::new(alloc);
         self.least = 0;
         self.left = count;
         self.field = Field::FirstRank;
@@ -70,7 +70,7 @@ impl<T: PrefixTree> Scan<T> {
         if last < self.least {
             return Err(FieldError::Broken(FrameReason::NotCanonical));
         }
-        match self.cover.insert_run(self.least, last) {
+        match self.cover.ranks.insert_run(self.least, last) {
             Ok(()) => {}
             Err(RankError::OutOfMemory) => return Err(FieldError::OutOfMemory),
             Err(RankError::OverLimit) => unreachable!(),
@@ -88,12 +88,12 @@ impl<T: PrefixTree> Scan<T> {
     pub fn end_cover(&mut self, alloc: Global) -> Result<(), FieldError>
         requires { self.old.kind ≡ 1 }
         ensures left { OnOk result
-            (after_cover self.old.version self.old.stream self.old.wave self.old.cover ≡ left self.new) }
+            (after_cover self.old.version self.old.stream self.old.wave self.old.cover.ranks ≡ left self.new) }
         ensures err { IfErr result (λ e. e ≡ FieldError.OutOfMemory) }
         ensures ready { OnOk result (IsReady self.new.field self.new) }
     {
-        self.places = CoverPlaces::of(alloc, &self.cover)?;
-        self.covered = self.cover.count();
+        self.cover.places = CoverPlaces::of(alloc, &self.cover.ranks)?;
+        self.cover.count = self.cover.ranks.count();
         self.field = Field::RowCount;
         Ok(())
     }

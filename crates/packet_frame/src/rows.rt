@@ -34,7 +34,7 @@ impl<T: PrefixTree> Scan<T> {
         if usize::from(count) > PREFIX_LIMIT {
             return Err(FieldError::Broken(FrameReason::OverLimit));
         }
-        self.tree.restart(alloc, &self.cover)?;
+        self.tree.restart(alloc, &self.cover.ranks)?;
         self.path.cut(0);
         self.path.reserve(FRAMES_AT_ONCE, BYTES_AT_ONCE)?;
         self.ended = true;
@@ -136,9 +136,9 @@ impl<T: PrefixTree> Scan<T> {
     #[inline(always)]
     pub fn end_row(&mut self, alloc: Global, ends: RankSet) -> Result<(), FieldError>
         requires named { IsNamed self.old }
-        requires covered { IsTrue (is_subset ends self.old.cover) }
+        requires covered { IsTrue (is_subset ends self.old.cover.ranks) }
         ensures ends { OnOk result
-            (after_ends self.old.version self.old.stream self.old.wave self.old.cover self.old.tree self.old.path
+            (after_ends self.old.version self.old.stream self.old.wave self.old.cover.ranks self.old.tree self.old.path
             self.old.rows_left ends ≡ left self.new) }
         ensures err { IfErr result (λ e. e ≡ FieldError.OutOfMemory) }
         ensures ready { OnOk result (IsReady self.new.field self.new) }

@@ -41,6 +41,16 @@ pub enum Part {
     Ends,
 }
 
+/// The coverage of a tree, as far as it was read.
+#[derive(Drop)]
+pub struct Coverage {
+    pub ranks: RankSet,
+    /// The places of its ranks, once it is whole.
+    pub places: CoverPlaces,
+    /// How many ranks it has, once it is whole.
+    pub count: u32,
+}
+
 /// What was read of a frame so far, and which field comes next.
 #[derive(Drop)]
 pub struct Scan<T: PrefixTree> {
@@ -49,12 +59,7 @@ pub struct Scan<T: PrefixTree> {
     pub kind: u8,
     pub stream: u8,
     pub wave: u8,
-    /// The coverage, as far as it was read.
-    pub cover: RankSet,
-    /// The places of its ranks, once it is whole.
-    pub places: CoverPlaces,
-    /// How many ranks it has, once it is whole.
-    pub covered: u32,
+    pub cover: Coverage,
     /// The least rank with which the next run may begin, or its first rank where its last comes next.
     pub least: u32,
     /// Whose words come next.
@@ -86,9 +91,11 @@ impl<T: PrefixTree> Scan<T> {
             kind: 0,
             stream: 0,
             wave: 0,
-            cover: RankSet::new(alloc),
-            places: CoverPlaces::new(alloc),
-            covered: 0,
+            cover: Coverage {
+                ranks: RankSet::new(alloc),
+                places: CoverPlaces::new(alloc),
+                count: 0,
+            },
             least: 0,
             part: Part::Coverage,
             offset: 0,

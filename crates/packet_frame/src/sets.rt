@@ -92,14 +92,14 @@ impl<T: PrefixTree> Scan<T> {
     #[tactic(auto, unfolding(crate::specs::Frame::ends_rule))]
     fn obeys(&self, word: u64) -> bool
         requires { IsInSet self.now }
-        ensures { broken (word_rule self.now.part self.now.version self.now.cover
+        ensures { broken (word_rule self.now.part self.now.version self.now.cover.ranks
             (self.now.offset + length self.now.words.items) word) ≡ cond result None (Some NotCanonical) }
     {
         let index = u32::from(self.offset) + self.words.len() as u32;
         match self.part {
             Part::Coverage => true,
-            Part::Ends if self.version == 1 => self.cover.covers_word(index, word),
-            Part::Ends => word_is_below(index, word, self.covered),
+            Part::Ends if self.version == 1 => self.cover.ranks.covers_word(index, word),
+            Part::Ends => word_is_below(index, word, self.cover.count),
         }
     }
 
@@ -143,7 +143,7 @@ impl<T: PrefixTree> Scan<T> {
         requires part { IsInPart self.old.part self.old }
         requires words { AreWords self.old.offset self.old.words.items }
         requires may_end { self.old.part ≡ parts.Ends
-            → MayEnd self.old.version self.old.cover (ranks_in self.old.offset self.old.words.items) }
+            → MayEnd self.old.version self.old.cover.ranks (ranks_in self.old.offset self.old.words.items) }
         ensures ends { OnOk result
             (set_then self.old (ranks_in self.old.offset self.old.words.items) ≡ left self.new) }
         ensures err { IfErr result (λ e. e ≡ FieldError.OutOfMemory) }
@@ -153,12 +153,12 @@ impl<T: PrefixTree> Scan<T> {
         let numbers = RankSet::from_words(alloc, u32::from(self.offset), words)?;
         match self.part {
             Part::Coverage => {
-                self.cover = numbers;
+                self.cover.ranks = numbers;
                 self.end_cover(alloc)
             }
             Part::Ends if self.version == 1 => self.end_row(alloc, numbers),
             Part::Ends => {
-                let ends = self.places.from_places(&numbers)?;
+                let ends = self.cover.places.from_places(&numbers)?;
                 self.end_row(alloc, ends)
             }
         }

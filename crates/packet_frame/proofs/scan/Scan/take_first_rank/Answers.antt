@@ -17,5 +17,5 @@ returns-clause-takes g c =
     let s = c.args.self.now in
     let n = c.u32_of-first.result in
     let fine : broken ((nat_lt n RANK_LIMIT, OverLimit) ∷ (nat_le s.least n, NotCanonical) ∷ []) ≡ None = search rules in
-    ap (λ form. after_field form c.args.field.now) (run_follows s.version s.stream s.wave s.cover s.least s.left (s.left - 1) (omega (arith, c.requires.ready.1)))
-    ∙ take_number w32 (λ n. (nat_lt n RANK_LIMIT, OverLimit) ∷ (nat_le s.least n, NotCanonical) ∷ []) (λ first. last_rank_form first >>= λ last. runs_left s.version s.stream s.wave (union s.cover (ranks_between first last)) (last + 2) (s.left - 1)) c.args.field.now n c.u32_of-first.ensures fine
+    ap (λ form. after_field form c.args.field.now) (run_follows s.version s.stream s.wave s.cover.ranks s.least s.left (s.left - 1) (omega (arith, c.requires.ready.1)))
+    ∙ take_number w32 (λ n. (nat_lt n RANK_LIMIT, OverLimit) ∷ (nat_le s.least n, NotCanonical) ∷ []) (λ first. last_rank_form first >>= λ last. runs_left s.version s.stream s.wave (union s.cover.ranks (ranks_between first last)) (last + 2) (s.left - 1)) c.args.field.now n c.u32_of-first.ensures fine

@@ -16,4 +16,4 @@ returns-clause-takes g c =
     let after : is_after (slice_get s.path (s.depth - 1)) bytes ≡ true = sym c.is_in_order.ensures ∙ c.if-not-is_in_order.false in
     let fine : broken ((is_name bytes, NotCanonical) ∷ (is_after (slice_get s.path (s.depth - 1)) bytes, NotCanonical) ∷ []) ≡ None = ap (λ (b : Bool). broken ((b, NotCanonical) ∷ (is_after (slice_get s.path (s.depth - 1)) bytes, NotCanonical) ∷ [])) good ∙ ap (λ (b : Bool). broken ((b, NotCanonical) ∷ [])) after in
     let path : c.push.new.self ≡ path_at s.path s.depth bytes = c.in_ok-push.ensures.ok ∙ ap (λ (front : List (List ℕ)). front ++ c.in-Some.name.now ∷ []) c.cut.ensures ∙ ap (λ (name : List ℕ). take (s.depth - 1) s.path ++ name ∷ []) c.in-Some.ensures.some in
-    take_field s.name_length (λ field. broken ((is_name field, NotCanonical) ∷ (is_after (slice_get s.path (s.depth - 1)) field, NotCanonical) ∷ [])) (name_then s) bytes fine ∙ ap Ok (ends_follow s.version s.stream s.wave s.cover s.tree s.depth s.rows_left (is_last s.rows_left) (path_at s.path s.depth bytes) ∙ ap (λ p. set_form (word_limit s.version) (ends_needed s.depth (is_last s.rows_left)) (ends_rule s.version s.cover) >>= λ numbers. after_ends s.version s.stream s.wave s.cover s.tree p s.rows_left (ranks_at s.version s.cover numbers)) (sym path))
+    take_field s.name_length (λ field. broken ((is_name field, NotCanonical) ∷ (is_after (slice_get s.path (s.depth - 1)) field, NotCanonical) ∷ [])) (name_then s) bytes fine ∙ ap Ok (ends_follow s.version s.stream s.wave s.cover.ranks s.tree s.depth s.rows_left (is_last s.rows_left) (path_at s.path s.depth bytes) ∙ ap (λ p. set_form (word_limit s.version) (ends_needed s.depth (is_last s.rows_left)) (ends_rule s.version s.cover.ranks) >>= λ numbers. after_ends s.version s.stream s.wave s.cover.ranks s.tree p s.rows_left (ranks_at s.version s.cover.ranks numbers)) (sym path))

@@ -13,8 +13,8 @@ next_word-requires-after_bounds g c κs within =
     let s = c.args.self.now in
     let w = c.u64_of-word.result in
     let fine : (not (nat_eq (length s.words.items) 0 || nat_eq (s.left - 1) 0) || not (nat_eq w 0)) ≡ true = search rules in
-    let none : broken (word_rule s.part s.version s.cover (s.offset + length s.words.items) w) ≡ None = c.obeys.ensures ∙ ap (λ (b : Bool). cond b None (Some NotCanonical)) c.if-not-obeys.false in
-    with_word s _ w c.requires.ready.0 c.requires.ready.1 refl c.in_ok-push.ensures.items refl refl (part_kept s.part s _ refl refl refl refl refl refl refl refl refl c.requires.ready.0.part) refl refl fine (obeyed s.part s.version (s.offset + length s.words.items) w s.cover none)
+    let none : broken (word_rule s.part s.version s.cover.ranks (s.offset + length s.words.items) w) ≡ None = c.obeys.ensures ∙ ap (λ (b : Bool). cond b None (Some NotCanonical)) c.if-not-obeys.false in
+    with_word s _ w c.requires.ready.0 c.requires.ready.1 refl c.in_ok-push.ensures.items refl refl (part_kept s.part s _ refl refl refl refl refl refl refl refl refl c.requires.ready.0.part) refl refl fine (obeyed s.part s.version (s.offset + length s.words.items) w s.cover.ranks none)
 
 pub returns-clause-takes : goal.returns-clause-takes
 unfolding word_form
@@ -22,8 +22,8 @@ returns-clause-takes g c =
     let s = c.args.self.now in
     let w = c.u64_of-word.result in
     let fine : (not (nat_eq (length s.words.items) 0 || nat_eq (s.left - 1) 0) || not (nat_eq w 0)) ≡ true = search rules in
-    let none : broken (word_rule s.part s.version s.cover (s.offset + length s.words.items) w) ≡ None = c.obeys.ensures ∙ ap (λ (b : Bool). cond b None (Some NotCanonical)) c.if-not-obeys.false in
-    let rule = word_rule s.part s.version s.cover in
+    let none : broken (word_rule s.part s.version s.cover.ranks (s.offset + length s.words.items) w) ≡ None = c.obeys.ensures ∙ ap (λ (b : Bool). cond b None (Some NotCanonical)) c.if-not-obeys.false in
+    let rule = word_rule s.part s.version s.cover.ranks in
     let index = s.offset + length s.words.items in
     let edge = nat_eq (length s.words.items) 0 || nat_eq (s.left - 1) 0 in
     let follows = word_follows rule (set_then s) s.offset s.words.items s.left (s.left - 1) (omega (arith, c.requires.ready.1)) in

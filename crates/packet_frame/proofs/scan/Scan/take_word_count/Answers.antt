@@ -22,5 +22,5 @@ next_word-requires-after_bounds g c κs within =
       first = λ some. absurd (omega (arith, none, some));
       last = λ _ some. absurd (omega (arith, none, some));
       nothing = λ zero _. no_offset g c zero;
-      ends = λ _. no_numbers s.version s.offset s.cover c.clear.new.self.items c.clear.ensures.items;
+      ends = λ _. no_numbers s.version s.offset s.cover.ranks c.clear.new.self.items c.clear.ensures.items;
     }
