@@ -145,8 +145,8 @@ impl Growth {
         })
     }
 
-    /// Merges the first frames of a chain, which are also those of the node of the target. Leads the target to what comes
-    /// after that one, and returns the target below and how many of the path's frames are merged then.
+    /// Merges the first frames of a chain, which are also those of the node of the target. Leads the target to what
+    /// comes after that one, and returns the target below and how many of the path's frames are merged then.
     fn meet(
         &mut self,
         into: &mut MergeTarget,
@@ -261,8 +261,8 @@ impl Growth {
         Ok(())
     }
 
-    /// Adds a chain as `add_chain` does. The trail's hints, from that of the level on, say where to look for its frames,
-    /// and then where they were found.
+    /// Adds a chain as `add_chain` does. The trail's hints, from that of the level on, say where to look for its
+    /// frames, and then where they were found.
     pub(crate) fn add_path(
         &mut self,
         mut into: MergeTarget,

@@ -20,7 +20,7 @@ use node_arena::{Arena, Place};
 use rank_set::RankSet;
 use std::alloc::AllocError;
 
-/// The ranks whose path ends at the last of the first `kept` frames: all of them, or no_ranks.
+/// The ranks whose path ends at the last of the first `kept` frames: `ends` if these are all frames, and else none.
 pub(crate) fn ends_at<'a>(
     path: &CallPath,
     kept: usize,
@@ -52,8 +52,8 @@ pub(crate) struct Source<'a> {
     pub(crate) no_ranks: &'a RankSet,
 }
 
-/// Plans the first frames of a chain, which are also those of the first node of the target. Returns the target below them
-/// and how many of the path's frames are planned then.
+/// Plans the first frames of a chain, which are also those of the first node of the target. Returns the target below
+/// them and how many of the path's frames are planned then.
 fn share_chain(
     nodes: &Arena<Node>,
     into: &mut MergeTarget,

@@ -175,8 +175,8 @@ impl Node {
         self.first = upper.below;
     }
 
-    /// Keeps its first frame and so many more, with other marks, above the node at a place. Returns a node with the frames
-    /// behind them, and the marks and the nodes below that it had. It allocates nothing.
+    /// Keeps its first frame and so many more, with other marks, above the node at a place. Returns a node with the
+    /// frames behind them, and the marks and the nodes below that it had. It allocates nothing.
     pub(crate) fn split(&mut self, upper: Upper, frames: CallPath) -> Node
         requires { 0 < length frames }
         ensures upper { self.new ≡ with_frames upper.more upper.label upper.ends upper.below self.old }

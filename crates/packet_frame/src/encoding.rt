@@ -46,8 +46,8 @@ pub fn encode<T: PrefixTree>(alloc: Global, packet: &Packet<T>) -> Result<Frame,
     Ok(Frame { bytes: out })
 }
 
-/// The frame that `encode` gives for an `Up` packet with this tree, without making the packet. Fails only if memory runs
-/// out.
+/// The frame that `encode` gives for an `Up` packet with this tree, without making the packet. Fails only if memory
+/// runs out.
 pub fn encode_up<T: PrefixTree>(
     alloc: Global,
     stream: u8,
@@ -127,8 +127,8 @@ fn put_rows<T: PrefixTree>(
     Ok(())
 }
 
-// Appends the rows of a chain: of each its depth, the length of its last frame, that frame, and the places of its ends in
-// the coverage.
+// Appends the rows of a chain: of each its depth, the length of its last frame, that frame, and the places of its ends
+// in the coverage.
 fn put_chain(chain: &Chain<'_>, places: &CoverPlaces, out: &mut Vec<u8>) -> Result<(), AllocError>
     requires good { IsGoodChain chain.now }
     requires covered { is_subset chain.now.ends.now places.now ≡ true }

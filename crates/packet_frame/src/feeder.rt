@@ -122,9 +122,9 @@ impl<T: PrefixTree> Feeder<T> {
     /// The packets of the frames that become whole with this piece, each with its frame's length in bytes.
     ///
     /// A frame is refused as soon as a field breaks its rule, at its offset from the first byte that was ever fed. Then
-    /// the piece gives no packets, and each later call of `feed` and `finish` returns the same error. The error is never
-    /// `Short`. On failure the bytes that wait stay as they were; after running out of memory the same piece may be fed
-    /// again.
+    /// the piece gives no packets, and each later call of `feed` and `finish` returns the same error. The error is
+    /// never `Short`. On failure the bytes that wait stay as they were; after running out of memory the same piece may
+    /// be fed again.
     pub fn feed(
         &mut self,
         alloc: Global,

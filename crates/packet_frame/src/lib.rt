@@ -1,7 +1,7 @@
 //! Packets as frames of bytes: what goes over a link between two nodes.
 //!
-//! A [`Packet`] has the tree of what a node knows of a wave, or is a short message. [`encode`] writes the one frame that
-//! spells a packet in version 2. [`decode`] reads a frame of version 1 or 2 from the front of any bytes, and a
+//! A [`Packet`] has the tree of what a node knows of a wave, or is a short message. [`encode`] writes the one frame
+//! that spells a packet in version 2. [`decode`] reads a frame of version 1 or 2 from the front of any bytes, and a
 //! [`Feeder`] reads the frames of a stream that comes in pieces of any length. Bytes that are no frame are refused with
 //! a reason, at the offset of the first field that breaks its rule.
 //!
@@ -13,10 +13,11 @@
 //! feeder.finish()?;                                                 // all frames are whole
 //! ```
 //!
-//! A contract sees a packet with its tree as a `Tree` (`packet_map T.tree`), a [`Frame`] as the list of its bytes, and a
-//! `Feeder` as what it holds of the stream (`Fed`). The format is the form `frame_form` in `specs/Frame.antt`: fields one
-//! after another, each with its rule. `specs/Fields.antt` says what it is to read a form, `specs/Spelling.antt` which
-//! bytes are written, `specs/Sent.antt` which rows stand for a tree, and `specs/Streams.antt` which frames a stream has.
+//! A contract sees a packet with its tree as a `Tree` (`packet_map T.tree`), a [`Frame`] as the list of its bytes, and
+//! a `Feeder` as what it holds of the stream (`Fed`). The format is the form `frame_form` in `specs/Frame.antt`: fields
+//! one after another, each with its rule. `specs/Fields.antt` says what it is to read a form, `specs/Spelling.antt`
+//! which bytes are written, `specs/Sent.antt` which rows stand for a tree, and `specs/Streams.antt` which frames a
+//! stream has.
 #![tactic(auto)]
 
 mod cover;
