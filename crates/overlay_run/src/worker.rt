@@ -20,6 +20,7 @@ use std::sync::Wait;
 use std::thread;
 
 /// What all workers of a run work with, beside the turn.
+#[derive(Drop)]
 pub struct WorkContext<'a, G: Gate> {
     /// For what an event makes.
     pub alloc: Global,
