@@ -51,7 +51,7 @@ fn append_received<T: PrefixTree>(
     let Event::Recv { node, from } = event else {
         return Ok(());
     };
-    match net.front(node, from) {
+    match net.first_frame(node, from) {
         Some(frame) => log.extend_from_slice(frame.bytes()),
         None => Ok(()),
     }

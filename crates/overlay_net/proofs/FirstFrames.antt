@@ -28,10 +28,10 @@ first_frame p (f ∷ fs) are = ap Some are.0.spelled
 
 -- the first frame that waits is that of the first packet on the machine's link
 pub first_on_link : {X : Type 0} (tree : X → Tree) (p : Plan) (st : NetState X) (n m : ℕ) → IsNetState tree p st → AllHome (net_view tree p st false)
-    → slice_get (queue_of (inbox_at st.inboxes.items n) m) 0 ≡ option_map (frame_bytes p) (slice_get ((state_at tree p st).link m n) 0)
+    → slice_get (queue_of (inbox_at st.nodes.inboxes.items n) m) 0 ≡ option_map (frame_bytes p) (slice_get ((state_at tree p st).link m n) 0)
 first_on_link tree p st n m net home =
-    let ps = places_view st.places.items in
-    let boxes = st.inboxes.items in
-    let len : length ps ≡ length boxes = as_many p st.alive.items ps boxes (releases_view tree st.releases.items) net.net net.frames net.inbox_count net.inboxes in
+    let ps = places_view st.nodes.places.items in
+    let boxes = st.nodes.inboxes.items in
+    let len : length ps ≡ length boxes = as_many p st.nodes.alive.items ps boxes (releases_view tree st.releases.items) net.net net.frames net.inbox_count net.inboxes in
     ap (λ w. slice_get (queue_of w m) 0) (sym (whole_at_home ps boxes n len (home n)))
     ∙ first_frame p (queue_of (inbox_at (whole_inboxes ps boxes) n) m) (net.net.parts.packets m n)

@@ -20,6 +20,7 @@ use Rattle.overlay_node.proofs.Frames.{all_append}
 use Rattle.overlay_net.specs.Places.{HasFrame, HaveFrames, PlaceView, at_home, events_out, nodes_in, out_at, outs_in, place_view, places_view, whole_inbox, whole_inboxes}
 use Rattle.overlay_net.specs.declared.place.Place.{Place}
 use Rattle.overlay_net.specs.declared.place.Place.TheVariants.{Home}
+use Rattle.overlay_net.specs.declared.nodes.NetNodes.{NetNodes}
 use Rattle.overlay_net.specs.declared.state.NetState.{NetState}
 use Rattle.std.proofs.lemmas.List.{length-replicate, map-append}
 use Rattle.std.proofs.lemmas.Option.{none-some}
@@ -202,32 +203,32 @@ no_loss (suc k) (suc n) lt = no_loss k n (omega (arith, lt))
 
 -- ---- the state of a net that begins
 
-pub start_parts : {X : Type 0} (p : Plan) (al : List Bool) (places : List (Place X)) (ib : List FrameInbox) → AreInitial p (nodes p) al (nodes_in (places_view places)) ib → AreHome (places_view places) → ArePartsOf p al places ib
-start_parts p al places ib h home = subst (AreParts p al (nodes_in (places_view places))) (sym (whole_home (places_view places) ib home)) (initial_parts p al (nodes_in (places_view places)) ib h)
+pub start_parts : {X : Type 0} (p : Plan) (v : NetNodes X) → AreInitial p (nodes p) v.alive.items (nodes_in (places_view v.places.items)) v.inboxes.items → AreHome (places_view v.places.items) → ArePartsOf p v
+start_parts p v h home = subst (AreParts p v.alive.items (nodes_in (places_view v.places.items))) (sym (whole_home (places_view v.places.items) v.inboxes.items home)) (initial_parts p v.alive.items (nodes_in (places_view v.places.items)) v.inboxes.items h)
 
-module _ {X : Type 0} (tree : X → Tree) (p : Plan) (st : NetState X) (h : AreInitial p (nodes p) st.alive.items (nodes_in (places_view st.places.items)) st.inboxes.items) (home : AreHome (places_view st.places.items)) (none : st.releases.items ≡ []) where
-  whole : AreInitial p (nodes p) st.alive.items (nodes_in (places_view st.places.items)) (whole_inboxes (places_view st.places.items) st.inboxes.items)
-  whole = subst (AreInitial p (nodes p) st.alive.items (nodes_in (places_view st.places.items))) (sym (whole_home (places_view st.places.items) st.inboxes.items home)) h
+module _ {X : Type 0} (tree : X → Tree) (p : Plan) (st : NetState X) (h : AreInitial p (nodes p) st.nodes.alive.items (nodes_in (places_view st.nodes.places.items)) st.nodes.inboxes.items) (home : AreHome (places_view st.nodes.places.items)) (none : st.releases.items ≡ []) where
+  whole : AreInitial p (nodes p) st.nodes.alive.items (nodes_in (places_view st.nodes.places.items)) (whole_inboxes (places_view st.nodes.places.items) st.nodes.inboxes.items)
+  whole = subst (AreInitial p (nodes p) st.nodes.alive.items (nodes_in (places_view st.nodes.places.items))) (sym (whole_home (places_view st.nodes.places.items) st.nodes.inboxes.items home)) h
 
   pub start_reached : IsReachedBy (net_view tree p st false) []
-  start_reached = initial_reached p st.alive.items (nodes_in (places_view st.places.items)) (whole_inboxes (places_view st.places.items) st.inboxes.items) (releases_view tree st.releases.items) whole (ap (releases_view tree) none) (outs_in (places_view st.places.items)) (net_view tree p st false).room
+  start_reached = initial_reached p st.nodes.alive.items (nodes_in (places_view st.nodes.places.items)) (whole_inboxes (places_view st.nodes.places.items) st.nodes.inboxes.items) (releases_view tree st.releases.items) whole (ap (releases_view tree) none) (outs_in (places_view st.nodes.places.items)) (net_view tree p st false).room
 
   pub start_home : AllHome (net_view tree p st false)
-  start_home n = none_out (places_view st.places.items) n home
+  start_home n = none_out (places_view st.nodes.places.items) n home
 
-  pub start_net : (k : ℕ) → k ≡ nodes p → st.losing ≡ replicate k 0 → AreClaimsCounted p st.alive.items st.places.items st.inboxes.items st.counts → IsNetState tree p st
+  pub start_net : (k : ℕ) → k ≡ nodes p → st.nodes.losing ≡ replicate k 0 → AreClaimsCounted p st.nodes st.counts → IsNetState tree p st
   start_net k is losing counted = record {
-    net = initial_net p st.alive.items (nodes_in (places_view st.places.items)) (whole_inboxes (places_view st.places.items) st.inboxes.items) (releases_view tree st.releases.items) whole (ap (releases_view tree) none) [] 0;
+    net = initial_net p st.nodes.alive.items (nodes_in (places_view st.nodes.places.items)) (whole_inboxes (places_view st.nodes.places.items) st.nodes.inboxes.items) (releases_view tree st.releases.items) whole (ap (releases_view tree) none) [] 0;
     out = subst (MayBeOut p (state_of (net_view tree p st false))) none_is (nothing_out p (state_of (net_view tree p st false)));
-    frames = home_frames (places_view st.places.items) home;
+    frames = home_frames (places_view st.nodes.places.items) home;
     inbox_count = h.inbox_count;
     inboxes = λ n. subst IsInbox (sym (h.empty n)) (record { sent = tt; increasing = no_sender });
     losing = record {
       node_count = ap length losing ∙ length-replicate k 0 ∙ is;
-      each = λ n lt. ap (λ (l : List ℕ). slice_get l n) losing ∙ no_loss k n (subst (λ m. n < m) (sym is) lt) ∙ ap (λ b. Some (cond {A = ℕ} b 1 0)) (sym (none_losing (places_view st.places.items) home n));
+      each = λ n lt. ap (λ (l : List ℕ). slice_get l n) losing ∙ no_loss k n (subst (λ m. n < m) (sym is) lt) ∙ ap (λ b. Some (cond {A = ℕ} b 1 0)) (sym (none_losing (places_view st.nodes.places.items) home n));
     };
     counted = counted;
   }
     where
-      none_is : ◌≡◌ {A = Outs} all_home (events_out st.places.items)
-      none_is = λ i. λ n. sym (none_out (places_view st.places.items) n home) i
+      none_is : ◌≡◌ {A = Outs} all_home (events_out st.nodes.places.items)
+      none_is = λ i. λ n. sym (none_out (places_view st.nodes.places.items) n home) i

@@ -8,8 +8,11 @@ use Rattle.stat_plan.specs.Plans.{Plan, nodes}
 use Rattle.event_claims.specs.Claims.{is_loss_of}
 use Rattle.overlay_net.specs.Places.{events_out}
 use Rattle.overlay_net.specs.Events.{AreLosing, NoneIsLosing}
+use Rattle.overlay_net.specs.States.{AreLossesCounted, IsNetStateBut}
 use Rattle.overlay_net.specs.declared.place.Place.{Place}
-use Rattle.overlay_net.proofs.ReadPlaces.{out_past}
+use Rattle.overlay_net.specs.declared.state.NetState.{NetState}
+use Rattle.prefix_tree.specs.Tree.{Tree}
+use Rattle.overlay_net.proofs.ReadPlaces.{out_past, place_count}
 
 -- each of some numbers whose sum is 0 is 0
 zero_item : (xs : List ℕ) (n k : ℕ) → sum xs ≡ 0 → slice_get xs n ≡ Some k → k ≡ 0
@@ -30,3 +33,7 @@ none_losing p places losing count are none n = elim (cases_lt n (nodes p)) [
     go : (b : Bool) → is_loss_of (events_out places n) n ≡ b → slice_get losing n ≡ Some (cond (is_loss_of (events_out places n) n) 1 0) → is_loss_of (events_out places n) n ≡ false
     go true e at = absurd (let one : 1 ≡ 0 = zero_item losing n 1 zero_sum (at ∙ ap (λ b. Some (cond b 1 0)) e) in omega (arith, one))
     go false e at = e
+
+-- the losses of a net are counted
+pub losses_counted : {X : Type 0} (rest : List ℕ) (tree : X → Tree) (p : Plan) (st : NetState X) → IsNetStateBut rest tree p st → AreLossesCounted st.nodes
+losses_counted rest tree p st net = none_losing p st.nodes.places.items st.nodes.losing (place_count p st.nodes net.net.parts) net.losing

@@ -19,6 +19,7 @@ use Rattle.node_inbox.specs.Inboxes.{senders_of}
 use Rattle.node_inbox.specs.Sends.{inbox_at, is_alive, no_inbox}
 use Rattle.overlay_net.specs.Inboxes.{FrameInbox, WaitingFrames}
 use Rattle.overlay_net.specs.Places.{PlaceView, at_home, events_out, nodes_in, place_view, places_view, whole_inboxes}
+use Rattle.overlay_net.specs.declared.nodes.NetNodes.{NetNodes}
 use Rattle.overlay_net.specs.declared.place.Place.{Place}
 use Rattle.overlay_net.specs.declared.place.Place.TheVariants.{Home}
 use Rattle.overlay_net.specs.Nets.{active_events, claims_at, events_at, is_doomed_node, node_events, sample_of, tick_of}
@@ -176,60 +177,60 @@ inbox_count (x ∷ xs) (box ∷ boxes) len = ap suc (inbox_count xs boxes (omega
 pub claims_away : (p : Plan) (al : List Bool) (xs : List NodeView) (ib : List FrameInbox) (out : Outs) (n : ℕ) (e : Event) → out n ≡ Some e → claims_at p al xs ib out n ≡ []
 claims_away p al xs ib out n e away = λ i. cond (is_home (away i)) (filter (is_free p out) (events_at p al xs ib n)) []
 
-module _ {X : Type 0} (p : Plan) (al : List Bool) (places : List (Place X)) (boxes : List FrameInbox) (parts : ArePartsOf p al places boxes) where
+module _ {X : Type 0} (p : Plan) (v : NetNodes X) (parts : ArePartsOf p v) where
   -- the places are those of the nodes
-  pub place_count : length places ≡ nodes p
-  place_count = sym (length-map (places_view places) (λ (x : PlaceView). x.node) ∙ length-map places (λ (x : Place X). place_view x)) ∙ parts.node_count
+  pub place_count : length v.places.items ≡ nodes p
+  place_count = sym (length-map (places_view v.places.items) (λ (x : PlaceView). x.node) ∙ length-map v.places.items (λ (x : Place X). place_view x)) ∙ parts.node_count
 
   -- each node has an inbox
-  pub box_count : length boxes ≡ nodes p
-  box_count = inbox_count (places_view places) boxes (parts.inbox_count ∙ sym place_count ∙ sym (length-map places (λ (x : Place X). place_view x))) ∙ length-map places (λ (x : Place X). place_view x) ∙ place_count
+  pub box_count : length v.inboxes.items ≡ nodes p
+  box_count = inbox_count (places_view v.places.items) v.inboxes.items (parts.inbox_count ∙ sym place_count ∙ sym (length-map v.places.items (λ (x : Place X). place_view x))) ∙ length-map v.places.items (λ (x : Place X). place_view x) ∙ place_count
 
-  module _ (n : ℕ) (x : NodeView) (at : slice_get (places_view places) n ≡ Some (at_home x)) (lt : n < nodes p) where
+  module _ (n : ℕ) (x : NodeView) (at : slice_get (places_view v.places.items) n ≡ Some (at_home x)) (lt : n < nodes p) where
     -- it is the node of this number
-    pub home_node : slice_get (nodes_in (places_view places)) n ≡ Some x
-    home_node = node_at_place (places_view places) n (at_home x) at
+    pub home_node : slice_get (nodes_in (places_view v.places.items)) n ≡ Some x
+    home_node = node_at_place (places_view v.places.items) n (at_home x) at
 
     pub home_fits : (x.number ≡ n) × IsNodeOf p x
     home_fits = parts.node n x home_node
 
     -- what waits for it
-    pub home_box : inbox_at (whole_inboxes (places_view places) boxes) n ≡ inbox_at boxes n
-    home_box = home_inbox (places_view places) boxes n (at_home x) at refl (subst (λ k. n < k) (sym box_count) lt)
+    pub home_box : inbox_at (whole_inboxes (places_view v.places.items) v.inboxes.items) n ≡ inbox_at v.inboxes.items n
+    home_box = home_inbox (places_view v.places.items) v.inboxes.items n (at_home x) at refl (subst (λ k. n < k) (sym box_count) lt)
 
     -- its events, those that are free
-    pub claims_home : (u : Bool) (w : WaitingFrames) → u ≡ is_alive al n → w ≡ inbox_at boxes n → claims_of p al places boxes n ≡ filter (is_free p (events_out places)) (node_events p u x w)
+    pub claims_home : (u : Bool) (w : WaitingFrames) → u ≡ is_alive v.alive.items n → w ≡ inbox_at v.inboxes.items n → claims_of p v n ≡ filter (is_free p (events_out v.places.items)) (node_events p u x w)
     claims_home u w up is =
-        (λ i. cond (is_home (out_at_place (places_view places) n (at_home x) at i)) (filter (is_free p (events_out places)) (events_at p al (nodes_in (places_view places)) (whole_inboxes (places_view places) boxes) n)) [])
-        ∙ ap (filter (is_free p (events_out places))) (events_read p al (nodes_in (places_view places)) (whole_inboxes (places_view places) boxes) n u x w up home_node (is ∙ sym home_box))
+        (λ i. cond (is_home (out_at_place (places_view v.places.items) n (at_home x) at i)) (filter (is_free p (events_out v.places.items)) (events_at p v.alive.items (nodes_in (places_view v.places.items)) (whole_inboxes (places_view v.places.items) v.inboxes.items) n)) [])
+        ∙ ap (filter (is_free p (events_out v.places.items))) (events_read p v.alive.items (nodes_in (places_view v.places.items)) (whole_inboxes (places_view v.places.items) v.inboxes.items) n u x w up home_node (is ∙ sym home_box))
 
     -- where it isn't to be lost next
-    pub claims_active : (w : WaitingFrames) → true ≡ is_alive al n → w ≡ inbox_at boxes n → is_doomed_node p x ≡ false → claims_of p al places boxes n ≡ filter (is_free p (events_out places)) (active_events p x w)
+    pub claims_active : (w : WaitingFrames) → true ≡ is_alive v.alive.items n → w ≡ inbox_at v.inboxes.items n → is_doomed_node p x ≡ false → claims_of p v n ≡ filter (is_free p (events_out v.places.items)) (active_events p x w)
     claims_active w up is doomed =
         claims_home true w up is
-        ∙ ap (λ b. filter (is_free p (events_out places)) (cond b (Lose x.number ∷ []) (active_events p x w))) doomed
+        ∙ ap (λ b. filter (is_free p (events_out v.places.items)) (cond b (Lose x.number ∷ []) (active_events p x w))) doomed
 
     -- where it is to be lost next
-    pub claims_doomed : true ≡ is_alive al n → is_doomed_node p x ≡ true → claims_of p al places boxes n ≡ cond (not (list_any (λ k. receives_from (events_out places k) n) (up_to (length places)))) (Lose n ∷ []) []
+    pub claims_doomed : true ≡ is_alive v.alive.items n → is_doomed_node p x ≡ true → claims_of p v n ≡ cond (not (list_any (λ k. receives_from (events_out v.places.items k) n) (up_to (length v.places.items)))) (Lose n ∷ []) []
     claims_doomed up doomed =
-        claims_home true (inbox_at boxes n) up refl
-        ∙ ap (λ b. filter (is_free p (events_out places)) (cond b (Lose x.number ∷ []) (active_events p x (inbox_at boxes n)))) doomed
-        ∙ (λ i. cond (not (list_any (λ k. receives_from (events_out places k) (home_fits.0 i)) (up_to (sym place_count i)))) (Lose (home_fits.0 i) ∷ []) [])
+        claims_home true (inbox_at v.inboxes.items n) up refl
+        ∙ ap (λ b. filter (is_free p (events_out v.places.items)) (cond b (Lose x.number ∷ []) (active_events p x (inbox_at v.inboxes.items n)))) doomed
+        ∙ (λ i. cond (not (list_any (λ k. receives_from (events_out v.places.items k) (home_fits.0 i)) (up_to (sym place_count i)))) (Lose (home_fits.0 i) ∷ []) [])
 
   module _ (n : ℕ) (lt : n < nodes p) where
     -- its place and its inbox
-    pub place_below : n < length places
+    pub place_below : n < length v.places.items
     place_below = subst (λ k. n < k) (sym place_count) lt
 
-    pub box_below : n < length boxes
+    pub box_below : n < length v.inboxes.items
     box_below = subst (λ k. n < k) (sym box_count) lt
 
-    pub box_read : (box : FrameInbox) → box ≡ get_or boxes n box → box.waiting ≡ inbox_at boxes n
-    box_read box is = ap (λ (b : FrameInbox). b.waiting) (get_or_read boxes n box box_below is no_inbox)
+    pub box_read : (box : FrameInbox) → box ≡ get_or v.inboxes.items n box → box.waiting ≡ inbox_at v.inboxes.items n
+    box_read box is = ap (λ (b : FrameInbox). b.waiting) (get_or_read v.inboxes.items n box box_below is no_inbox)
 
-    module _ (y : Place X) (is : y ≡ get_or places n y) where
-      pub read_home : (x : NodeView) → y ≡ Home x → slice_get (places_view places) n ≡ Some (at_home x)
-      read_home x home = place_read places n y place_below is ∙ ap (λ (z : Place X). Some (place_view z)) home
+    module _ (y : Place X) (is : y ≡ get_or v.places.items n y) where
+      pub read_home : (x : NodeView) → y ≡ Home x → slice_get (places_view v.places.items) n ≡ Some (at_home x)
+      read_home x home = place_read v.places.items n y place_below is ∙ ap (λ (z : Place X). Some (place_view z)) home
 
-      pub read_away : (e : Event) → (place_view y).out ≡ Some e → claims_of p al places boxes n ≡ []
-      read_away e away = claims_away p al (nodes_in (places_view places)) (whole_inboxes (places_view places) boxes) (events_out places) n e (out_read places n y place_below is ∙ away)
+      pub read_away : (e : Event) → (place_view y).out ≡ Some e → claims_of p v n ≡ []
+      read_away e away = claims_away p v.alive.items (nodes_in (places_view v.places.items)) (whole_inboxes (places_view v.places.items) v.inboxes.items) (events_out v.places.items) n e (out_read v.places.items n y place_below is ∙ away)

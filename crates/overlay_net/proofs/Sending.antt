@@ -15,6 +15,7 @@ use Rattle.overlay_net.proofs.claimed.Work.TheSendSync as work
 use Rattle.overlay_net.specs.contracts.claimed.Claimed as Claimed
 use Rattle.overlay_net.specs.contracts.net.Net as Net
 use Rattle.overlay_net.specs.contracts.net.Net.TheInside as inside
+use Rattle.overlay_net.specs.contracts.nodes.NetNodes as NetNodes
 use Rattle.overlay_net.specs.contracts.place.Place as Place
 use Rattle.overlay_net.specs.contracts.state.NetState as NetState
 
@@ -25,8 +26,11 @@ place_send T g s = search (sendable, crosses, node.the_send) depth 40
 pub claimed_send : (T : RattleType) (g : Ghosts T.Denot) → IsSend T → IsSend (Claimed.the_row T g)
 claimed_send T g s = search (sendable, crosses, node.the_send, frame.the_send, work.the_send) depth 40
 
+nodes_send : (T : RattleType) (g : Ghosts T.Denot) → IsSend T → IsSend (NetNodes.the_field T g).row
+nodes_send T g s = search (sendable, crosses, place_send, inbox.the_send, frame.the_send, counts.the_send) depth 40
+
 state_send : (T : RattleType) (g : Ghosts T.Denot) → IsSend T → IsSend (NetState.the_field T g).row
-state_send T g s = search (sendable, crosses, place_send, inbox.the_send, frame.the_send, release.the_send, counts.the_send) depth 40
+state_send T g s = search (sendable, crosses, nodes_send, release.the_send, counts.the_send) depth 40
 
 pub net_send : (κ : NamedLft) (T : RattleType) (g : Ghosts T.Denot) → IsSend T → IsSend (Net.the_row κ T g)
 net_send κ T g s =

@@ -117,21 +117,21 @@ fresh_claim e before taken x frame work c is seen fresh =
 
 -- after it, it has the receivers
 pub worked_claim : {X : Type 0} (before : NodeView) (taken : Option (List ℕ)) (x : NodeView) (frame : Option (List ℕ)) (work : Work X)
-    → work.receivers.items ≡ map (λ v. v.0) work.out.sends → IsClaimOf before taken x frame (Some work)
+    → work.receivers.items ≡ map (λ v. v.0) work.effects.sends → IsClaimOf before taken x frame (Some work)
 worked_claim before taken x frame work are = record {
   fresh = λ none. cc;
   receivers = λ w is. have work w is are;
 }
   where
-    have : {X : Type 0} (v w : Work X) → Some v ≡ Some w → v.receivers.items ≡ map (λ s. s.0) v.out.sends → w.receivers.items ≡ map (λ s. s.0) w.out.sends
-    have {X = X} v w is h = let e : v ≡ w = cc in subst (λ (u : Work X). u.receivers.items ≡ map (λ s. s.0) u.out.sends) e h
+    have : {X : Type 0} (v w : Work X) → Some v ≡ Some w → v.receivers.items ≡ map (λ s. s.0) v.effects.sends → w.receivers.items ≡ map (λ s. s.0) w.effects.sends
+    have {X = X} v w is h = let e : v ≡ w = cc in subst (λ (u : Work X). u.receivers.items ≡ map (λ s. s.0) u.effects.sends) e h
 
 -- and what the event leaves of what was moved out
 pub was_worked : {X : Type 0} (p : Plan) (before : NodeView) (taken : Option (List ℕ)) (x y : NodeView) (frame : Option (List ℕ)) (work : Work X) (c : ClaimView) (e : Event)
     → ◌≡◌ {A = ClaimView} (record { event = e; node = x; frame = frame; left = None }) c → c.node ≡ before → c.frame ≡ taken
-    → Leaves p x e frame (record { node = y; sends = work.out.sends; releases = work.out.releases }) → WasWorked p (claim_of e before taken y (Some work))
+    → Leaves p x e frame (record { node = y; sends = work.effects.sends; releases = work.effects.releases }) → WasWorked p (claim_of e before taken y (Some work))
 was_worked p before taken x y frame work c e is node took h =
-    let left : Left = record { node = y; sends = work.out.sends; releases = work.out.releases } in
+    let left : Left = record { node = y; sends = work.effects.sends; releases = work.effects.releases } in
     record {
       left = left;
       is = refl;

@@ -1,6 +1,6 @@
 -- The mutable state of a net, as a value.
-use Rattle.std.specs.Prelude.{◌≡◌, ◌-◌, ℕ, Bool, true, false, List, [], length, slice_get, Some, None}
-use Rattle.std.specs.List.{AllByRecursion}
+use Rattle.std.specs.Prelude.{◌≡◌, ◌-◌, ℕ, nat_lt, Bool, true, false, List, [], length, slice_get, Some, None}
+use Rattle.std.specs.List.{AllByRecursion, sum}
 use Rattle.std.specs.Vec.{vec_len, vec_capacity}
 use Rattle.prefix_tree.specs.Tree.{Tree}
 use Rattle.stat_plan.specs.Plans.{Plan, nodes}
@@ -15,33 +15,41 @@ use Rattle.node_inbox.specs.Sends.{inbox_at}
 use Rattle.overlay_net.specs.Inboxes.{FrameInbox}
 use Rattle.overlay_net.specs.Places.{HaveFrames, PlaceView, events_out, nodes_in, out_at, outs_in, places_view, whole_inboxes}
 use Rattle.overlay_net.specs.Nets.{NetView, claims_at, net_view_of, outs_of, state_of, state_with}
-use Rattle.overlay_net.specs.Events.{AreCountedBut, AreLosing, AreParts, IsNet}
+use Rattle.overlay_net.specs.Events.{AreCountedBut, AreLosing, AreParts, IsNet, NoneIsLosing}
 use Rattle.overlay_net.specs.Claims.{ClaimView, FitsNet}
 use Rattle.overlay_net.specs.Handled.{ExtendsBy}
-use Rattle.overlay_net.specs.declared.place.Place.{Place}
+use Rattle.overlay_net.specs.declared.nodes.NetNodes.{NetNodes}
 use Rattle.overlay_net.specs.declared.state.NetState.{NetState}
 
--- ---- the parts of a net, where some nodes are out
+-- ---- the nodes of a net, where some are out
 
-module _ {X : Type 0} (p : Plan) (alive : List Bool) (places : List (Place X)) (inboxes : List FrameInbox) where
+-- the nodes, those that are out as they went out
+abbrev pub nodes_view : {X : Type 0} → NetNodes X → List NodeView
+nodes_view v = nodes_in (places_view v.places.items)
+
+-- what waits for each, with the frame that it took along
+abbrev pub inboxes_view : {X : Type 0} → NetNodes X → List FrameInbox
+inboxes_view v = whole_inboxes (places_view v.places.items) v.inboxes.items
+
+module _ {X : Type 0} (p : Plan) (v : NetNodes X) where
   -- they are those of the plan
   abbrev pub ArePartsOf : Type 0
-  ArePartsOf = AreParts p alive (nodes_in (places_view places)) (whole_inboxes (places_view places) inboxes)
-
-  -- the machine's state of them, with these releases
-  abbrev pub state_in : List TreeRelease → State
-  state_in releases = state_with p alive (nodes_in (places_view places)) (whole_inboxes (places_view places) inboxes) releases
+  ArePartsOf = AreParts p v.alive.items (nodes_view v) (inboxes_view v)
 
   -- the events of the node of this number that may be claimed
   abbrev pub claims_of : ℕ → List Event
-  claims_of n = claims_at p alive (nodes_in (places_view places)) (whole_inboxes (places_view places) inboxes) (events_out places) n
+  claims_of n = claims_at p v.alive.items (nodes_view v) (inboxes_view v) (events_out v.places.items) n
 
   -- the counts are those of the events that may be claimed, but for these nodes
   abbrev pub AreClaimsCountedBut : List ℕ → List ℕ → Type 0
-  AreClaimsCountedBut rest counts = AreCountedBut rest p alive (nodes_in (places_view places)) (whole_inboxes (places_view places) inboxes) (events_out places) counts
+  AreClaimsCountedBut rest counts = AreCountedBut rest p v.alive.items (nodes_view v) (inboxes_view v) (events_out v.places.items) counts
 
   abbrev pub AreClaimsCounted : List ℕ → Type 0
   AreClaimsCounted counts = AreClaimsCountedBut [] counts
+
+-- where no loss is counted, no node is out with its loss
+abbrev pub AreLossesCounted : {X : Type 0} → NetNodes X → Type 0
+AreLossesCounted v = nat_lt 0 (sum v.losing) ≡ false → NoneIsLosing (events_out v.places.items)
 
 -- The first `count` nodes live, are at home, have done no event yet, and no packet waits for them.
 pub record AreInitial (p : Plan) (count : ℕ) (alive : List Bool) (xs : List NodeView) (inboxes : List FrameInbox) : Type 0 where
@@ -60,12 +68,12 @@ pub record AreInitial (p : Plan) (count : ℕ) (alive : List Bool) (xs : List No
 abbrev pub net_view : {X : Type 0} → (X → Tree) → Plan → NetState X → Bool → NetView
 net_view tree p st failed = record {
   plan = p;
-  alive = st.alive.items;
-  nodes = nodes_in (places_view st.places.items);
-  inboxes = whole_inboxes (places_view st.places.items) st.inboxes.items;
+  alive = st.nodes.alive.items;
+  nodes = nodes_view st.nodes;
+  inboxes = inboxes_view st.nodes;
   releases = releases_view tree st.releases.items;
   failed = failed;
-  outs = outs_in (places_view st.places.items);
+  outs = outs_in (places_view st.nodes.places.items);
   room = vec_capacity st.releases - vec_len st.releases;
 }
 
@@ -82,18 +90,22 @@ pub record IsNetOf (rest : List ℕ) (p : Plan) (alive : List Bool) (ps : List P
 
 -- the same of a plan and a state
 abbrev pub IsNetStateBut : {X : Type 0} → List ℕ → (X → Tree) → Plan → NetState X → Type 0
-IsNetStateBut rest tree p st = IsNetOf rest p st.alive.items (places_view st.places.items) st.inboxes.items (releases_view tree st.releases.items) st.losing st.counts
+IsNetStateBut rest tree p st = IsNetOf rest p st.nodes.alive.items (places_view st.nodes.places.items) st.nodes.inboxes.items (releases_view tree st.releases.items) st.nodes.losing st.counts
 
 abbrev pub IsNetState : {X : Type 0} → (X → Tree) → Plan → NetState X → Type 0
 IsNetState = IsNetStateBut []
 
--- the machine's state of this plan and state
+-- the net of this plan and state, which has not run out of memory
+abbrev pub net_at : {X : Type 0} → (X → Tree) → Plan → NetState X → NetView
+net_at tree p st = net_view tree p st false
+
+-- the machine's state of it
 abbrev pub state_at : {X : Type 0} → (X → Tree) → Plan → NetState X → State
-state_at tree p st = state_of (net_view tree p st false)
+state_at tree p st = state_of (net_at tree p st)
 
 -- if a journal leads to the old state, that journal with the event appended leads to the new one
 abbrev pub ExtendsState : {X : Type 0} → (X → Tree) → Plan → Event → NetState X → NetState X → Type 0
-ExtendsState tree p e old new = ExtendsBy e (net_view tree p old false) (net_view tree p new false)
+ExtendsState tree p e old new = ExtendsBy e (net_at tree p old) (net_at tree p new)
 
 -- ---- what the steps of an event do to a net
 

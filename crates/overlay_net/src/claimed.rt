@@ -22,7 +22,7 @@ use std::snapshot::Snapshot;
 #[derive(Drop)]
 pub struct Work<T: PrefixTree> {
     /// What the node sends and releases.
-    pub out: Outgoing<T>,
+    pub effects: Outgoing<T>,
     /// The receivers of what it sends, in order.
     pub receivers: Vec<u32>,
 }
@@ -80,7 +80,7 @@ impl<T: PrefixTree> Claimed<T> {
     }
 
     /// What the event left besides the node.
-    pub(crate) fn out(&self) -> &Outgoing<T>
+    pub(crate) fn effects(&self) -> &Outgoing<T>
         requires { (left : Left) × (self.now.left ≡ Some left) }
         ensures { (left : Left) → self.now.left ≡ Some left
             → (result.now.sends ≡ left.sends) × (result.now.releases ≡ left.releases) }
@@ -88,7 +88,7 @@ impl<T: PrefixTree> Claimed<T> {
         let Some(work) = &self.work else {
             unreachable!()
         };
-        &work.out
+        &work.effects
     }
 
     /// The event, the node, what they left besides, and the receivers of what is sent.
@@ -110,10 +110,10 @@ impl<T: PrefixTree> Claimed<T> {
         drop(frame);
         drop(before);
         drop(taken);
-        let Some(Work { out, receivers }) = work else {
+        let Some(Work { effects, receivers }) = work else {
             unreachable!()
         };
-        (event, node, out, receivers)
+        (event, node, effects, receivers)
     }
 
     /// Does the event at its node: the node takes its samples, handles the frame, or lets its timers go on. A loss
@@ -157,18 +157,18 @@ fn do_event<T: PrefixTree>(
 ) -> Result<(Node<T>, Work<T>), AllocError>
     requires { MayBeWorked plan.now (record { event = event; node = node; frame = frame; left = None }) }
     ensures leaves { IfOk result (λ r. Leaves plan.now node event frame
-        (record { node = r.0; sends = r.1.out.sends; releases = r.1.out.releases })) }
-    ensures receivers { IfOk result (λ r. r.1.receivers.items ≡ map (λ v. v.0) r.1.out.sends) }
+        (record { node = r.0; sends = r.1.effects.sends; releases = r.1.effects.releases })) }
+    ensures receivers { IfOk result (λ r. r.1.receivers.items ≡ map (λ v. v.0) r.1.effects.sends) }
 {
-    let (after, out) = match event {
+    let (after, effects) = match event {
         Event::Lose { node: n } => {
-            let out = make_notices(alloc, plan, n)?;
-            (node, out)
+            let effects = make_notices(alloc, plan, n)?;
+            (node, effects)
         }
         _ => node.handle(alloc, plan, event, frame)?,
     };
-    let receivers = receivers_of(alloc, out.sends.as_slice())?;
-    Ok((after, Work { out, receivers }))
+    let receivers = receivers_of(alloc, effects.sends.as_slice())?;
+    Ok((after, Work { effects, receivers }))
 }
 
 // The receivers of what is sent.
@@ -205,9 +205,9 @@ fn make_notices<T: PrefixTree>(
     n: u32,
 ) -> Result<Outgoing<T>, AllocError>
     requires { n < nodes plan.now }
-    ensures sent { IfOk result (λ out. packets_of out.sends ≡ notices plan.now n) }
-    ensures frames { IfOk result (λ out. AreFrames plan.now out.sends) }
-    ensures silent { IfOk result (λ out. out.releases ≡ []) }
+    ensures sent { IfOk result (λ effects. packets_of effects.sends ≡ notices plan.now n) }
+    ensures frames { IfOk result (λ effects. AreFrames plan.now effects.sends) }
+    ensures silent { IfOk result (λ effects. effects.releases ≡ []) }
 {
     let mut sends = Vec::new(alloc);
     for b in 0..plan.nodes() {

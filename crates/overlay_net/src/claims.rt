@@ -1,6 +1,6 @@
 //! How a node goes out for an event, and comes home.
 
-ghost use Rattle.std.specs.Prelude.{◌≡◌, ◌<◌, false, true, length, OnOk};
+ghost use Rattle.std.specs.Prelude.{◌≡◌, ◌<◌, true, length, OnOk};
 ghost use Rattle.overlay_event.specs.Events.{event_node};
 ghost use Rattle.event_claims.specs.Claims.{MayBeClaimed};
 ghost use Rattle.overlay_core.specs.Machine.{is_enabled};
@@ -8,10 +8,9 @@ ghost use Rattle.overlay_net.specs.Claims.{FitsNet, IsPrepared, WasWorked};
 ghost use Rattle.overlay_net.specs.Events.{AreNodes, with_loss, without_lost};
 ghost use Rattle.overlay_net.specs.Nets.{AllHome, outs_of};
 ghost use Rattle.overlay_net.specs.Sends.{CanTake, IsTaken, changed};
-ghost use Rattle.overlay_net.specs.States.{ExtendsState, IsClaimed, IsCommitted, IsNetState, IsNetStateBut, IsSameNet, net_view, state_at};
+ghost use Rattle.overlay_net.specs.States.{ExtendsState, IsClaimed, IsCommitted, IsNetState, IsNetStateBut, IsSameNet, net_at, state_at};
 
 use crate::claimed::Claimed;
-use crate::counting::recount;
 use crate::loss::cut_links;
 use crate::place::{come_home, leave};
 use crate::state::NetState;
@@ -56,123 +55,106 @@ fn note_death(alive: &mut [bool], event: Event)
     }
 }
 
-/// Claims an event: its node goes out with the frame that the event receives. It takes no memory.
-pub fn claim<T: PrefixTree>(plan: &Plan, state: &mut NetState<T>, event: Event) -> Claimed<T>
-    requires net { IsNetState T.tree plan.now state.old }
-    requires may { MayBeClaimed plan.now (state_at T.tree plan.now state.old)
-        (outs_of (net_view T.tree plan.now state.old false)) event }
-    ensures net { IsNetState T.tree plan.now state.new }
-    ensures claimed { IsClaimed event result (net_view T.tree plan.now state.old false)
-        (net_view T.tree plan.now state.new false) }
-{
-    plan.invariant();
-    let frame = take_frame(state.inboxes.as_mut_slice(), event);
-    let node = leave(state.places.as_mut_slice(), event, &frame);
-    note_loss(&mut state.losing, event, 1);
-    recount_state(plan, state, event, &[]);
-    Claimed::new(event, node, frame)
-}
+impl<T: PrefixTree> NetState<T> {
+    /// Claims an event: its node goes out with the frame that the event receives. It takes no memory.
+    pub fn claim(&mut self, plan: &Plan, event: Event) -> Claimed<T>
+        requires net { IsNetState T.tree plan.now self.old }
+        requires may { MayBeClaimed plan.now (state_at T.tree plan.now self.old)
+            (outs_of (net_at T.tree plan.now self.old)) event }
+        ensures net { IsNetState T.tree plan.now self.new }
+        ensures claimed { IsClaimed event result (net_at T.tree plan.now self.old)
+            (net_at T.tree plan.now self.new) }
+    {
+        plan.invariant();
+        let frame = take_frame(self.nodes.inboxes.as_mut_slice(), event);
+        let node = leave(self.nodes.places.as_mut_slice(), event, &frame);
+        note_loss(&mut self.nodes.losing, event, 1);
+        self.recount(plan, event, &[]);
+        Claimed::new(event, node, frame)
+    }
 
-// Counts anew what may be claimed of the nodes that an event and its receivers have changed.
-fn recount_state<T: PrefixTree>(
-    plan: &Plan,
-    state: &mut NetState<T>,
-    event: Event,
-    receivers: &[u32],
-)
-    requires net { IsNetStateBut (changed plan.now event receivers.now) T.tree plan.now state.old }
-    requires below { AreNodes plan.now (changed plan.now event receivers.now) }
-    ensures net { IsNetState T.tree plan.now state.new }
-    ensures same { net_view T.tree plan.now state.new false ≡ net_view T.tree plan.now state.old false }
-{
-    let losing = state.losing.total() > 0;
-    recount(
-        plan,
-        state.alive.as_slice(),
-        state.places.as_slice(),
-        state.inboxes.as_slice(),
-        losing,
-        event,
-        receivers,
-        &mut state.counts,
-    );
-}
+    /// Makes room for all that a claim sends and releases.
+    ///
+    /// Fails only if memory runs out.
+    pub fn prepare(
+        &mut self,
+        alloc: Global,
+        plan: &Plan,
+        claim: &Claimed<T>,
+    ) -> Result<(), AllocError>
+        requires net { IsNetState T.tree plan.now self.old }
+        requires fits { FitsNet (net_at T.tree plan.now self.old) claim.now }
+        requires worked { WasWorked plan.now claim.now }
+        ensures net { IsNetState T.tree plan.now self.new }
+        ensures same { IsSameNet (net_at T.tree plan.now self.old) (net_at T.tree plan.now self.new) }
+        ensures prepared { OnOk result (IsPrepared (net_at T.tree plan.now self.new) claim.now) }
+    {
+        plan.invariant();
+        let effects = claim.effects();
+        make_rooms(
+            alloc,
+            claim.event().node(),
+            effects.sends.as_slice(),
+            self.nodes.inboxes.as_mut_slice(),
+        )?;
+        self.releases.reserve(effects.releases.as_slice().len())
+    }
 
-/// Makes room for all that a claim sends and releases.
-///
-/// Fails only if memory runs out.
-pub fn prepare<T: PrefixTree>(
-    alloc: Global,
-    plan: &Plan,
-    state: &mut NetState<T>,
-    claim: &Claimed<T>,
-) -> Result<(), AllocError>
-    requires net { IsNetState T.tree plan.now state.old }
-    requires fits { FitsNet (net_view T.tree plan.now state.old false) claim.now }
-    requires worked { WasWorked plan.now claim.now }
-    ensures net { IsNetState T.tree plan.now state.new }
-    ensures same { IsSameNet (net_view T.tree plan.now state.old false) (net_view T.tree plan.now state.new false) }
-    ensures prepared { OnOk result (IsPrepared (net_view T.tree plan.now state.new false) claim.now) }
-{
-    plan.invariant();
-    let out = claim.out();
-    make_rooms(
-        alloc,
-        claim.event().node(),
-        out.sends.as_slice(),
-        state.inboxes.as_mut_slice(),
-    )?;
-    state.releases.reserve(out.releases.as_slice().len())
-}
+    /// Brings a claim's node home: what it sends is delivered, and what it releases is added to the releases. It takes no
+    /// memory.
+    pub fn commit(&mut self, plan: &Plan, claim: Claimed<T>)
+        requires net { IsNetState T.tree plan.now self.old }
+        requires fits { FitsNet (net_at T.tree plan.now self.old) claim }
+        requires worked { WasWorked plan.now claim }
+        requires prepared { IsPrepared (net_at T.tree plan.now self.old) claim }
+        ensures net { IsNetState T.tree plan.now self.new }
+        ensures committed { IsCommitted claim.event (net_at T.tree plan.now self.old)
+            (net_at T.tree plan.now self.new) }
+    {
+        plan.invariant();
+        let (event, node, effects, receivers) = claim.into_parts();
+        let n = event.node();
+        come_home(self.nodes.places.as_mut_slice(), event, node);
+        note_loss(&mut self.nodes.losing, event, 0);
+        cut_links(plan, event, self.nodes.inboxes.as_mut_slice());
+        deliver(
+            n,
+            effects.sends,
+            self.nodes.alive.as_slice(),
+            self.nodes.inboxes.as_mut_slice(),
+        );
+        note_death(self.nodes.alive.as_mut_slice(), event);
+        let mut releases = effects.releases;
+        let Ok(()) = self.releases.append(&mut releases) else {
+            unreachable!()
+        };
+        self.recount(plan, event, receivers.as_slice());
+    }
 
-/// Brings a claim's node home: what it sends is delivered, and what it releases is added to the releases. It takes no
-/// memory.
-pub fn commit<T: PrefixTree>(plan: &Plan, state: &mut NetState<T>, claim: Claimed<T>)
-    requires net { IsNetState T.tree plan.now state.old }
-    requires fits { FitsNet (net_view T.tree plan.now state.old false) claim }
-    requires worked { WasWorked plan.now claim }
-    requires prepared { IsPrepared (net_view T.tree plan.now state.old false) claim }
-    ensures net { IsNetState T.tree plan.now state.new }
-    ensures committed { IsCommitted claim.event (net_view T.tree plan.now state.old false)
-        (net_view T.tree plan.now state.new false) }
-{
-    plan.invariant();
-    let (event, node, out, receivers) = claim.into_parts();
-    let n = event.node();
-    come_home(state.places.as_mut_slice(), event, node);
-    note_loss(&mut state.losing, event, 0);
-    cut_links(plan, event, state.inboxes.as_mut_slice());
-    deliver(
-        n,
-        out.sends,
-        state.alive.as_slice(),
-        state.inboxes.as_mut_slice(),
-    );
-    note_death(state.alive.as_mut_slice(), event);
-    let mut releases = out.releases;
-    let Ok(()) = state.releases.append(&mut releases) else {
-        unreachable!()
-    };
-    recount_state(plan, state, event, receivers.as_slice());
-}
+    /// Does an event that may come next, where no node is out.
+    pub fn apply(&mut self, plan: &Plan, event: Event) -> Result<(), AllocError>
+        requires net { IsNetState T.tree plan.now self.old }
+        requires home { AllHome (net_at T.tree plan.now self.old) }
+        requires enabled { is_enabled plan.now (state_at T.tree plan.now self.old) event ≡ true }
+        ensures net { OnOk result (IsNetState T.tree plan.now self.new) }
+        ensures home { OnOk result (AllHome (net_at T.tree plan.now self.new)) }
+        ensures reached { OnOk result (ExtendsState T.tree plan.now event self.old self.new) }
+    {
+        let alloc = *self.releases.allocator();
+        let claim = self.claim(plan, event);
+        let claim = claim.work(alloc, plan)?;
+        self.prepare(alloc, plan, &claim)?;
+        self.commit(plan, claim);
+        Ok(())
+    }
 
-/// Does an event that may come next, where no node is out.
-pub fn apply<T: PrefixTree>(
-    plan: &Plan,
-    state: &mut NetState<T>,
-    event: Event,
-) -> Result<(), AllocError>
-    requires net { IsNetState T.tree plan.now state.old }
-    requires home { AllHome (net_view T.tree plan.now state.old false) }
-    requires enabled { is_enabled plan.now (state_at T.tree plan.now state.old) event ≡ true }
-    ensures net { OnOk result (IsNetState T.tree plan.now state.new) }
-    ensures home { OnOk result (AllHome (net_view T.tree plan.now state.new false)) }
-    ensures reached { OnOk result (ExtendsState T.tree plan.now event state.old state.new) }
-{
-    let alloc = *state.releases.allocator();
-    let claim = claim(plan, state, event);
-    let claim = claim.work(alloc, plan)?;
-    prepare(alloc, plan, state, &claim)?;
-    commit(plan, state, claim);
-    Ok(())
+    // Counts anew what may be claimed of the nodes that an event and its receivers have changed.
+    fn recount(&mut self, plan: &Plan, event: Event, receivers: &[u32])
+        requires net { IsNetStateBut (changed plan.now event receivers.now) T.tree plan.now self.old }
+        requires below { AreNodes plan.now (changed plan.now event receivers.now) }
+        ensures net { IsNetState T.tree plan.now self.new }
+        ensures same { net_at T.tree plan.now self.new ≡ net_at T.tree plan.now self.old }
+    {
+        self.nodes.recount(plan, event, receivers, &mut self.counts);
+    }
 }

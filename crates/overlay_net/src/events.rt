@@ -1,26 +1,22 @@
 //! The events that may be claimed: those of a node by index, and whether an event is one of them.
 
-ghost use Rattle.std.specs.Prelude.{◌≡◌, ◌<◌, ◌&&◌, ◌∷◌, [], false, Bool, filter, length, map, slice_get, ℕ, List, None};
-ghost use Rattle.std.specs.List.{flat_map, list_any, sum};
-ghost use Rattle.overlay_event.specs.declared.event.Event.{Event};
+ghost use Rattle.std.specs.Prelude.{◌≡◌, ◌<◌, ◌&&◌, ◌∷◌, [], filter, map, slice_get};
+ghost use Rattle.std.specs.List.{flat_map};
 ghost use Rattle.overlay_event.specs.declared.event.Event.TheVariants.{Lose, Recv};
-ghost use Rattle.stat_plan.specs.Invariants.{IsPlan};
-ghost use Rattle.overlay_setup.specs.NodeSets.{In, member, up_to};
-ghost use Rattle.stat_plan.specs.Plans.{Plan, daemons, nodes};
+ghost use Rattle.overlay_setup.specs.NodeSets.{In, member};
+ghost use Rattle.stat_plan.specs.Plans.{daemons, nodes};
 ghost use Rattle.overlay_core.specs.Machine.{is_enabled, is_wave, next_sample};
-ghost use Rattle.overlay_core.specs.TreeReleases.{TreeRelease};
-ghost use Rattle.overlay_node.specs.NodeViews.{IsNodeOf, NodeView, node_of};
-ghost use Rattle.event_claims.specs.Claims.{Outs, claimable_events, is_free, is_loss_of, receives_from};
-ghost use Rattle.overlay_net.specs.Inboxes.{FrameInbox};
+ghost use Rattle.overlay_node.specs.NodeViews.{IsNodeOf, node_of};
+ghost use Rattle.event_claims.specs.Claims.{claimable_events, is_free};
 ghost use Rattle.node_inbox.specs.Inboxes.{senders_of};
-ghost use Rattle.overlay_net.specs.Nets.{active_events, is_doomed_node, sample_of, state_with};
+ghost use Rattle.overlay_net.specs.Nets.{AllHome, active_events, is_doomed_node, outs_of, sample_of};
 ghost use Rattle.overlay_net.specs.Places.{events_out};
-ghost use Rattle.node_inbox.specs.Sends.{is_alive};
-ghost use Rattle.overlay_net.specs.Events.{AreCounted, AreParts, IsNth, NoneIsLosing, free_senders, may_come, sample_at};
-ghost use Rattle.overlay_net.specs.States.{AreClaimsCounted, ArePartsOf, claims_of, state_in};
+ghost use Rattle.overlay_net.specs.Events.{IsNth, free_senders, may_come, sample_at};
+ghost use Rattle.overlay_net.specs.States.{AreLossesCounted, ArePartsOf, IsNetState, claims_of, net_at, state_at};
 
+use crate::nodes::NetNodes;
 use crate::place::Place;
-use count_tree::CountTree;
+use crate::state::NetState;
 use node_inbox::Inbox;
 use overlay_event::Event;
 use overlay_node::Node;
@@ -73,108 +69,6 @@ fn sample_event<T: PrefixTree>(plan: &Plan, node: &Node<T>, i: u64) -> Nth
     Nth::Beyond(left)
 }
 
-/// Whether this is the loss of a node.
-fn is_loss(event: Option<Event>, n: u32) -> bool
-    ensures { result ≡ is_loss_of event n }
-{
-    matches!(event, Some(Event::Lose { node }) if node == n)
-}
-
-/// Whether this receives a frame of the sender.
-fn is_receipt(event: Option<Event>, sender: u32) -> bool
-    ensures { result ≡ receives_from event sender }
-{
-    matches!(event, Some(Event::Recv { from, .. }) if from == sender)
-}
-
-/// Whether a node is out with its loss.
-pub fn is_losing<T: PrefixTree>(places: &[Place<T>], n: u32) -> bool
-    ensures { result ≡ is_loss_of (events_out places.now n) n }
-{
-    let i = n as usize;
-    i < places.len() && is_loss(places[i].event(), n)
-}
-
-/// Whether a node is out with a frame of this sender.
-pub fn is_received_from<T: PrefixTree>(places: &[Place<T>], sender: u32) -> bool
-    ensures { result ≡ list_any (λ k. receives_from (events_out places.now k) sender) (up_to (length places.now)) }
-{
-    for place in places {
-        if is_receipt(place.event(), sender) {
-            return true;
-        }
-    }
-    false
-}
-
-/// The `i`-th of the events by which a node may receive, from 0, where the sender is not being lost. `losing` may be
-/// false only if no node is out with its loss.
-fn receive_event<T: PrefixTree>(
-    n: u32,
-    places: &[Place<T>],
-    inbox: &Inbox<Frame>,
-    losing: bool,
-    i: u64,
-) -> Nth
-    requires { losing ≡ false → NoneIsLosing (events_out places.now) }
-    ensures { IsNth (map (λ m. Recv n m) (free_senders (events_out places.now) (senders_of inbox.now.waiting)))
-        i result }
-{
-    if !losing {
-        return match inbox.sender(i as usize) {
-            Some(from) => Nth::Found(Event::Recv { node: n, from }),
-            None => Nth::Beyond(i - inbox.sender_count() as u64),
-        };
-    }
-    let mut left = i;
-    for k in 0..inbox.sender_count() {
-        let Some(from) = inbox.sender(k) else {
-            unreachable!()
-        };
-        if !is_losing(places, from) {
-            if left == 0 {
-                return Nth::Found(Event::Recv { node: n, from });
-            }
-            left -= 1;
-        }
-    }
-    Nth::Beyond(left)
-}
-
-/// The `i`-th of the events that may be claimed of a node that is at home and not to be lost next, from 0.
-fn active_event<T: PrefixTree>(
-    plan: &Plan,
-    node: &Node<T>,
-    places: &[Place<T>],
-    inbox: &Inbox<Frame>,
-    losing: bool,
-    i: u64,
-) -> Nth
-    requires node { IsNodeOf plan.now node.now }
-    requires losing { losing ≡ false → NoneIsLosing (events_out places.now) }
-    ensures { IsNth (filter (is_free plan.now (events_out places.now))
-        (active_events plan.now node.now inbox.now.waiting)) i result }
-{
-    plan.invariant();
-    let left = match sample_event(plan, node, i) {
-        Nth::Found(event) => return Nth::Found(event),
-        Nth::Beyond(left) => left,
-    };
-    let left = match receive_event(node.number(), places, inbox, losing, left) {
-        Nth::Found(event) => return Nth::Found(event),
-        Nth::Beyond(left) => left,
-    };
-    if !node.has_running() {
-        return Nth::Beyond(left);
-    }
-    if left > 0 {
-        return Nth::Beyond(left - 1);
-    }
-    Nth::Found(Event::Tick {
-        node: node.number(),
-    })
-}
-
 /// Whether its loss is all that may happen to the node.
 pub fn is_doomed<T: PrefixTree>(plan: &Plan, node: &Node<T>) -> bool
     ensures { result ≡ is_doomed_node plan.now node.now }
@@ -196,44 +90,6 @@ fn loss_event(n: u32, i: u64) -> Nth
     }
 }
 
-/// The `i`-th of the events of a node that may be claimed, from 0. A node that is lost or out has none.
-pub fn node_event<T: PrefixTree>(
-    plan: &Plan,
-    alive: &[bool],
-    places: &[Place<T>],
-    inboxes: &[Inbox<Frame>],
-    losing: bool,
-    n: u32,
-    i: u64,
-) -> Nth
-    requires parts { ArePartsOf plan.now alive.now places.now inboxes.now }
-    requires losing { losing ≡ false → NoneIsLosing (events_out places.now) }
-    requires below { n < nodes plan.now }
-    ensures { IsNth (claims_of plan.now alive.now places.now inboxes.now n) i result }
-{
-    if !is_up(alive, n) {
-        return Nth::Beyond(i);
-    }
-    let Place::Home(node) = &places[n as usize] else {
-        return Nth::Beyond(i);
-    };
-    if !is_doomed(plan, node) {
-        return active_event(plan, node, places, &inboxes[n as usize], losing, i);
-    }
-    if is_received_from(places, n) {
-        return Nth::Beyond(i);
-    }
-    loss_event(n, i)
-}
-
-/// Whether a node lives.
-pub fn is_up(alive: &[bool], n: u32) -> bool
-    ensures { result ≡ is_alive alive.now n }
-{
-    let i = n as usize;
-    i < alive.len() && alive[i]
-}
-
 /// Whether an event of a living node may come next.
 fn may_be_next<T: PrefixTree>(
     plan: &Plan,
@@ -253,30 +109,6 @@ fn may_be_next<T: PrefixTree>(
     }
 }
 
-/// Whether an event may come next in a net where no node is out. Events of nodes, streams and waves that the plan
-/// doesn't have may be asked for too.
-pub fn is_enabled<T: PrefixTree>(
-    plan: &Plan,
-    alive: &[bool],
-    places: &[Place<T>],
-    inboxes: &[Inbox<Frame>],
-    event: Event,
-) -> bool
-    requires parts { ArePartsOf plan.now alive.now places.now inboxes.now }
-    requires home { (n : ℕ) → events_out places.now n ≡ None }
-    ensures { (releases : List TreeRelease)
-        → result ≡ is_enabled plan.now (state_in plan.now alive.now places.now inboxes.now releases) event }
-{
-    let n = event.node();
-    if !is_up(alive, n) {
-        return false;
-    }
-    let Place::Home(node) = &places[n as usize] else {
-        unreachable!()
-    };
-    may_be_next(plan, node, &inboxes[n as usize], event)
-}
-
 /// Whether the plan has the stream, and this is the wave whose samples the node takes next.
 fn is_next_wave<T: PrefixTree>(plan: &Plan, node: &Node<T>, s: u8, wave: u8) -> bool
     requires { IsNodeOf plan.now node.now }
@@ -290,38 +122,116 @@ fn is_next_wave<T: PrefixTree>(plan: &Plan, node: &Node<T>, s: u8, wave: u8) -> 
     }
 }
 
-/// The `i`-th of the events that may be claimed, from 0. They are ordered by node, and those of a node as its loss, its
-/// samples by stream, what it may receive by sender, and its tick. The counts say whose it is.
-pub fn nth_claimable<T: PrefixTree>(
-    plan: &Plan,
-    alive: &[bool],
-    places: &[Place<T>],
-    inboxes: &[Inbox<Frame>],
-    losing: bool,
-    counts: &CountTree,
-    i: u64,
-) -> Option<Event>
-    requires parts { ArePartsOf plan.now alive.now places.now inboxes.now }
-    requires losing { losing ≡ false → NoneIsLosing (events_out places.now) }
-    requires counted { AreClaimsCounted plan.now alive.now places.now inboxes.now counts.now }
-    ensures { (releases : List TreeRelease)
-        → result ≡ slice_get (claimable_events plan.now
-        (state_in plan.now alive.now places.now inboxes.now releases) (events_out places.now)) i }
-{
-    plan.invariant();
-    let Some((n, own)) = counts.find(i) else {
-        return None;
-    };
-    match node_event(plan, alive, places, inboxes, losing, n, own) {
-        Nth::Found(event) => Some(event),
-        Nth::Beyond(_) => unreachable!(),
+impl<T: PrefixTree> NetNodes<T> {
+    /// The `i`-th of the events by which a node may receive, from 0, where the sender is not being lost.
+    fn receive_event(&self, n: u32, inbox: &Inbox<Frame>, i: u64) -> Nth
+        requires { AreLossesCounted self.now }
+        ensures { IsNth (map (λ m. Recv n m)
+            (free_senders (events_out self.now.places.items) (senders_of inbox.now.waiting))) i result }
+    {
+        if !self.any_losing() {
+            return match inbox.sender(i as usize) {
+                Some(from) => Nth::Found(Event::Recv { node: n, from }),
+                None => Nth::Beyond(i - inbox.sender_count() as u64),
+            };
+        }
+        let mut left = i;
+        for k in 0..inbox.sender_count() {
+            let Some(from) = inbox.sender(k) else {
+                unreachable!()
+            };
+            if !self.is_losing(from) {
+                if left == 0 {
+                    return Nth::Found(Event::Recv { node: n, from });
+                }
+                left -= 1;
+            }
+        }
+        Nth::Beyond(left)
+    }
+
+    /// The `i`-th of the events that may be claimed of a node that is at home and not to be lost next, from 0.
+    fn active_event(&self, plan: &Plan, node: &Node<T>, inbox: &Inbox<Frame>, i: u64) -> Nth
+        requires node { IsNodeOf plan.now node.now }
+        requires losing { AreLossesCounted self.now }
+        ensures { IsNth (filter (is_free plan.now (events_out self.now.places.items))
+            (active_events plan.now node.now inbox.now.waiting)) i result }
+    {
+        plan.invariant();
+        let left = match sample_event(plan, node, i) {
+            Nth::Found(event) => return Nth::Found(event),
+            Nth::Beyond(left) => left,
+        };
+        let left = match self.receive_event(node.number(), inbox, left) {
+            Nth::Found(event) => return Nth::Found(event),
+            Nth::Beyond(left) => left,
+        };
+        if !node.has_running() {
+            return Nth::Beyond(left);
+        }
+        if left > 0 {
+            return Nth::Beyond(left - 1);
+        }
+        Nth::Found(Event::Tick {
+            node: node.number(),
+        })
+    }
+
+    /// The `i`-th of the events of a node that may be claimed, from 0. A node that is lost or out has none.
+    fn node_event(&self, plan: &Plan, n: u32, i: u64) -> Nth
+        requires parts { ArePartsOf plan.now self.now }
+        requires losing { AreLossesCounted self.now }
+        requires below { n < nodes plan.now }
+        ensures { IsNth (claims_of plan.now self.now n) i result }
+    {
+        if !self.is_up(n) {
+            return Nth::Beyond(i);
+        }
+        let Place::Home(node) = &self.places[n as usize] else {
+            return Nth::Beyond(i);
+        };
+        if !is_doomed(plan, node) {
+            return self.active_event(plan, node, &self.inboxes[n as usize], i);
+        }
+        if self.is_received_from(n) {
+            return Nth::Beyond(i);
+        }
+        loss_event(n, i)
     }
 }
 
-/// A law: as many events may be claimed as are counted.
-pub fn all_claims_are_counted()
-    ensures { (p : Plan) (alive : List Bool) (xs : List NodeView) (inboxes : List FrameInbox)
-        (releases : List TreeRelease) (out : Outs) (counts : List ℕ)
-        → IsPlan p → AreParts p alive xs inboxes → AreCounted p alive xs inboxes out counts
-        → sum counts ≡ length (claimable_events p (state_with p alive xs inboxes releases) out) }
-{}
+impl<T: PrefixTree> NetState<T> {
+    /// The `i`-th of the events that may be claimed, from 0. They are ordered by node, and those of a node as its loss,
+    /// its samples by stream, what it may receive by sender, and its tick. The counts say whose it is.
+    pub fn claimable(&self, plan: &Plan, i: u64) -> Option<Event>
+        requires { IsNetState T.tree plan.now self.now }
+        ensures { result ≡ slice_get (claimable_events plan.now (state_at T.tree plan.now self.now)
+            (outs_of (net_at T.tree plan.now self.now))) i }
+    {
+        plan.invariant();
+        let Some((n, own)) = self.counts.find(i) else {
+            return None;
+        };
+        match self.nodes.node_event(plan, n, own) {
+            Nth::Found(event) => Some(event),
+            Nth::Beyond(_) => unreachable!(),
+        }
+    }
+
+    /// Whether an event may come next, where no node is out. Events of nodes, streams and waves that the plan doesn't have
+    /// may be asked for too.
+    pub fn is_enabled(&self, plan: &Plan, event: Event) -> bool
+        requires net { IsNetState T.tree plan.now self.now }
+        requires home { AllHome (net_at T.tree plan.now self.now) }
+        ensures { result ≡ is_enabled plan.now (state_at T.tree plan.now self.now) event }
+    {
+        let n = event.node();
+        if !self.nodes.is_up(n) {
+            return false;
+        }
+        let Place::Home(node) = &self.nodes.places[n as usize] else {
+            unreachable!()
+        };
+        may_be_next(plan, node, &self.nodes.inboxes[n as usize], event)
+    }
+}

@@ -8,6 +8,7 @@ mod counting;
 mod events;
 mod loss;
 mod net;
+mod nodes;
 mod pick;
 mod place;
 mod state;

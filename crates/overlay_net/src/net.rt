@@ -1,12 +1,11 @@
 //! The overlay: its nodes, the packets between them, and what was released.
 
-ghost use Rattle.std.specs.Prelude.{◌≡◌, ◌<◌, ◌↔◌, [], true, false, Err, IfOk, IsErr, OnErr, OnOk, List, option_copied, option_map, slice_get};
+ghost use Rattle.std.specs.Prelude.{◌≡◌, ◌↔◌, [], true, false, Err, IfOk, IsErr, OnErr, OnOk, List, option_copied, option_map, slice_get};
 ghost use Rattle.overlay_event.specs.declared.event.Event.{Event};
 ghost use Rattle.overlay_core.specs.Bound.{bound};
 ghost use Rattle.overlay_core.specs.Machine.{enabled_events, is_enabled};
 ghost use Rattle.overlay_core.specs.Pick.{picked};
 ghost use Rattle.overlay_core.specs.Runs.{IsQuiet};
-ghost use Rattle.stat_plan.specs.Plans.{nodes};
 ghost use Rattle.event_claims.specs.Claims.{MayBeClaimed, claimable_events};
 ghost use Rattle.overlay_core.specs.TreeReleases.{releases_view};
 ghost use Rattle.overlay_net.specs.Handled.{ExtendsBy};
@@ -17,10 +16,8 @@ ghost use Rattle.overlay_net.specs.Picks.{HasPicked};
 ghost use Rattle.overlay_net.specs.States.{IsClaimed, IsCommitted, IsSameNet};
 
 use crate::claimed::Claimed;
-use crate::claims::{apply, claim, commit, prepare};
-use crate::events::{all_claims_are_counted, is_enabled, nth_claimable};
-use crate::pick::{length_bound, run_picked};
-use crate::state::{NetState, start};
+use crate::pick::length_bound;
+use crate::state::NetState;
 use overlay_core::Release;
 use overlay_event::{Event, Journal};
 use packet_frame::Frame;
@@ -70,7 +67,7 @@ impl<'p, T: PrefixTree> Net<'p, T> {
         ensures home { IfOk result (λ net. AllHome net) }
         ensures usable { IfOk result (λ net. net.failed ≡ false) }
     {
-        let state = start(alloc, plan)?;
+        let state = NetState::new(alloc, plan)?;
         Ok(Net {
             plan,
             state,
@@ -97,13 +94,10 @@ impl<'p, T: PrefixTree> Net<'p, T> {
         if self.failed {
             return Err(NetError::OutOfMemory);
         }
-        let alive = self.state.alive.as_slice();
-        let places = self.state.places.as_slice();
-        let inboxes = self.state.inboxes.as_slice();
-        if !is_enabled(self.plan, alive, places, inboxes, event) {
+        if !self.state.is_enabled(self.plan, event) {
             return Err(NetError::NotEnabled);
         }
-        match apply(self.plan, &mut self.state, event) {
+        match self.state.apply(self.plan, event) {
             Ok(()) => Ok(()),
             Err(_) => {
                 self.failed = true;
@@ -128,36 +122,18 @@ impl<'p, T: PrefixTree> Net<'p, T> {
         requires { self.now.failed ≡ false }
         ensures { result ≡ slice_get (claimable_events self.now.plan (state_of self.now) (outs_of self.now)) i }
     {
-        self.plan.invariant();
-        nth_claimable(
-            self.plan,
-            self.state.alive.as_slice(),
-            self.state.places.as_slice(),
-            self.state.inboxes.as_slice(),
-            self.state.losing.total() > 0,
-            &self.state.counts,
-            i,
-        )
-    }
-
-    /// The event with which a node is out, if it is out.
-    pub fn out(&self, n: u32) -> Option<Event>
-        requires usable { self.now.failed ≡ false }
-        requires below { n < nodes self.now.plan }
-        ensures { result ≡ outs_of self.now n }
-    {
-        self.state.places[n as usize].event()
+        self.state.claimable(self.plan, i)
     }
 
     /// The first frame on the link from `m` to `n`, where no node is out; none if the link is empty. A number that is no
     /// node's has no links. It takes no memory.
-    pub fn front(&self, n: u32, m: u32) -> Option<&Frame>
+    pub fn first_frame(&self, n: u32, m: u32) -> Option<&Frame>
         requires usable { self.now.failed ≡ false }
         requires home { AllHome self.now }
         ensures { option_copied result
             ≡ option_map (frame_bytes self.now.plan) (slice_get ((state_of self.now).link m n) 0) }
     {
-        match self.state.inboxes.get(n as usize) {
+        match self.state.nodes.inboxes.get(n as usize) {
             Some(inbox) => inbox.first(m),
             None => None,
         }
@@ -171,7 +147,7 @@ impl<'p, T: PrefixTree> Net<'p, T> {
         ensures claimed { IsClaimed event result self.old self.new }
         ensures usable { self.new.failed ≡ false }
     {
-        claim(self.plan, &mut self.state, event)
+        self.state.claim(self.plan, event)
     }
 
     /// Makes room for all that a claim, which was worked on, sends and releases.
@@ -185,7 +161,7 @@ impl<'p, T: PrefixTree> Net<'p, T> {
         ensures usable { self.new.failed ≡ false }
         ensures prepared { OnOk result (IsPrepared self.new claim.now) }
     {
-        prepare(alloc, self.plan, &mut self.state, claim)
+        self.state.prepare(alloc, self.plan, claim)
     }
 
     /// Commits a claim for which there is room: its node comes home, what it sends is delivered, and what it releases
@@ -198,7 +174,7 @@ impl<'p, T: PrefixTree> Net<'p, T> {
         ensures committed { IsCommitted claim.event self.old self.new }
         ensures usable { self.new.failed ≡ false }
     {
-        commit(self.plan, &mut self.state, claim);
+        self.state.commit(self.plan, claim);
     }
 
     /// Whether no event may come next, where no node is out.
@@ -209,7 +185,6 @@ impl<'p, T: PrefixTree> Net<'p, T> {
         ensures quiet { (result ≡ true) ↔ IsQuiet self.now.plan (state_of self.now) }
     {
         self.plan.invariant();
-        all_claims_are_counted();
         self.state.counts.total() == 0
     }
 
@@ -234,7 +209,7 @@ impl<'p, T: PrefixTree> Net<'p, T> {
         if self.failed {
             return Err(AllocError);
         }
-        match run_picked(self.plan, &mut self.state, seed) {
+        match self.state.run_picked(self.plan, seed) {
             Ok(journal) => Ok(journal),
             Err(_) => {
                 self.failed = true;

@@ -1,16 +1,14 @@
 //! Runs whose events are picked by numbers that follow from a seed, and how long a journal can be.
 
-ghost use Rattle.std.specs.Prelude.{◌≡◌, ◌<◌, ◌≤◌, ◌^◌, false, length, IfOk, OnOk};
+ghost use Rattle.std.specs.Prelude.{◌≡◌, ◌<◌, ◌≤◌, ◌^◌, length, IfOk, OnOk};
 ghost use Rattle.stat_plan.specs.Machine.Waves.{ticks};
 ghost use Rattle.stat_plan.specs.Plans.{waves_of};
 ghost use Rattle.overlay_core.specs.Bound.{bound, bound_of, longest};
 ghost use Rattle.overlay_core.specs.Pick.{next_number, picked_event};
 ghost use Rattle.overlay_net.specs.Nets.{AllHome};
 ghost use Rattle.overlay_net.specs.Picks.{HasPicked};
-ghost use Rattle.overlay_net.specs.States.{IsNetState, net_view, state_at};
+ghost use Rattle.overlay_net.specs.States.{IsNetState, net_at, state_at};
 
-use crate::claims::apply;
-use crate::events::nth_claimable;
 use crate::state::NetState;
 use overlay_event::{Event, Journal};
 use overlay_setup::{Mode, StreamDef};
@@ -26,51 +24,41 @@ fn next_number(x: u64) -> u64
         .wrapping_add(1_442_695_040_888_963_407)
 }
 
-/// The event that a number picks of those that may come next, if there is one.
-fn picked_event<T: PrefixTree>(plan: &Plan, state: &NetState<T>, number: u64) -> Option<Event>
-    requires net { IsNetState T.tree plan.now state.now }
-    requires home { AllHome (net_view T.tree plan.now state.now false) }
-    ensures { result ≡ picked_event plan.now (state_at T.tree plan.now state.now) number }
-{
-    plan.invariant();
-    let count = state.counts.total();
-    if count == 0 {
-        return None;
+impl<T: PrefixTree> NetState<T> {
+    /// The event that a number picks of those that may come next, if there is one.
+    fn picked_event(&self, plan: &Plan, number: u64) -> Option<Event>
+        requires net { IsNetState T.tree plan.now self.now }
+        requires home { AllHome (net_at T.tree plan.now self.now) }
+        ensures { result ≡ picked_event plan.now (state_at T.tree plan.now self.now) number }
+    {
+        plan.invariant();
+        let count = self.counts.total();
+        if count == 0 {
+            return None;
+        }
+        self.claimable(plan, (number >> 33) % count)
     }
-    nth_claimable(
-        plan,
-        state.alive.as_slice(),
-        state.places.as_slice(),
-        state.inboxes.as_slice(),
-        false,
-        &state.counts,
-        (number >> 33) % count,
-    )
-}
 
-/// Does the events that the numbers after the seed pick, one after another, until none may come next. They are the
-/// journal.
-pub fn run_picked<T: PrefixTree>(
-    plan: &Plan,
-    state: &mut NetState<T>,
-    seed: u64,
-) -> Result<Journal, AllocError>
-    requires net { IsNetState T.tree plan.now state.old }
-    requires home { AllHome (net_view T.tree plan.now state.old false) }
-    ensures net { OnOk result (IsNetState T.tree plan.now state.new) }
-    ensures home { OnOk result (AllHome (net_view T.tree plan.now state.new false)) }
-    ensures picked { IfOk result (λ journal. HasPicked (net_view T.tree plan.now state.old false) seed journal
-        (net_view T.tree plan.now state.new false)) }
-{
-    plan.invariant();
-    let mut journal = Journal::new(*state.releases.allocator());
-    let mut number = seed;
-    while let Some(event) = picked_event(plan, state, next_number(number)) {
-        apply(plan, state, event)?;
-        journal.push(event)?;
-        number = next_number(number);
+    /// Does the events that the numbers after the seed pick, one after another, until none may come next. They are the
+    /// journal.
+    pub fn run_picked(&mut self, plan: &Plan, seed: u64) -> Result<Journal, AllocError>
+        requires net { IsNetState T.tree plan.now self.old }
+        requires home { AllHome (net_at T.tree plan.now self.old) }
+        ensures net { OnOk result (IsNetState T.tree plan.now self.new) }
+        ensures home { OnOk result (AllHome (net_at T.tree plan.now self.new)) }
+        ensures picked { IfOk result (λ journal. HasPicked (net_at T.tree plan.now self.old) seed journal
+            (net_at T.tree plan.now self.new)) }
+    {
+        plan.invariant();
+        let mut journal = Journal::new(*self.releases.allocator());
+        let mut number = seed;
+        while let Some(event) = self.picked_event(plan, next_number(number)) {
+            self.apply(plan, event)?;
+            journal.push(event)?;
+            number = next_number(number);
+        }
+        Ok(journal)
     }
-    Ok(journal)
 }
 
 /// How many waves the streams have in all.

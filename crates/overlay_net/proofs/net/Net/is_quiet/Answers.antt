@@ -7,6 +7,7 @@ use Rattle.overlay_core.specs.Runs.{IsQuiet}
 use Rattle.overlay_net.specs.Nets.{AllHome, NetView, outs_of, state_of}
 use Rattle.overlay_net.specs.States.{net_view}
 use Rattle.overlay_net.proofs.Seen.{seen_net}
+use Rattle.overlay_net.proofs.Offers.{all_counted}
 use Rattle.overlay_net.proofs.Picks.{none_where_zero, quiet_where_none}
 use Rattle.overlay_net.proofs.net.Net.is_quiet.Goals as goal
 
@@ -17,7 +18,7 @@ returns-clause-no_events g c =
     let home : (n : ℕ) → outs_of v n ≡ None = subst AllHome (sym c.self.view_is) c.requires.home in
     subst (λ (v : NetView). (nat_eq c.total.result 0 ≡ true) ↔ (enabled_events v.plan (state_of v) ≡ [])) c.self.view_is
     (none_where_zero (enabled_events v.plan (state_of v)) c.total.result (nat_eq c.total.result 0) refl
-    (c.total.ensures ∙ c.all_claims_are_counted.ensures v.plan v.alive v.nodes v.inboxes v.releases (outs_of v) c.self.inside.state.counts c.invariant.ensures net.net.parts net.counted
+    (c.total.ensures ∙ all_counted v.plan v.alive v.nodes v.inboxes v.releases (outs_of v) c.self.inside.state.counts c.invariant.ensures net.net.parts net.counted
     ∙ ap (λ (es : List Event). length es) (claimable_home v.plan (state_of v) (outs_of v) home)))
 
 pub returns-clause-quiet : goal.returns-clause-quiet
@@ -28,5 +29,5 @@ returns-clause-quiet g c =
     subst (λ (v : NetView). (nat_eq c.total.result 0 ≡ true) ↔ IsQuiet v.plan (state_of v)) c.self.view_is
     (quiet_where_none v (nat_eq c.total.result 0) c.invariant.ensures (seen_net g.T.PrefixTree.tree c.self.inside.plan.now c.self.inside.state net)
     (none_where_zero (enabled_events v.plan (state_of v)) c.total.result (nat_eq c.total.result 0) refl
-    (c.total.ensures ∙ c.all_claims_are_counted.ensures v.plan v.alive v.nodes v.inboxes v.releases (outs_of v) c.self.inside.state.counts c.invariant.ensures net.net.parts net.counted
+    (c.total.ensures ∙ all_counted v.plan v.alive v.nodes v.inboxes v.releases (outs_of v) c.self.inside.state.counts c.invariant.ensures net.net.parts net.counted
     ∙ ap (λ (es : List Event). length es) (claimable_home v.plan (state_of v) (outs_of v) home))))

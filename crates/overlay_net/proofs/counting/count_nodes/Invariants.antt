@@ -1,8 +1,0 @@
-use Rattle.std.proofs.Common.{drop}
-use Rattle.overlay_net.specs.States.{AreClaimsCountedBut}
-use Rattle.overlay_net.proofs.counting.count_nodes.Given as goal
-
-abbrev pub invariant-loop-number : goal.invariant-loop-number
-invariant-loop-number g l = record {
-  counted : AreClaimsCountedBut l.plan l.alive l.places l.inboxes (drop l.number-index l.numbers) l.counts;
-}
