@@ -37,7 +37,8 @@ place_below (g ∷ gs) new first = new
 
 -- the target below the frames of a target that its node c keeps, where a new node gets the place
 abbrev pub below_shared : MergeTarget → ℕ → ℕ → NodeView → MergeTarget
-below_shared into shared new c = all_at (FirstOf into.place) (place_below (drop (into.skip + shared) c.frames) new c.first)
+below_shared into shared new c =
+    all_at (FirstOf into.place) (place_below (drop (into.skip + shared) c.frames) new c.first)
 
 -- all nodes of a tree that grows
 abbrev pub whole_tree : Growth → MergeTarget
@@ -83,10 +84,14 @@ pub record GrowsBy (h h2 : LinkedNodes) (into : MergeTarget) (fs : Path) (w : Ma
   pub few_nodes : length h2.nodes ≤ length h.nodes + length fs
   pub few_rows : r2 ≤ r + length fs
 
--- a tree that grows gets the first frames of a chain: all but those behind so many of its path, which come in the target below
+-- a tree that grows gets the first frames of a chain: all but those behind so many of its path, which come in the
+-- target below
 abbrev pub EntersChain : Growth → Growth → MergeTarget → MergeTarget → NewChain → MergeTarget × ℕ → Type 0
-EntersChain old new into rest chain r = Enters (growth_view old) (growth_view new) into rest r.0 (new_frames chain) (drop r.1 chain.path.now) (new_marks chain.marks) old.rows new.rows
+EntersChain old new into rest chain r =
+    Enters (growth_view old) (growth_view new) into rest r.0 (new_frames chain) (drop r.1 chain.path.now)
+    (new_marks chain.marks) old.rows new.rows
 
 -- a tree that grows gets a chain
 abbrev pub GrowsByChain : Growth → Growth → MergeTarget → NewChain → Type 0
-GrowsByChain old new into chain = GrowsBy (growth_view old) (growth_view new) into (new_frames chain) (new_marks chain.marks) old.rows new.rows
+GrowsByChain old new into chain =
+    GrowsBy (growth_view old) (growth_view new) into (new_frames chain) (new_marks chain.marks) old.rows new.rows

@@ -43,11 +43,13 @@ step_at a more (g ∷ gs) w m first = Cut a more (united_marks (row_marks (g ∷
 
 -- the step of the node c of a target, which keeps so many of the target's frames and gets the marks w besides
 abbrev pub share_step : MergeTarget → ℕ → Marks → NodeView → ChangeStep
-share_step into shared w c = step_at into.place (shared - 1) (drop (into.skip + shared) c.frames) w (c.label, c.ends) c.first
+share_step into shared w c =
+    step_at into.place (shared - 1) (drop (into.skip + shared) c.frames) w (c.label, c.ends) c.first
 
 -- the same where it has more frames
 abbrev pub cut_step : MergeTarget → ℕ → Marks → NodeView → ChangeStep
-cut_step into shared w c = Cut into.place (shared - 1) (union c.label w.0) w.1 (view_behind (into.skip + shared) c.first no_place c)
+cut_step into shared w c =
+    Cut into.place (shared - 1) (union c.label w.0) w.1 (view_behind (into.skip + shared) c.first no_place c)
 
 -- the target below a node then
 abbrev pub target_below : MergeTarget → Path → ℕ → ℕ → ℕ → MergeTarget

@@ -50,4 +50,5 @@ pub record IsAfter (t : MergeTarget) (next : ℕ) (after : MergeTarget) : Type 0
 -- merging a chain that begins with the frame into the new target takes the same steps as merging it into the old one
 abbrev pub SkipsSiblings : List NodeView → List ℕ → MergeTarget → MergeTarget → Type 0
 SkipsSiblings cs frame old new = (n x : ℕ) (gs : Path) (w : Marks) (c t : ChainForest)
-    → merge_steps old.link n (target_forest cs old) (chain_node x frame gs w c t) ≡ merge_steps new.link n (target_forest cs new) (chain_node x frame gs w c t)
+    → merge_steps old.link n (target_forest cs old) (chain_node x frame gs w c t)
+    ≡ merge_steps new.link n (target_forest cs new) (chain_node x frame gs w c t)
