@@ -8,7 +8,7 @@ use Rattle.overlay_core.specs.Pick.{picked}
 use Rattle.overlay_core.specs.Runs.{after}
 use Rattle.overlay_core.specs.Whole.{LosesNoDaemon}
 use Rattle.front_end.specs.Report.{AllStreamsWait, direct_releases}
-use Rattle.journal_text.specs.Reading.{journal_of}
+use Rattle.journal_text.specs.Reading.{ReadJournal, journal_of}
 use Rattle.journal_text.specs.Text.{journal_text}
 use Rattle.packet_frame.specs.Frame.{Message}
 use Rattle.packet_frame.specs.Streams.{Begins}
@@ -86,3 +86,7 @@ HasOutput (ReplayJob p events wanted) output = IsReplay p events wanted output
 HasOutput (DirectJob p form) output = HasDirect p form output
 HasOutput (GenJob size seed) output = HasSummary size seed output
 HasOutput (CaptureJob bytes) output = HasCapture bytes output
+
+-- what was read of a journal leads to its replay, and this is that replay's output
+abbrev pub ReplaysAs : Plan → RunReport → ReadJournal → RunOutput → Type 0
+ReplaysAs p wanted read output = (replay_step p wanted read ≡ Does (ReplayJob p output.journal wanted)) × HasOutput (ReplayJob p output.journal wanted) output

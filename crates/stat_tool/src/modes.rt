@@ -9,11 +9,14 @@ ghost use Rattle.stat_tool.specs.Files.{files_of, names_in};
 ghost use Rattle.stat_tool.specs.Views.{output_view};
 
 use crate::generated::gen_job;
-use crate::output::{Output, capture_output, direct_plan, leave, replay_plan, run_plan, sim_plan};
+use crate::output::{
+    Output, capture_output, direct_plan, leave, replay_plan, run_output, sim_plan,
+};
 use crate::read::{read_file, read_plan};
 use crate::status::{FileRole, Status};
 use journal_text::{JournalRead, read_journal};
 use overlay_event::Gate;
+use overlay_run::run_workers;
 use prefix_tree::PrefixTree;
 use stat_desk::Desk;
 use stat_plan::Plan;
@@ -46,7 +49,11 @@ pub fn prepare_run<R: Threads + Wait + Sync, T: PrefixTree, D: Desk, G: Gate>(
         Ok(plan) => plan,
         Err(status) => return Err(status),
     };
-    match run_plan::<R, T, G>(rt, alloc, &plan, workers, gate, wanted) {
+    let ran = match run_workers::<R, T, G>(rt, alloc, &plan, u32::from(workers), gate) {
+        Ok(ran) => ran,
+        Err(_) => return Err(Status::OutOfMemory),
+    };
+    match run_output(alloc, &plan, ran, wanted) {
         Ok(output) => {
             leave(plan);
             Ok(output)

@@ -1,5 +1,5 @@
 //! The outputs of the jobs: a journal, a report, and what is written of the journal.
-ghost use Rattle.std.specs.Prelude.{◌≡◌, ◌<◌, ◌≤◌, ◌++◌, ℕ, [], None, false, IfErr, IfOk, OnOk, map};
+ghost use Rattle.std.specs.Prelude.{◌≡◌, ◌<◌, ◌++◌, ℕ, [], None, false, IfErr, IfOk, OnOk, map};
 ghost use Rattle.front_end.specs.Report.{AreDistinct, direct_release, direct_releases};
 ghost use Rattle.journal_text.specs.Reading.{read_view};
 ghost use Rattle.capture_text.specs.Captures.{capture_of};
@@ -9,12 +9,12 @@ ghost use Rattle.overlay_core.specs.TreeReleases.{AreNumberedInOrder, release_vi
 ghost use Rattle.merge_filter.specs.Contributions.{HasWave};
 ghost use Rattle.overlay_net.specs.Nets.{AllHome, IsReachedBy};
 ghost use Rattle.overlay_run.specs.Boards.{IsWholeRun};
-ghost use Rattle.overlay_setup.specs.NodeSets.{up_to};
 ghost use Rattle.stat_plan.specs.Invariants.{IsPlan};
+ghost use Rattle.stat_plan.specs.Limits.{stream_waves};
 ghost use Rattle.stat_tool.specs.Call.{IsCaptureRefusal, IsEventRefusal, IsJobRefusal};
 ghost use Rattle.stat_tool.specs.Jobs.{CaptureJob, DirectJob, ReplayJob, RunJob, SimJob};
 ghost use Rattle.stat_tool.specs.NextStep.{Does, by_capture, first_refused, replay_step};
-ghost use Rattle.stat_tool.specs.Outputs.{HasOutput, HasRun};
+ghost use Rattle.stat_tool.specs.Outputs.{HasOutput, HasRun, ReplaysAs};
 ghost use Rattle.stat_tool.specs.Reports.{IsReportIn, IsWrittenIn, losses_of};
 ghost use Rattle.stat_tool.specs.Status.{refusal_of_capture};
 ghost use Rattle.stat_tool.specs.Views.{output_view};
@@ -28,9 +28,9 @@ use front_end::{
 use journal_text::{JournalRead, write_journal};
 use merge_filter::{Contribution, direct};
 use overlay_core::{Kind, Release};
-use overlay_event::{Event, Gate, Journal};
+use overlay_event::{Event, Journal};
 use overlay_net::{Net, NetError};
-use overlay_run::{Ran, run_workers};
+use overlay_run::Ran;
 use overlay_setup::StreamDef;
 use packet_frame::FrameError;
 use prefix_tree::PrefixTree;
@@ -38,8 +38,6 @@ use stat_plan::Plan;
 use stat_words::{ReportForm, RunReport};
 use std::alloc::{AllocError, Global};
 use std::mem;
-use std::sync::Wait;
-use std::thread::Threads;
 
 /// What a job has made.
 #[derive(Drop)]
@@ -60,25 +58,17 @@ pub fn leave<X: Drop>(value: X) {
     mem::forget(value);
 }
 
-/// Runs a plan on so many workers. Each event passes the gate, while its worker does not have the turn.
-pub fn run_plan<R: Threads + Wait + Sync, T: PrefixTree, G: Gate>(
-    rt: &R,
+/// The output of a run on workers.
+pub fn run_output<T: PrefixTree>(
     alloc: Global,
     plan: &Plan,
-    workers: u8,
-    gate: &G,
+    ran: Ran<T>,
     wanted: RunReport,
 ) -> Result<Output, AllocError>
-    requires workers { (1 ≤ workers) × (workers ≤ 32) }
+    requires whole { IsWholeRun plan.now ran.journal (releases_view T.tree ran.releases.items) }
     ensures { IfOk result (λ output. HasOutput (RunJob plan.now wanted) (output_view output)) }
 {
-    let Ran { journal, releases } = run_workers::<R, T, G>(
-        rt,
-        alloc,
-        plan,
-        u32::from(workers),
-        gate,
-    )?;
+    let Ran { journal, releases } = ran;
     let output = finished(alloc, plan, &releases, journal, wanted)?;
     leave(releases);
     Ok(output)
@@ -132,9 +122,7 @@ pub fn replay_plan<T: PrefixTree>(
     read: JournalRead,
     wanted: RunReport,
 ) -> Result<Output, Status>
-    ensures ok { IfOk result (λ output. (replay_step plan.now wanted (read_view read)
-        ≡ Does (ReplayJob plan.now output.journal wanted))
-        × HasOutput (ReplayJob plan.now output.journal wanted) (output_view output)) }
+    ensures ok { IfOk result (λ output. ReplaysAs plan.now wanted (read_view read) (output_view output)) }
     ensures err { IfErr result (IsJobRefusal (replay_step plan.now wanted (read_view read))) }
 {
     let Ok(mut net) = Net::<T>::new(alloc, plan) else {
@@ -239,7 +227,7 @@ fn push_waves<T: PrefixTree>(
 ) -> Result<(), AllocError>
     requires { (w : ℕ) → w < stream.now.waves → HasWave plan.now stream.now.number w }
     ensures { OnOk result (releases_view T.tree releases.new.items ≡ releases_view T.tree releases.old.items
-        ++ map (direct_release plan.now) (map (λ w. (stream.now.number, w)) (up_to stream.now.waves))) }
+        ++ map (direct_release plan.now) (stream_waves stream.now)) }
 {
     for wave in 0..stream.waves() {
         releases.push(direct_release(alloc, plan, stream.number(), wave)?)?;

@@ -9,6 +9,6 @@ returns-in-Err-clause-err g c =
     let desk = desk_change g.D.Desk.faults g.D.Desk.last_fault g.D.Desk.gave g.D.Desk.contents c.args.desk.now c.read_plan.new.desk in
     run_stops (names_of c.args.files) c.args.workers c.args.wanted desk c.in-Err.status c.in-Err.ensures.err
 
-pub returns-in-Ok-run_plan-clause-ok : goal.returns-in-Ok-run_plan-clause-ok
-returns-in-Ok-run_plan-clause-ok g c =
-    run_prepared (names_of c.args.files) c.args.workers c.args.wanted (desk_change g.D.Desk.faults g.D.Desk.last_fault g.D.Desk.gave g.D.Desk.contents c.args.desk.now c.read_plan.new.desk) c.in-Ok.plan (output_view c.in-Ok-run_plan.output) c.in-Ok.ensures.ok c.in-Ok-run_plan.ensures
+pub returns-in-Ok-run_output-clause-ok : goal.returns-in-Ok-run_output-clause-ok
+returns-in-Ok-run_output-clause-ok g c =
+    run_prepared (names_of c.args.files) c.args.workers c.args.wanted (desk_change g.D.Desk.faults g.D.Desk.last_fault g.D.Desk.gave g.D.Desk.contents c.args.desk.now c.read_plan.new.desk) c.in-Ok.plan (output_view c.in-Ok-run_output.output) c.in-Ok.ensures.ok c.in-Ok-run_output.ensures
