@@ -114,7 +114,7 @@ fn give_partial<T: PrefixTree>(
     Ok(())
 }
 
-// Releases what has come in of a wave, which ends.
+// Releases what has come in of a wave, and closes the wave.
 fn give_final<T: PrefixTree>(
     context: &NodeContext<'_>,
     book: &mut WaveBook,

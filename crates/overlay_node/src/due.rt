@@ -12,7 +12,7 @@ use stat_plan::{Act, Plan};
 use sync_filter::due;
 use wave_resend::{WaveBook, WaveState};
 
-// When the nodes of a stream pass on what they have of a wave.
+// The mode of a stream: when its nodes pass on what they have of a wave.
 fn mode_of(plan: &Plan, s: u8) -> Mode
     ensures { result ≡ mode plan.now s }
 {

@@ -37,7 +37,7 @@ fn held_index<T: PrefixTree>(held: &[HeldWave<T>], s: u8, w: u8) -> usize
     held.len()
 }
 
-/// Whether a wave has ended at the node.
+/// Whether a wave is closed at the node.
 pub fn is_closed(book: &WaveBook, s: u8, w: u8) -> bool
     requires { IsIn s w book.now }
     ensures { result ≡ is_closed (book_of book.now s w) }
@@ -106,7 +106,7 @@ fn grow<T: PrefixTree>(
     act(context, book, held, out)
 }
 
-// Takes what was received of a wave, which means nothing if the wave has ended.
+// Takes what was received of a wave. It is ignored if the wave is closed.
 fn take_up<T: PrefixTree>(
     context: &NodeContext<'_>,
     book: &mut WaveBook,
@@ -154,7 +154,7 @@ fn take_sample<T: PrefixTree>(
     act(context, book, held, out)
 }
 
-// Ends a wave that is open, and tells the children.
+// Closes a wave if it is open, and tells the children.
 fn end<T: PrefixTree>(
     context: &NodeContext<'_>,
     book: &mut WaveBook,
@@ -231,7 +231,7 @@ pub fn on_up<T: PrefixTree>(
     Ok(())
 }
 
-/// The parent has sent that a wave has ended.
+/// The parent has sent that a wave is closed.
 pub fn on_done<T: PrefixTree>(
     context: &NodeContext<'_>,
     book: &mut WaveBook,

@@ -11,7 +11,7 @@ pub struct HeldWave<T: PrefixTree> {
     pub stream: u8,
     /// The wave's number in its stream.
     pub wave: u8,
-    /// What has come in; none if the wave has ended.
+    /// What has come in; none if the wave is closed.
     pub part: Option<Contribution<T>>,
     /// How many releases of the wave there were at this node.
     pub release_count: u32,

@@ -24,7 +24,7 @@ use stat_plan::Plan;
 use std::alloc::AllocError;
 use wave_resend::WaveBook;
 
-// Tells a node that a wave has ended, if it has.
+// Tells a node that a wave is closed, if it is.
 fn tell_if_closed<T: PrefixTree>(
     plan: &Plan,
     book: &WaveBook,
@@ -44,7 +44,7 @@ fn tell_if_closed<T: PrefixTree>(
     Ok(())
 }
 
-// Tells a node which waves have ended.
+// Tells a node which waves are closed.
 fn tell_closed<T: PrefixTree>(
     plan: &Plan,
     book: &WaveBook,
@@ -64,7 +64,7 @@ fn tell_closed<T: PrefixTree>(
     Ok(())
 }
 
-/// Another node is a child from now on, and is told which waves have ended.
+/// Another node is a child from now on, and is told which waves are closed.
 pub fn on_attach<T: PrefixTree>(
     plan: &Plan,
     kin: &mut Kin,

@@ -31,7 +31,7 @@ fn up_frame<T: PrefixTree>(
     encode_up(alloc, part.stream(), part.wave(), part.tree())
 }
 
-// The frame that says that a wave has ended.
+// The frame that says that a wave is closed.
 fn done_frame<T: PrefixTree>(alloc: Global, plan: &Plan, s: u8, w: u8) -> Result<Frame, AllocError>
     requires { HasWave plan.now s w }
     ensures { IfOk result (IsFrameOf plan.now (Done s w)) }
@@ -66,7 +66,7 @@ pub fn send_up<T: PrefixTree>(
     Ok(())
 }
 
-/// Sends a node that a wave has ended, if the node serves the stream.
+/// Tells a node that a wave is closed, if the node serves the stream.
 pub fn send_done<T: PrefixTree>(
     plan: &Plan,
     to: u32,
@@ -85,7 +85,7 @@ pub fn send_done<T: PrefixTree>(
     Ok(())
 }
 
-/// Sends the children that a wave has ended.
+/// Tells the children that a wave is closed.
 pub fn send_dones<T: PrefixTree>(
     context: &NodeContext<'_>,
     s: u8,
