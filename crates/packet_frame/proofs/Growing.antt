@@ -60,17 +60,17 @@ last_frame p d len some =
 -- a row that was named
 module _ {X : Type 0} (s : Scan X) (is : IsNamed s) (ends : Ranks) where
   abbrev row : NamedRow
-  row = row_named (s.depth - 1) (get_or s.path (s.depth - 1) []) ends
+  row = row_named (s.row.depth - 1) (get_or s.row.path (s.row.depth - 1) []) ends
 
   -- its path follows that of the row before
-  named_path : path_behind is.before row ≡ s.path
-  named_path = ap (λ front. front ++ get_or s.path (s.depth - 1) [] ∷ []) (sym is.kept) ∙ last_frame s.path s.depth is.len is.depth
+  named_path : path_behind is.before row ≡ s.row.path
+  named_path = ap (λ front. front ++ get_or s.row.path (s.row.depth - 1) [] ∷ []) (sym is.kept) ∙ last_frame s.row.path s.row.depth is.len is.depth
 
-  pub named_more : HasGrown s.cover.ranks (grown s.tree ends s.path) s.path (s.rows_left - 1)
-  named_more = subst (λ p. HasGrown s.cover.ranks (grown s.tree ends p) p (s.rows_left - 1)) named_path (row_more s.cover.ranks s.tree is.before s.rows_left is.grown is.some row)
+  pub named_more : HasGrown s.cover.ranks (grown s.tree ends s.row.path) s.row.path (s.row.left - 1)
+  named_more = subst (λ p. HasGrown s.cover.ranks (grown s.tree ends p) p (s.row.left - 1)) named_path (row_more s.cover.ranks s.tree is.before s.row.left is.grown is.some row)
 
-  pub named_room : count_below (grown s.tree ends s.path) ≤ 2048
-  named_room = subst (λ p. count_below (grown s.tree ends p) ≤ 2048) named_path (row_room s.cover.ranks s.tree is.before s.rows_left is.grown is.some row)
+  pub named_room : count_below (grown s.tree ends s.row.path) ≤ 2048
+  named_room = subst (λ p. count_below (grown s.tree ends p) ≤ 2048) named_path (row_room s.cover.ranks s.tree is.before s.row.left is.grown is.some row)
 
   pub named_covered : IsTrue (is_subset ends s.cover.ranks) → IsTrue (is_subset ends s.tree.coverage)
   named_covered = subst (λ cover. IsTrue (is_subset ends cover)) (sym (ap (λ t. t.coverage) is.grown.tree ∙ coverage-tree_of _ s.cover.ranks))

@@ -139,18 +139,18 @@ needs_none depth count some less =
 
 module _ {X : Type 0} (s : Scan X) (bytes : List ℕ) (at : ℕ) where
   -- a row is read up to its ends
-  pub reads_head : (depth len : ℕ) (rest one first two second name : List ℕ) → s.field ≡ fields.Depth → 0 < s.rows_left → MayHaveDepth s.path s.ended depth → 0 < len → len ≤ 1023 → is_name name ≡ true → is_after (slice_get s.path (depth - 1)) name ≡ true → at + 3 + len ≤ length bytes → rest ≡ drop at bytes → one ≡ take 1 rest → first ≡ drop 1 rest → two ≡ take 2 first → second ≡ drop 2 first → name ≡ take len second → depth ≡ from_be_bytes w8 one → len ≡ from_be_bytes w16 two → ReadsOn bytes (left s) at (ends_left s.version s.stream s.wave s.cover.ranks s.tree s.rows_left (path_at s.path depth name) depth) (at + 3 + len)
+  pub reads_head : (depth len : ℕ) (rest one first two second name : List ℕ) → s.field ≡ fields.Depth → 0 < s.row.left → MayHaveDepth s.row.path s.row.ended depth → 0 < len → len ≤ 1023 → is_name name ≡ true → is_after (slice_get s.row.path (depth - 1)) name ≡ true → at + 3 + len ≤ length bytes → rest ≡ drop at bytes → one ≡ take 1 rest → first ≡ drop 1 rest → two ≡ take 2 first → second ≡ drop 2 first → name ≡ take len second → depth ≡ from_be_bytes w8 one → len ≡ from_be_bytes w16 two → ReadsOn bytes (left s) at (ends_left s.version s.stream s.wave s.cover.ranks s.tree s.row.left (path_at s.row.path depth name) depth) (at + 3 + len)
   reads_head depth len rest one first two second name field some may len_some len_most good after within rest_is one_is first_is two_is second_is name_is depth_of len_of more =
       let behind_one : first ≡ drop (at + 1) bytes = first_is ∙ cut_off bytes rest at 1 rest_is in
       let behind_two : second ≡ drop (at + 1 + 2) bytes = second_is ∙ cut_off bytes first (at + 1) 2 behind_one in
       let next : at + 1 + 2 + len ≡ at + 3 + len = omega arith in
-      let end = ends_left s.version s.stream s.wave s.cover.ranks s.tree s.rows_left (path_at s.path depth name) depth in
+      let end = ends_left s.version s.stream s.wave s.cover.ranks s.tree s.row.left (path_at s.row.path depth name) depth in
       ap (λ f. read (left_at f s) (bytes ++ more) at) field
-      ∙ head_read s.version s.stream s.wave s.cover.ranks s.tree s.rows_left s.path s.ended bytes at depth len name some may len_some len_most good after (omega (arith, within)) (depth_of ∙ ap (from_be_bytes w8) (one_is ∙ ap (take 1) rest_is)) (len_of ∙ ap (from_be_bytes w16) (two_is ∙ ap (take 2) behind_one)) (name_is ∙ ap (take len) behind_two) more
+      ∙ head_read s.version s.stream s.wave s.cover.ranks s.tree s.row.left s.row.path s.row.ended bytes at depth len name some may len_some len_most good after (omega (arith, within)) (depth_of ∙ ap (from_be_bytes w8) (one_is ∙ ap (take 1) rest_is)) (len_of ∙ ap (from_be_bytes w16) (two_is ∙ ap (take 2) behind_one)) (name_is ∙ ap (take len) behind_two) more
       ∙ ap (read end (bytes ++ more)) next
 
 -- the row that was named is whole, and has no ends
-pub passed : {X : Type 0} (s : Scan X) → IsNamed s → HasGrown s.cover.ranks s.tree s.path (s.rows_left - 1)
+pub passed : {X : Type 0} (s : Scan X) → IsNamed s → HasGrown s.cover.ranks s.tree s.row.path (s.row.left - 1)
 passed s named = named_more s named none
 
 -- the path of a row has its depth, and begins with frames of the path before
@@ -169,17 +169,17 @@ path_kept before d name near =
     take-append-le (d - 1) (take (d - 1) before) (name ∷ []) within ∙ take-take (d - 1) (d - 1) before (omega arith)
 
 -- a row is named, behind another
-pub row_is_named : {X : Type 0} (s t : Scan X) (name : List ℕ) → IsBeforeRow s → 0 < s.rows_left → MayHaveDepth s.path s.ended t.depth → t.path ≡ path_at s.path t.depth name → t.kind ≡ s.kind → t.cover.count ≡ s.cover.count → t.cover.places ≡ s.cover.places → t.cover.ranks ≡ s.cover.ranks → t.tree ≡ s.tree → t.rows_left ≡ s.rows_left → IsNamed t
+pub row_is_named : {X : Type 0} (s t : Scan X) (name : List ℕ) → IsBeforeRow s → 0 < s.row.left → MayHaveDepth s.row.path s.row.ended t.row.depth → t.row.path ≡ path_at s.row.path t.row.depth name → t.kind ≡ s.kind → t.cover.count ≡ s.cover.count → t.cover.places ≡ s.cover.places → t.cover.ranks ≡ s.cover.ranks → t.tree ≡ s.tree → t.row.left ≡ s.row.left → IsNamed t
 row_is_named s t name before some may path kind covered places cover tree count = record {
   kind = kind ∙ before.kind;
   covered = (covered ∙ before.covered.0 ∙ ap size (sym cover), places ∙ before.covered.1 ∙ sym cover);
   some = subst (λ (n : ℕ). 0 < n) (sym count) some;
   depth = may.some;
   depth_limit = may.limit;
-  len = ap length path ∙ path_length s.path t.depth name may.some may.near;
-  before = s.path;
-  grown = subst (λ (n : ℕ). HasGrown t.cover.ranks t.tree s.path n) (sym count) (subst (λ (u : Tree). HasGrown t.cover.ranks u s.path s.rows_left) (sym tree) (subst (λ (c : Ranks). HasGrown c s.tree s.path s.rows_left) (sym cover) before.grown));
-  kept = ap (take (t.depth - 1)) path ∙ path_kept s.path t.depth name may.near;
+  len = ap length path ∙ path_length s.row.path t.row.depth name may.some may.near;
+  before = s.row.path;
+  grown = subst (λ (n : ℕ). HasGrown t.cover.ranks t.tree s.row.path n) (sym count) (subst (λ (u : Tree). HasGrown t.cover.ranks u s.row.path s.row.left) (sym tree) (subst (λ (c : Ranks). HasGrown c s.tree s.row.path s.row.left) (sym cover) before.grown));
+  kept = ap (take (t.row.depth - 1)) path ∙ path_kept s.row.path t.row.depth name may.near;
 }
 
 -- ---- rows of the bytes behind an offset
@@ -192,41 +192,41 @@ zeros_second [] e = absurd cc
 zeros_second (a ∷ []) e = absurd cc
 zeros_second (a ∷ b ∷ xs) e = ap (λ (ys : List ℕ). from_be_bytes w16 (drop 2 ys)) (sym e)
 
-module _ {X : Type 0} (s : Scan X) (bytes : List ℕ) (at depth : ℕ) (name : List ℕ) (path : Path) (next : ℕ) (field : s.field ≡ fields.Depth) (ready : IsBeforeRow s × (0 < s.rows_left)) (within : at ≤ length bytes) (head : BeginsWithHead (drop at bytes) depth name) (row : FollowsRow s.path s.ended depth name path) (to : next ≡ at + (3 + length name)) where
+module _ {X : Type 0} (s : Scan X) (bytes : List ℕ) (at depth : ℕ) (name : List ℕ) (path : Path) (next : ℕ) (field : s.field ≡ fields.Depth) (ready : IsBeforeRow s × (0 < s.row.left)) (within : at ≤ length bytes) (head : BeginsWithHead (drop at bytes) depth name) (row : FollowsRow s.row.path s.row.ended depth name path) (to : next ≡ at + (3 + length name)) where
   -- the name ends within the bytes
   pub head_within : next ≤ length bytes
   head_within = let left_over = length-drop at bytes in omega (arith, left_over, within, head.within, to)
 
   -- a row is read up to its ends
-  pub head_passed : ReadsOn bytes (left s) at (ends_left s.version s.stream s.wave s.cover.ranks s.tree s.rows_left path depth) next
+  pub head_passed : ReadsOn bytes (left s) at (ends_left s.version s.stream s.wave s.cover.ranks s.tree s.row.left path depth) next
   head_passed =
       let rest : List ℕ = drop at bytes in
       let first : List ℕ = drop 1 rest in
       let at_next : at + 3 + length name ≡ next = omega (arith, to) in
       let enough : at + 3 + length name ≤ length bytes = omega (arith, at_next, head_within) in
-      subst (λ (p : Path). ReadsOn bytes (left s) at (ends_left s.version s.stream s.wave s.cover.ranks s.tree s.rows_left p depth) next) (sym row.path_is)
-      (subst (ReadsOn bytes (left s) at (ends_left s.version s.stream s.wave s.cover.ranks s.tree s.rows_left (path_at s.path depth name) depth)) at_next
+      subst (λ (p : Path). ReadsOn bytes (left s) at (ends_left s.version s.stream s.wave s.cover.ranks s.tree s.row.left p depth) next) (sym row.path_is)
+      (subst (ReadsOn bytes (left s) at (ends_left s.version s.stream s.wave s.cover.ranks s.tree s.row.left (path_at s.row.path depth name) depth)) at_next
       (reads_head s bytes at depth (length name) rest (take 1 rest) first (take 2 first) (drop 2 first) name field ready.1 row.may head.some head.most (good name head.plain) row.after enough refl refl refl refl refl head.name_is head.depth_is head.len_is))
 
   -- the row is named
-  pub head_named : IsNamed (record s { path = path; depth = depth })
-  head_named = row_is_named s (record s { path = path; depth = depth }) name ready.0 ready.1 row.may row.path_is refl refl refl refl refl refl
+  pub head_named : IsNamed (record s { row = record s.row { path = path; depth = depth } })
+  head_named = row_is_named s (record s { row = record s.row { path = path; depth = depth } }) name ready.0 ready.1 row.may row.path_is refl refl refl refl refl refl
 
   -- the scan behind the row, where it has no ends
   abbrev pub passed_row : Scan X
-  passed_row = record s { path = path; ended = false; rows_left = s.rows_left - 1 }
+  passed_row = record s { row = record s.row { path = path; ended = false; left = s.row.left - 1 } }
 
-  module _ (some : 1 < s.rows_left) where
+  module _ (some : 1 < s.row.left) where
     -- the row is read with its ends
     pub row_passed : next + 4 ≤ length bytes → take 4 (drop next bytes) ≡ 0 ∷ 0 ∷ 0 ∷ 0 ∷ [] → ReadsOn bytes (left s) at (left passed_row) (next + 4)
     row_passed enough zeros more =
         let two : next + 2 + 2 ≡ next + 4 = omega arith in
         let limit = head.limit in
         head_passed more
-        ∙ ends_read s.version s.stream s.wave s.cover.ranks s.tree s.rows_left path depth bytes next (needs_none depth s.rows_left some (λ e. omega (arith, e, limit))) (omega (arith, enough)) (zeros_first (drop next bytes) zeros) (zeros_second (drop next bytes) zeros ∙ ap (λ (ys : List ℕ). from_be_bytes w16 (take 2 ys)) (drop-drop 2 next bytes)) more
-        ∙ ap (read (rows_left s.version s.stream s.wave s.cover.ranks s.tree path false (s.rows_left - 1)) (bytes ++ more)) two
+        ∙ ends_read s.version s.stream s.wave s.cover.ranks s.tree s.row.left path depth bytes next (needs_none depth s.row.left some (λ e. omega (arith, e, limit))) (omega (arith, enough)) (zeros_first (drop next bytes) zeros) (zeros_second (drop next bytes) zeros ∙ ap (λ (ys : List ℕ). from_be_bytes w16 (take 2 ys)) (drop-drop 2 next bytes)) more
+        ∙ ap (read (rows_left s.version s.stream s.wave s.cover.ranks s.tree path false (s.row.left - 1)) (bytes ++ more)) two
         ∙ ap (λ (f : Field). read (left_at f passed_row) (bytes ++ more) (next + 4)) (sym field)
 
     -- and another follows
-    pub row_ready : IsBeforeRow passed_row × (0 < s.rows_left - 1)
-    row_ready = (record { kind = ready.0.kind; covered = ready.0.covered; grown = passed (record s { path = path; depth = depth }) head_named }, omega (arith, some))
+    pub row_ready : IsBeforeRow passed_row × (0 < s.row.left - 1)
+    row_ready = (record { kind = ready.0.kind; covered = ready.0.covered; grown = passed (record s { row = record s.row { path = path; depth = depth } }) head_named }, omega (arith, some))

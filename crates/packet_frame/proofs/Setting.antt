@@ -148,25 +148,25 @@ obeyed parts.Ends version index w cover fine ends =
     kept false h = absurd cc
 
 -- a word more of a set
-pub with_word : {X : Type 0} (s t : Scan X) (w : ℕ) → IsInSet s → 0 < s.left → t.left ≡ s.left - 1 → t.words.items ≡ s.words.items ++ w ∷ [] → t.offset ≡ s.offset → t.part ≡ s.part → IsInPart t.part t → t.version ≡ s.version → t.cover.ranks ≡ s.cover.ranks → (not (nat_eq (length s.words.items) 0 || nat_eq (s.left - 1) 0) || not (nat_eq w 0)) ≡ true → (s.part ≡ parts.Ends → ObeysEnds s.version (s.offset + length s.words.items) w s.cover.ranks) → IsInSet t
+pub with_word : {X : Type 0} (s t : Scan X) (w : ℕ) → IsInSet s → 0 < s.left → t.left ≡ s.left - 1 → t.set.words.items ≡ s.set.words.items ++ w ∷ [] → t.set.offset ≡ s.set.offset → t.set.part ≡ s.set.part → IsInPart t.set.part t → t.version ≡ s.version → t.cover.ranks ≡ s.cover.ranks → (not (nat_eq (length s.set.words.items) 0 || nat_eq (s.left - 1) 0) || not (nat_eq w 0)) ≡ true → (s.set.part ≡ parts.Ends → ObeysEnds s.version (s.set.offset + length s.set.words.items) w s.cover.ranks) → IsInSet t
 with_word s t w is some left words offset part ready version cover fine obeys =
-    let len : length t.words.items ≡ length s.words.items + 1 = ap length words ∙ length-append s.words.items (w ∷ []) in
+    let len : length t.set.words.items ≡ length s.set.words.items + 1 = ap length words ∙ length-append s.set.words.items (w ∷ []) in
     record {
       part = ready;
       fits = omega (arith, len, left, offset, some, is.fits);
-      first = λ _. subst (λ (ws : List ℕ). 0 < get_or ws 0 0) (sym words) (first_word s.words.items w (s.left - 1) fine is.first);
-      last = λ none _. subst (λ (ws : List ℕ). 0 < get_or ws (length ws - 1) 0) (sym words) (last_word s.words.items w (s.left - 1) fine (sym left ∙ none));
+      first = λ _. subst (λ (ws : List ℕ). 0 < get_or ws 0 0) (sym words) (first_word s.set.words.items w (s.left - 1) fine is.first);
+      last = λ none _. subst (λ (ws : List ℕ). 0 < get_or ws (length ws - 1) 0) (sym words) (last_word s.set.words.items w (s.left - 1) fine (sym left ∙ none));
       nothing = λ _ none. absurd (omega (arith, len, none));
       ends = λ here.
-          subst (λ (c : Ranks). MayEnd t.version c (ranks_in t.offset t.words.items)) (sym cover) (
-          subst (λ (v : ℕ). MayEnd v s.cover.ranks (ranks_in t.offset t.words.items)) (sym version) (
-          subst (λ (ws : List ℕ). MayEnd s.version s.cover.ranks (ranks_in t.offset ws)) (sym words) (
-          subst (λ (o : ℕ). MayEnd s.version s.cover.ranks (ranks_in o (s.words.items ++ w ∷ []))) (sym offset) (
-          may_end_more s.version s.offset s.words.items w s.cover.ranks (is.ends (sym part ∙ here)) (obeys (sym part ∙ here))))));
+          subst (λ (c : Ranks). MayEnd t.version c (ranks_in t.set.offset t.set.words.items)) (sym cover) (
+          subst (λ (v : ℕ). MayEnd v s.cover.ranks (ranks_in t.set.offset t.set.words.items)) (sym version) (
+          subst (λ (ws : List ℕ). MayEnd s.version s.cover.ranks (ranks_in t.set.offset ws)) (sym words) (
+          subst (λ (o : ℕ). MayEnd s.version s.cover.ranks (ranks_in o (s.set.words.items ++ w ∷ []))) (sym offset) (
+          may_end_more s.version s.set.offset s.set.words.items w s.cover.ranks (is.ends (sym part ∙ here)) (obeys (sym part ∙ here))))));
     }
 
 -- the part stays ready where nothing of it changes
-pub part_kept : {X : Type 0} (part : Part) (s t : Scan X) → s.kind ≡ t.kind → s.version ≡ t.version → s.cover.count ≡ t.cover.count → s.cover.places ≡ t.cover.places → s.cover.ranks ≡ t.cover.ranks → s.rows_left ≡ t.rows_left → s.depth ≡ t.depth → s.path ≡ t.path → s.tree ≡ t.tree → IsInPart part s → IsInPart part t
+pub part_kept : {X : Type 0} (part : Part) (s t : Scan X) → s.kind ≡ t.kind → s.version ≡ t.version → s.cover.count ≡ t.cover.count → s.cover.places ≡ t.cover.places → s.cover.ranks ≡ t.cover.ranks → s.row.left ≡ t.row.left → s.row.depth ≡ t.row.depth → s.row.path ≡ t.row.path → s.tree ≡ t.tree → IsInPart part s → IsInPart part t
 part_kept parts.Coverage s t kind version covered places cover count depth path tree h = (sym kind ∙ h.0, sym version ∙ h.1)
 part_kept parts.Ends s t kind version covered places cover count depth path tree h = record {
   kind = sym kind ∙ h.kind;
@@ -176,8 +176,8 @@ part_kept parts.Ends s t kind version covered places cover count depth path tree
   depth_limit = subst (λ (n : ℕ). n ≤ 128) depth h.depth_limit;
   len = ap length (sym path) ∙ h.len ∙ depth;
   before = h.before;
-  grown = subst (λ (n : ℕ). HasGrown t.cover.ranks t.tree h.before n) count (subst (λ (u : Tree). HasGrown t.cover.ranks u h.before s.rows_left) tree (subst (λ (c : Ranks). HasGrown c s.tree h.before s.rows_left) cover h.grown));
-  kept = subst (λ (d : ℕ). take (d - 1) t.path ≡ take (d - 1) h.before) depth (subst (λ (p : Path). take (s.depth - 1) p ≡ take (s.depth - 1) h.before) path h.kept);
+  grown = subst (λ (n : ℕ). HasGrown t.cover.ranks t.tree h.before n) count (subst (λ (u : Tree). HasGrown t.cover.ranks u h.before s.row.left) tree (subst (λ (c : Ranks). HasGrown c s.tree h.before s.row.left) cover h.grown));
+  kept = subst (λ (d : ℕ). take (d - 1) t.row.path ≡ take (d - 1) h.before) depth (subst (λ (p : Path). take (s.row.depth - 1) p ≡ take (s.row.depth - 1) h.before) path h.kept);
 }
 
 -- the limit of words of either version

@@ -57,7 +57,7 @@ after_set parts.Coverage version stream wave cover t path count numbers = after_
 after_set parts.Ends version stream wave cover t path count numbers = after_ends version stream wave cover t path count (ranks_at version cover numbers)
 
 abbrev pub set_then : {X : Type 0} → Scan X → Ranks → Form (Packet Tree)
-set_then s = after_set s.part s.version s.stream s.wave s.cover.ranks s.tree s.path s.rows_left
+set_then s = after_set s.set.part s.version s.stream s.wave s.cover.ranks s.tree s.row.path s.row.left
 
 -- a row is the last one where no other is left
 abbrev pub is_last : ℕ → Bool
@@ -83,12 +83,12 @@ packet_read s = cond (nat_eq s.kind 1) (Up s.stream s.wave s.tree) (cond (nat_eq
 
 -- the words that are left of a set, and what follows it
 abbrev pub set_left : {X : Type 0} → Scan X → Form (Packet Tree)
-set_left s = words_left (word_rule s.part s.version s.cover.ranks) s.offset s.words.items s.left >>= set_then s
+set_left s = words_left (word_rule s.set.part s.version s.cover.ranks) s.set.offset s.set.words.items s.left >>= set_then s
 
 -- ---- what is left before each field
 
 abbrev pub name_then : {X : Type 0} → Scan X → List ℕ → Form (Packet Tree)
-name_then s name = ends_form s.version s.cover.ranks s.depth (is_last s.rows_left) >>= after_ends s.version s.stream s.wave s.cover.ranks s.tree (path_at s.path s.depth name) s.rows_left
+name_then s name = ends_form s.version s.cover.ranks s.row.depth (is_last s.row.left) >>= after_ends s.version s.stream s.wave s.cover.ranks s.tree (path_at s.row.path s.row.depth name) s.row.left
 
 -- a message, as the packet with its tree
 abbrev pub with_tree : Message → Form (Packet Tree)
@@ -102,13 +102,13 @@ left_at fields.Wave s = (wave_form >>= content_form s.version s.kind s.stream) >
 left_at fields.RunCount s = run_count_form >>= runs_left s.version s.stream s.wave none 0
 left_at fields.FirstRank s = runs_left s.version s.stream s.wave s.cover.ranks s.least s.left
 left_at fields.LastRank s = last_rank_form s.least >>= λ last. runs_left s.version s.stream s.wave (union s.cover.ranks (ranks_between s.least last)) (last + 2) (s.left - 1)
-left_at fields.Offset s = set_form (word_limit s.version) (needed s.part s.depth s.rows_left) (word_rule s.part s.version s.cover.ranks) >>= set_then s
-left_at fields.WordCount s = word_count_form (word_limit s.version) (needed s.part s.depth s.rows_left) s.offset >>= λ count. words_left (word_rule s.part s.version s.cover.ranks) s.offset [] count >>= set_then s
+left_at fields.Offset s = set_form (word_limit s.version) (needed s.set.part s.row.depth s.row.left) (word_rule s.set.part s.version s.cover.ranks) >>= set_then s
+left_at fields.WordCount s = word_count_form (word_limit s.version) (needed s.set.part s.row.depth s.row.left) s.set.offset >>= λ count. words_left (word_rule s.set.part s.version s.cover.ranks) s.set.offset [] count >>= set_then s
 left_at fields.Word s = set_left s
 left_at fields.RowCount s = after_cover s.version s.stream s.wave s.cover.ranks
-left_at fields.Depth s = rows_left s.version s.stream s.wave s.cover.ranks s.tree s.path s.ended s.rows_left
-left_at fields.NameLength s = name_length_form >>= λ len. name_form s.path s.depth len >>= name_then s
-left_at fields.Name s = name_form s.path s.depth s.name_length >>= name_then s
+left_at fields.Depth s = rows_left s.version s.stream s.wave s.cover.ranks s.tree s.row.path s.row.ended s.row.left
+left_at fields.NameLength s = name_length_form >>= λ len. name_form s.row.path s.row.depth len >>= name_then s
+left_at fields.Name s = name_form s.row.path s.row.depth s.row.name_length >>= name_then s
 left_at fields.End s = whole (packet_read s)
 
 abbrev pub left : {X : Type 0} → Scan X → Form (Packet Tree)
@@ -129,7 +129,7 @@ field_width fields.Word s = 8
 field_width fields.RowCount s = 2
 field_width fields.Depth s = 1
 field_width fields.NameLength s = 2
-field_width fields.Name s = s.name_length
+field_width fields.Name s = s.row.name_length
 field_width fields.End s = 0
 
 -- ---- what was read before each field
@@ -142,27 +142,27 @@ IsCovered count places cover = (count ≡ size cover) × (places ≡ cover)
 pub record IsBeforeRow {X : Type 0} (s : Scan X) : Type 0 where
   pub kind : s.kind ≡ 1
   pub covered : IsCovered s.cover.count s.cover.places s.cover.ranks
-  pub grown : HasGrown s.cover.ranks s.tree s.path s.rows_left
+  pub grown : HasGrown s.cover.ranks s.tree s.row.path s.row.left
 
 -- a row's depth was read
 pub record IsInRow {X : Type 0} (s : Scan X) : Type 0 where
   pub row : IsBeforeRow s
-  pub some : 0 < s.rows_left
-  pub depth : 1 ≤ s.depth
-  pub depth_limit : s.depth ≤ 128
-  pub near : s.depth ≤ length s.path + 1
+  pub some : 0 < s.row.left
+  pub depth : 1 ≤ s.row.depth
+  pub depth_limit : s.row.depth ≤ 128
+  pub near : s.row.depth ≤ length s.row.path + 1
 
 -- a row's name was read, and stands at the end of the path, behind the first frames of the path of the row before
 pub record IsNamed {X : Type 0} (s : Scan X) : Type 0 where
   pub kind : s.kind ≡ 1
   pub covered : IsCovered s.cover.count s.cover.places s.cover.ranks
-  pub some : 0 < s.rows_left
-  pub depth : 1 ≤ s.depth
-  pub depth_limit : s.depth ≤ 128
-  pub len : length s.path ≡ s.depth
+  pub some : 0 < s.row.left
+  pub depth : 1 ≤ s.row.depth
+  pub depth_limit : s.row.depth ≤ 128
+  pub len : length s.row.path ≡ s.row.depth
   pub before : Path
-  pub grown : HasGrown s.cover.ranks s.tree before s.rows_left
-  pub kept : take (s.depth - 1) s.path ≡ take (s.depth - 1) before
+  pub grown : HasGrown s.cover.ranks s.tree before s.row.left
+  pub kept : take (s.row.depth - 1) s.row.path ≡ take (s.row.depth - 1) before
 
 abbrev pub IsInPart : {X : Type 0} → Part → Scan X → Type 0
 IsInPart parts.Coverage s = (s.kind ≡ 1) × (s.version ≡ 1)
@@ -198,12 +198,12 @@ pub record BeginsWithHead (bytes : List ℕ) (depth : ℕ) (name : List ℕ) : T
 
 -- some words of a set were read
 pub record IsInSet {X : Type 0} (s : Scan X) : Type 0 where
-  pub part : IsInPart s.part s
-  pub fits : s.offset + length s.words.items + s.left ≤ 16384
-  pub first : 0 < length s.words.items → 0 < get_or s.words.items 0 0
-  pub last : s.left ≡ 0 → 0 < length s.words.items → 0 < get_or s.words.items (length s.words.items - 1) 0
-  pub nothing : s.left ≡ 0 → length s.words.items ≡ 0 → s.offset ≡ 0
-  pub ends : s.part ≡ parts.Ends → MayEnd s.version s.cover.ranks (ranks_in s.offset s.words.items)
+  pub part : IsInPart s.set.part s
+  pub fits : s.set.offset + length s.set.words.items + s.left ≤ 16384
+  pub first : 0 < length s.set.words.items → 0 < get_or s.set.words.items 0 0
+  pub last : s.left ≡ 0 → 0 < length s.set.words.items → 0 < get_or s.set.words.items (length s.set.words.items - 1) 0
+  pub nothing : s.left ≡ 0 → length s.set.words.items ≡ 0 → s.set.offset ≡ 0
+  pub ends : s.set.part ≡ parts.Ends → MayEnd s.version s.cover.ranks (ranks_in s.set.offset s.set.words.items)
 
 -- what the next field needs of those before it
 abbrev pub IsReady : {X : Type 0} → Field → Scan X → Type 0
@@ -214,13 +214,13 @@ IsReady fields.Wave s = (1 ≤ s.kind) × (s.kind ≤ 2)
 IsReady fields.RunCount s = s.kind ≡ 1
 IsReady fields.FirstRank s = (s.kind ≡ 1) × (0 < s.left)
 IsReady fields.LastRank s = (s.kind ≡ 1) × (0 < s.left) × (s.least < RANK_LIMIT)
-IsReady fields.Offset s = IsInPart s.part s
-IsReady fields.WordCount s = IsInPart s.part s
+IsReady fields.Offset s = IsInPart s.set.part s
+IsReady fields.WordCount s = IsInPart s.set.part s
 IsReady fields.Word s = IsInSet s × (0 < s.left)
 IsReady fields.RowCount s = (s.kind ≡ 1) × IsCovered s.cover.count s.cover.places s.cover.ranks
-IsReady fields.Depth s = IsBeforeRow s × (0 < s.rows_left)
+IsReady fields.Depth s = IsBeforeRow s × (0 < s.row.left)
 IsReady fields.NameLength s = IsInRow s
-IsReady fields.Name s = IsInRow s × (1 ≤ s.name_length) × (s.name_length ≤ 1023)
+IsReady fields.Name s = IsInRow s × (1 ≤ s.row.name_length) × (s.row.name_length ≤ 1023)
 IsReady fields.End s = Unit {0}
 
 -- The field's bytes are taken, and the other fields are left; or a rule is broken, which no more bytes mend. Out of memory

@@ -84,7 +84,7 @@ impl<T: PrefixTree> Scan<T> {
         if self.kind != UP {
             self.field = Field::End;
         } else if self.version == 1 {
-            self.part = Part::Coverage;
+            self.set.part = Part::Coverage;
             self.field = Field::Offset;
         } else {
             self.field = Field::RunCount;

@@ -31,20 +31,20 @@ impl<T: PrefixTree> Scan<T> {
             let Some((depth, name)) = row_head(rest) else {
                 return Ok(bytes.len() - rest.len());
             };
-            if !push_row(&mut self.path, self.ended, depth, name)? {
+            if !push_row(&mut self.row.path, self.row.ended, depth, name)? {
                 return Ok(bytes.len() - rest.len());
             }
             let (_, ends) = rest.split_at(3 + name.len());
-            if self.rows_left <= 1 || !has_no_ends(ends) {
-                self.depth = depth;
-                self.part = Part::Ends;
+            if self.row.left <= 1 || !has_no_ends(ends) {
+                self.row.depth = depth;
+                self.set.part = Part::Ends;
                 self.field = Field::Offset;
                 return Ok(bytes.len() - ends.len());
             }
             let (_, behind) = ends.split_at(4);
             rest = behind;
-            self.ended = false;
-            self.rows_left -= 1;
+            self.row.ended = false;
+            self.row.left -= 1;
         }
     }
 }

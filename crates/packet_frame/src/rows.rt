@@ -35,10 +35,10 @@ impl<T: PrefixTree> Scan<T> {
             return Err(FieldError::Broken(FrameReason::OverLimit));
         }
         self.tree.restart(alloc, &self.cover.ranks)?;
-        self.path.cut(0);
-        self.path.reserve(FRAMES_AT_ONCE, BYTES_AT_ONCE)?;
-        self.ended = true;
-        self.rows_left = count;
+        self.row.path.cut(0);
+        self.row.path.reserve(FRAMES_AT_ONCE, BYTES_AT_ONCE)?;
+        self.row.ended = true;
+        self.row.left = count;
         self.next_row();
         Ok(())
     }
@@ -54,14 +54,14 @@ impl<T: PrefixTree> Scan<T> {
         if usize::from(depth) > FRAME_LIMIT {
             return Err(FieldError::Broken(FrameReason::OverLimit));
         }
-        let next = self.path.len() + 1;
+        let next = self.row.path.len() + 1;
         if depth < 1 || depth as usize > next {
             return Err(FieldError::Broken(FrameReason::NotCanonical));
         }
-        if !self.ended && depth as usize != next {
+        if !self.row.ended && depth as usize != next {
             return Err(FieldError::Broken(FrameReason::NotCanonical));
         }
-        self.depth = depth;
+        self.row.depth = depth;
         self.field = Field::NameLength;
         Ok(())
     }
@@ -80,7 +80,7 @@ impl<T: PrefixTree> Scan<T> {
         if usize::from(length) > FRAME_BYTES {
             return Err(FieldError::Broken(FrameReason::OverLimit));
         }
-        self.name_length = length;
+        self.row.name_length = length;
         self.field = Field::Name;
         Ok(())
     }
@@ -89,31 +89,31 @@ impl<T: PrefixTree> Scan<T> {
     #[inline(always)]
     pub fn is_in_order(&self, depth: u8, name: &[u8]) -> bool
         requires { 1 ≤ depth }
-        ensures { result ≡ is_after (slice_get self.now.path (depth - 1)) name.now }
+        ensures { result ≡ is_after (slice_get self.now.row.path (depth - 1)) name.now }
     {
         let above = depth as usize - 1;
-        if above >= self.path.len() {
+        if above >= self.row.path.len() {
             return true;
         }
-        self.path.frame(above).as_bytes().cmp(name) == Ordering::Less
+        self.row.path.frame(above).as_bytes().cmp(name) == Ordering::Less
     }
 
     #[tactic(auto, unfolding(crate::specs::Frame::name_form, crate::specs::Frame::ends_form))]
     pub fn take_name(&mut self, field: &[u8]) -> Result<(), FieldError>
         requires ready { IsReady fields.Name self.old }
-        requires width { length field.now ≡ self.old.name_length }
+        requires width { length field.now ≡ self.old.row.name_length }
         ensures takes { Takes (left_at fields.Name self.old) field.now result (left self.new) }
         ensures ready { OnOk result (IsReady self.new.field self.new) }
     {
         let Some(name) = name_of(field) else {
             return Err(FieldError::Broken(FrameReason::NotCanonical));
         };
-        if !self.is_in_order(self.depth, field) {
+        if !self.is_in_order(self.row.depth, field) {
             return Err(FieldError::Broken(FrameReason::NotCanonical));
         }
-        self.path.cut(self.depth as usize - 1);
-        self.path.push(name)?;
-        self.part = Part::Ends;
+        self.row.path.cut(self.row.depth as usize - 1);
+        self.row.path.push(name)?;
+        self.set.part = Part::Ends;
         self.field = Field::Offset;
         Ok(())
     }
@@ -125,7 +125,7 @@ impl<T: PrefixTree> Scan<T> {
         ensures left { left self.new ≡ left_at fields.Depth self.old }
         ensures ready { IsReady self.new.field self.new }
     {
-        if self.rows_left == 0 {
+        if self.row.left == 0 {
             self.field = Field::End;
         } else {
             self.field = Field::Depth;
@@ -138,14 +138,14 @@ impl<T: PrefixTree> Scan<T> {
         requires named { IsNamed self.old }
         requires covered { IsTrue (is_subset ends self.old.cover.ranks) }
         ensures ends { OnOk result
-            (after_ends self.old.version self.old.stream self.old.wave self.old.cover.ranks self.old.tree self.old.path
-            self.old.rows_left ends ≡ left self.new) }
+            (after_ends self.old.version self.old.stream self.old.wave self.old.cover.ranks self.old.tree
+            self.old.row.path self.old.row.left ends ≡ left self.new) }
         ensures err { IfErr result (λ e. e ≡ FieldError.OutOfMemory) }
         ensures ready { OnOk result (IsReady self.new.field self.new) }
     {
-        self.ended = !ends.is_empty();
-        self.tree.grow(alloc, &ends, &mut self.path)?;
-        self.rows_left -= 1;
+        self.row.ended = !ends.is_empty();
+        self.tree.grow(alloc, &ends, &mut self.row.path)?;
+        self.row.left -= 1;
         self.next_row();
         Ok(())
     }

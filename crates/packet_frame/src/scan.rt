@@ -51,6 +51,29 @@ pub struct Coverage {
     pub count: u32,
 }
 
+/// A set of numbers, as far as it was read.
+#[derive(Drop)]
+pub struct SetScan {
+    /// Whose set it is.
+    pub part: Part,
+    /// The index of its first word.
+    pub offset: u16,
+    pub words: Vec<u64>,
+}
+
+/// A row, as far as it was read, and what it needs of the row before.
+#[derive(Drop)]
+pub struct RowScan {
+    /// How many rows are left, with this one.
+    pub left: u16,
+    /// The path of the row before, or, from its name on, of this row.
+    pub path: PathBuilder,
+    /// Whether the row before has ends.
+    pub ended: bool,
+    pub depth: u8,
+    pub name_length: u16,
+}
+
 /// What was read of a frame so far, and which field comes next.
 #[derive(Drop)]
 pub struct Scan<T: PrefixTree> {
@@ -62,22 +85,12 @@ pub struct Scan<T: PrefixTree> {
     pub cover: Coverage,
     /// The least rank with which the next run may begin, or its first rank where its last comes next.
     pub least: u32,
-    /// Whose words come next.
-    pub part: Part,
-    pub offset: u16,
-    pub words: Vec<u64>,
+    pub set: SetScan,
     /// How many words or runs are left.
     pub left: u32,
+    pub row: RowScan,
     /// The tree of the rows that were read.
     pub tree: RowTree<T>,
-    /// How many rows are left, the one that is being read among them.
-    pub rows_left: u16,
-    /// The path of the row before, or, from its name on, of the row that is being read.
-    pub path: PathBuilder,
-    /// Whether the row before has ends.
-    pub ended: bool,
-    pub depth: u8,
-    pub name_length: u16,
 }
 
 impl<T: PrefixTree> Scan<T> {
@@ -97,16 +110,20 @@ impl<T: PrefixTree> Scan<T> {
                 count: 0,
             },
             least: 0,
-            part: Part::Coverage,
-            offset: 0,
-            words: Vec::new(alloc),
+            set: SetScan {
+                part: Part::Coverage,
+                offset: 0,
+                words: Vec::new(alloc),
+            },
             left: 0,
+            row: RowScan {
+                left: 0,
+                path: PathBuilder::new(alloc),
+                ended: true,
+                depth: 0,
+                name_length: 0,
+            },
             tree: RowTree::new(alloc),
-            rows_left: 0,
-            path: PathBuilder::new(alloc),
-            ended: true,
-            depth: 0,
-            name_length: 0,
         }
     }
 
@@ -139,7 +156,7 @@ impl<T: PrefixTree> Scan<T> {
             Field::Offset | Field::WordCount | Field::RowCount | Field::NameLength => 2,
             Field::RunCount | Field::FirstRank | Field::LastRank => 4,
             Field::Word => 8,
-            Field::Name => self.name_length as usize,
+            Field::Name => self.row.name_length as usize,
             Field::End => 0,
         }
     }

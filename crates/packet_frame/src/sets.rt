@@ -44,19 +44,19 @@ impl<T: PrefixTree> Scan<T> {
         if u32::from(offset) >= self.word_limit() {
             return Err(FieldError::Broken(FrameReason::OverLimit));
         }
-        self.offset = offset;
+        self.set.offset = offset;
         self.field = Field::WordCount;
         Ok(())
     }
 
     // Why the set may not be empty, if it may not.
     fn needed(&self) -> Option<FrameReason>
-        ensures reason { result ≡ needed self.now.part self.now.depth self.now.rows_left }
+        ensures reason { result ≡ needed self.now.set.part self.now.row.depth self.now.row.left }
         ensures lasting { IfSome result (λ reason. is_short reason ≡ false) }
     {
-        match self.part {
+        match self.set.part {
             Part::Coverage => Some(FrameReason::BadLength),
-            Part::Ends if self.rows_left <= 1 || usize::from(self.depth) == FRAME_LIMIT => {
+            Part::Ends if self.row.left <= 1 || usize::from(self.row.depth) == FRAME_LIMIT => {
                 Some(FrameReason::NotCanonical)
             }
             Part::Ends => None,
@@ -72,10 +72,10 @@ impl<T: PrefixTree> Scan<T> {
         ensures ready { OnOk result (IsReady self.new.field self.new) }
     {
         let count = u16_of(field);
-        if u32::from(self.offset) + u32::from(count) > self.word_limit() {
+        if u32::from(self.set.offset) + u32::from(count) > self.word_limit() {
             return Err(FieldError::Broken(FrameReason::OverLimit));
         }
-        if self.offset != 0 && count == 0 {
+        if self.set.offset != 0 && count == 0 {
             return Err(FieldError::Broken(FrameReason::NotCanonical));
         }
         if let Some(reason) = self.needed()
@@ -83,7 +83,7 @@ impl<T: PrefixTree> Scan<T> {
         {
             return Err(FieldError::Broken(reason));
         }
-        self.words.clear();
+        self.set.words.clear();
         self.left = u32::from(count);
         self.next_word(alloc)
     }
@@ -92,11 +92,11 @@ impl<T: PrefixTree> Scan<T> {
     #[tactic(auto, unfolding(crate::specs::Frame::ends_rule))]
     fn obeys(&self, word: u64) -> bool
         requires { IsInSet self.now }
-        ensures { broken (word_rule self.now.part self.now.version self.now.cover.ranks
-            (self.now.offset + length self.now.words.items) word) ≡ cond result None (Some NotCanonical) }
+        ensures { broken (word_rule self.now.set.part self.now.version self.now.cover.ranks
+            (self.now.set.offset + length self.now.set.words.items) word) ≡ cond result None (Some NotCanonical) }
     {
-        let index = u32::from(self.offset) + self.words.len() as u32;
-        match self.part {
+        let index = u32::from(self.set.offset) + self.set.words.len() as u32;
+        match self.set.part {
             Part::Coverage => true,
             Part::Ends if self.version == 1 => self.cover.ranks.covers_word(index, word),
             Part::Ends => word_is_below(index, word, self.cover.count),
@@ -111,14 +111,14 @@ impl<T: PrefixTree> Scan<T> {
         ensures ready { OnOk result (IsReady self.new.field self.new) }
     {
         let word = u64_of(field);
-        let is_edge = self.words.is_empty() || self.left == 1;
+        let is_edge = self.set.words.is_empty() || self.left == 1;
         if is_edge && word == 0 {
             return Err(FieldError::Broken(FrameReason::NotCanonical));
         }
         if !self.obeys(word) {
             return Err(FieldError::Broken(FrameReason::NotCanonical));
         }
-        self.words.push(word)?;
+        self.set.words.push(word)?;
         self.left -= 1;
         self.next_word(alloc)
     }
@@ -140,18 +140,18 @@ impl<T: PrefixTree> Scan<T> {
 
     // Ends a set, whose words were read.
     fn end_set(&mut self, alloc: Global) -> Result<(), FieldError>
-        requires part { IsInPart self.old.part self.old }
-        requires words { AreWords self.old.offset self.old.words.items }
-        requires may_end { self.old.part ≡ parts.Ends
-            → MayEnd self.old.version self.old.cover.ranks (ranks_in self.old.offset self.old.words.items) }
+        requires part { IsInPart self.old.set.part self.old }
+        requires words { AreWords self.old.set.offset self.old.set.words.items }
+        requires may_end { self.old.set.part ≡ parts.Ends
+            → MayEnd self.old.version self.old.cover.ranks (ranks_in self.old.set.offset self.old.set.words.items) }
         ensures ends { OnOk result
-            (set_then self.old (ranks_in self.old.offset self.old.words.items) ≡ left self.new) }
+            (set_then self.old (ranks_in self.old.set.offset self.old.set.words.items) ≡ left self.new) }
         ensures err { IfErr result (λ e. e ≡ FieldError.OutOfMemory) }
         ensures ready { OnOk result (IsReady self.new.field self.new) }
     {
-        let words = mem::replace(&mut self.words, Vec::new(alloc));
-        let numbers = RankSet::from_words(alloc, u32::from(self.offset), words)?;
-        match self.part {
+        let words = mem::replace(&mut self.set.words, Vec::new(alloc));
+        let numbers = RankSet::from_words(alloc, u32::from(self.set.offset), words)?;
+        match self.set.part {
             Part::Coverage => {
                 self.cover.ranks = numbers;
                 self.end_cover(alloc)

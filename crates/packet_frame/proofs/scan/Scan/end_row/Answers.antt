@@ -18,6 +18,6 @@ next_row-requires-after_bounds g c κs within =
       kind = c.requires.named.kind;
       covered = c.requires.named.covered;
       grown =
-          subst (λ (p : Path). HasGrown s.cover.ranks c.grow.new.self p (s.rows_left - 1)) (sym c.in_ok-grow.ensures.path) (
-          subst (λ (t : Tree). HasGrown s.cover.ranks t s.path (s.rows_left - 1)) (sym c.in_ok-grow.ensures.tree) (named_more s c.requires.named c.args.ends));
+          subst (λ (p : Path). HasGrown s.cover.ranks c.grow.new.self p (s.row.left - 1)) (sym c.in_ok-grow.ensures.path) (
+          subst (λ (t : Tree). HasGrown s.cover.ranks t s.row.path (s.row.left - 1)) (sym c.in_ok-grow.ensures.tree) (named_more s c.requires.named c.args.ends));
     }

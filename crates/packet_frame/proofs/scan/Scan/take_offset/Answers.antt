@@ -14,5 +14,5 @@ returns-clause-takes g c =
     let s = c.args.self.now in
     let n = c.u16_of-offset.result in
     let fine : broken ((nat_lt n (word_limit s.version), OverLimit) ∷ []) ≡ None = search rules in
-    ap (λ form. after_field form c.args.field.now) (set_follows (word_rule s.part s.version s.cover.ranks) (set_then s) (word_limit s.version) (needed s.part s.depth s.rows_left))
-    ∙ take_number w16 (λ n. (nat_lt n (word_limit s.version), OverLimit) ∷ []) (λ offset. word_count_form (word_limit s.version) (needed s.part s.depth s.rows_left) offset >>= λ count. words_left (word_rule s.part s.version s.cover.ranks) offset [] count >>= set_then s) c.args.field.now n c.u16_of-offset.ensures fine
+    ap (λ form. after_field form c.args.field.now) (set_follows (word_rule s.set.part s.version s.cover.ranks) (set_then s) (word_limit s.version) (needed s.set.part s.row.depth s.row.left))
+    ∙ take_number w16 (λ n. (nat_lt n (word_limit s.version), OverLimit) ∷ []) (λ offset. word_count_form (word_limit s.version) (needed s.set.part s.row.depth s.row.left) offset >>= λ count. words_left (word_rule s.set.part s.version s.cover.ranks) offset [] count >>= set_then s) c.args.field.now n c.u16_of-offset.ensures fine

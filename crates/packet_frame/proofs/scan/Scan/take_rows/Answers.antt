@@ -21,7 +21,7 @@ returns-then-self-le1-clause-reads g c =
     let to : next ≡ offset + (3 + length name) = omega (arith, c.split_at-in-loop-depth.ensures.back_len, old.within) in
     let within : offset ≤ length bytes = omega arith in
     let head : BeginsWithHead (drop offset bytes) c.in-Some.depth name = subst (λ (xs : List ℕ). BeginsWithHead xs c.in-Some.depth name) old.behind c.in-Some.ensures in
-    let row : FollowsRow s.path s.ended c.in-Some.depth name c.push_row.new.path = c.in_ok-push_row.ensures.read (ap Ok c.if-not-branch.false) in
+    let row : FollowsRow s.row.path s.row.ended c.in-Some.depth name c.push_row.new.path = c.in_ok-push_row.ensures.read (ap Ok c.if-not-branch.false) in
     λ more. old.reads more ∙ head_passed s bytes offset c.in-Some.depth name c.push_row.new.path next old.next old.ready within head row to more
 
 pub returns-then-self-le1-clause-ready : goal.returns-then-self-le1-clause-ready
@@ -37,7 +37,7 @@ returns-then-self-le1-clause-ready g c =
     let to : next ≡ offset + (3 + length name) = omega (arith, c.split_at-in-loop-depth.ensures.back_len, old.within) in
     let within : offset ≤ length bytes = omega arith in
     let head : BeginsWithHead (drop offset bytes) c.in-Some.depth name = subst (λ (xs : List ℕ). BeginsWithHead xs c.in-Some.depth name) old.behind c.in-Some.ensures in
-    let row : FollowsRow s.path s.ended c.in-Some.depth name c.push_row.new.path = c.in_ok-push_row.ensures.read (ap Ok c.if-not-branch.false) in
+    let row : FollowsRow s.row.path s.row.ended c.in-Some.depth name c.push_row.new.path = c.in_ok-push_row.ensures.read (ap Ok c.if-not-branch.false) in
     let named = head_named s bytes offset c.in-Some.depth name c.push_row.new.path next old.next old.ready within head row to in
     record { kind = named.kind; covered = named.covered; some = named.some; depth = named.depth; depth_limit = named.depth_limit; len = named.len; before = named.before; grown = named.grown; kept = named.kept }
 
@@ -54,9 +54,9 @@ loop-depth-preserved g c =
     let to : next ≡ offset + (3 + length name) = omega (arith, c.split_at-in-loop-depth.ensures.back_len, old.within) in
     let within : offset ≤ length bytes = omega arith in
     let head : BeginsWithHead (drop offset bytes) c.in-Some.depth name = subst (λ (xs : List ℕ). BeginsWithHead xs c.in-Some.depth name) old.behind c.in-Some.ensures in
-    let row : FollowsRow s.path s.ended c.in-Some.depth name c.push_row.new.path = c.in_ok-push_row.ensures.read (ap Ok c.if-not-branch.false) in
+    let row : FollowsRow s.row.path s.row.ended c.in-Some.depth name c.push_row.new.path = c.in_ok-push_row.ensures.read (ap Ok c.if-not-branch.false) in
     let behind = c.split_at-in-loop-depth-2.result.1.now in
-    let some : 1 < s.rows_left = omega (arith, c.if-self-le1.false) in
+    let some : 1 < s.row.left = omega (arith, c.if-self-le1.false) in
     let four : 4 ≤ length ends = c.has_no_ends.ensures.within c.if-not-has_no_ends.false in
     let fits : length ends ≤ length bytes = omega (arith, c.split_at-in-loop-depth.ensures.back_len, old.within) in
     let ends_at : ends ≡ drop next bytes = c.split_at-in-loop-depth.ensures.back ∙ ap (drop (3 + length name)) old.behind ∙ drop-drop (3 + length name) offset bytes ∙ ap (λ (n : ℕ). drop n bytes) (sym to) in
