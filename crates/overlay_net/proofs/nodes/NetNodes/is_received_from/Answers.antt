@@ -1,4 +1,4 @@
-use Rattle.std.proofs.Common.{◌≡◌, ◌∙◌, ◌<◌, length, sym, ap, subst}
+use Rattle.std.proofs.Common.{◌∙◌, ◌<◌, length, sym, ap, subst}
 use Rattle.event_claims.specs.Claims.{receives_from}
 use Rattle.overlay_net.specs.Places.{events_out}
 use Rattle.overlay_net.proofs.ReadPlaces.{none_more, out_read, some_place}
