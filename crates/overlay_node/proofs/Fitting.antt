@@ -1,11 +1,11 @@
 -- What is held of a wave fits the book after each act.
-use Rattle.std.proofs.Common.{◌≡◌, ◌≢◌, ◌≤◌, ℕ, zero, suc, inl, inr, Bool, true, false, List, Option, Some, None, refl, sym, ap, subst, ◌∙◌, arith}
+use Rattle.std.proofs.Common.{◌≡◌, ◌≢◌, ◌≤◌, ℕ, zero, suc, inl, inr, Bool, true, false, List, Option, Some, None, IsSome, refl, sym, ap, subst, ◌∙◌, arith}
 use Rattle.std.proofs.lemmas.Bool.{true≢false}
 use Rattle.rank_set.specs.Ranks.{Ranks, Has, IsSubset, none, size, union}
 use Rattle.prefix_tree.specs.Tree.{tree_of}
 use Rattle.prefix_tree.proofs.TreeLemmas.{coverage-tree_of}
 use Rattle.stat_plan.specs.Invariants.{IsPlan}
-use Rattle.stat_plan.specs.Plans.{Plan, is_front, mode, samples, stream_ranks}
+use Rattle.stat_plan.specs.Plans.{Plan, is_front, mode, samples, stream_of, stream_ranks}
 use Rattle.stat_plan.specs.Machine.Kin.{complete}
 use Rattle.stat_plan.specs.Machine.Due.{due_act}
 use Rattle.stat_plan.specs.Machine.Waves.{Wave, Open, Closed, ticks, ticked, ticked_timer, unsent, has_grown, is_empty_open}
@@ -16,6 +16,7 @@ use Rattle.stat_plan.specs.declared.machine.Timer.TheVariants.{Off, Running, Fir
 use Rattle.stat_plan.specs.declared.machine.Act.{Act}
 use Rattle.stat_plan.specs.declared.machine.Act.TheVariants.{Hold, Arm, Send, Partial}
 use Rattle.merge_filter.specs.Contributions.{Contrib, IsPartialMerge, contrib, coverage_of}
+use Rattle.merge_filter.proofs.Daemons.{stream_some}
 use Rattle.merge_filter.proofs.Standing.{stands_from}
 use Rattle.overlay_core.specs.Nodes.{due_at}
 use Rattle.overlay_core.proofs.Settled.{after_arm, ne_from_grown}
@@ -94,6 +95,12 @@ open_fits p n h v covered sent timer e f = subst (HeldFits p n h) e f
 
 pub some_is : {X : Type 0} (x y : X) → ◌≡◌ {A = Option X} (Some x) (Some y) → x ≡ y
 some_is {X} x y e = ap (λ (o : Option X). elim o [ None ↦ x | Some z ↦ z ]) e
+
+-- the plan has the stream of an open wave of which something is held
+pub open_stream : (p : Plan) (n : ℕ) (h : HeldView) (v : Wave) (covered sent : Ranks) (timer : Timer) → v ≡ Open covered sent timer → HeldFits p n h v → IsSome (stream_of p h.stream)
+open_stream p n h v covered sent timer is f =
+    let fits = open_fits p n h v covered sent timer is f in
+    subst (λ s. IsSome (stream_of p s)) fits.stream (stream_some p fits.part.stream fits.part.wave fits.merge.wave)
 
 -- the same is held where other ranks were passed on and the timer stands otherwise
 refit : (p : Plan) (n : ℕ) (h : HeldView) (covered sent after : Ranks) (timer then : Timer) → IsSubset after covered → h.release_count ≤ size after → TimerFits p h.stream then → OpenFits p n h covered sent timer → OpenFits p n h covered after then

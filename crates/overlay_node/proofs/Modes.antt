@@ -8,7 +8,3 @@ use Rattle.stat_plan.specs.Plans.{Plan, mode, stream_of}
 pub mode_at : (p : Plan) (s : ℕ) (x : Stream) → stream_of p s ≡ Some x → x.mode ≡ mode p s
 unfolding mode
 mode_at p s x is = sym (ap (λ (o : Option Stream). elim o as (λ _. Mode) [ None ↦ WaitForAll | (Some x) ↦ x.mode ]) is)
-
-pub mode_none : (p : Plan) (s : ℕ) → stream_of p s ≡ None → WaitForAll ≡ mode p s
-unfolding mode
-mode_none p s is = sym (ap (λ (o : Option Stream). elim o as (λ _. Mode) [ None ↦ WaitForAll | (Some x) ↦ x.mode ]) is)

@@ -134,6 +134,14 @@ pub length_keys : (hs : List HeldView) → length (held_keys hs) ≡ length hs
 length_keys [] = refl
 length_keys (h ∷ hs) = ap suc (length_keys hs)
 
+-- as many are held where the keys are the same
+pub same_length : (start now : List HeldView) → held_keys now ≡ held_keys start → length now ≡ length start
+same_length start now keys = sym (length_keys now) ∙ ap length keys ∙ length_keys start
+
+-- an index below the count at the start is one of what is held now
+pub below_now : (start now : List HeldView) (i end len : ℕ) → held_keys now ≡ held_keys start → end ≡ len → len ≡ length start → i < end → i < length now
+below_now start now i end len keys is all lt = subst (λ k. i < k) (is ∙ all ∙ sym (same_length start now keys)) lt
+
 pub key_is : (hs : List HeldView) (i : ℕ) (h : HeldView) (d : ℕ × ℕ) → i < length hs → h ≡ get_or hs i h → get_or (held_keys hs) i d ≡ (h.stream, h.wave)
 key_is [] i h d lt is = absurd (omega (arith, lt))
 key_is (x ∷ xs) zero h d lt is = ap (λ (y : HeldView). let v : ℕ × ℕ = (y.stream, y.wave) in v) (sym is)

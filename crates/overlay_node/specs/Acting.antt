@@ -18,6 +18,7 @@ use Rattle.overlay_core.specs.TreeReleases.{AreNumberedInOrder, TreeRelease, bar
 use Rattle.overlay_node.specs.Frames.{packet_of}
 use Rattle.overlay_node.specs.Outputs.{Output, OutputFits, packets_of}
 use Rattle.overlay_node.specs.NodeViews.{AreHeldFits, Counts, HeldFits, HeldView, held_keys, is_held_of}
+use Rattle.overlay_node.specs.declared.work.NodeWork.{NodeWork}
 
 -- nothing was sent or released yet
 abbrev pub no_output : Output
@@ -173,3 +174,7 @@ pub record StepsHeld (p : Plan) (n : ℕ) (does : Effects → Effects) (hs new :
   pub numbers : (earlier : List Release) → Counts hs (earlier ++ bare_releases o.releases) → AreNumberedInOrder earlier o.releases → AreNumberedInOrder earlier q.releases
   pub counts : (earlier : List Release) → Counts hs (earlier ++ bare_releases o.releases) → Counts new (earlier ++ bare_releases q.releases)
   pub work : effects_of c q ≡ does (effects_of b o)
+
+-- What a step does to all that an event changes besides the node's kin. `does` is the machine's step.
+abbrev pub Steps : {X : Type 0} → Plan → ℕ → (Effects → Effects) → NodeWork X → NodeWork X → Type 0
+Steps p n does old new = StepsHeld p n does old.held.items new.held.items old.work.book new.work.book old.work.effects new.work.effects

@@ -6,10 +6,12 @@ use Rattle.stat_plan.specs.declared.machine.Act.{Act}
 use Rattle.loss_adoption.specs.NodeKins.{IsKinOf, NodeKin}
 use Rattle.wave_resend.specs.Books.{WaveAt, book_of}
 use Rattle.overlay_core.specs.Nodes.{Effects, Packet, act, dones}
-use Rattle.overlay_node.specs.Outputs.{Output, Sends}
+use Rattle.overlay_node.specs.Outputs.{Sends}
 use Rattle.overlay_node.specs.NodeViews.{AreHeldFits, HeldFits, HeldView, NodeView}
-use Rattle.overlay_node.specs.Acting.{StepsHeld, StepsWave, act_changed, act_fired, each_by, end, due_as, tick}
+use Rattle.overlay_node.specs.Acting.{Steps, StepsWave, act_changed, act_fired, each_by, end, due_as, tick}
 use Rattle.overlay_node.specs.declared.context.NodeContext.{NodeContext}
+use Rattle.overlay_node.specs.declared.work.NodeWork.{NodeWork}
+use Rattle.overlay_node.specs.declared.work.WaveWork.{WaveWork}
 
 -- the node's kin
 abbrev pub kin_of : NodeContext → Kin
@@ -28,16 +30,16 @@ abbrev pub FitsAt : NodeContext → List WaveAt → HeldView → Type 0
 FitsAt context b h = HeldFits context.plan.now (number_at context) h (book_of b h.stream h.wave)
 
 -- what is held of each wave fits the book
-abbrev pub AllFitAt : NodeContext → List WaveAt → List HeldView → Type 0
-AllFitAt context b hs = AreHeldFits context.plan.now (number_at context) (book_of b) hs
+abbrev pub AllFitAt : {X : Type 0} → NodeContext → NodeWork X → Type 0
+AllFitAt context work = AreHeldFits context.plan.now (number_at context) (book_of work.work.book) work.held.items
 
--- what a step does to what is held of one wave, to the book and to the output
-abbrev pub StepsWaveAt : NodeContext → (Effects → Effects) → HeldView → HeldView → List WaveAt → List WaveAt → Output → Output → Type 0
-StepsWaveAt context does h g b c o q = StepsWave context.plan.now (number_at context) does h g b c o q
+-- what a step does to what is held of one wave, to the book and to the effects
+abbrev pub StepsWaveAt : {X : Type 0} → NodeContext → (Effects → Effects) → HeldView → HeldView → WaveWork X → WaveWork X → Type 0
+StepsWaveAt context does h g old new = StepsWave context.plan.now (number_at context) does h g old.book new.book old.effects new.effects
 
--- what a step does to what is held of all waves, to the book and to the output
-abbrev pub StepsHeldAt : NodeContext → (Effects → Effects) → List HeldView → List HeldView → List WaveAt → List WaveAt → Output → Output → Type 0
-StepsHeldAt context does hs new b c o q = StepsHeld context.plan.now (number_at context) does hs new b c o q
+-- what a step does to all that an event changes
+abbrev pub StepsAt : {X : Type 0} → NodeContext → (Effects → Effects) → NodeWork X → NodeWork X → Type 0
+StepsAt context does old new = Steps context.plan.now (number_at context) does old new
 
 -- frames of these packets were added
 abbrev pub SendsAt : NodeContext → List (ℕ × Packet) → List (ℕ × List ℕ) → List (ℕ × List ℕ) → Type 0
@@ -80,3 +82,7 @@ dones_at context s w = dones context.plan.now (kin_of context) s w
 -- the node of these parts; how many events it has done is left out
 abbrev pub node_with : NodeKin → List WaveAt → List HeldView → NodeView
 node_with kin book held = record { number = kin.node; kin = kin.kin; book = book; held = held; count = 0 }
+
+-- the node in the middle of an event
+abbrev pub node_during : {X : Type 0} → NodeKin → NodeWork X → NodeView
+node_during kin work = node_with kin work.work.book work.held.items

@@ -7,7 +7,7 @@ use Rattle.packet_frame.specs.declared.packet.Packet.TheVariants.{Up as FrameUp,
 use Rattle.packet_frame.specs.Fields.{Refusal}
 use Rattle.packet_frame.specs.Reading.{first_of}
 use Rattle.packet_frame.specs.Sending.{spelling_of}
-use Rattle.packet_frame.specs.Sent.{as_packet}
+use Rattle.packet_frame.specs.Sent.{as_packet, packet_map}
 use Rattle.overlay_core.specs.Nodes.{Packet, Up, Done, Attach, Down}
 
 -- a packet with what goes over the link: the tree of the wave's samples over the ranks that go up
@@ -23,6 +23,10 @@ bare_packet (FrameUp s w t) = Up s w t.coverage
 bare_packet (FrameDone s w) = Done s w
 bare_packet FrameAttach = Attach
 bare_packet FrameDown = Down
+
+-- the machine's packet of one that was read, where `tree` says what its tree is
+abbrev pub packet_view : {X : Type 0} → (X → Tree) → FramePacket X → Packet
+packet_view tree packet = bare_packet (packet_map tree packet)
 
 -- the packet that was read, bare; where none was, it doesn't matter
 abbrev pub packet_in : Result (FramePacket Tree × ℕ) Refusal → Packet

@@ -33,6 +33,7 @@ mod node;
 mod output;
 mod sending;
 mod step;
+mod work;
 
 pub use node::Node;
 pub use output::Outgoing;

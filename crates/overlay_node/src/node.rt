@@ -13,7 +13,7 @@ ghost use Rattle.overlay_node.specs.Outputs.{AreFrames, ReleaseFits, frames_of, 
 use crate::held::HeldWave;
 use crate::init::fresh_waves;
 use crate::output::Outgoing;
-use crate::step::step;
+use crate::work::{NodeWork, WaveWork};
 use loss_adoption::Kin;
 use overlay_event::Event;
 use packet_frame::Frame;
@@ -40,7 +40,13 @@ impl<T: PrefixTree> Model for Node<T> {
 
     ghost coded = { coded_node };
 
-    ghost view = { λ n. record { number = n.kin.node; kin = n.kin.kin; book = n.book; held = n.held.items; count = n.count } };
+    ghost view = { λ n. record {
+      number = n.kin.node;
+      kin = n.kin.kin;
+      book = n.book;
+      held = n.held.items;
+      count = n.count;
+    } };
 }
 
 impl<T: PrefixTree> Node<T> {
@@ -92,23 +98,30 @@ impl<T: PrefixTree> Node<T> {
         ensures numbers { IfOk result (λ r. ContinueNumbers self.held r.1.releases) }
         ensures counts { IfOk result (λ r. CountMore self.held r.0.held r.1.releases) }
     {
-        let mut node = self;
-        let mut out = Outgoing {
+        let Node {
+            mut kin,
+            book,
+            held,
+            count,
+        } = self;
+        let effects = Outgoing {
             sends: Vec::new(alloc),
             releases: Vec::new(alloc),
         };
+        let mut node = NodeWork {
+            held,
+            work: WaveWork { book, effects },
+        };
         plan.invariant();
-        step(
-            plan,
-            &mut node.kin,
-            &mut node.book,
-            node.held.as_mut_slice(),
-            event,
-            frame,
-            &mut out,
-        )?;
-        node.count += 1;
-        Ok((node, out))
+        node.step(plan, &mut kin, event, frame)?;
+        let NodeWork { held, work } = node;
+        let after = Node {
+            kin,
+            book: work.book,
+            held,
+            count: count + 1,
+        };
+        Ok((after, work.effects))
     }
 
     /// The first wave of a stream that the node serves of which nothing has come in yet, if there is one.

@@ -1,9 +1,0 @@
-use Rattle.std.proofs.Common.{take}
-use Rattle.overlay_node.specs.NodeViews.{held_keys}
-use Rattle.overlay_node.specs.Acting.{StepsHeld, act_fired, each_by}
-use Rattle.overlay_node.proofs.events.act_on_fired.Given as goal
-
-abbrev pub invariant-loop-i : goal.invariant-loop-i
-invariant-loop-i g l =
-    StepsHeld l.context.plan.now l.context.kin.now.node (each_by (act_fired l.context.plan.now l.context.kin.now.node l.context.kin.now.kin) (take l.i (held_keys l.fn.held)))
-    l.fn.held l.held l.fn.book l.book l.fn.out l.out
