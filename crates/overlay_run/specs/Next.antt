@@ -3,7 +3,6 @@ use Rattle.std.specs.Prelude.{◌≡◌, None}
 use Rattle.stat_plan.specs.Plans.{Plan}
 use Rattle.board_turn.specs.declared.turn.Turn.{Turn}
 use Rattle.board_turn.specs.declared.turn.TurnSeat.{TurnSeat}
-use Rattle.overlay_net.specs.Claims.{ClaimView}
 use Rattle.overlay_run.specs.Boards.{BoardView, HasEnded}
 use Rattle.overlay_run.specs.Given.{given_board}
 use Rattle.overlay_run.specs.Seats.{IsAway, IsIdle}
@@ -11,7 +10,7 @@ use Rattle.overlay_run.specs.declared.worker.Next.{Next}
 use Rattle.overlay_run.specs.declared.worker.Next.TheVariants.{Claims, Waits, Ends}
 
 -- the seat has a claim that isn't worked on yet; or it is idle, and where the run ends, the board that was given back is stopped or done
-abbrev pub IsNext : Turn BoardView Plan → TurnSeat → Next → Type 0
+abbrev pub IsNext : {X : Type 0} → Turn BoardView Plan → TurnSeat → Next X → Type 0
 IsNext t s (Claims c) = (c.left ≡ None) × IsAway t s c
 IsNext t s Waits = IsIdle t s
 IsNext t s (Ends given) = HasEnded (given_board given) × IsIdle t s

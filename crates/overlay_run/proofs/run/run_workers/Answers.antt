@@ -21,11 +21,11 @@ map_vec-requires-sync-F g c κs within =
     param_sync 4 _
     (arg_sync _ no _
     (job_sync _ _ _ _ _ _
-    (shr_sync _ _ _ c.type_bounds.sync-R)
     (shr_sync _ _ _ global_sync)
-    (shr_sync _ _ _ (plan_turn_sync _ _ g.T.PrefixTree c.type_bounds.send-T))
     (shr_sync _ _ _ plan_sync)
-    (shr_sync _ _ _ c.type_bounds.sync-G)))
+    (shr_sync _ _ _ c.type_bounds.sync-G)
+    (shr_sync _ _ _ c.type_bounds.sync-R)
+    (shr_sync _ _ _ (plan_turn_sync _ _ g.T.PrefixTree c.type_bounds.send-T))))
 
 pub map_vec-requires-after_bounds : goal.map_vec-requires-after_bounds
 map_vec-requires-after_bounds g c κs within i x low at = (
