@@ -1,7 +1,7 @@
 -- The limits of two files, and what the promises refuse: each row behind the first two is a case of which one of them does
 -- not hold.
 use Rattle.std.specs.Prelude.{◌≡◌, refl, codes, ℕ, Bool, true, false, List, [], ◌∷◌, ◌++◌, Some, None}
-use Rattle.std.proofs.Common.{ap, sym, subst, ◌∙◌, ¬, inl, inr}
+use Rattle.std.proofs.Common.{ap, sym, subst, ◌∙◌, inl, inr}
 use Rattle.std.proofs.lemmas.Bool.{true≢false}
 use Rattle.rank_set.specs.Ranks.{has, none, set_of, with_rank}
 use Rattle.text_lines.specs.Lines.{lines, pieces}
