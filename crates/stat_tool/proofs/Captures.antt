@@ -1,5 +1,5 @@
 -- From the text of a capture to the output of its job.
-use Rattle.std.proofs.Common.{◌≡◌, ℕ, List, [], None, refl, sym, ap, subst, ◌∙◌}
+use Rattle.std.proofs.Common.{◌≡◌, ℕ, List, [], None, sym, ap, subst, ◌∙◌}
 use Rattle.std.specs.Prelude.{Result, Ok, Err}
 use Rattle.packet_frame.specs.Answers.{result_map}
 use Rattle.packet_frame.specs.declared.error.FrameError.{FrameError}

@@ -1,5 +1,6 @@
 -- What the call answers, and why.
 use Rattle.std.specs.Prelude.{◌≡◌, ◌⊎◌, if◌then◌else◌, nat_le, length, ℕ, List, [], ◌∷◌, ◌++◌, take, slice_get, map, String, string_bytes, Option, Some, None, Result, Ok, Err}
+use Rattle.std.specs.Global.{Global}
 use Rattle.std.specs.Io.KnownBytes.{Appends}
 use Rattle.overlay_setup.specs.NodeSets.{In}
 use Rattle.overlay_core.specs.Machine.{enabled_events}
@@ -25,7 +26,7 @@ use Rattle.stat_tool.specs.declared.status.Status.{Status}
 use Rattle.stat_tool.specs.declared.status.Status.TheVariants.{Done, BadWords, DeskFault, BadInput, OverLimit, SinkFault, OutOfMemory, BadJournal, Unfinished, BadFrames}
 
 -- what the words of a command line ask for
-abbrev pub asked_by : List String → Result Asked WordFault
+abbrev pub asked_by : List (String Global) → Result Asked WordFault
 asked_by words = asked (map string_bytes words)
 
 -- a desk before and after a call: its count of faults, the last name at which it rose, the bytes that its reads gave, file by
