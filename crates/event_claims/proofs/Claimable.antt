@@ -12,11 +12,12 @@ use Rattle.overlay_event.specs.declared.event.Event.TheVariants.{Sample, Recv, T
 use Rattle.overlay_core.specs.Machine.{State, start, is_enabled, enabled_events}
 use Rattle.overlay_core.specs.Runs.{after, IsLegal, IsQuiet}
 use Rattle.overlay_core.specs.Independent.{sender_of}
-use Rattle.overlay_core.proofs.PlanFacts.{plan_facts}
+use Rattle.stat_plan.proofs.PlanFacts.{plan_facts}
 use Rattle.overlay_core.proofs.Journals.{listed_where_enabled, quiet_where_empty}
-use Rattle.overlay_core.proofs.ParentLinks.{list_any_in, in_list_any, filter_in, in_filter}
+use Rattle.overlay_core.proofs.ParentLinks.{list_any_in}
+use Rattle.stat_plan.proofs.InLists.{any_from_in, in_from_filter, in_filter, up_to_in}
 use Rattle.overlay_core.proofs.Steps.{active_parts}
-use Rattle.overlay_core.proofs.Whole.{in_up_to, lives_below, start_below}
+use Rattle.overlay_core.proofs.Whole.{lives_below, start_below}
 use Rattle.event_claims.specs.Claims.{Outs, MayBeOut, MayBeClaimed, is_home, is_loss_of, receives_from, is_free, is_claimable, claimable_events}
 
 home_none : (o : Option Event) → is_home o ≡ true → o ≡ None
@@ -65,7 +66,7 @@ claimable_may p st out e below h en t = record {
         let same : m ≡ k = cc in
         let up : st.alive n ≡ true = (active_parts p st n (and_parts _ _ (h.enabled n (Recv n k) at)).0).0 in
         let received : receives_from (out n) m ≡ true = ap (λ o. receives_from o m) at ∙ eq-eqb k m (sym same) in
-        true≢false (sym free ∙ ap not (in_list_any (λ j. receives_from (out j) m) (up_to (nodes p)) n (in_up_to (nodes p) n (below n up)) received))
+        true≢false (sym free ∙ ap not (any_from_in (λ j. receives_from (out j) m) n (up_to (nodes p)) (up_to_in (nodes p) n (below n up)) received))
 
 -- an event that may be claimed passes the tests
 pub may_claimable : (p : Plan) (st : State) (out : Outs) (e : Event) → MayBeOut p st out → MayBeClaimed p st out e → is_claimable p out e ≡ true
@@ -85,9 +86,9 @@ pub claimable_listed : (p : Plan) (journal : List Event) (out : Outs) (e : Event
 unfolding claimable_events
 claimable_listed p journal out e plan legal h = (
   (λ i.
-      let t = filter_in (is_claimable p out) (enabled_events p (after p journal)) e i in
+      let t = in_from_filter (is_claimable p out) e (enabled_events p (after p journal)) i in
       claimable_may p (after p journal) out e (lives_below p (start p) journal (start_below p)) h ((listed_where_enabled p journal e (plan_facts p plan) legal).1 t.0) t.1),
-  (λ c. in_filter (is_claimable p out) (enabled_events p (after p journal)) e ((listed_where_enabled p journal e (plan_facts p plan) legal).0 c.enabled) (may_claimable p (after p journal) out e h c)),
+  (λ c. in_filter (is_claimable p out) e (enabled_events p (after p journal)) ((listed_where_enabled p journal e (plan_facts p plan) legal).0 c.enabled) (may_claimable p (after p journal) out e h c)),
 )
 
 -- where no node is out, each event passes the tests

@@ -6,7 +6,8 @@ use Rattle.overlay_event.specs.Events.{event_node}
 use Rattle.overlay_event.specs.declared.event.Event.{Event}
 use Rattle.overlay_event.specs.declared.event.Event.TheVariants.{Sample, Recv, Tick, Lose}
 use Rattle.overlay_core.specs.Nodes.{Packet, Down, Outcome}
-use Rattle.overlay_core.specs.Machine.{State, step, commit, with_link, lose, receive, to, keep_of, is_pending, is_enabled}
+use Rattle.overlay_core.specs.Machine.{State, step, commit, with_link, lose, receive, is_enabled}
+use Rattle.stat_plan.specs.Machine.Overlays.{to, keep_of, is_pending}
 use Rattle.overlay_core.specs.Independent.{first_from, taken, AreIndependent}
 
 -- a packet that is added behind another one is not the first

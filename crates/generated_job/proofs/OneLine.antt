@@ -11,7 +11,7 @@ use Rattle.overlay_core.specs.History.{of_wave}
 use Rattle.overlay_core.specs.TreeReleases.{TreeRelease, bare_release, bare_releases}
 use Rattle.overlay_core.specs.Whole.{EndsFinally}
 use Rattle.overlay_core.specs.declared.release.Kind.TheVariants.{Partial, Final}
-use Rattle.overlay_core.proofs.PlanFacts.{plan_facts}
+use Rattle.stat_plan.proofs.PlanFacts.{plan_facts}
 use Rattle.overlay_core.proofs.Ended.{whole_has_ended}
 use Rattle.generated_job.specs.Job.{job_plan}
 use Rattle.generated_job.specs.Summary.{is_final, ends_stream, release_line, wave_lines, HasOneLine}

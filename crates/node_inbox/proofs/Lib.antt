@@ -3,3 +3,4 @@ pub mod Queues
 pub mod Written
 pub mod Emptied
 pub mod Sending
+pub mod Cutting

@@ -50,6 +50,14 @@ impl<T> Inbox<T> {
         }
     }
 
+    /// For proofs: the senders are strictly increasing, and each has items waiting. It does nothing when it runs.
+    pub fn invariant(&self)
+        ensures { IsInbox self.now.waiting }
+    {
+        // To read a field gives the invariant.
+        let _ = &self.senders;
+    }
+
     /// Whether items wait from a sender.
     pub fn is_waiting(&self, sender: u32) -> bool
         ensures { result ≡ is_waiting self.now.waiting sender }

@@ -14,12 +14,15 @@
 //! }
 //! ```
 //!
-//! A sender's queue stays when it is emptied, and with it its room.
+//! A sender's queue stays when it is emptied, and with it its room. [`cut_all`] is what the loss of a node does to all
+//! inboxes: it takes no memory either.
 #![tactic(auto)]
 
 mod delivery;
 mod inbox;
+mod loss;
 mod senders;
 
 pub use delivery::{deliver, make_rooms};
 pub use inbox::Inbox;
+pub use loss::cut_all;

@@ -6,16 +6,19 @@ use Rattle.overlay_setup.specs.NodeSets.{In}
 use Rattle.stat_plan.specs.Machine.Waves.{put_at, Wave, Open, Closed, Book, set_wave}
 use Rattle.stat_plan.specs.Plans.{Plan, IsUnder, serves, mode, is_front, waves_of}
 use Rattle.stat_plan.specs.Machine.Due.{due_act}
-use Rattle.overlay_core.specs.Nodes.{Packet, Up, Done, Effects, due_at, to_parent, dones, acted, act_as, act, act_each}
+use Rattle.overlay_core.specs.Nodes.{Packet, Up, Done, Attach, Down, Effects, due_at, dones, acted, act_as, act, act_each}
+use Rattle.stat_plan.specs.Machine.Overlays.{to_parent}
 use Rattle.stat_plan.specs.Machine.Kin.{Kin, complete}
-use Rattle.overlay_core.specs.LinkInvariant.{SendIsSound, OpenIsSound, WaveIsSound, BookIsSound}
+use Rattle.overlay_core.specs.LinkInvariant.{Fits, OpenIsSound, WaveIsSound, BookIsSound}
 use Rattle.overlay_setup.specs.declared.script.Mode.{Mode}
 use Rattle.overlay_setup.specs.declared.script.Mode.TheVariants.{WaitForAll, TimeOut, DontWait}
 use Rattle.stat_plan.specs.declared.machine.Timer.{Timer}
 use Rattle.stat_plan.specs.declared.machine.Timer.TheVariants.{Off, Running, Fired}
 use Rattle.stat_plan.specs.declared.machine.Act.{Act}
 use Rattle.stat_plan.specs.declared.machine.Act.TheVariants.{Hold, Arm, Send, Partial, Final}
-use Rattle.overlay_core.proofs.Lists.{in_append, in_map_filter, none_from_subset, test_from_same}
+use Rattle.stat_plan.proofs.InLists.{in_append, in_map_filter}
+use Rattle.stat_plan.proofs.LossInvariant.{SendsFit}
+use Rattle.overlay_core.proofs.RankSets.{none_from_subset, test_from_same}
 
 -- what holds of each wave still holds where one is set to what it holds of
 pub each_wave_set : (P : ℕ → ℕ → Wave → Type 0) (book : Book) (s w : ℕ) (v : Wave) → ((a b : ℕ) → P a b (book a b)) → P s w v → (a b : ℕ) → P a b (set_wave book s w v a b)
@@ -34,8 +37,16 @@ pub record KinFits (p : Plan) (n : ℕ) (kin : Kin) : Type 0 where
   pub parent : (m : ℕ) → kin.parent ≡ Some m → IsUnder p n m
   pub children : (c : ℕ) → In c kin.children → IsUnder p c n
 
+-- a living m may send it to n
+abbrev pub SendIsSound : Plan → ℕ → ℕ → Packet → Type 0
+SendIsSound p m n q = Fits p m n q × (q ≡ Down → ⊥)
+
+-- it may be on a link from m to n, and is the notice of a loss only where m is lost
+abbrev pub PacketIsSound : Plan → (ℕ → Bool) → ℕ → ℕ → Packet → Type 0
+PacketIsSound p alive m n q = Fits p m n q × (q ≡ Down → alive m ≡ false)
+
 abbrev pub SendsAreSound : Plan → ℕ → List (ℕ × Packet) → Type 0
-SendsAreSound p n sends = (m : ℕ) (q : Packet) → In (m, q) sends → SendIsSound p n m q
+SendsAreSound p n sends = SendsFit Down (Fits p) n sends
 
 pub record WorkIsSound (p : Plan) (n : ℕ) (k : Effects) : Type 0 where
   pub book : BookIsSound p n k.book
@@ -69,7 +80,11 @@ dones_sound p n s w kin fits named m q i =
     let r = in_map_filter (λ c. (c, Done s w)) (λ c. serves p c s) kin.children (m, q) i in
     let em : m ≡ r.0 = ap (λ v. v.0) r.3 in
     let eq : q ≡ Done s w = ap (λ v. v.1) r.3 in
-    subst (λ x. SendIsSound p n m x) (sym eq) (subst (λ x. IsUnder p x n × (serves p x s ≡ true) × In (s, w) (waves_of p.streams)) (sym em) (fits.children r.0 r.1, r.2, named))
+    subst (λ x. SendIsSound p n m x) (sym eq) (subst (λ x. IsUnder p x n × (serves p x s ≡ true) × In (s, w) (waves_of p.streams)) (sym em) (fits.children r.0 r.1, r.2, named), λ d. (cc))
+
+-- an attachment to the parent
+pub attach_up : (p : Plan) (n : ℕ) (kin : Kin) → KinFits p n kin → SendsAreSound p n (to_parent kin.parent Attach)
+attach_up p n kin fits = to_parent_sound p n kin.parent Attach (λ m e. (fits.parent m e, λ d. (cc)))
 
 pub subset_refl : (xs : Ranks) → IsSubset xs xs
 subset_refl xs x h = h
@@ -83,7 +98,7 @@ acted_sound p n kin s w covered sent timer k Arm named fits h o grown = record {
 }
 acted_sound p n kin s w covered sent timer k Send named fits h o grown = record {
   book = each_wave_set (λ a b v. WaveIsSound p n a v) k.book s w _ h.book (record { within = subset_refl covered; whole = o.whole });
-  sends = sends_append p n k.sends _ h.sends (to_parent_sound p n kin.parent (Up s w covered) (λ m e. (fits.parent m e, o.whole, grown refl, named)));
+  sends = sends_append p n k.sends _ h.sends (to_parent_sound p n kin.parent (Up s w covered) (λ m e. ((fits.parent m e, o.whole, grown refl, named), λ d. (cc))));
 }
 acted_sound p n kin s w covered sent timer k Partial named fits h o grown = record {
   book = each_wave_set (λ a b v. WaveIsSound p n a v) k.book s w _ h.book (record { within = subset_refl covered; whole = o.whole });

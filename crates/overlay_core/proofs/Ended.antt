@@ -14,8 +14,9 @@ use Rattle.overlay_core.specs.Runs.{after, IsWhole}
 use Rattle.overlay_core.specs.Losses.{IsLost}
 use Rattle.overlay_core.specs.History.{of_wave}
 use Rattle.overlay_core.specs.Whole.{EndsFinally, HasEnded, LosesNoDaemon, HasOneRelease}
-use Rattle.overlay_core.proofs.PlanFacts.{HasPlanFacts}
-use Rattle.overlay_core.proofs.Lists.{filter_from, in_union, union_left, union_right, same_from_members, no_rank}
+use Rattle.stat_plan.proofs.PlanFacts.{HasPlanFacts}
+use Rattle.stat_plan.proofs.InLists.{in_from_filter}
+use Rattle.overlay_core.proofs.RankSets.{in_union, union_left, union_right, same_from_members, no_rank}
 use Rattle.overlay_core.proofs.Whole.{EndsWith, whole_is_over, dead_is_lost}
 use Rattle.overlay_core.proofs.Releases.{legal_log}
 
@@ -110,4 +111,4 @@ waits_for_all p journal s w plan l waits safe i =
     }
   where
     from : (r : Release) → In r (of_wave s w (after p journal).releases) → (In r (after p journal).releases) × (r.stream ≡ s)
-    from r j = let t = filter_from (λ r. (r.stream == s) && (r.wave == w)) (after p journal).releases r j in (t.0, eqb-true r.stream s (and_parts (r.stream == s) (r.wave == w) t.1).0)
+    from r j = let t = in_from_filter (λ r. (r.stream == s) && (r.wave == w)) r (after p journal).releases j in (t.0, eqb-true r.stream s (and_parts (r.stream == s) (r.wave == w) t.1).0)

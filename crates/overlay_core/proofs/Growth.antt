@@ -1,7 +1,6 @@
 -- What a node covers of a wave only grows, and a wave that has ended doesn't begin again.
 use Rattle.std.proofs.Common.{◌≡◌, ℕ, Bool, true, ◌==◌, List, [], ◌∷◌, ◌++◌, inl, inr, refl, sym, subst, eqb-true}
 use Rattle.std.proofs.lemmas.Bool.{and_parts, cases_Bool, eqb-false}
-use Rattle.overlay_setup.specs.NodeSets.{In}
 use Rattle.stat_plan.specs.Plans.{Plan}
 use Rattle.stat_plan.specs.Machine.Waves.{Wave}
 use Rattle.overlay_event.specs.declared.event.Event.{Event}
@@ -12,13 +11,14 @@ use Rattle.overlay_core.specs.Runs.{after, IsLegal}
 use Rattle.overlay_event.specs.Events.{event_node}
 use Rattle.overlay_core.specs.Counts.{OnlyGrows}
 use Rattle.overlay_core.specs.LinkInvariant.{LinkInvariant}
-use Rattle.overlay_core.proofs.PlanFacts.{HasPlanFacts}
+use Rattle.stat_plan.proofs.PlanFacts.{HasPlanFacts}
 use Rattle.overlay_core.proofs.Outcomes.{next_is_empty}
 use Rattle.overlay_core.proofs.ParentLinks.{OutcomeLinks, sampled_links, tick_links, received_links, front_top_of}
 use Rattle.overlay_core.proofs.Whole.{legal_is_sound}
 use Rattle.overlay_core.proofs.Independent.{node_else}
 use Rattle.overlay_core.proofs.Journals.{after_more, legal_less}
 use Rattle.overlay_core.proofs.Sends.{commit_here}
+use Rattle.overlay_core.proofs.Steps.{first_sound}
 
 same_grows : (v : Wave) → OnlyGrows v v
 same_grows v = record { opens = λ e. e; covers = λ e r i. i }
@@ -30,13 +30,13 @@ own_grows : (p : Plan) (st : State) (e : Event) (s w : ℕ) → HasPlanFacts p �
 unfolding lose with_link
 own_grows p st (Sample n a b) s w plan h en =
     let t = and_parts _ _ en in
-    commit_grows p st.alive st n [] (sampled p n (st.node n) a b) s w (sampled_links p st.alive n (st.node n) a b (front_top_of p st.alive n (st.node n).kin plan (h.kin n)) (next_is_empty p (st.node n) a b t.1))
+    commit_grows p st.alive st n [] (sampled p n (st.node n) a b) s w (sampled_links p st.alive n (st.node n) a b (front_top_of p st.alive n (st.node n).kin plan (h.net.kin n)) (next_is_empty p (st.node n) a b t.1))
 own_grows p st (Recv n m) s w plan h en = go (st.link m n) refl
   where
     go : (qs : List Packet) → st.link m n ≡ qs → OnlyGrows ((st.node n).book s w) (((receive p st n m qs).node n).book s w)
     go [] e = same_grows ((st.node n).book s w)
-    go (q ∷ qs) e = commit_grows p st.alive (with_link st m n qs) n ((m, q) ∷ []) (received p n (st.node n) m q) s w (received_links p st.alive n (st.node n) m q plan (h.kin n) ((h.links m n).packets q (subst (λ l. In q l) (sym e) (inl refl))))
-own_grows p st (Tick n) s w plan h en = commit_grows p st.alive st n [] (after_tick p n (st.node n)) s w (tick_links p st.alive n (st.node n) (front_top_of p st.alive n (st.node n).kin plan (h.kin n)))
+    go (q ∷ qs) e = commit_grows p st.alive (with_link st m n qs) n ((m, q) ∷ []) (received p n (st.node n) m q) s w (received_links p st.alive n (st.node n) m q plan (h.net.kin n) (first_sound p st m n q qs h e))
+own_grows p st (Tick n) s w plan h en = commit_grows p st.alive st n [] (after_tick p n (st.node n)) s w (tick_links p st.alive n (st.node n) (front_top_of p st.alive n (st.node n).kin plan (h.net.kin n)))
 own_grows p st (Lose n) s w plan h en = same_grows ((st.node n).book s w)
 
 step_grows : (p : Plan) (st : State) (e : Event) (n s w : ℕ) → HasPlanFacts p → LinkInvariant p st → is_enabled p st e ≡ true → OnlyGrows ((st.node n).book s w) (((step p st e).node n).book s w)

@@ -1,17 +1,20 @@
 -- Releases over each event.
 use Rattle.rank_set.specs.Ranks.{Ranks, none, is_subset}
-use Rattle.std.proofs.Common.{◌≡◌, ◌≢◌, ◌⊎◌, inl, inr, ℕ, Bool, true, false, cond, not, ◌||◌, ◌&&◌, ◌==◌, List, [], ◌∷◌, ◌++◌, filter, refl, sym, ap, subst, ◌∙◌, eqb-true, eq-eqb, Option, Some, None, append-nil, append_assoc}
+use Rattle.std.proofs.Common.{◌≡◌, ◌≢◌, ◌⊎◌, inl, inr, ℕ, Bool, true, false, not, ◌||◌, ◌&&◌, ◌==◌, List, [], ◌∷◌, ◌++◌, filter, refl, sym, ap, subst, ◌∙◌, eqb-true, eq-eqb, Option, Some, None, append-nil, append_assoc}
 use Rattle.std.proofs.lemmas.Bool.{cond_both, cond-true, cond-false, and_parts, and_from, cases_Bool, eqb-false, true≢false, or_cases, not_from_true}
 use Rattle.std.proofs.lemmas.List.Elements.{filter-append}
 use Rattle.overlay_setup.specs.NodeSets.{In, member}
 use Rattle.stat_plan.specs.Machine.Waves.{put_at, Wave, Open, Closed, Book, set_wave, is_open, is_closed, is_fired, sent_of, covering, growing, ticked, unsent, is_empty_open}
-use Rattle.stat_plan.specs.Plans.{Plan, IsUnder, ancestors, serves, mode, is_front, front, daemons, ranks, is_within, is_related, waves_at, waves_of}
+use Rattle.stat_plan.specs.Plans.{Plan, IsUnder, ancestors, serves, mode, is_front, front, daemons, ranks, is_within, waves_at, waves_of}
 use Rattle.stat_plan.specs.Machine.Due.{due_act}
-use Rattle.overlay_core.specs.Nodes.{Packet, Up, Done, Attach, Down, Node, Effects, Outcome, Release, begin, due_at, to_parent, dones, acted, act_as, act, act_each, done_work, sampled, after_tick, received_up, received_done, received_attach, received_down, received}
+use Rattle.overlay_core.specs.Nodes.{Packet, Up, Done, Attach, Down, Node, Effects, Outcome, Release, begin, due_at, dones, acted, act_as, act, act_each, done_work, sampled, after_tick, received_up, received_done, received_attach, received_down, received}
+use Rattle.stat_plan.specs.Machine.Overlays.{to_parent}
 use Rattle.stat_plan.specs.Machine.Kin.{Kin, complete, is_parent, without_child, with_parent}
-use Rattle.overlay_core.specs.Machine.{State, start, step, commit, with_link, lose, receive, is_enabled}
-use Rattle.overlay_core.proofs.PlanFacts.{HasPlanFacts}
-use Rattle.overlay_core.specs.LinkInvariant.{LinkInvariant, KinIsSound, PacketIsSound, WaveIsSound, BookIsSound, OpenIsSound}
+use Rattle.overlay_core.specs.Machine.{State, start, step, commit, with_link, lose, receive, is_enabled, net_of}
+use Rattle.stat_plan.proofs.PlanFacts.{HasPlanFacts}
+use Rattle.overlay_core.specs.LinkInvariant.{LinkInvariant, WaveIsSound, BookIsSound, OpenIsSound}
+use Rattle.stat_plan.specs.Machine.LossInvariant.{KinIsSound}
+use Rattle.overlay_core.proofs.Acts.{PacketIsSound, IsSubsetOf, each_wave_set, WorkIsSound, act_sound}
 use Rattle.overlay_core.specs.History.{of_wave, ByKind, MissesOnlyLost, IsHistory, HistoryIsSound}
 use Rattle.overlay_core.specs.declared.release.Kind.{Kind}
 use Rattle.overlay_core.specs.declared.release.Kind.TheVariants.{Partial as PartialRelease, Final as FinalRelease}
@@ -23,14 +26,14 @@ use Rattle.stat_plan.specs.declared.machine.Act.{Act}
 use Rattle.stat_plan.specs.declared.machine.Act.TheVariants.{Hold, Arm, Send, Partial, Final}
 use Rattle.overlay_event.specs.declared.event.Event.{Event}
 use Rattle.overlay_event.specs.declared.event.Event.TheVariants.{Sample, Recv, Tick, Lose}
-use Rattle.overlay_core.proofs.Lists.{filter_from, list_all_in, subset_from_test, in_from_member, in_append, in_map_filter, in_take}
-use Rattle.overlay_core.proofs.Acts.{IsSubsetOf, each_wave_set, WorkIsSound, act_sound}
+use Rattle.stat_plan.proofs.InLists.{in_from_filter, list_all_in, in_from_member, in_append, in_map_filter}
+use Rattle.overlay_core.proofs.RankSets.{subset_from_test}
 use Rattle.overlay_core.proofs.Outcomes.{next_is_named, waves_at_named, kin_fits, begin_sound, next_is_empty, covering_sound, growing_sound, ticked_sound, received_sound}
-use Rattle.overlay_core.proofs.Steps.{popped_in}
+use Rattle.overlay_core.proofs.Steps.{first_sound}
 use Rattle.overlay_core.proofs.ParentLinks.{set_wave_here, test_from_within, BookGrows, covering_grows, growing_grows, ticking_grows, OutcomeLinks, sampled_links, tick_links, received_links, front_top_of}
 use Rattle.overlay_core.proofs.Settled.{set_wave_else, ne_from_grown}
 use Rattle.overlay_core.proofs.Commits.{commit_link}
-use Rattle.overlay_core.proofs.Losses.{still_dead}
+use Rattle.stat_plan.proofs.Overlays.{still_dead, lost_in, popped_in}
 use Rattle.overlay_core.proofs.ParentChild.{node_here, node_else}
 
 -- a history looks at its wave for what was sent and for whether it is open
@@ -295,7 +298,7 @@ sampled_logged p alive n x s w named plan hk hb e = acts_logged p alive n x [] x
 
 pub tick_logged : (p : Plan) (alive : ℕ → Bool) (n : ℕ) (x : Node) → HasPlanFacts p → KinIsSound p alive n x.kin → BookIsSound p n (λ s w. ticked (x.book s w)) → OutcomeIsLogged p alive n x [] (after_tick p n x)
 unfolding after_tick
-tick_logged p alive n x plan hk hb = acts_logged p alive n x [] x.kin _ (filter (λ v. is_fired (ticked (x.book v.0 v.1))) (waves_at p n)) (λ v i. waves_at_named p n v (filter_from (λ v. is_fired (ticked (x.book v.0 v.1))) (waves_at p n) v i).0) plan hk hb (ticking_grows x.book)
+tick_logged p alive n x plan hk hb = acts_logged p alive n x [] x.kin _ (filter (λ v. is_fired (ticked (x.book v.0 v.1))) (waves_at p n)) (λ v i. waves_at_named p n v (in_from_filter (λ v. is_fired (ticked (x.book v.0 v.1))) v (waves_at p n) i).0) plan hk hb (ticking_grows x.book)
 
 up_logged : (p : Plan) (alive : ℕ → Bool) (n : ℕ) (x : Node) (taken : List (ℕ × Packet)) (s w : ℕ) (set : Ranks) → In (s, w) (waves_of p.streams) → HasPlanFacts p → KinIsSound p alive n x.kin → BookIsSound p n (set_wave x.book s w (growing set (x.book s w))) → OutcomeIsLogged p alive n x taken (received_up p n x s w set)
 unfolding received_up
@@ -367,9 +370,9 @@ down_logged p alive n x taken m plan hk hk' hb =
 received_logged : (p : Plan) (alive : ℕ → Bool) (n : ℕ) (x : Node) (m : ℕ) (q : Packet) → HasPlanFacts p → KinIsSound p alive n x.kin → KinIsSound p alive n (received p n x m q).kin → BookIsSound p n x.book → PacketIsSound p alive m n q → OutcomeIsLogged p alive n x ((m, q) ∷ []) (received p n x m q)
 unfolding is_front
 received_logged p alive n x m (Up s w set) plan hk hk' hb hq =
-    up_logged p alive n x ((m, Up s w set) ∷ []) s w set hq.3 plan hk (each_wave_set (λ a b v. WaveIsSound p n a v) x.book s w _ hb (growing_sound p m n s set (x.book s w) plan hq.0 hq.1 (hb s w)))
+    up_logged p alive n x ((m, Up s w set) ∷ []) s w set hq.0.3 plan hk (each_wave_set (λ a b v. WaveIsSound p n a v) x.book s w _ hb (growing_sound p m n s set (x.book s w) plan hq.0.0 hq.0.1 (hb s w)))
 received_logged p alive n x m (Done s w) plan hk hk' hb hq = done_logged p alive n x m s w (elim (cases_Bool (n == front p)) [
-  | inl t ↦ absurd (let en : n ≡ front p = eqb-true n (front p) t in subst (λ l. In m l) (ap (ancestors p) en ∙ plan.front_top) hq.0)
+  | inl t ↦ absurd (let en : n ≡ front p = eqb-true n (front p) t in subst (λ l. In m l) (ap (ancestors p) en ∙ plan.front_top) hq.0.0)
   | inr f ↦ f
 ])
 received_logged p alive n x m Attach plan hk hk' hb hq = attach_logged p alive n x ((m, Attach) ∷ []) m
@@ -429,7 +432,7 @@ commit_history p old st n taken o g l from still rel closed named = record {
   ];
   named = λ a b s w i. elim (commit_link st n o a b (Done s w) i) [
     | inl j ↦ front_keeps p st.alive st n taken o s w g (named a b s w (still a b (Done s w) j))
-    | inr j ↦ closed_after p old st n taken o s w g l from closed named (l.dones b s w j.1)
+    | inr j ↦ closed_after p old st n taken o s w g l from closed named (l.dones b s w j.2)
   ];
 }
   where
@@ -440,27 +443,17 @@ receive_history : (p : Plan) (st : State) (n m : ℕ) (qs : List Packet) → Has
 unfolding with_link
 receive_history p st n m [] plan hs h e = h
 receive_history p st n m (q ∷ qs) plan hs h e =
-    let hq = (hs.links m n).packets q (subst (λ l. In q l) (sym e) (inl refl)) in
+    let hq = first_sound p st m n q qs hs e in
     commit_history p st.link (with_link st m n qs) n ((m, q) ∷ []) (received p n (st.node n) m q)
-    (received_links p st.alive n (st.node n) m q plan (hs.kin n) hq)
-    (received_logged p st.alive n (st.node n) m q plan (hs.kin n) (received_sound p st.alive n (st.node n) m q plan (hs.kin n) (hs.books n) hq).kin (hs.books n) hq)
+    (received_links p st.alive n (st.node n) m q plan (hs.net.kin n) hq)
+    (received_logged p st.alive n (st.node n) m q plan (hs.net.kin n) (received_sound p st.alive n (st.node n) m q plan (hs.net.kin n) (hs.books n) hq).kin (hs.books n) hq)
     (λ a v. elim [ inl k ↦ let ea : a ≡ m = ap (λ y. y.0) k in let ev : v ≡ q = ap (λ y. y.1) k in subst (λ x. In v (st.link x n)) (sym ea) (subst (λ x. In x (st.link m n)) (sym ev) (subst (λ l. In q l) (sym e) (inl refl))) | inr k ↦ absurd k ])
-    (popped_in st m n q qs e)
+    (popped_in (net_of st) m n q qs e)
     h.releases h.closed h.named
 
 lose_in : (p : Plan) (st : State) (n a b s w : ℕ) → In (Done s w) ((lose p st n).link a b) → In (Done s w) (st.link a b)
 unfolding lose
-lose_in p st n a b s w =
-    cond_both (b == n) [] _ (λ l. In (Done s w) l → In (Done s w) (st.link a b))
-    (λ e i. absurd i)
-    (λ e. cond_both (a == n) _ (st.link a b) (λ l. In (Done s w) l → In (Done s w) (st.link a b))
-    (λ f i. elim (in_append (Done s w) _ _ i) [ inl j ↦ in_take (Done s w) _ (st.link a b) j | inr j ↦ absurd (no_done (st.alive b && is_related p n b) j) ])
-    (λ f i. i))
-  where
-    no_done : (t : Bool) → In (Done s w) (cond t (Down ∷ []) []) → ⊥
-    no_done true (inl e) = cc
-    no_done true (inr i) = i
-    no_done false i = i
+lose_in p st n a b s w i = elim (lost_in Down p (net_of st) n a b (Done s w) i) [ inl j ↦ j | inr k ↦ absurd (let e : Done s w ≡ Down = k.0 in cc) ]
 
 lose_history : (p : Plan) (st : State) (n : ℕ) → HistoryIsSound p st → HistoryIsSound p (lose p st n)
 unfolding lose
@@ -476,14 +469,14 @@ step_history p st (Sample n s w) plan hs h e =
     let u = and_parts _ _ t.0 in
     let z = next_is_empty p (st.node n) s w t.1 in
     commit_history p st.link st n [] _
-    (sampled_links p st.alive n (st.node n) s w (front_top_of p st.alive n (st.node n).kin plan (hs.kin n)) z)
-    (sampled_logged p st.alive n (st.node n) s w (next_is_named p (st.node n) s w t.1) plan (hs.kin n) (each_wave_set (λ a b v. WaveIsSound p n a v) (st.node n).book s w _ (hs.books n) (covering_sound p n s ((st.node n).book s w) plan (in_from_member n (daemons p s) u.1) z (hs.books n s w))) z)
+    (sampled_links p st.alive n (st.node n) s w (front_top_of p st.alive n (st.node n).kin plan (hs.net.kin n)) z)
+    (sampled_logged p st.alive n (st.node n) s w (next_is_named p (st.node n) s w t.1) plan (hs.net.kin n) (each_wave_set (λ a b v. WaveIsSound p n a v) (st.node n).book s w _ (hs.books n) (covering_sound p n s ((st.node n).book s w) plan (in_from_member n (daemons p s) u.1) z (hs.books n s w))) z)
     (λ m q i. absurd i) (λ a b q i. i) h.releases h.closed h.named
 step_history p st (Recv n m) plan hs h e = receive_history p st n m (st.link m n) plan hs h refl
 step_history p st (Tick n) plan hs h e =
     commit_history p st.link st n [] _
-    (tick_links p st.alive n (st.node n) (front_top_of p st.alive n (st.node n).kin plan (hs.kin n)))
-    (tick_logged p st.alive n (st.node n) plan (hs.kin n) (λ s w. ticked_sound p n s ((st.node n).book s w) (hs.books n s w)))
+    (tick_links p st.alive n (st.node n) (front_top_of p st.alive n (st.node n).kin plan (hs.net.kin n)))
+    (tick_logged p st.alive n (st.node n) plan (hs.net.kin n) (λ s w. ticked_sound p n s ((st.node n).book s w) (hs.books n s w)))
     (λ m q i. absurd i) (λ a b q i. i) h.releases h.closed h.named
 step_history p st (Lose n) plan hs h e = lose_history p st n h
 

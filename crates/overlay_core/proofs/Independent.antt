@@ -8,7 +8,8 @@ use Rattle.stat_plan.specs.Machine.Waves.{is_running}
 use Rattle.overlay_event.specs.declared.event.Event.{Event}
 use Rattle.overlay_event.specs.declared.event.Event.TheVariants.{Sample, Recv, Tick, Lose}
 use Rattle.overlay_core.specs.Nodes.{Packet, Down, Node, Outcome, handled}
-use Rattle.overlay_core.specs.Machine.{State, step, commit, with_link, lose, receive, to, keep_of, is_spent, is_doomed, is_active, is_pending, is_wave, next_sample, is_enabled}
+use Rattle.overlay_core.specs.Machine.{State, step, commit, with_link, lose, receive, is_doomed, is_active, is_wave, next_sample, is_enabled}
+use Rattle.stat_plan.specs.Machine.Overlays.{to, keep_of, is_spent, is_pending}
 use Rattle.overlay_core.specs.Runs.{run}
 use Rattle.overlay_core.specs.Independent.{first_from, outcome, sender_of, AreIndependent}
 use Rattle.overlay_event.specs.Events.{event_node}

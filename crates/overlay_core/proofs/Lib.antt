@@ -1,16 +1,13 @@
-pub mod PlanFacts
-pub mod Lists
+pub mod RankSets
 pub mod Acts
 pub mod Outcomes
 pub mod Commits
-pub mod Losses
 pub mod Steps
 pub mod ParentLinks
 pub mod ParentChild
 pub mod Settled
 pub mod History
 pub mod Whole
-pub mod Totals
 pub mod PotentialDecreases
 pub mod Potential
 pub mod Enabled

@@ -13,17 +13,22 @@ use Rattle.stat_plan.specs.declared.machine.Act.TheVariants.{Hold, Arm, Send, Pa
 use Rattle.overlay_event.specs.declared.event.Event.{Event}
 use Rattle.overlay_event.specs.declared.event.Event.TheVariants.{Sample, Recv, Tick, Lose}
 use Rattle.overlay_core.specs.Nodes.{Packet, Up, Done, Attach, Down, Node, Effects, Outcome, Release, begin, acted, act_as, act, act_each, done_work, due_at, received, received_up, received_done, received_attach, received_down, sampled, after_tick}
-use Rattle.overlay_core.specs.Machine.{State, start, step, commit, with_link, lose, receive, is_doomed, is_enabled, is_spent}
-use Rattle.overlay_core.specs.Runs.{run, after, IsLegal, IsLegalFrom}
+use Rattle.overlay_core.specs.Machine.{State, start, step, commit, with_link, lose, receive, is_doomed, is_enabled}
+use Rattle.stat_plan.specs.Machine.Overlays.{is_spent}
+use Rattle.overlay_core.specs.Runs.{after, IsLegal, IsLegalFrom}
 use Rattle.overlay_core.specs.Losses.{IsLost}
-use Rattle.overlay_core.specs.LinkInvariant.{LinkInvariant, KinIsSound, AreRelated}
+use Rattle.overlay_core.specs.LinkInvariant.{LinkInvariant}
+use Rattle.stat_plan.specs.Machine.LossInvariant.{KinIsSound}
 use Rattle.overlay_core.specs.Whole.{IsSound}
-use Rattle.overlay_core.proofs.PlanFacts.{HasPlanFacts}
-use Rattle.overlay_core.proofs.Lists.{in_append}
-use Rattle.overlay_core.proofs.Losses.{still_dead}
+use Rattle.stat_plan.proofs.PlanFacts.{HasPlanFacts}
+use Rattle.stat_plan.proofs.InLists.{in_append}
+use Rattle.stat_plan.proofs.Overlays.{still_dead}
 use Rattle.overlay_core.proofs.Outcomes.{received_sound}
 use Rattle.overlay_core.proofs.Whole.{step_is_sound, start_is_sound}
 use Rattle.overlay_core.proofs.Ended.{lost_by}
+use Rattle.overlay_core.proofs.Steps.{first_sound}
+use Rattle.stat_plan.proofs.Relatives.{related_below}
+use Rattle.stat_plan.proofs.Journals.{run_keeps}
 
 -- ---- what an event releases names the nodes that its node knows to be lost
 
@@ -91,37 +96,30 @@ IsLostNode p st m = (st.alive m ≡ false) × (m < nodes p)
 abbrev NamesLostNodes : Plan → State → Type 0
 NamesLostNodes p st = (r : Release) → In r st.releases → (m : ℕ) → In m r.lost → IsLostNode p st m
 
-related_node : (p : Plan) (n m : ℕ) → HasPlanFacts p → AreRelated p n m → m < nodes p
-related_node p n m plan (inl u) = (plan.under_nodes n m u).1
-related_node p n m plan (inr u) = (plan.under_nodes m n u).0
-
 commit_names : (p : Plan) (st : State) (n : ℕ) (o : Outcome) → HasPlanFacts p → KinIsSound p st.alive n o.kin → OutcomeNamesKin o → NamesLostNodes p st → NamesLostNodes p (commit st n o)
 unfolding commit
 commit_names p st n o plan hk names h r i m j = elim (in_append r st.releases o.work.releases i) [
   | inl old ↦ h r old m j
-  | inr new ↦ let known : In m o.kin.lost = subst (In m) (names r new) j in (hk.lost m known, related_node p n m plan (hk.related m known))
+  | inr new ↦ let known : In m o.kin.lost = subst (In m) (names r new) j in (hk.lost m known, related_below p n m plan (hk.related m known))
 ]
 
 step_names : (p : Plan) (st : State) (e : Event) → HasPlanFacts p → LinkInvariant p st → NamesLostNodes p st → NamesLostNodes p (step p st e)
 unfolding sampled after_tick lose with_link
-step_names p st (Sample n s w) plan hs h = commit_names p st n _ plan (hs.kin n) (sampled_names p n (st.node n) s w) h
+step_names p st (Sample n s w) plan hs h = commit_names p st n _ plan (hs.net.kin n) (sampled_names p n (st.node n) s w) h
 step_names p st (Recv n m) plan hs h = go (st.link m n) refl
   where
     go : (qs : List Packet) → st.link m n ≡ qs → NamesLostNodes p (receive p st n m qs)
     go [] e = h
     go (q ∷ qs) e =
-        let hq = (hs.links m n).packets q (subst (λ l. In q l) (sym e) (inl refl)) in
-        commit_names p (with_link st m n qs) n _ plan (received_sound p st.alive n (st.node n) m q plan (hs.kin n) (hs.books n) hq).kin (received_names p n (st.node n) m q) h
-step_names p st (Tick n) plan hs h = commit_names p st n _ plan (hs.kin n) (tick_names p n (st.node n)) h
+        let hq = first_sound p st m n q qs hs e in
+        commit_names p (with_link st m n qs) n _ plan (received_sound p st.alive n (st.node n) m q plan (hs.net.kin n) (hs.books n) hq).kin (received_names p n (st.node n) m q) h
+step_names p st (Tick n) plan hs h = commit_names p st n _ plan (hs.net.kin n) (tick_names p n (st.node n)) h
 step_names p st (Lose n) plan hs h = λ r i m j. (still_dead st.alive n m (h r i m j).0, (h r i m j).1)
-
-run_names : (p : Plan) (st : State) (es : List Event) → HasPlanFacts p → IsSound p st → NamesLostNodes p st → IsLegalFrom p st es → NamesLostNodes p (run p st es)
-run_names p st [] plan hs h l = h
-run_names p st (e ∷ es) plan hs h l = run_names p (step p st e) es plan (step_is_sound p st e plan hs l.0) (step_names p st e plan hs.base h) l.1
 
 names_lost_nodes : (p : Plan) (journal : List Event) → HasPlanFacts p → IsLegal p journal → NamesLostNodes p (after p journal)
 unfolding start
-names_lost_nodes p journal plan l = run_names p (start p) journal plan (start_is_sound p plan) (λ r i. absurd i) l
+names_lost_nodes p journal plan l =
+    (run_keeps (λ st. IsSound p st × NamesLostNodes p st) (step p) (is_enabled p) (λ st e h en. (step_is_sound p st e plan h.0 en, step_names p st e plan h.0.base h.1)) (start p) journal (start_is_sound p plan, λ r i. absurd i) l).1
 
 -- a release names only nodes that the journal loses
 pub named_is_lost : (p : Plan) (journal : List Event) (r : Release) (n : ℕ) → HasPlanFacts p → IsLegal p journal → In r (after p journal).releases → In n r.lost → IsLost journal n

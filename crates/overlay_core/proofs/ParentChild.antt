@@ -1,40 +1,24 @@
 -- A living node and its living parent, over a commit and over a loss.
-use Rattle.std.proofs.Common.{◌≡◌, ◌⊎◌, inl, inr, ℕ, Bool, true, false, cond, ◌&&◌, ◌==◌, List, [], ◌∷◌, ◌++◌, refl, sym, ap, subst, ◌∙◌, eqb-true, eq-eqb, Some}
-use Rattle.std.proofs.lemmas.Bool.{cond-true, cond-false, and_parts, and_from, cases_Bool, eqb-false, true≢false}
+use Rattle.std.proofs.Common.{◌≡◌, ◌⊎◌, inl, inr, ℕ, true, false, ◌==◌, List, [], ◌∷◌, refl, sym, ap, subst, ◌∙◌, eqb-true, eq-eqb, Some}
+use Rattle.std.proofs.lemmas.Bool.{cond-true, cond-false, and_parts, cases_Bool, eqb-false, true≢false}
 use Rattle.overlay_setup.specs.NodeSets.{In}
 use Rattle.stat_plan.specs.Plans.{Plan, ancestors, waves_at, serves}
 use Rattle.overlay_core.specs.Nodes.{Packet, Up, Done, Attach, Down, Node, Outcome, received}
 use Rattle.stat_plan.specs.Machine.Waves.{is_open}
 use Rattle.stat_plan.proofs.KinLemmas.{nearest_in}
-use Rattle.overlay_core.specs.Machine.{State, step, commit, with_link, lose, receive, to, is_enabled}
-use Rattle.overlay_core.proofs.PlanFacts.{HasPlanFacts}
-use Rattle.overlay_core.specs.LinkInvariant.{LinkInvariant, KinIsSound}
+use Rattle.overlay_core.specs.Machine.{State, step, commit, with_link, lose, receive, net_of, is_enabled}
+use Rattle.stat_plan.proofs.PlanFacts.{HasPlanFacts}
+use Rattle.overlay_core.specs.LinkInvariant.{LinkInvariant}
+use Rattle.stat_plan.specs.Machine.LossInvariant.{KinIsSound}
 use Rattle.overlay_core.specs.ParentChild.{IsUnderWay, ParentChildHolds, ParentChildInvariant}
 use Rattle.overlay_event.specs.declared.event.Event.{Event}
 use Rattle.overlay_event.specs.declared.event.Event.TheVariants.{Sample, Recv, Tick, Lose}
-use Rattle.overlay_core.proofs.Lists.{append_right, in_from_member}
+use Rattle.stat_plan.proofs.InLists.{in_from_member, in_from_filter}
 use Rattle.overlay_core.proofs.Outcomes.{next_is_empty, next_is_named, sampled_sound, tick_sound, received_sound}
-use Rattle.overlay_core.proofs.Commits.{next_node, commit_link_grows}
-use Rattle.overlay_core.proofs.Losses.{was_alive, link_stays}
-use Rattle.overlay_core.proofs.ParentLinks.{OutcomeLinks, sampled_links, tick_links, received_links, front_top_of, filter_in}
-use Rattle.overlay_core.proofs.Steps.{popped}
-
-in_to_back : (b : ℕ) (q : Packet) (vs : List (ℕ × Packet)) → In (b, q) vs → In q (to b vs)
-in_to_back b q [] i = absurd i
-in_to_back b q (v ∷ vs) i = go (in_to_back b q vs) (v.0 == b) refl i
-  where
-    go : (In (b, q) vs → In q (to b vs)) → (t : Bool) → (v.0 == b) ≡ t → In (b, q) (v ∷ vs) → In q (cond t (v.1 ∷ to b vs) (to b vs))
-    go ih true e (inl k) = inl (ap (λ y. y.1) k)
-    go ih true e (inr k) = inr (ih k)
-    go ih false e (inl k) = absurd (eqb-false v.0 b e (sym (ap (λ y. y.0) k)))
-    go ih false e (inr k) = ih k
-
--- what n sends to a living node is on the link to it
-commit_link_sent : (st : State) (n : ℕ) (o : Outcome) (b : ℕ) (q : Packet) → st.alive b ≡ true → In (b, q) o.work.sends → In q ((commit st n o).link n b)
-unfolding commit
-commit_link_sent st n o b q up i =
-    subst (λ l. In q l) (sym (cond-true ((n == n) && st.alive b) (st.link n b ++ to b o.work.sends) (st.link n b) (and_from _ _ (eq-eqb n n refl) up)))
-    (append_right q (st.link n b) (to b o.work.sends) (in_to_back b q o.work.sends i))
+use Rattle.overlay_core.proofs.Commits.{next_node, commit_link_grows, commit_link_sent}
+use Rattle.stat_plan.proofs.Overlays.{was_alive, ne_false, lost_else, popped_each}
+use Rattle.overlay_core.proofs.ParentLinks.{OutcomeLinks, sampled_links, tick_links, received_links, front_top_of}
+use Rattle.overlay_core.proofs.Steps.{first_sound}
 
 under_way_more : (r s w : ℕ) (xs ys : List Packet) → ((q : Packet) → In q xs → In q ys) → IsUnderWay r s w xs → IsUnderWay r s w ys
 under_way_more r s w xs ys f h = record { set = h.set; there = f (Up s w h.set) h.there; holds = h.holds }
@@ -100,7 +84,7 @@ pair_parent p old st n taken o c x y takes nc alive g h = record {
   ];
   closed = λ s w i e f. elim (cases_Bool (is_open (y.book s w))) [
     | inl k ↦ elim h.child [
-      | inl j ↦ inl (fresh (Done s w) (g.closing s w k e c alive j (filter_in (λ v. serves p c v.0) _ (s, w) i).1))
+      | inl j ↦ inl (fresh (Done s w) (g.closing s w k e c alive j (in_from_filter (λ v. serves p c v.0) (s, w) _ i).1))
       | inr j ↦ attached s w i e j
     ]
     | inr k ↦ elim (h.closed s w i k f) [ inl j ↦ inl (down (Done s w) j) | inr j ↦ attached s w i e j ]
@@ -157,28 +141,24 @@ commit_pairs p old st n taken o plan takes g hk h c q uc uq par =
                 (pair_else p old st n taken o c q (st.node c) (st.node q) takes nc (eqb-false q n fq) (h c q uc uq par'))
           ])
     ]
-  where
-    ne_false : (a b : ℕ) → (a ≡ b → ⊥) → (a == b) ≡ false
-    ne_false a b h = elim (cases_Bool (a == b)) [ inl t ↦ absurd (h (eqb-true a b t)) | inr f ↦ f ]
 
 pub takes_none : (st : State) (n : ℕ) → TakesFrom st.link st n []
 takes_none st n a b q i = inl i
 
 pub takes_front : (st : State) (m n : ℕ) (q : Packet) (qs : List Packet) → st.link m n ≡ q ∷ qs → TakesFrom st.link (with_link st m n qs) n ((m, q) ∷ [])
-takes_front st m n q qs e a b v i = popped_to v a b i
-  where
-    popped_to : (v : Packet) (a b : ℕ) → In v (st.link a b) → In v ((with_link st m n qs).link a b) ⊎ ((b ≡ n) × (In {X = ℕ × Packet} (a, v) ((m, q) ∷ [])))
-    popped_to v = popped st m n q qs e (λ a b l. In v (st.link a b) → In v l ⊎ ((b ≡ n) × (In {X = ℕ × Packet} (a, v) ((m, q) ∷ [])))) (λ a b i. inl i)
-        (λ h i. elim (subst (λ l. In v l) e i) [ inl k ↦ inr (refl, inl (λ j. (m, k j))) | inr k ↦ inl k ])
+unfolding with_link
+takes_front st m n q qs e a b v i = popped_each (λ a b l. In v (st.link a b) → In v l ⊎ ((b ≡ n) × (In {X = ℕ × Packet} (a, v) ((m, q) ∷ [])))) (net_of st) m n qs
+    (λ i. elim (subst (λ l. In v l) e i) [ inl k ↦ inr (refl, inl (λ j. (m, k j))) | inr k ↦ inl k ])
+    (λ a b i. inl i) a b i
 
 receive_pairs : (p : Plan) (st : State) (n m : ℕ) (qs : List Packet) → HasPlanFacts p → LinkInvariant p st → ParentChildInvariant p st → st.link m n ≡ qs → ParentChildInvariant p (receive p st n m qs)
 unfolding with_link
 receive_pairs p st n m [] plan h hp e = hp
 receive_pairs p st n m (q ∷ qs) plan h hp e =
-    let hq = (h.links m n).packets q (subst (λ l. In q l) (sym e) (inl refl)) in
+    let hq = first_sound p st m n q qs h e in
     commit_pairs p st.link (with_link st m n qs) n ((m, q) ∷ []) (received p n (st.node n) m q) plan (takes_front st m n q qs e)
-    (received_links p st.alive n (st.node n) m q plan (h.kin n) hq)
-    (received_sound p st.alive n (st.node n) m q plan (h.kin n) (h.books n) hq).kin
+    (received_links p st.alive n (st.node n) m q plan (h.net.kin n) hq)
+    (received_sound p st.alive n (st.node n) m q plan (h.net.kin n) (h.books n) hq).kin
     hp
 
 lose_pairs : (p : Plan) (st : State) (n : ℕ) → ParentChildInvariant p st → ParentChildInvariant p (lose p st n)
@@ -186,18 +166,18 @@ unfolding lose
 lose_pairs p st n h c q uc uq par =
     let c' = was_alive st.alive n c uc in
     let q' = was_alive st.alive n q uq in
-    subst (λ l. ParentChildHolds p c (st.node c) (st.node q) l ((lose p st n).link q c)) (sym (link_stays p st n c q Down q'.1 c'.1))
-    (subst (λ l. ParentChildHolds p c (st.node c) (st.node q) (st.link c q) l) (sym (link_stays p st n q c Down c'.1 q'.1)) (h c q c'.0 q'.0 par))
+    subst (λ l. ParentChildHolds p c (st.node c) (st.node q) l ((lose p st n).link q c)) (sym (lost_else Down p (net_of st) n c q (eqb-false q n q'.1) (eqb-false c n c'.1)))
+    (subst (λ l. ParentChildHolds p c (st.node c) (st.node q) (st.link c q) l) (sym (lost_else Down p (net_of st) n q c (eqb-false c n c'.1) (eqb-false q n q'.1))) (h c q c'.0 q'.0 par))
 
 pub step_pairs : (p : Plan) (st : State) (e : Event) → HasPlanFacts p → LinkInvariant p st → ParentChildInvariant p st → is_enabled p st e ≡ true → ParentChildInvariant p (step p st e)
 step_pairs p st (Sample n s w) plan h hp e =
     let t = and_parts _ _ e in
     let u = and_parts _ _ t.0 in
     let z = next_is_empty p (st.node n) s w t.1 in
-    commit_pairs p st.link st n [] _ plan (takes_none st n) (sampled_links p st.alive n (st.node n) s w (front_top_of p st.alive n (st.node n).kin plan (h.kin n)) z)
-    (sampled_sound p st.alive n (st.node n) s w plan (h.kin n) (h.books n) (in_from_member n _ u.1) (next_is_named p (st.node n) s w t.1) z).kin hp
+    commit_pairs p st.link st n [] _ plan (takes_none st n) (sampled_links p st.alive n (st.node n) s w (front_top_of p st.alive n (st.node n).kin plan (h.net.kin n)) z)
+    (sampled_sound p st.alive n (st.node n) s w plan (h.net.kin n) (h.books n) (in_from_member n _ u.1) (next_is_named p (st.node n) s w t.1) z).kin hp
 step_pairs p st (Recv n m) plan h hp e = receive_pairs p st n m (st.link m n) plan h hp refl
 step_pairs p st (Tick n) plan h hp e =
-    commit_pairs p st.link st n [] _ plan (takes_none st n) (tick_links p st.alive n (st.node n) (front_top_of p st.alive n (st.node n).kin plan (h.kin n)))
-    (tick_sound p st.alive n (st.node n) (h.kin n) (h.books n)).kin hp
+    commit_pairs p st.link st n [] _ plan (takes_none st n) (tick_links p st.alive n (st.node n) (front_top_of p st.alive n (st.node n).kin plan (h.net.kin n)))
+    (tick_sound p st.alive n (st.node n) (h.net.kin n) (h.books n)).kin hp
 step_pairs p st (Lose n) plan h hp e = lose_pairs p st n hp

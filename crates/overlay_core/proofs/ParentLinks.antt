@@ -6,11 +6,13 @@ use Rattle.std.proofs.lemmas.Bool.{cond_both, and_from, or_cases, or_left, or_ri
 use Rattle.overlay_setup.specs.NodeSets.{In, with_number, without_number}
 use Rattle.stat_plan.specs.Plans.{Plan, IsUnder, ancestors, serves, mode, is_front, front, daemons, is_within, is_under, waves_at, waves_of}
 use Rattle.stat_plan.specs.Machine.Due.{due_act}
-use Rattle.overlay_core.specs.Nodes.{Packet, Up, Done, Attach, Down, Node, Effects, Outcome, begin, due_at, to_parent, dones, acted, act_as, act, act_each, done_work, sampled, after_tick, received_up, received_done, received_attach, received_down, received}
+use Rattle.overlay_core.specs.Nodes.{Packet, Up, Done, Attach, Down, Node, Effects, Outcome, begin, due_at, dones, acted, act_as, act, act_each, done_work, sampled, after_tick, received_up, received_done, received_attach, received_down, received}
+use Rattle.stat_plan.specs.Machine.Overlays.{to_parent}
 use Rattle.stat_plan.specs.Machine.Kin.{Kin, complete, nearest, is_parent, without_child, with_parent}
 use Rattle.stat_plan.specs.Machine.Waves.{Wave, Open, Closed, Book, set_wave, is_open, is_closed, is_fired, coverage_of, sent_of, covering, growing, ticked, unsent, is_empty_open}
-use Rattle.overlay_core.proofs.PlanFacts.{HasPlanFacts}
-use Rattle.overlay_core.specs.LinkInvariant.{KinIsSound, PacketIsSound}
+use Rattle.stat_plan.proofs.PlanFacts.{HasPlanFacts}
+use Rattle.stat_plan.specs.Machine.LossInvariant.{KinIsSound}
+use Rattle.overlay_core.proofs.Acts.{PacketIsSound, each_wave_set}
 use Rattle.overlay_setup.specs.declared.script.Mode.{Mode}
 use Rattle.overlay_setup.specs.declared.script.Mode.TheVariants.{WaitForAll, TimeOut, DontWait}
 use Rattle.stat_plan.specs.declared.machine.Timer.{Timer}
@@ -18,8 +20,8 @@ use Rattle.stat_plan.specs.declared.machine.Timer.TheVariants.{Off, Running, Fir
 use Rattle.stat_plan.specs.declared.machine.Act.{Act}
 use Rattle.stat_plan.specs.declared.machine.Act.TheVariants.{Hold, Arm, Send, Partial, Final}
 use Rattle.stat_plan.proofs.KinLemmas.{with_number_old, with_number_new}
-use Rattle.overlay_core.proofs.Lists.{append_left, append_right, union_left, union_right, in_member, in_from_member, no_rank, empty_true}
-use Rattle.overlay_core.proofs.Acts.{each_wave_set}
+use Rattle.stat_plan.proofs.InLists.{append_left, append_right, in_member, in_from_member, any_from_in, in_filter, in_from_filter}
+use Rattle.overlay_core.proofs.RankSets.{union_left, union_right, no_rank, empty_true}
 
 -- r goes to m in an Up of the wave
 pub record IsSent (m s w r : ℕ) (sends : List (ℕ × Packet)) : Type 0 where
@@ -324,11 +326,6 @@ pub list_any_in : {X : Type 0} (test : X → Bool) (xs : List X) → list_any te
 list_any_in test [] e = absurd (cc)
 list_any_in test (x ∷ xs) e = elim (or_cases (test x) (list_any test xs) e) [ inl a ↦ (x, inl refl, a) | inr b ↦ let r = list_any_in test xs b in (r.0, inr r.1, r.2) ]
 
-pub in_list_any : {X : Type 0} (test : X → Bool) (xs : List X) (x : X) → In x xs → test x ≡ true → list_any test xs ≡ true
-in_list_any test [] x i e = absurd i
-in_list_any test (y ∷ ys) x (inl h) e = or_left (test y) (list_any test ys) (subst (λ a. test a ≡ true) h e)
-in_list_any test (y ∷ ys) x (inr h) e = or_right (test y) (list_any test ys) (in_list_any test ys x h e)
-
 pub within_from_test : (p : Plan) (d n : ℕ) → is_within p d n ≡ true → (d ≡ n) ⊎ IsUnder p d n
 unfolding is_within is_under
 within_from_test p d n e = elim (or_cases (d == n) _ e) [ inl a ↦ inl (eqb-true d n a) | inr b ↦ inr (in_from_member n (ancestors p d) b) ]
@@ -342,33 +339,14 @@ pub serves_above : (p : Plan) (m n s : ℕ) → HasPlanFacts p → IsUnder p m n
 unfolding serves
 serves_above p m n s plan u e =
     let r = list_any_in (λ d. is_within p d m) (daemons p s) e in
-    in_list_any (λ d. is_within p d n) (daemons p s) r.0 r.1
+    any_from_in (λ d. is_within p d n) r.0 (daemons p s) r.1
     (test_from_within p r.0 n (elim (within_from_test p r.0 m r.2) [ inl k ↦ inr (subst (λ a. IsUnder p a n) (sym k) u) | inr k ↦ inr (plan.under_trans r.0 m n k u) ]))
-
-pub filter_in : {X : Type 0} (test : X → Bool) (xs : List X) (x : X) → In x (filter test xs) → (In x xs) × (test x ≡ true)
-filter_in test [] x i = absurd i
-filter_in {X} test (z ∷ zs) x i = go (filter_in test zs x) (test z) refl i
-  where
-    go : (In x (filter test zs) → (In x zs) × (test x ≡ true)) → (b : Bool) → test z ≡ b → In x (cond b (z ∷ filter test zs) (filter test zs)) → (In x (z ∷ zs)) × (test x ≡ true)
-    go ih true e (inl k) = (inl k, subst (λ a. test a ≡ true) (sym k) e)
-    go ih true e (inr k) = let r = ih k in (inr r.0, r.1)
-    go ih false e k = let r = ih k in (inr r.0, r.1)
-
-pub in_filter : {X : Type 0} (test : X → Bool) (xs : List X) (x : X) → In x xs → test x ≡ true → In x (filter test xs)
-in_filter test [] x i t = absurd i
-in_filter {X} test (z ∷ zs) x i t = go (in_filter test zs x) (test z) refl i
-  where
-    go : (In x zs → test x ≡ true → In x (filter test zs)) → (b : Bool) → test z ≡ b → In x (z ∷ zs) → In x (cond b (z ∷ filter test zs) (filter test zs))
-    go ih true e (inl k) = inl k
-    go ih true e (inr k) = inr (ih k t)
-    go ih false e (inl k) = absurd (let u : test z ≡ true = subst (λ a. test a ≡ true) k t in cc)
-    go ih false e (inr k) = ih k t
 
 pub waves_above : (p : Plan) (m n s w : ℕ) → HasPlanFacts p → IsUnder p m n → In (s, w) (waves_at p m) → (In (s, w) (waves_at p n)) × (serves p m s ≡ true)
 unfolding waves_at
 waves_above p m n s w plan u i =
-    let r = filter_in (λ v. serves p m v.0) (waves_of p.streams) (s, w) i in
-    (in_filter (λ v. serves p n v.0) (waves_of p.streams) (s, w) r.0 (serves_above p m n s plan u r.1), r.1)
+    let r = in_from_filter (λ v. serves p m v.0) (s, w) (waves_of p.streams) i in
+    (in_filter (λ v. serves p n v.0) (s, w) (waves_of p.streams) r.0 (serves_above p m n s plan u r.1), r.1)
 
 closed_from_open : (v : Wave) → is_open v ≡ false → is_closed v ≡ true
 closed_from_open (Open covered sent t) e = absurd (cc)
@@ -484,5 +462,5 @@ down_links p alive n x m plan hk dead =
 pub received_links : (p : Plan) (alive : ℕ → Bool) (n : ℕ) (x : Node) (m : ℕ) (q : Packet) → HasPlanFacts p → KinIsSound p alive n x.kin → PacketIsSound p alive m n q → OutcomeLinks p alive n x ((m, q) ∷ []) (received p n x m q)
 received_links p alive n x m (Up s w set) plan hk hq = up_links p alive n x m s w set (front_top_of p alive n x.kin plan hk)
 received_links p alive n x m (Done s w) plan hk hq = done_links p alive n x m s w
-received_links p alive n x m Attach plan hk hq = attach_links p alive n x m plan hq
-received_links p alive n x m Down plan hk hq = down_links p alive n x m plan hk hq.0
+received_links p alive n x m Attach plan hk hq = attach_links p alive n x m plan hq.0
+received_links p alive n x m Down plan hk hq = down_links p alive n x m plan hk (hq.1 refl)

@@ -9,11 +9,13 @@ use Rattle.overlay_setup.specs.NodeSets.{In, member, with_number}
 use Rattle.stat_plan.specs.Plans.{Plan, ancestors, serves, mode, stream_of, is_front, nodes, daemons, ranks, is_within, waves_at, waves_of}
 use Rattle.overlay_setup.specs.Scripts.{Stream}
 use Rattle.stat_plan.specs.Machine.Due.{due_act}
-use Rattle.overlay_core.specs.Nodes.{Packet, Up, Done, Attach, Down, Node, Effects, Outcome, begin, due_at, to_parent, dones, acted, act_as, act, act_each, done_work, sampled, after_tick, received_up, received_done, received_attach, received_down}
+use Rattle.overlay_core.specs.Nodes.{Packet, Up, Done, Attach, Down, Node, Effects, Outcome, begin, due_at, dones, acted, act_as, act, act_each, done_work, sampled, after_tick, received_up, received_done, received_attach, received_down}
+use Rattle.stat_plan.specs.Machine.Overlays.{to_parent}
 use Rattle.stat_plan.specs.Machine.Kin.{Kin, complete, nearest, is_parent, without_child, with_parent}
 use Rattle.stat_plan.specs.Machine.Waves.{Wave, Open, Closed, Book, set_wave, ticks, is_closed, is_fired, is_running, covering, growing, ticked, unsent, is_empty_open}
-use Rattle.overlay_core.proofs.PlanFacts.{HasPlanFacts}
-use Rattle.overlay_core.specs.LinkInvariant.{KinIsSound, WaveIsSound}
+use Rattle.stat_plan.proofs.PlanFacts.{HasPlanFacts}
+use Rattle.overlay_core.specs.LinkInvariant.{WaveIsSound}
+use Rattle.stat_plan.specs.Machine.LossInvariant.{KinIsSound}
 use Rattle.overlay_core.specs.Settled.{WaveIsSettled, NodeIsSettled, TimerIsSound}
 use Rattle.overlay_core.specs.Bound.{longest}
 use Rattle.overlay_setup.specs.declared.script.Mode.{Mode}
@@ -22,14 +24,15 @@ use Rattle.stat_plan.specs.declared.machine.Timer.{Timer}
 use Rattle.stat_plan.specs.declared.machine.Timer.TheVariants.{Off, Running, Fired}
 use Rattle.stat_plan.specs.declared.machine.Act.{Act}
 use Rattle.stat_plan.specs.declared.machine.Act.TheVariants.{Hold, Arm, Send, Partial, Final}
-use Rattle.stat_plan.proofs.KinLemmas.{with_number_old, with_number_new, nearest_in}
-use Rattle.overlay_core.proofs.Lists.{test_from_same, same_from_members, union_left, in_member, in_from_member, subset_from_test, test_from_subset, filter_from, no_rank, empty_true, none_from_subset}
-use Rattle.overlay_core.proofs.Totals.{total, total_append, total_drop, total_increase, length_filter_le, length_filter_less, length_filter_drop}
+use Rattle.stat_plan.proofs.KinLemmas.{with_number_old, with_number_new, nearest_in, nearest_split}
+use Rattle.overlay_core.proofs.RankSets.{test_from_same, same_from_members, union_left, subset_from_test, test_from_subset, no_rank, empty_true, none_from_subset}
+use Rattle.stat_plan.proofs.InLists.{in_member, in_from_member, in_from_filter}
+use Rattle.stat_plan.proofs.Totals.{total, total_append, total_drop, total_increase, length_filter_le, length_filter_less, length_filter_drop}
 use Rattle.overlay_core.proofs.Acts.{IsSubsetOf, each_wave_set, send_grown}
 use Rattle.overlay_core.proofs.Outcomes.{waves_at_named}
 use Rattle.overlay_core.proofs.ParentLinks.{set_wave_here, test_from_within, list_any_in}
 use Rattle.overlay_core.proofs.Settled.{after_arm}
-use Rattle.overlay_core.proofs.Whole.{nearest_split}
+use Rattle.stat_plan.proofs.Weights.{sends_weight as overlay_sends_weight}
 
 -- the greatest timeout
 unfoldable pub tick_cap : Plan → ℕ
@@ -67,7 +70,7 @@ packet_weight p Attach = 1 + wave_count p
 packet_weight p Down = 1
 
 unfoldable pub sends_weight : Plan → List (ℕ × Packet) → ℕ
-sends_weight p sends = total (λ v. packet_weight p v.1) sends
+sends_weight p sends = overlay_sends_weight (packet_weight p) sends
 
 pub sends_append : (p : Plan) (xs ys : List (ℕ × Packet)) → sends_weight p (xs ++ ys) ≡ sends_weight p xs + sends_weight p ys
 unfolding sends_weight
@@ -335,7 +338,7 @@ tick_decreases p n x few hc e =
     let d : book_weight p n b + 1 ≤ book_weight p n x.book =
     total_drop (λ v. wave_weight p n v.0 (b v.0 v.1)) (λ v. wave_weight p n v.0 (x.book v.0 v.1)) 1 r.0 (waves_of p.streams) (λ v i. ticked_decreases p n v.0 (x.book v.0 v.1)) (waves_at_named p n r.0 r.1)
     (running_decreases p n r.0.0 x.kin.lost (x.book r.0.0 r.0.1) r.2 (hc r.0.0 r.0.1 r.1)) in
-    let a : work_weight p n (act_each p n x.kin vs (begin b)) ≤ work_weight p n (begin b) = act_each_decreases p n x.kin vs (begin b) (λ v i. waves_at_named p n v (filter_from (λ v. is_fired (ticked (x.book v.0 v.1))) (waves_at p n) v i).0) few in
+    let a : work_weight p n (act_each p n x.kin vs (begin b)) ≤ work_weight p n (begin b) = act_each_decreases p n x.kin vs (begin b) (λ v i. waves_at_named p n v (in_from_filter (λ v. is_fired (ticked (x.book v.0 v.1))) v (waves_at p n) i).0) few in
     let z : work_weight p n (begin b) ≡ book_weight p n b = begin_weight p n b in
     omega arith
 

@@ -5,13 +5,16 @@ use Rattle.std.proofs.lemmas.Bool.{cond_both, and_parts}
 use Rattle.overlay_setup.specs.NodeSets.{In}
 use Rattle.stat_plan.specs.Plans.{Plan, front, is_front, mode, daemons, waves_at, waves_of}
 use Rattle.stat_plan.specs.Machine.Due.{due_act}
-use Rattle.overlay_core.specs.Nodes.{Packet, Up, Done, Attach, Down, Node, Effects, Outcome, Release, begin, due_at, acted, act_as, act, act_each, to_parent, done_work, sampled, after_tick, received_up, received_done, received_attach, received_down, received}
+use Rattle.overlay_core.specs.Nodes.{Packet, Up, Done, Attach, Down, Node, Effects, Outcome, Release, begin, due_at, acted, act_as, act, act_each, done_work, sampled, after_tick, received_up, received_done, received_attach, received_down, received}
+use Rattle.stat_plan.specs.Machine.Overlays.{to_parent}
 use Rattle.stat_plan.specs.Machine.Kin.{Kin, is_parent, without_child, with_parent}
 use Rattle.stat_plan.specs.Machine.Waves.{Wave, Open, Closed, Book, is_fired, ticked, unsent}
 use Rattle.overlay_core.specs.Machine.{State, start, step, commit, with_link, lose, receive, is_enabled}
-use Rattle.overlay_core.specs.Runs.{run, after, IsLegal, IsLegalFrom}
-use Rattle.overlay_core.proofs.PlanFacts.{HasPlanFacts}
-use Rattle.overlay_core.specs.LinkInvariant.{LinkInvariant, KinIsSound, PacketIsSound, OpenIsSound, WaveIsSound, BookIsSound, IsUnion}
+use Rattle.overlay_core.specs.Runs.{after, IsLegal}
+use Rattle.stat_plan.proofs.PlanFacts.{HasPlanFacts}
+use Rattle.overlay_core.specs.LinkInvariant.{LinkInvariant, OpenIsSound, WaveIsSound, BookIsSound, IsUnion}
+use Rattle.stat_plan.specs.Machine.LossInvariant.{KinIsSound}
+use Rattle.overlay_core.proofs.Acts.{PacketIsSound, IsSubsetOf, KinFits, WorkIsSound, act_sound, each_wave_set, attach_up}
 use Rattle.overlay_core.specs.Whole.{IsSound}
 use Rattle.overlay_core.specs.Releases.{ReleaseIsSound, ReleasesAreSound}
 use Rattle.overlay_core.specs.declared.release.Kind.TheVariants.{Partial as PartialRelease, Final as FinalRelease}
@@ -22,11 +25,12 @@ use Rattle.stat_plan.specs.declared.machine.Act.{Act}
 use Rattle.stat_plan.specs.declared.machine.Act.TheVariants.{Hold, Arm, Send, Partial, Final}
 use Rattle.overlay_event.specs.declared.event.Event.{Event}
 use Rattle.overlay_event.specs.declared.event.Event.TheVariants.{Sample, Recv, Tick, Lose}
-use Rattle.overlay_core.proofs.Lists.{in_append, in_from_member, filter_from}
-use Rattle.overlay_core.proofs.Acts.{IsSubsetOf, KinFits, WorkIsSound, act_sound, each_wave_set, to_parent_sound}
+use Rattle.stat_plan.proofs.InLists.{in_append, in_from_member, in_from_filter}
 use Rattle.overlay_core.proofs.Outcomes.{kin_fits, begin_sound, next_is_empty, next_is_named, waves_at_named, covering_sound, growing_sound, ticked_sound, received_sound, unsent_sound}
 use Rattle.overlay_core.proofs.History.{partial_top, final_says, only_wave}
 use Rattle.overlay_core.proofs.Whole.{step_is_sound, start_is_sound}
+use Rattle.overlay_core.proofs.Steps.{first_sound}
+use Rattle.stat_plan.proofs.Journals.{run_keeps}
 
 -- a partial release is of no stream that waits for all
 partial_mode : (m : Mode) (done grown top : Bool) (t : Timer) → due_act m done grown top t ≡ Partial → m ≢ WaitForAll
@@ -91,8 +95,8 @@ begin_log p n kin b vs i fits hb = act_each_log p n kin vs (begin b) i fits (beg
 received_log : (p : Plan) (alive : ℕ → Bool) (n : ℕ) (x : Node) (m : ℕ) (q : Packet) → HasPlanFacts p → KinIsSound p alive n x.kin → KinIsSound p alive n (received p n x m q).kin → BookIsSound p n x.book → PacketIsSound p alive m n q → LogIsSound p (received p n x m q).work
 unfolding received_up received_done received_attach received_down
 received_log p alive n x m (Up s w set) plan hk hk' hb hq =
-    begin_log p n x.kin _ ((s, w) ∷ []) (only_wave p s w hq.3) (kin_fits p alive n x.kin hk)
-    (each_wave_set (λ a b v. WaveIsSound p n a v) x.book s w _ hb (growing_sound p m n s set (x.book s w) plan hq.0 hq.1 (hb s w)))
+    begin_log p n x.kin _ ((s, w) ∷ []) (only_wave p s w hq.0.3) (kin_fits p alive n x.kin hk)
+    (each_wave_set (λ a b v. WaveIsSound p n a v) x.book s w _ hb (growing_sound p m n s set (x.book s w) plan hq.0.0 hq.0.1 (hb s w)))
 received_log p alive n x m (Done s w) plan hk hk' hb hq = go (x.book s w)
   where
     go : (v : Wave) → LogIsSound p (done_work p x.kin s w x.book v)
@@ -107,7 +111,7 @@ received_log p alive n x m Down plan hk hk' hb hq =
     re_sent : is_parent x.kin.parent m ≡ true → KinIsSound p alive n (with_parent p n x.kin m) → WorkIsSound p n (record { book = λ s w. unsent (x.book s w); sends = to_parent (with_parent p n x.kin m).parent Attach; releases = [] })
     re_sent e h' = record {
       book = λ s w. unsent_sound p n s (x.book s w) (hb s w);
-      sends = to_parent_sound p n (with_parent p n x.kin m).parent Attach (kin_fits p alive n (with_parent p n x.kin m) h').parent;
+      sends = attach_up p n (with_parent p n x.kin m) (kin_fits p alive n (with_parent p n x.kin m) h');
     }
 
 commit_log : (p : Plan) (st : State) (n : ℕ) (o : Outcome) → ReleasesAreSound p st → LogIsSound p o.work → ReleasesAreSound p (commit st n o)
@@ -120,24 +124,21 @@ step_log p st (Sample n s w) plan hs h e =
     let t = and_parts _ _ e in
     let u = and_parts _ _ t.0 in
     let x = st.node n in
-    commit_log p st n _ h (begin_log p n x.kin _ ((s, w) ∷ []) (only_wave p s w (next_is_named p x s w t.1)) (kin_fits p st.alive n x.kin (hs.kin n))
+    commit_log p st n _ h (begin_log p n x.kin _ ((s, w) ∷ []) (only_wave p s w (next_is_named p x s w t.1)) (kin_fits p st.alive n x.kin (hs.net.kin n))
     (each_wave_set (λ a b v. WaveIsSound p n a v) x.book s w _ (hs.books n) (covering_sound p n s (x.book s w) plan (in_from_member n (daemons p s) u.1) (next_is_empty p x s w t.1) (hs.books n s w))))
 step_log p st (Recv n m) plan hs h e = go (st.link m n) refl
   where
     go : (qs : List Packet) → st.link m n ≡ qs → ReleasesAreSound p (receive p st n m qs)
     go [] e = h
     go (q ∷ qs) e =
-        let hq = (hs.links m n).packets q (subst (λ l. In q l) (sym e) (inl refl)) in
-        commit_log p (with_link st m n qs) n _ h (received_log p st.alive n (st.node n) m q plan (hs.kin n) (received_sound p st.alive n (st.node n) m q plan (hs.kin n) (hs.books n) hq).kin (hs.books n) hq)
+        let hq = first_sound p st m n q qs hs e in
+        commit_log p (with_link st m n qs) n _ h (received_log p st.alive n (st.node n) m q plan (hs.net.kin n) (received_sound p st.alive n (st.node n) m q plan (hs.net.kin n) (hs.books n) hq).kin (hs.books n) hq)
 step_log p st (Tick n) plan hs h e =
     let x = st.node n in
-    commit_log p st n _ h (begin_log p n x.kin _ (filter (λ v. is_fired (ticked (x.book v.0 v.1))) (waves_at p n)) (λ v i. waves_at_named p n v (filter_from (λ v. is_fired (ticked (x.book v.0 v.1))) (waves_at p n) v i).0) (kin_fits p st.alive n x.kin (hs.kin n)) (λ s w. ticked_sound p n s (x.book s w) (hs.books n s w)))
+    commit_log p st n _ h (begin_log p n x.kin _ (filter (λ v. is_fired (ticked (x.book v.0 v.1))) (waves_at p n)) (λ v i. waves_at_named p n v (in_from_filter (λ v. is_fired (ticked (x.book v.0 v.1))) v (waves_at p n) i).0) (kin_fits p st.alive n x.kin (hs.net.kin n)) (λ s w. ticked_sound p n s (x.book s w) (hs.books n s w)))
 step_log p st (Lose n) plan hs h e = h
-
-run_log : (p : Plan) (st : State) (es : List Event) → HasPlanFacts p → IsSound p st → ReleasesAreSound p st → IsLegalFrom p st es → ReleasesAreSound p (run p st es)
-run_log p st [] plan hs h l = h
-run_log p st (e ∷ es) plan hs h l = run_log p (step p st e) es plan (step_is_sound p st e plan hs l.0) (step_log p st e plan hs.base h l.0) l.1
 
 pub legal_log : (p : Plan) (journal : List Event) → HasPlanFacts p → IsLegal p journal → ReleasesAreSound p (after p journal)
 unfolding start
-legal_log p journal plan l = run_log p (start p) journal plan (start_is_sound p plan) (λ r i. absurd i) l
+legal_log p journal plan l =
+    (run_keeps (λ st. IsSound p st × ReleasesAreSound p st) (step p) (is_enabled p) (λ st e h en. (step_is_sound p st e plan h.0 en, step_log p st e plan h.0.base h.1 en)) (start p) journal (start_is_sound p plan, λ r i. absurd i) l).1

@@ -19,13 +19,15 @@ use Rattle.stat_plan.proofs.KinLemmas.{with_number_new}
 use Rattle.overlay_event.specs.declared.event.Event.{Event}
 use Rattle.overlay_event.specs.declared.event.Event.TheVariants.{Sample, Recv, Tick, Lose}
 use Rattle.overlay_core.specs.declared.release.Kind.TheVariants.{Partial as PartialRelease, Final as FinalRelease}
-use Rattle.overlay_core.specs.Nodes.{Packet, Up, Done, Attach, Down, Node, Effects, Outcome, release, begin, due_at, to_parent, dones, acted, act_as, act, act_each, done_work, sampled, after_tick, received_up, received_done, received_attach, received_down, received, handled}
+use Rattle.overlay_core.specs.Nodes.{Packet, Up, Done, Attach, Down, Node, Effects, Outcome, release, begin, due_at, dones, acted, act_as, act, act_each, done_work, sampled, after_tick, received_up, received_done, received_attach, received_down, received, handled}
+use Rattle.stat_plan.specs.Machine.Overlays.{to_parent}
 use Rattle.overlay_core.specs.Machine.{State, start, step, commit, with_link, lose, receive}
 use Rattle.overlay_core.specs.Runs.{run, after}
 use Rattle.overlay_core.specs.Independent.{first_from, outcome}
 use Rattle.overlay_event.specs.Events.{event_node}
 use Rattle.overlay_core.specs.Counts.{one_if, is_up_of, is_partial_of, sends_in, grows, is_same_parent, is_unsent, sends_at, sends, growths, moves}
-use Rattle.overlay_core.proofs.Lists.{in_member, test_from_same, same_true}
+use Rattle.stat_plan.proofs.InLists.{in_member}
+use Rattle.overlay_core.proofs.RankSets.{test_from_same, same_true}
 use Rattle.overlay_core.proofs.ParentLinks.{set_wave_here}
 use Rattle.overlay_core.proofs.Settled.{set_wave_else}
 use Rattle.overlay_core.proofs.Independent.{node_else}

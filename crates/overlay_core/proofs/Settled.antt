@@ -9,7 +9,7 @@ use Rattle.stat_plan.specs.Machine.Due.{due_act}
 use Rattle.overlay_core.specs.Nodes.{Packet, Up, Done, Attach, Down, Node, Effects, Outcome, begin, due_at, acted, act_as, act, act_each, done_work, sampled, after_tick, received_up, received_done, received_attach, received_down, received}
 use Rattle.stat_plan.specs.Machine.Kin.{Kin, complete, is_parent, without_child, with_parent}
 use Rattle.overlay_core.specs.Machine.{State, start, step, commit, with_link, lose, receive, is_enabled, is_active}
-use Rattle.overlay_core.proofs.PlanFacts.{HasPlanFacts}
+use Rattle.stat_plan.proofs.PlanFacts.{HasPlanFacts}
 use Rattle.overlay_core.specs.LinkInvariant.{LinkInvariant, WaveIsSound, BookIsSound}
 use Rattle.overlay_core.specs.Settled.{TimerIsSound, WaveIsSettled, NodeIsSettled, NodesAreSettled}
 use Rattle.overlay_setup.specs.declared.script.Mode.{Mode}
@@ -20,12 +20,13 @@ use Rattle.stat_plan.specs.declared.machine.Act.{Act}
 use Rattle.stat_plan.specs.declared.machine.Act.TheVariants.{Hold, Arm, Send, Partial, Final}
 use Rattle.overlay_event.specs.declared.event.Event.{Event}
 use Rattle.overlay_event.specs.declared.event.Event.TheVariants.{Sample, Recv, Tick, Lose}
-use Rattle.overlay_core.proofs.Lists.{test_from_same, same_from_members, union_left, subset_from_test, list_all_in, none_from_subset, empty_true, same_true}
+use Rattle.overlay_core.proofs.RankSets.{test_from_same, same_from_members, union_left, subset_from_test, none_from_subset, empty_true, same_true}
+use Rattle.stat_plan.proofs.InLists.{list_all_in, in_from_filter, in_filter}
 use Rattle.overlay_core.proofs.Acts.{each_wave_set}
 use Rattle.overlay_core.proofs.Outcomes.{next_is_empty}
-use Rattle.overlay_core.proofs.ParentLinks.{set_wave_here, filter_in, in_filter, list_any_in}
+use Rattle.overlay_core.proofs.ParentLinks.{set_wave_here, list_any_in}
 use Rattle.overlay_core.proofs.Commits.{next_node, commit_node}
-use Rattle.overlay_core.proofs.Losses.{was_alive}
+use Rattle.stat_plan.proofs.Overlays.{was_alive}
 
 -- what is due once an act was done
 pub after_arm : (m : Mode) (done grown top : Bool) (t : Timer) (k : ℕ) → due_act m done grown top t ≡ Arm → (due_act m done grown top (Running k) ≡ Hold) × (grown ≡ true) × ((j : ℕ) × (m ≡ TimeOut j))
@@ -268,7 +269,7 @@ unfolding after_tick
 tick_settled p n x plan h s w i =
     act_each_settled p n x.kin (filter (λ v. is_fired (ticked (x.book v.0 v.1))) (waves_at p n)) (begin (λ s w. ticked (x.book s w))) s w plan (ticked_fits p n x.kin.lost s (x.book s w) (h s w i))
     (elim (cases_Bool (is_fired (ticked (x.book s w)))) [
-      | inl t ↦ inl (in_filter (λ v. is_fired (ticked (x.book v.0 v.1))) (waves_at p n) (s, w) i t)
+      | inl t ↦ inl (in_filter (λ v. is_fired (ticked (x.book v.0 v.1))) (s, w) (waves_at p n) i t)
       | inr f ↦ inr (ticked_settled p n x.kin.lost s (x.book s w) (h s w i) f)
     ])
 
@@ -311,7 +312,7 @@ start_settled p plan n u s w i = (held_at_start (mode p s) (complete p n [] s no
   where
     nothing : complete p n [] s none ≡ true → ⊥
     nothing e =
-        let v = filter_in (λ v. serves p n v.0) (waves_of p.streams) (s, w) i in
+        let v = in_from_filter (λ v. serves p n v.0) (s, w) (waves_of p.streams) i in
         let r = list_any_in (λ d. is_within p d n) (daemons p s) v.1 in
         let t = list_all_in (λ d. not (is_within p d n) || is_subset (ranks p d) none || member d []) (daemons p s) r.0 e r.1 in
         elim (or_cases (not (is_within p r.0 n) || is_subset (ranks p r.0) none) (member r.0 []) t) [

@@ -1,180 +1,143 @@
 -- A sound state is sound after each enabled event, and so after each legal journal.
-use Rattle.std.proofs.Common.{◌≡◌, ◌⊎◌, ◌<◌, inl, inr, ℕ, Bool, true, false, not, ◌&&◌, ◌==◌, nat_lt, List, [], ◌∷◌, map, refl, sym, ap, subst, ◌∙◌, eqb-true, eq-eqb, Option, Some, None, lt-ltb, zero-le}
-use Rattle.std.proofs.lemmas.Bool.{cond_both, cond-true, and_parts, and_from, not-true}
-use Rattle.overlay_setup.specs.NodeSets.{In, up_to}
-use Rattle.stat_plan.specs.Plans.{Plan, IsUnder, ancestors, daemons, front, nodes}
-use Rattle.overlay_core.specs.Nodes.{Packet, Up, Done, Attach, Down}
-use Rattle.stat_plan.specs.Machine.Kin.{children_of, nearest}
-use Rattle.stat_plan.proofs.KinLemmas.{nearest_in}
-use Rattle.overlay_core.specs.Machine.{State, start, step, with_link, receive, is_enabled, is_active, is_doomed}
-use Rattle.overlay_core.specs.Runs.{run, after, IsLegal, IsLegalFrom}
-use Rattle.overlay_core.proofs.PlanFacts.{HasPlanFacts}
-use Rattle.overlay_core.specs.LinkInvariant.{AreRelated, LinkIsSound, EndsAtDown, LinkInvariant}
+use Rattle.std.proofs.Common.{◌≡◌, ◌≤◌, inl, ℕ, suc, true, false, not, ◌==◌, List, [], ◌∷◌, refl, sym, ap, subst, ◌∙◌, arith, Some, None, zero-le}
+use Rattle.std.proofs.lemmas.Bool.{cond_both, cond-true, cond-false, and_parts, eqb-false, not-true, true≢false}
+use Rattle.overlay_setup.specs.NodeSets.{In}
+use Rattle.overlay_setup.specs.declared.script.Fault.{Fault}
+use Rattle.stat_plan.specs.Plans.{Plan, daemons, fault, front}
+use Rattle.stat_plan.specs.Machine.Kin.{is_parent, with_parent, without_child, after_loss}
+use Rattle.stat_plan.specs.Machine.LossInvariant.{IsPacketRule, LossInvariant}
+use Rattle.stat_plan.specs.Machine.Overlays.{is_spent, with_event}
+use Rattle.stat_plan.specs.Machine.Overlays as overlay
+use Rattle.stat_plan.proofs.InLists.{in_from_member}
+use Rattle.stat_plan.proofs.Journals.{run_keeps}
+use Rattle.stat_plan.proofs.LossInvariant.{start_keeps, popped_keeps, heard_keeps, event_keeps, loss_keeps}
+use Rattle.stat_plan.proofs.PlanFacts.{HasPlanFacts}
 use Rattle.overlay_event.specs.declared.event.Event.{Event}
 use Rattle.overlay_event.specs.declared.event.Event.TheVariants.{Sample, Recv, Tick, Lose}
-use Rattle.overlay_core.proofs.Lists.{filter_increases, up_to_increases, in_from_member, in_map_filter, no_rank}
-use Rattle.overlay_core.proofs.Outcomes.{next_is_named, sampled_sound, tick_sound, received_sound, next_is_empty, heard_in}
-use Rattle.overlay_core.proofs.Commits.{IsReady, LossIsHeard, commit_sound}
-use Rattle.overlay_core.proofs.Losses.{lose_sound}
+use Rattle.overlay_core.specs.Nodes.{Packet, Up, Done, Attach, Down, Node, Outcome, received, received_up, received_done, received_attach, received_down, sampled, after_tick}
+use Rattle.overlay_core.specs.Machine.{State, start, step, commit, with_link, lose, receive, net_of, is_enabled, is_active, is_doomed}
+use Rattle.overlay_core.specs.Runs.{after, IsLegal}
+use Rattle.overlay_core.specs.LinkInvariant.{Fits, BookIsSound, CountIsSound, LinkInvariant}
+use Rattle.overlay_core.proofs.RankSets.{no_rank}
+use Rattle.overlay_core.proofs.Acts.{PacketIsSound}
+use Rattle.overlay_core.proofs.Outcomes.{OutcomeIsSound, next_is_named, sampled_sound, tick_sound, received_sound, next_is_empty}
+use Rattle.overlay_core.proofs.Commits.{commit_node, net_of_event}
 
 pub active_parts : (p : Plan) (st : State) (n : ℕ) → is_active p st n ≡ true → (st.alive n ≡ true) × (is_doomed p st n ≡ false)
 unfolding is_active
 active_parts p st n e = let t = and_parts (st.alive n) (not (is_doomed p st n)) e in (t.0, not-true (is_doomed p st n) t.1)
 
--- a sound state with nothing taken off its links
-ready : (p : Plan) (st : State) (n : ℕ) → LinkInvariant p st → is_active p st n ≡ true → IsReady p st n []
-ready p st n h e = let t = active_parts p st n e in record {
-  up = t.0;
-  active = t.1;
-  front = h.front;
-  kin = h.kin;
-  links = h.links;
-  losses = λ a b. record { named = λ u d r. inl ((h.losses a b).named u d r); once = (h.losses a b).once; gone = λ i. absurd i };
-  books = h.books;
-  counts = h.counts;
+rule : (p : Plan) → IsPacketRule p Down (Fits p)
+rule p = record { related = λ m n h. h; may_notify = λ m n h. h }
+
+-- a packet on a link of a sound state
+pub packet_sound : (p : Plan) (st : State) (m n : ℕ) (q : Packet) → LinkInvariant p st → In q (st.link m n) → PacketIsSound p st.alive m n q
+packet_sound p st m n q h i = ((h.net.links m n).packets q i, λ e. (h.net.links m n).sender (subst (λ x. In x (st.link m n)) e i))
+
+-- the first of them
+pub first_sound : (p : Plan) (st : State) (m n : ℕ) (q : Packet) (qs : List Packet) → LinkInvariant p st → st.link m n ≡ q ∷ qs → PacketIsSound p st.alive m n q
+first_sound p st m n q qs h e = packet_sound p st m n q h (subst (λ l. In q l) (sym e) (inl refl))
+
+-- ---- an event of a node
+
+count_continues : (p : Plan) (st : State) (n : ℕ) (f : Fault) → fault p n ≡ Some f → is_doomed p st n ≡ false → (st.node n).count ≤ f.after → suc (st.node n).count ≤ f.after
+unfolding is_doomed
+count_continues p st n f ef d le =
+    let t : ((st.node n).count == f.after) ≡ false = subst (λ o. is_spent o (st.node n).count ≡ false) ef d in
+    let ne : (st.node n).count ≡ f.after → ⊥ = eqb-false _ _ t in
+    omega arith
+
+-- the parts that know of waves
+committed : (p : Plan) (st : State) (n : ℕ) (o : Outcome) → is_doomed p st n ≡ false → ((a : ℕ) → BookIsSound p a (st.node a).book) → ((a : ℕ) → CountIsSound p a (st.node a)) → BookIsSound p n o.work.book → LossInvariant p Down (Fits p) (net_of (commit st n o)) → LinkInvariant p (commit st n o)
+committed p st n o active books counts book net = record {
+  net = net;
+  books = commit_node (λ a x. BookIsSound p a x.book) st n o book books;
+  counts = commit_node (λ a x. CountIsSound p a x) st n o (λ f ef. count_continues p st n f ef active (counts n f ef)) counts;
 }
 
-ends_tail : (q : Packet) (qs : List Packet) → EndsAtDown (q ∷ qs) → EndsAtDown qs
-ends_tail (Up s w set) qs h = h
-ends_tail (Done s w) qs h = h
-ends_tail Attach qs h = h
-ends_tail Down qs h = subst EndsAtDown (sym h) tt
+-- n hears of no loss
+event_net : (p : Plan) (st : State) (n : ℕ) (o : Outcome) → LossInvariant p Down (Fits p) (net_of st) → st.alive n ≡ true → OutcomeIsSound p st.alive n o → o.kin.lost ≡ (st.node n).kin.lost → LossInvariant p Down (Fits p) (net_of (commit st n o))
+event_net p st n o h up sound same = subst (LossInvariant p Down (Fits p)) (sym (net_of_event st n o)) (event_keeps p Down (Fits p) (net_of st) n o.kin o.work.sends h up sound.kin same sound.work.sends)
 
-tail_sound : (p : Plan) (alive : ℕ → Bool) (m n : ℕ) (q : Packet) (qs : List Packet) → alive n ≡ true → LinkIsSound p alive m n (q ∷ qs) → LinkIsSound p alive m n qs
-tail_sound p alive m n q qs up h = record {
-  into_lost = λ d. absurd (cc);
-  packets = λ x i. h.packets x (inr i);
-  down_last = ends_tail q qs h.down_last;
-}
+event_sound : (p : Plan) (st : State) (n : ℕ) (o : Outcome) → LinkInvariant p st → is_active p st n ≡ true → OutcomeIsSound p st.alive n o → o.kin.lost ≡ (st.node n).kin.lost → LinkInvariant p (commit st n o)
+event_sound p st n o h act sound same = let t = active_parts p st n act in committed p st n o t.1 h.books h.counts sound.work.book (event_net p st n o h.net t.0 sound same)
 
--- the link as it stands once its front packet is taken
-pub popped : (st : State) (m n : ℕ) (q : Packet) (qs : List Packet) → st.link m n ≡ q ∷ qs → (P : ℕ → ℕ → List Packet → Type 0) → ((a b : ℕ) → P a b (st.link a b)) → (P m n (q ∷ qs) → P m n qs) → (a b : ℕ) → P a b ((with_link st m n qs).link a b)
+-- ---- a packet is received
+
+down_kin : (p : Plan) (n : ℕ) (x : Node) (m : ℕ) → (received_down p n x m).kin ≡ after_loss p n x.kin m
+unfolding received_down
+down_kin p n x m = cond_both {A = Outcome} (is_parent x.kin.parent m) _ _ (λ o. o.kin ≡ after_loss p n x.kin m)
+    (λ e. sym (cond-true (is_parent x.kin.parent m) (with_parent p n x.kin m) (without_child x.kin m) e))
+    (λ e. sym (cond-false (is_parent x.kin.parent m) (with_parent p n x.kin m) (without_child x.kin m) e))
+
+kin_lost : (p : Plan) (n : ℕ) (x : Node) (m : ℕ) (q : Packet) → (q ≡ Down → ⊥) → (received p n x m q).kin.lost ≡ x.kin.lost
+unfolding received_up received_done received_attach
+kin_lost p n x m (Up s w set) other = refl
+kin_lost p n x m (Done s w) other = refl
+kin_lost p n x m Attach other = refl
+kin_lost p n x m Down other = absurd (other refl)
+
+down_net : (p : Plan) (st : State) (m n : ℕ) (qs : List Packet) → LossInvariant p Down (Fits p) (net_of st) → st.alive n ≡ true → st.link m n ≡ Down ∷ qs → OutcomeIsSound p st.alive n (received p n (st.node n) m Down) → LossInvariant p Down (Fits p) (net_of (commit (with_link st m n qs) n (received p n (st.node n) m Down)))
 unfolding with_link
-popped st m n q qs e P each tail a b =
-    cond_both ((a == m) && (b == n)) qs (st.link a b) (P a b)
-    (λ t.
-    let ea : a ≡ m = eqb-true a m (and_parts _ _ t).0 in
-    let eb : b ≡ n = eqb-true b n (and_parts _ _ t).1 in
-    subst (λ x. P x b qs) (sym ea) (subst (λ x. P m x qs) (sym eb) (tail (subst (λ l. P m n l) e (each m n)))))
-    (λ t. each a b)
+down_net p st m n qs h up e sound =
+    subst (LossInvariant p Down (Fits p)) (sym (net_of_event (with_link st m n qs) n (received p n (st.node n) m Down)))
+    (subst (λ k. LossInvariant p Down (Fits p) (with_event (overlay.with_link (net_of st) m n qs) n k (received p n (st.node n) m Down).work.sends)) (sym (down_kin p n (st.node n) m))
+    (heard_keeps p Down (Fits p) (net_of st) m n qs (received p n (st.node n) m Down).work.sends (rule p) h up e sound.work.sends))
 
--- a Down that stood on a link is there still, or was the packet that was taken
-down_or_taken : (q : Packet) (qs : List Packet) (m : ℕ) → In Down (q ∷ qs) → In Down qs ⊎ In m (heard_in q m)
-down_or_taken (Up s w set) qs m (inl e) = absurd (cc)
-down_or_taken (Done s w) qs m (inl e) = absurd (cc)
-down_or_taken Attach qs m (inl e) = absurd (cc)
-down_or_taken Down qs m (inl e) = inr (inl refl)
-down_or_taken q qs m (inr i) = inl i
-
-heard_is : (q : Packet) (m b : ℕ) → In b (heard_in q m) → (b ≡ m) × (q ≡ Down)
-heard_is (Up s w set) m b i = absurd i
-heard_is (Done s w) m b i = absurd i
-heard_is Attach m b i = absurd i
-heard_is Down m b (inl e) = (e, refl)
-heard_is Down m b (inr i) = absurd i
-
-down_alone : (q : Packet) (qs : List Packet) → q ≡ Down → EndsAtDown (q ∷ qs) → qs ≡ []
-down_alone (Up s w set) qs e h = absurd (cc)
-down_alone (Done s w) qs e h = absurd (cc)
-down_alone Attach qs e h = absurd (cc)
-down_alone Down qs e h = h
-
-link_popped : (st : State) (m n : ℕ) (qs : List Packet) → (with_link st m n qs).link m n ≡ qs
+other_net : (p : Plan) (st : State) (m n : ℕ) (q : Packet) (qs : List Packet) → LossInvariant p Down (Fits p) (net_of st) → st.alive n ≡ true → st.link m n ≡ q ∷ qs → (q ≡ Down → ⊥) → OutcomeIsSound p st.alive n (received p n (st.node n) m q) → LossInvariant p Down (Fits p) (net_of (commit (with_link st m n qs) n (received p n (st.node n) m q)))
 unfolding with_link
-link_popped st m n qs = cond-true ((m == m) && (n == n)) qs (st.link m n) (and_from (m == m) (n == n) (eq-eqb m m refl) (eq-eqb n n refl))
+other_net p st m n q qs h up e other sound = event_net p (with_link st m n qs) n (received p n (st.node n) m q) (popped_keeps p Down (Fits p) (net_of st) m n q qs h e other) up sound (kin_lost p n (st.node n) m q other)
 
--- a packet on a link after one was taken stood there before
-pub popped_in : (st : State) (m n : ℕ) (q : Packet) (qs : List Packet) → st.link m n ≡ q ∷ qs → (a b : ℕ) (x : Packet) → In x ((with_link st m n qs).link a b) → In x (st.link a b)
-popped_in st m n q qs e a b x = popped st m n q qs e (λ a b l. In x l → In x (st.link a b)) (λ a b i. i) (λ h i. h (inr i)) a b
-
-popped_losses : (p : Plan) (st : State) (m n : ℕ) (q : Packet) (qs : List Packet) → LinkInvariant p st → st.link m n ≡ q ∷ qs → (a b : ℕ) → LossIsHeard p (with_link st m n qs) n (heard_in q m) a b
-unfolding with_link
-popped_losses p st m n q qs h e a b = record {
-  named = λ u d r. elim ((h.losses a b).named u d r) [
-    | inl i ↦ inl (inl i)
-    | inr i ↦ still i
-  ];
-  once = λ u i j. (h.losses a b).once u i (popped_in st m n q qs e b a Down j);
-  gone = λ i j.
-      let t = heard_is q m b i in
-      let k : In Down ((with_link st m n qs).link m n) = subst (λ x. In Down ((with_link st m n qs).link x n)) t.0 j in
-      let z : qs ≡ [] = down_alone q qs t.1 (subst EndsAtDown e (h.links m n).down_last) in
-      subst (λ l. In Down l) (link_popped st m n qs ∙ z) k;
-}
-  where
-    still : In Down (st.link b a) → (In b (st.node a).kin.lost ⊎ In Down ((with_link st m n qs).link b a)) ⊎ ((a ≡ n) × (In b (heard_in q m)))
-    still i = cond_both ((b == m) && (a == n)) qs (st.link b a) (λ l. (In b (st.node a).kin.lost ⊎ In Down l) ⊎ ((a ≡ n) × (In b (heard_in q m))))
-        (λ t.
-        let eb : b ≡ m = eqb-true b m (and_parts (b == m) (a == n) t).0 in
-        let ea : a ≡ n = eqb-true a n (and_parts (b == m) (a == n) t).1 in
-        let k : In Down (q ∷ qs) = subst (λ l. In Down l) e (subst (λ x. In Down (st.link m x)) ea (subst (λ x. In Down (st.link x a)) eb i)) in
-        elim (down_or_taken q qs m k) [ inl j ↦ inl (inr j) | inr j ↦ inr (ea, subst (λ x. In x (heard_in q m)) (sym eb) j) ])
-        (λ t. inl (inr i))
-
-ready_popped : (p : Plan) (st : State) (m n : ℕ) (q : Packet) (qs : List Packet) → LinkInvariant p st → is_active p st n ≡ true → st.link m n ≡ q ∷ qs → IsReady p (with_link st m n qs) n (heard_in q m)
-unfolding with_link is_doomed
-ready_popped p st m n q qs h act e = let t = active_parts p st n act in record {
-  up = t.0;
-  active = t.1;
-  front = h.front;
-  kin = h.kin;
-  links = popped st m n q qs e (LinkIsSound p st.alive) h.links (tail_sound p st.alive m n q qs t.0);
-  losses = popped_losses p st m n q qs h e;
-  books = h.books;
-  counts = h.counts;
-}
+received_net : (p : Plan) (st : State) (m n : ℕ) (q : Packet) (qs : List Packet) → LossInvariant p Down (Fits p) (net_of st) → st.alive n ≡ true → st.link m n ≡ q ∷ qs → OutcomeIsSound p st.alive n (received p n (st.node n) m q) → LossInvariant p Down (Fits p) (net_of (commit (with_link st m n qs) n (received p n (st.node n) m q)))
+received_net p st m n (Up s w set) qs h up e sound = other_net p st m n (Up s w set) qs h up e (λ d. (cc)) sound
+received_net p st m n (Done s w) qs h up e sound = other_net p st m n (Done s w) qs h up e (λ d. (cc)) sound
+received_net p st m n Attach qs h up e sound = other_net p st m n Attach qs h up e (λ d. (cc)) sound
+received_net p st m n Down qs h up e sound = down_net p st m n qs h up e sound
 
 receive_sound : (p : Plan) (st : State) (n m : ℕ) (qs : List Packet) → HasPlanFacts p → LinkInvariant p st → is_active p st n ≡ true → st.link m n ≡ qs → LinkInvariant p (receive p st n m qs)
-unfolding with_link
+unfolding with_link is_doomed
 receive_sound p st n m [] plan h act e = h
 receive_sound p st n m (q ∷ qs) plan h act e =
-    commit_sound p (with_link st m n qs) n (heard_in q m) _ (ready_popped p st m n q qs h act e)
-    (received_sound p st.alive n (st.node n) m q plan (h.kin n) (h.books n) ((h.links m n).packets q (subst (λ l. In q l) (sym e) (inl refl))))
+    let t = active_parts p st n act in
+    let sound = received_sound p st.alive n (st.node n) m q plan (h.net.kin n) (h.books n) (first_sound p st m n q qs h e) in
+    committed p (with_link st m n qs) n (received p n (st.node n) m q) t.1 h.books h.counts sound.work.book (received_net p st m n q qs h.net t.0 e sound)
+
+-- ---- n is lost
+
+front_lost : (p : Plan) (st : State) (n : ℕ) → HasPlanFacts p → is_doomed p st n ≡ true → n ≡ front p → ⊥
+unfolding is_doomed
+front_lost p st n plan d e =
+    let z : is_spent None (st.node n).count ≡ true = subst (λ o. is_spent o (st.node n).count ≡ true) (ap (fault p) e ∙ plan.front_stays) d in
+    true≢false (sym z)
+
+lose_sound : (p : Plan) (st : State) (n : ℕ) → HasPlanFacts p → LinkInvariant p st → st.alive n ≡ true → is_doomed p st n ≡ true → LinkInvariant p (lose p st n)
+unfolding lose
+lose_sound p st n plan h up doom = record {
+  net = loss_keeps p Down (Fits p) (net_of st) n (rule p) h.net up (front_lost p st n plan doom);
+  books = h.books;
+  counts = h.counts;
+}
+
+-- ---- each event, and each journal
 
 pub step_sound : (p : Plan) (st : State) (e : Event) → HasPlanFacts p → LinkInvariant p st → is_enabled p st e ≡ true → LinkInvariant p (step p st e)
+unfolding sampled after_tick
 step_sound p st (Sample n s w) plan h e =
     let t = and_parts _ _ e in
     let u = and_parts _ _ t.0 in
-    commit_sound p st n [] _ (ready p st n h u.0)
-    (sampled_sound p st.alive n (st.node n) s w plan (h.kin n) (h.books n) (in_from_member n (daemons p s) u.1) (next_is_named p (st.node n) s w t.1) (next_is_empty p (st.node n) s w t.1))
+    event_sound p st n (sampled p n (st.node n) s w) h u.0
+    (sampled_sound p st.alive n (st.node n) s w plan (h.net.kin n) (h.books n) (in_from_member n (daemons p s) u.1) (next_is_named p (st.node n) s w t.1) (next_is_empty p (st.node n) s w t.1)) refl
 step_sound p st (Recv n m) plan h e = receive_sound p st n m (st.link m n) plan h (and_parts _ _ e).0 refl
-step_sound p st (Tick n) plan h e = commit_sound p st n [] _ (ready p st n h (and_parts _ _ e).0) (tick_sound p st.alive n (st.node n) (h.kin n) (h.books n))
+step_sound p st (Tick n) plan h e = event_sound p st n (after_tick p n (st.node n)) h (and_parts _ _ e).0 (tick_sound p st.alive n (st.node n) (h.net.kin n) (h.books n)) refl
 step_sound p st (Lose n) plan h e = lose_sound p st n plan h (and_parts _ _ e).0 (and_parts _ _ e).1
-
-pub run_sound : (p : Plan) (st : State) (es : List Event) → HasPlanFacts p → LinkInvariant p st → IsLegalFrom p st es → LinkInvariant p (run p st es)
-run_sound p st [] plan h l = h
-run_sound p st (e ∷ es) plan h l = run_sound p (step p st e) es plan (step_sound p st e plan h l.0) l.1
-
-children_under : (p : Plan) (n c : ℕ) → In c (children_of p n) → IsUnder p c n
-children_under p n c i =
-    let r = in_map_filter (λ x. x) (λ c. elim (nearest (ancestors p c) []) [ None ↦ false | Some m ↦ m == n ]) (up_to (nodes p)) c (subst (λ l. In c l) (sym (map_same _)) i) in
-    let e : c ≡ r.0 = r.3 in
-    subst (λ x. IsUnder p x n) (sym e) (go r.0 (nearest (ancestors p r.0) []) refl r.2)
-  where
-    map_same : (xs : List ℕ) → map (λ x. x) xs ≡ xs
-    map_same = elim [ [] ↦ refl | ◌∷◌ x (xs → ih) ↦ ap (λ l. x ∷ l) ih ]
-
-    go : (a : ℕ) (o : Option ℕ) → nearest (ancestors p a) [] ≡ o → (elim o [ None ↦ false | Some m ↦ m == n ]) ≡ true → IsUnder p a n
-    go a None e t = absurd (cc)
-    go a (Some m) e t = subst (λ x. In x (ancestors p a)) (eqb-true m n t) (nearest_in (ancestors p a) [] m e)
 
 pub start_sound : (p : Plan) → HasPlanFacts p → LinkInvariant p (start p)
 unfolding start
 start_sound p plan = record {
-  front = lt-ltb (front p) (nodes p) plan.front_below;
-  kin = λ n. record { lost = λ m i. absurd i; related = λ m i. absurd i; parent = refl; children = children_under p n; children_increase = filter_increases _ (up_to (nodes p)) (up_to_increases (nodes p)) };
-  links = λ m n. record { into_lost = λ e. refl; packets = λ q i. absurd i; down_last = tt };
-  losses = λ n m. record {
-    named = λ u d r. let k : nat_lt m (nodes p) ≡ true = lt-ltb m (nodes p) (below n m r) in absurd (cc);
-    once = λ u i j. i;
-  };
+  net = start_keeps p Down (Fits p) plan;
   books = λ n s w. record { within = λ x i. i; whole = λ r i. absurd (no_rank r i) };
   counts = λ n f e. zero-le;
 }
-  where
-    below : (n m : ℕ) → AreRelated p n m → m < nodes p
-    below n m (inl u) = (plan.under_nodes n m u).1
-    below n m (inr u) = (plan.under_nodes m n u).0
 
 pub legal_sound : (p : Plan) (journal : List Event) → HasPlanFacts p → IsLegal p journal → LinkInvariant p (after p journal)
-legal_sound p journal plan l = run_sound p (start p) journal plan (start_sound p plan) l
+legal_sound p journal plan l = run_keeps (LinkInvariant p) (step p) (is_enabled p) (λ st e h en. step_sound p st e plan h en) (start p) journal (start_sound p plan) l

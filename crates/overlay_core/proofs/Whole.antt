@@ -1,17 +1,18 @@
 -- Every legal journal leaves a sound state, and every whole one has ended each wave.
 use Rattle.rank_set.specs.Ranks.{Ranks, none, is_subset, is_same, is_empty, Has, IsSubset}
 use Rattle.std.proofs.Common.{◌≡◌, ◌≢◌, ◌⊎◌, ◌≤◌, ◌<◌, ◌+◌, inl, inr, ℕ, suc, zero, Bool, true, false, cond, not, ◌||◌, ◌&&◌, ◌==◌, List, [], ◌∷◌, ◌++◌, find, length, refl, sym, ap, subst, ◌∙◌, arith, eqb-true, eq-eqb, Option, Some, None, length-append, le_refl}
-use Rattle.std.proofs.lemmas.Bool.{and_from, cases_Bool, eqb-false, true≢false, or_left, or_right, not-false, ltb-true}
+use Rattle.std.proofs.lemmas.Bool.{and_from, cases_Bool, true≢false, or_left, or_right, not-false, ltb-true}
 use Rattle.overlay_setup.specs.NodeSets.{In, member, up_to}
-use Rattle.stat_plan.specs.Plans.{Plan, IsUnder, ancestors, serves, mode, is_front, front, nodes, daemons, ranks, is_within, waves_at, waves_of}
+use Rattle.stat_plan.specs.Plans.{Plan, IsUnder, ancestors, serves, mode, is_front, front, nodes, daemons, ranks, is_within, waves_at, waves_of, AreRelated}
 use Rattle.stat_plan.specs.Machine.Due.{due_act}
 use Rattle.overlay_core.specs.Nodes.{Packet, Up, Done, Attach, Down, Release, due_at}
 use Rattle.stat_plan.specs.Machine.Waves.{Wave, Open, Closed, is_open, coverage_of, sent_of, is_empty_open}
 use Rattle.stat_plan.specs.Machine.Kin.{complete, nearest}
-use Rattle.overlay_core.specs.Machine.{State, start, step, is_enabled, is_active, is_doomed, is_pending, next_sample, is_wave, commit, lose, with_link, receive}
-use Rattle.overlay_core.specs.Runs.{run, after, IsLegal, IsLegalFrom, IsQuiet, IsWhole}
-use Rattle.overlay_core.proofs.PlanFacts.{HasPlanFacts}
-use Rattle.overlay_core.specs.LinkInvariant.{AreRelated, WaveIsSound, OpenIsSound}
+use Rattle.overlay_core.specs.Machine.{State, start, step, is_enabled, is_active, is_doomed, next_sample, is_wave, commit, lose, with_link, receive}
+use Rattle.stat_plan.specs.Machine.Overlays.{is_pending}
+use Rattle.overlay_core.specs.Runs.{run, after, IsLegal, IsQuiet, IsWhole}
+use Rattle.stat_plan.proofs.PlanFacts.{HasPlanFacts}
+use Rattle.overlay_core.specs.LinkInvariant.{WaveIsSound, OpenIsSound}
 use Rattle.overlay_core.specs.ParentChild.{ParentChildInvariant}
 use Rattle.overlay_core.specs.Settled.{WaveIsSettled}
 use Rattle.overlay_core.specs.History.{of_wave, ByKind, MissesOnlyLost, IsHistory}
@@ -21,30 +22,24 @@ use Rattle.overlay_core.specs.declared.release.Kind.TheVariants.{Partial as Part
 use Rattle.overlay_setup.specs.declared.script.Mode.{Mode}
 use Rattle.stat_plan.specs.declared.machine.Timer.{Timer}
 use Rattle.stat_plan.specs.declared.machine.Act.TheVariants.{Hold}
-use Rattle.stat_plan.proofs.KinLemmas.{nearest_in, nearest_some}
+use Rattle.stat_plan.proofs.KinLemmas.{nearest_in, nearest_some, nearest_split}
 use Rattle.overlay_event.specs.declared.event.Event.{Event}
 use Rattle.overlay_event.specs.declared.event.Event.TheVariants.{Sample, Recv, Tick, Lose}
-use Rattle.overlay_core.proofs.Lists.{in_append, append_left, append_right, in_member, in_from_member, list_all_from, test_from_subset, no_rank, some_rank, same_true}
+use Rattle.stat_plan.proofs.InLists.{in_append, in_member, in_from_member, list_all_from, up_to_in, in_filter, in_from_filter, any_from_in}
+use Rattle.overlay_core.proofs.RankSets.{test_from_subset, no_rank, some_rank, same_true}
 use Rattle.overlay_core.proofs.Steps.{step_sound, start_sound}
-use Rattle.overlay_core.proofs.ParentLinks.{in_filter, filter_in, in_list_any, within_from_test, test_from_within, waves_above}
+use Rattle.overlay_core.proofs.ParentLinks.{within_from_test, test_from_within, waves_above}
 use Rattle.overlay_core.proofs.ParentChild.{step_pairs}
-use Rattle.overlay_core.proofs.Losses.{was_alive, now_dead}
+use Rattle.stat_plan.proofs.Overlays.{was_alive, now_dead}
 use Rattle.overlay_core.specs.Losses.{IsLost}
 use Rattle.overlay_core.proofs.Settled.{step_settled, start_settled}
 use Rattle.overlay_core.proofs.History.{step_history, start_history}
-
-pub in_up_to : (n c : ℕ) → c < n → In c (up_to n)
-in_up_to zero c h = absurd (omega arith)
-in_up_to (suc n) c h = go (c == n) refl (in_up_to n c)
-  where
-    go : (b : Bool) → (c == n) ≡ b → (c < n → In c (up_to n)) → In c (up_to n ++ n ∷ [])
-    go true e ih = append_right c (up_to n) (n ∷ []) (inl (eqb-true c n e))
-    go false e ih = let ne : c ≡ n → ⊥ = eqb-false c n e in append_left c (up_to n) (n ∷ []) (ih (omega arith))
+use Rattle.stat_plan.proofs.Journals.{run_keeps}
 
 start_pairs : (p : Plan) → HasPlanFacts p → ParentChildInvariant p (start p)
 unfolding start
 start_pairs p plan c q uc uq par = record {
-  child = inl (in_filter (λ c. elim (nearest (ancestors p c) []) [ None ↦ false | Some m ↦ m == q ]) (up_to (nodes p)) c (in_up_to (nodes p) c (ltb-true c (nodes p) uc)) (named (nearest (ancestors p c) []) par));
+  child = inl (in_filter (λ c. elim (nearest (ancestors p c) []) [ None ↦ false | Some m ↦ m == q ]) c (up_to (nodes p)) (up_to_in (nodes p) c (ltb-true c (nodes p) uc)) (named (nearest (ancestors p c) []) par));
   sent = λ s w r e i. absurd (no_rank r i);
   closed = λ s w i e. absurd (true≢false e);
 }
@@ -64,12 +59,8 @@ step_is_sound p st e plan h en = record {
   history = step_history p st e plan h.base h.history en;
 }
 
-run_is_sound : (p : Plan) (st : State) (es : List Event) → HasPlanFacts p → IsSound p st → IsLegalFrom p st es → IsSound p (run p st es)
-run_is_sound p st [] plan h l = h
-run_is_sound p st (e ∷ es) plan h l = run_is_sound p (step p st e) es plan (step_is_sound p st e plan h l.0) l.1
-
 pub legal_is_sound : (p : Plan) (journal : List Event) → HasPlanFacts p → IsLegal p journal → IsSound p (after p journal)
-legal_is_sound p journal plan l = run_is_sound p (start p) journal plan (start_is_sound p plan) l
+legal_is_sound p journal plan l = run_keeps (IsSound p) (step p) (is_enabled p) (λ st e h en. step_is_sound p st e plan h en) (start p) journal (start_is_sound p plan) l
 
 -- what quiet says of a living node
 quiet_active : (p : Plan) (st : State) (n : ℕ) → IsQuiet p st → st.alive n ≡ true → is_active p st n ≡ true
@@ -104,16 +95,6 @@ quiet_sampled p st n s w quiet up hd hw e =
     let named : is_wave (next_sample p (st.node n) s) r.0.1 ≡ true = subst (λ o. is_wave o r.0.1 ≡ true) (sym r.1) (eq-eqb r.0.1 r.0.1 refl) in
     true≢false (sym (and_from _ _ (and_from _ _ (quiet_active p st n quiet up) (in_member n (daemons p s) hd)) named) ∙ quiet (Sample n s r.0.1))
 
--- the nearest of a list, with those before it
-pub nearest_split : (xs lost : List ℕ) (q : ℕ) → nearest xs lost ≡ Some q → (near : List ℕ) × (far : List ℕ) × (xs ≡ near ++ q ∷ far) × (member q lost ≡ false) × ((a : ℕ) → In a near → In a lost)
-nearest_split [] lost q e = absurd (cc)
-nearest_split (x ∷ xs) lost q e = go (member x lost) refl (nearest_split xs lost q) e
-  where
-    go : (b : Bool) → member x lost ≡ b → (nearest xs lost ≡ Some q → (near : List ℕ) × (far : List ℕ) × (xs ≡ near ++ q ∷ far) × (member q lost ≡ false) × ((a : ℕ) → In a near → In a lost))
-        → cond b (nearest xs lost) (Some x) ≡ Some q → (near : List ℕ) × (far : List ℕ) × ((x ∷ xs) ≡ near ++ q ∷ far) × (member q lost ≡ false) × ((a : ℕ) → In a near → In a lost)
-    go true k ih h = let r = ih h in (x ∷ r.0, r.1, ap (λ l. x ∷ l) r.2, r.3, λ a i. elim i [ inl j ↦ subst (λ b. In b lost) (sym j) (in_from_member x lost k) | inr j ↦ r.4 a j ])
-    go false k ih h = let e : x ≡ q = cc in ([], xs, ap (λ a. a ∷ xs) e, subst (λ a. member a lost ≡ false) e k, λ a i. absurd i)
-
 -- a living node and its parent, in a quiet sound state
 record Parent (p : Plan) (st : State) (d q : ℕ) : Type 0 where
   named : (st.node d).kin.parent ≡ Some q
@@ -123,14 +104,14 @@ record Parent (p : Plan) (st : State) (d q : ℕ) : Type 0 where
   above : (n : ℕ) → st.alive n ≡ true → IsUnder p d n → (n ≡ q) ⊎ IsUnder p q n
 
 dead_is_known : (p : Plan) (st : State) (n m : ℕ) → IsSound p st → IsQuiet p st → st.alive n ≡ true → st.alive m ≡ false → AreRelated p n m → In m (st.node n).kin.lost
-dead_is_known p st n m h quiet up down rel = elim ((h.base.losses n m).named up down rel) [
+dead_is_known p st n m h quiet up down rel = elim ((h.base.net.losses n m).named up down rel) [
   | inl i ↦ i
   | inr i ↦ absurd (subst (λ l. In Down l) (quiet_links p st m n quiet up) i)
 ]
 
 parent_of : (p : Plan) (st : State) (d q : ℕ) → HasPlanFacts p → IsSound p st → IsQuiet p st → st.alive d ≡ true → (st.node d).kin.parent ≡ Some q → Parent p st d q
 parent_of p st d q plan h quiet up e =
-    let en : nearest (ancestors p d) (st.node d).kin.lost ≡ Some q = sym (h.base.kin d).parent ∙ e in
+    let en : nearest (ancestors p d) (st.node d).kin.lost ≡ Some q = sym (h.base.net.kin d).parent ∙ e in
     let r = nearest_split (ancestors p d) (st.node d).kin.lost q en in
     let u : IsUnder p d q = nearest_in (ancestors p d) (st.node d).kin.lost q en in
     let rest : ancestors p q ≡ r.1 = plan.rest d q r.0 r.1 r.2 in
@@ -140,7 +121,7 @@ parent_of p st d q plan h quiet up e =
       under = u;
       nearer = let a : length (ancestors p d) ≡ length (r.0 ++ q ∷ r.1) = ap length r.2 in let b : length (ancestors p q) ≡ length r.1 = ap length rest in let c : length (r.0 ++ q ∷ r.1) ≡ length r.0 + length (q ∷ r.1) = length-append r.0 (q ∷ r.1) in omega arith;
       above = λ n un i. elim (in_append n r.0 (q ∷ r.1) (subst (λ l. In n l) r.2 i)) [
-        | inl j ↦ absurd (true≢false (sym un ∙ (h.base.kin d).lost n (r.4 n j)))
+        | inl j ↦ absurd (true≢false (sym un ∙ (h.base.net.kin d).lost n (r.4 n j)))
         | inr j ↦ elim j [ inl k ↦ inl k | inr k ↦ inr (subst (λ l. In n l) (sym rest) k) ]
       ];
     }
@@ -148,8 +129,8 @@ parent_of p st d q plan h quiet up e =
 -- a living node under a living n has a parent
 has_parent : (p : Plan) (st : State) (d n : ℕ) → HasPlanFacts p → IsSound p st → IsQuiet p st → st.alive d ≡ true → st.alive n ≡ true → IsUnder p d n → (q : ℕ) × Parent p st d q
 has_parent p st d n plan h quiet ud un u =
-    let r = nearest_some (ancestors p d) (st.node d).kin.lost n u (elim (cases_Bool (member n (st.node d).kin.lost)) [ inl t ↦ absurd (true≢false (sym un ∙ (h.base.kin d).lost n (in_from_member n _ t))) | inr f ↦ f ]) in
-    (r.0, parent_of p st d r.0 plan h quiet ud ((h.base.kin d).parent ∙ r.1))
+    let r = nearest_some (ancestors p d) (st.node d).kin.lost n u (elim (cases_Bool (member n (st.node d).kin.lost)) [ inl t ↦ absurd (true≢false (sym un ∙ (h.base.net.kin d).lost n (in_from_member n _ t))) | inr f ↦ f ]) in
+    (r.0, parent_of p st d r.0 plan h quiet ud ((h.base.net.kin d).parent ∙ r.1))
 
 -- the child of n that is on the way to d
 record OnTheWay (p : Plan) (st : State) (d n x : ℕ) : Type 0 where
@@ -176,12 +157,12 @@ held_same m false t e = refl
 waves_within : (p : Plan) (d x n s w : ℕ) → In d (daemons p s) → (d ≡ x) ⊎ IsUnder p d x → In (s, w) (waves_at p n) → In (s, w) (waves_at p x)
 unfolding waves_at serves
 waves_within p d x n s w hd u i =
-    let r = filter_in (λ v. serves p n v.0) (waves_of p.streams) (s, w) i in
-    in_filter (λ v. serves p x v.0) (waves_of p.streams) (s, w) r.0 (in_list_any (λ d. is_within p d x) (daemons p s) d hd (test_from_within p d x u))
+    let r = in_from_filter (λ v. serves p n v.0) (s, w) (waves_of p.streams) i in
+    in_filter (λ v. serves p x v.0) (s, w) (waves_of p.streams) r.0 (any_from_in (λ d. is_within p d x) d (daemons p s) hd (test_from_within p d x u))
 
 wave_named : (p : Plan) (n s w : ℕ) → In (s, w) (waves_at p n) → In (s, w) (waves_of p.streams)
 unfolding waves_at
-wave_named p n s w i = (filter_in (λ v. serves p n v.0) (waves_of p.streams) (s, w) i).0
+wave_named p n s w i = (in_from_filter (λ v. serves p n v.0) (s, w) (waves_of p.streams) i).0
 
 abbrev Covers : Plan → State → ℕ → ℕ → ℕ → Type 0
 Covers p st n s w = (d : ℕ) → In d (daemons p s) → st.alive d ≡ true → (d ≡ n) ⊎ IsUnder p d n → IsSubset (ranks p d) (coverage_of ((st.node n).book s w))
@@ -278,10 +259,10 @@ unfolding due_at is_front
 front_closed p st s w plan h quiet hw = elim (cases_Bool (is_open ((st.node (front p)).book s w))) [
   | inr f ↦ f
   | inl e ↦
-      let covered = covers p st (nodes p) (front p) s w plan h quiet e h.base.front hw (omega arith) in
-      let o = open_at p st (front p) s w h h.base.front hw e in
+      let covered = covers p st (nodes p) (front p) s w plan h quiet e h.base.net.front hw (omega arith) in
+      let o = open_at p st (front p) s w h h.base.net.front hw e in
       let ec : coverage_of ((st.node (front p)).book s w) ≡ o.covered = ap coverage_of {y = Open o.covered o.sent o.timer} o.is in
-      let full : complete p (front p) (st.node (front p)).kin.lost s o.covered ≡ true = subst (λ l. complete p (front p) (st.node (front p)).kin.lost s l ≡ true) ec (complete_from p st (front p) s w h quiet h.base.front covered) in
+      let full : complete p (front p) (st.node (front p)).kin.lost s o.covered ≡ true = subst (λ l. complete p (front p) (st.node (front p)).kin.lost s l ≡ true) ec (complete_from p st (front p) s w h quiet h.base.net.front covered) in
       absurd (final_due (mode p s) (not (is_same o.covered o.sent)) o.timer (subst (λ b. due_act (mode p s) true (not (is_same o.covered o.sent)) b o.timer ≡ Hold) (eq-eqb (front p) (front p) refl) (subst (λ b. due_act (mode p s) b (not (is_same o.covered o.sent)) (is_front p (front p)) o.timer ≡ Hold) full o.held)))
 ]
 
@@ -291,9 +272,9 @@ at_front p st n s w plan h quiet hw e = subst (λ a. is_open ((st.node a).book s
 
 closed_below : (p : Plan) (st : State) (fuel n s w : ℕ) → HasPlanFacts p → IsSound p st → IsQuiet p st → st.alive n ≡ true → In (s, w) (waves_at p n) → (n ≡ front p) ⊎ IsUnder p n (front p) → length (ancestors p n) ≤ fuel → is_open ((st.node n).book s w) ≡ false
 closed_below p st fuel n s w plan h quiet up hw (inl e) le = at_front p st n s w plan h quiet hw e
-closed_below p st zero n s w plan h quiet up hw (inr u) le = let r = has_parent p st n (front p) plan h quiet up h.base.front u in absurd (let k = r.1.nearer in omega arith)
+closed_below p st zero n s w plan h quiet up hw (inr u) le = let r = has_parent p st n (front p) plan h quiet up h.base.net.front u in absurd (let k = r.1.nearer in omega arith)
 closed_below p st (suc fuel) n s w plan h quiet up hw (inr u) le =
-    let r = has_parent p st n (front p) plan h quiet up h.base.front u in
+    let r = has_parent p st n (front p) plan h quiet up h.base.net.front u in
     let q = r.0 in
     let hq : In (s, w) (waves_at p q) = (waves_above p n q s w plan r.1.under hw).0 in
     let place : (q ≡ front p) ⊎ IsUnder p q (front p) = plan.all_under q (plan.under_nodes n q r.1.under).1 in
@@ -341,13 +322,13 @@ front_waves : (p : Plan) (s w : ℕ) → HasPlanFacts p → In (s, w) (waves_of 
 unfolding waves_at serves
 front_waves p s w plan i =
     let d = plan.stream_daemon s w i in
-    in_filter (λ v. serves p (front p) v.0) (waves_of p.streams) (s, w) i (in_list_any (λ x. is_within p x (front p)) (daemons p s) d.0 d.1 (test_from_within p d.0 (front p) (plan.daemon_place d.0 s d.1)))
+    in_filter (λ v. serves p (front p) v.0) (s, w) (waves_of p.streams) i (any_from_in (λ x. is_within p x (front p)) d.0 (daemons p s) d.1 (test_from_within p d.0 (front p) (plan.daemon_place d.0 s d.1)))
 
 -- a quiet state is over
-quiet_is_over : (p : Plan) (st : State) → HasPlanFacts p → IsSound p st → ((n : ℕ) → st.alive n ≡ true → n < nodes p) → IsQuiet p st → IsOver p st
-quiet_is_over p st plan h below quiet = record {
+quiet_is_over : (p : Plan) (st : State) → HasPlanFacts p → IsSound p st → IsQuiet p st → IsOver p st
+quiet_is_over p st plan h quiet = record {
   final = λ s w i. ends_finally p st.alive s none (of_wave s w st.releases) ((st.node (front p)).book s w) (front_closed p st s w plan h quiet (front_waves p s w plan i)) (h.history.releases s w);
-  closed = λ n s w up i. closed_below p st (length (ancestors p n)) n s w plan h quiet up i (plan.all_under n (below n up)) (le_refl _);
+  closed = λ n s w up i. closed_below p st (length (ancestors p n)) n s w plan h quiet up i (plan.all_under n (h.base.net.nodes n up)) (le_refl _);
 }
 
 pub start_below : (p : Plan) (n : ℕ) → (start p).alive n ≡ true → n < nodes p
@@ -372,7 +353,7 @@ lives_below p st [] h = h
 lives_below p st (e ∷ es) h = lives_below p (step p st e) es (λ n u. h n (step_alive p st e n u))
 
 pub whole_is_over : (p : Plan) (journal : List Event) → HasPlanFacts p → IsWhole p journal → IsOver p (after p journal)
-whole_is_over p journal plan l = quiet_is_over p (after p journal) plan (legal_is_sound p journal plan l.0) (lives_below p (start p) journal (start_below p)) l.1
+whole_is_over p journal plan l = quiet_is_over p (after p journal) plan (legal_is_sound p journal plan l.0) l.1
 
 -- who dies at an event is the node that it loses
 dies : (p : Plan) (st : State) (e : Event) (n : ℕ) → st.alive n ≡ true → (step p st e).alive n ≡ false → Lose n ≡ e

@@ -9,7 +9,8 @@ use Rattle.overlay_core.specs.Counts.{OnlyGrows, growths, is_unsent, moves, one_
 use Rattle.overlay_core.specs.History.{of_wave}
 use Rattle.overlay_core.specs.Independent.{outcome}
 use Rattle.overlay_core.specs.Machine.{State, is_enabled, start}
-use Rattle.overlay_core.specs.Pick.{Picks, next_number, picked_event}
+use Rattle.overlay_core.specs.Pick.{Picks, picked_event}
+use Rattle.stat_plan.specs.Machine.Journals.{next_number}
 use Rattle.overlay_core.specs.Runs.{IsLegal, IsWhole, after}
 use Rattle.overlay_core.specs.Whole.{HasOneRelease, LosesNoDaemon}
 

@@ -1,12 +1,13 @@
 -- The machine: its state, the events that are enabled, and what each does.
-use Rattle.std.specs.Prelude.{ℕ, zero, suc, Bool, true, false, ◌&&◌, not, ◌==◌, nat_lt, cond, List, [], ◌∷◌, ◌++◌, map, filter, take, find, Option, Some, None}
+use Rattle.std.specs.Prelude.{ℕ, zero, suc, Bool, false, ◌&&◌, not, ◌==◌, nat_lt, List, [], ◌∷◌, ◌++◌, map, filter, find, Option, Some, None}
 use Rattle.std.specs.List.{list_any}
 use Rattle.rank_set.specs.Ranks.{none}
 use Rattle.overlay_setup.specs.NodeSets.{member, up_to}
-use Rattle.stat_plan.specs.Plans.{Plan, nodes, is_related, waves_at, waves_of, daemons, fault}
+use Rattle.stat_plan.specs.Plans.{Plan, nodes, waves_at, waves_of, daemons}
 use Rattle.stat_plan.specs.Machine.Kin.{start_kin}
+use Rattle.stat_plan.specs.Machine.Overlays.{Overlay, is_pending}
+use Rattle.stat_plan.specs.Machine.Overlays as overlay
 use Rattle.stat_plan.specs.Machine.Waves.{Open, put_at, is_empty_open, is_running}
-use Rattle.overlay_setup.specs.declared.script.Fault.{Fault}
 use Rattle.stat_plan.specs.declared.machine.Timer.TheVariants.{Off}
 use Rattle.overlay_event.specs.declared.event.Event.{Event}
 use Rattle.overlay_event.specs.declared.event.Event.TheVariants.{Sample, Recv, Tick, Lose}
@@ -18,6 +19,15 @@ pub record State : Type 0 where
   pub node : ℕ → Node
   pub link : ℕ → ℕ → List Packet  -- from the first to the second
   pub releases : List Release
+
+-- the overlay that a state stands on: which nodes live, their kin and counts, and the links
+abbrev pub net_of : State → Overlay Packet
+net_of st = record {
+  alive = st.alive;
+  kin = λ n. (st.node n).kin;
+  count = λ n. (st.node n).count;
+  link = st.link;
+}
 
 -- a node that has done nothing yet
 abbrev pub start_node : Plan → ℕ → Node
@@ -36,18 +46,13 @@ start p = record {
   releases = [];
 }
 
--- the packets that go to b
-abbrev pub to : ℕ → List (ℕ × Packet) → List Packet
-to b [] = []
-to b (v ∷ vs) = cond (v.0 == b) (v.1 ∷ to b vs) (to b vs)
-
--- The outcome of an event of n takes its place: n is what the outcome says, with one event more; what was sent is at the
--- ends of the links to receivers that live; what was released is released.
+-- The outcome of an event of n takes its place: n is what the outcome says, with one event more; what was sent is on the links to
+-- receivers that live; what was released is released.
 unfoldable pub commit : State → ℕ → Outcome → State
 commit st n o = record {
   alive = st.alive;
   node = put_at st.node n (record { kin = o.kin; book = o.work.book; count = suc (st.node n).count });
-  link = λ a b. cond ((a == n) && st.alive b) (st.link a b ++ to b o.work.sends) (st.link a b);
+  link = (overlay.with_event (net_of st) n o.kin o.work.sends).link;
   releases = st.releases ++ o.work.releases;
 }
 
@@ -56,25 +61,16 @@ unfoldable pub with_link : State → ℕ → ℕ → List Packet → State
 with_link st m n qs = record {
   alive = st.alive;
   node = st.node;
-  link = λ a b. cond ((a == m) && (b == n)) qs (st.link a b);
+  link = (overlay.with_link (net_of st) m n qs).link;
   releases = st.releases;
 }
 
--- how many packets of each link out of the node stay
-abbrev pub keep_of : Option Fault → ℕ
-keep_of None = 0
-keep_of (Some f) = f.keep
-
--- n is lost: what is on the way to it is gone, of what is on the way from it the first packets stay, and each living
--- original ancestor and descendant is notified
+-- n is lost, and each living original ancestor and descendant is notified
 unfoldable pub lose : Plan → State → ℕ → State
 lose p st n = record {
-  alive = put_at st.alive n false;
+  alive = (overlay.with_loss Down p (net_of st) n).alive;
   node = st.node;
-  link = λ a b.
-      cond (b == n) [] (
-      cond (a == n) (take (keep_of (fault p n)) (st.link a b) ++ cond (st.alive b && is_related p n b) (Down ∷ []) []) (
-      st.link a b));
+  link = (overlay.with_loss Down p (net_of st) n).link;
   releases = st.releases;
 }
 
@@ -99,23 +95,13 @@ abbrev pub is_wave : Option (ℕ × ℕ) → ℕ → Bool
 is_wave None w = false
 is_wave (Some v) w = v.1 == w
 
--- whether a node of this fault has done the events that it does before it is lost
-abbrev pub is_spent : Option Fault → ℕ → Bool
-is_spent None count = false
-is_spent (Some f) count = count == f.after
-
 -- whether its loss is all that may happen to n
 unfoldable pub is_doomed : Plan → State → ℕ → Bool
-is_doomed p st n = is_spent (fault p n) (st.node n).count
+is_doomed p st n = overlay.is_doomed p (net_of st) n
 
 -- whether n can do something besides being lost
 unfoldable pub is_active : Plan → State → ℕ → Bool
 is_active p st n = st.alive n && not (is_doomed p st n)
-
--- whether a packet is on the way
-abbrev pub is_pending : List Packet → Bool
-is_pending [] = false
-is_pending (q ∷ qs) = true
 
 -- whether an event is enabled
 abbrev pub is_enabled : Plan → State → Event → Bool

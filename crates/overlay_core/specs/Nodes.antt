@@ -4,6 +4,7 @@ use Rattle.rank_set.specs.Ranks.{Ranks}
 use Rattle.stat_plan.specs.Plans.{Plan, is_front, ranks, mode, serves, waves_at}
 use Rattle.stat_plan.specs.Machine.Due.{due_act}
 use Rattle.stat_plan.specs.Machine.Waves.{Wave, Open, Closed, Book, set_wave, has_grown, ticks, is_fired, is_closed, covering, growing, ticked, unsent}
+use Rattle.stat_plan.specs.Machine.Overlays.{to_parent}
 use Rattle.stat_plan.specs.Machine.Kin.{Kin, complete, is_parent, with_child, without_child, with_parent}
 use Rattle.stat_plan.specs.declared.machine.Timer.{Timer}
 use Rattle.stat_plan.specs.declared.machine.Timer.TheVariants.{Off, Running}
@@ -50,11 +51,6 @@ pub record Outcome : Type 0 where
 -- what is due for an open wave
 unfoldable pub due_at : Plan → ℕ → List ℕ → ℕ → Ranks → Ranks → Timer → Act
 due_at p n lost s covered sent timer = due_act (mode p s) (complete p n lost s covered) (has_grown covered sent) (is_front p n) timer
-
--- a packet to the parent, if there is one
-abbrev pub to_parent : Option ℕ → Packet → List (ℕ × Packet)
-to_parent None q = []
-to_parent (Some m) q = (m, q) ∷ []
 
 -- Done to each child that serves the stream
 unfoldable pub dones : Plan → Kin → ℕ → ℕ → List (ℕ × Packet)

@@ -19,7 +19,8 @@ use Rattle.overlay_core.specs.Runs.{after, is_legal_from}
 use Rattle.overlay_core.specs.Bound.{bound}
 use Rattle.overlay_core.specs.Counts.{sends, growths, moves}
 use Rattle.overlay_core.specs.Independent.{outcome}
-use Rattle.overlay_core.specs.Pick.{next_number, picked_event, picked_from, picked}
+use Rattle.overlay_core.specs.Pick.{picked_event, picked_from, picked}
+use Rattle.stat_plan.specs.Machine.Journals.{next_number}
 
 -- a plan with one stream of one wave of all its daemons, and without samples
 abbrev pub job : List (List ℕ) → List (Option ℕ) → List Ranks → Mode → List ℕ → List Fault → Plan

@@ -1,18 +1,17 @@
 -- Journals: the states that they leave, and which of them are legal and whole.
-use Rattle.std.specs.Prelude.{◌≡◌, Bool, true, false, ◌&&◌, ⊤, List, [], ◌∷◌, IsTrue}
+use Rattle.std.specs.Prelude.{Bool, true, ◌&&◌, List, [], ◌∷◌}
 use Rattle.stat_plan.specs.Plans.{Plan}
+use Rattle.stat_plan.specs.Machine.Journals as journals
 use Rattle.overlay_event.specs.declared.event.Event.{Event}
 use Rattle.overlay_core.specs.Machine.{State, start, step, is_enabled}
 
 -- the state that these events leave of a state
 abbrev pub run : Plan → State → List Event → State
-run p st [] = st
-run p st (e ∷ es) = run p (step p st e) es
+run p st es = journals.run (step p) st es
 
 -- each event may come where it comes
 abbrev pub IsLegalFrom : Plan → State → List Event → Type 0
-IsLegalFrom p st [] = ⊤
-IsLegalFrom p st (e ∷ es) = IsTrue (is_enabled p st e) × IsLegalFrom p (step p st e) es
+IsLegalFrom p st es = journals.IsLegalFrom (step p) (is_enabled p) st es
 
 -- the state after a journal
 abbrev pub after : Plan → List Event → State
@@ -24,7 +23,7 @@ IsLegal p journal = IsLegalFrom p (start p) journal
 
 -- no event is enabled
 abbrev pub IsQuiet : Plan → State → Type 0
-IsQuiet p st = (e : Event) → is_enabled p st e ≡ false
+IsQuiet p st = journals.IsQuietState (is_enabled p) st
 
 -- a legal journal after which no event may come
 abbrev pub IsWhole : Plan → List Event → Type 0

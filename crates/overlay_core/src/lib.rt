@@ -14,7 +14,8 @@ ghost use Rattle.overlay_core.specs.Laws.{BooksGrow, EachLegal, EachWhole, Keeps
 ghost use Rattle.overlay_core.specs.Losses.{IsLost};
 ghost use Rattle.overlay_core.specs.Machine.{State, start, step, is_enabled, enabled_events};
 ghost use Rattle.overlay_core.specs.Nodes.{Release as MachineRelease};
-ghost use Rattle.overlay_core.specs.Pick.{next_number, picked_event, picked, Picks, IsPickedFrom};
+ghost use Rattle.overlay_core.specs.Pick.{picked_event, picked, Picks, IsPickedFrom};
+ghost use Rattle.stat_plan.specs.Machine.Journals.{next_number};
 ghost use Rattle.overlay_core.specs.Releases.{ReleasesAreSound};
 ghost use Rattle.overlay_core.specs.Runs.{run, after, IsLegal, IsQuiet, IsWhole};
 ghost use Rattle.overlay_core.specs.Whole.{HasEnded, HasOneRelease, IsSound, LosesNoDaemon};

@@ -9,8 +9,7 @@ use Rattle.stat_plan.specs.Plans.{Plan, fault, nodes}
 use Rattle.overlay_event.specs.declared.event.Event.{Event}
 use Rattle.overlay_event.specs.declared.event.Event.TheVariants.{Sample, Recv, Tick, Lose}
 use Rattle.overlay_event.specs.Events.{event_node}
-use Rattle.overlay_core.proofs.Lists.{in_member, up_to_below}
-use Rattle.overlay_core.proofs.Whole.{in_up_to}
+use Rattle.stat_plan.proofs.InLists.{in_member, up_to_below, up_to_in}
 use Rattle.event_claims.specs.Claims.{Outs, is_free, is_home, is_loss_of, receives_from}
 use Rattle.overlay_node.specs.NodeViews.{NodeView}
 use Rattle.node_inbox.specs.Sends.{inbox_at, is_alive}
@@ -166,5 +165,5 @@ all_below n = each (up_to n) (up_to_below n)
 pub nothing_counted : (p : Plan) (al : List Bool) (xs : List NodeView) (ib : List FrameInbox) (out : Outs) (counts : List ℕ) → length counts ≡ nodes p → AreCountedBut (up_to (nodes p)) p al xs ib out counts
 nothing_counted p al xs ib out counts count = record {
   node_count = count;
-  events = λ b lt other. absurd (true≢false (sym (in_member b (up_to (nodes p)) (in_up_to (nodes p) b lt)) ∙ other));
+  events = λ b lt other. absurd (true≢false (sym (in_member b (up_to (nodes p)) (up_to_in (nodes p) b lt)) ∙ other));
 }

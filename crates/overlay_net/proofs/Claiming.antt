@@ -11,11 +11,12 @@ use Rattle.overlay_event.specs.declared.event.Event.TheVariants.{Sample, Recv, T
 use Rattle.overlay_event.specs.Events.{event_node}
 use Rattle.overlay_core.specs.Independent.{first_from, taken}
 use Rattle.overlay_core.specs.LinkInvariant.{LinkInvariant}
-use Rattle.overlay_core.specs.Machine.{State, is_enabled, is_pending}
+use Rattle.overlay_core.specs.Machine.{State, is_enabled}
+use Rattle.stat_plan.specs.Machine.Overlays.{is_pending}
 use Rattle.overlay_core.specs.Nodes.{Node}
 use Rattle.overlay_core.specs.Runs.{after}
 use Rattle.overlay_core.specs.TreeReleases.{TreeRelease}
-use Rattle.overlay_core.proofs.PlanFacts.{plan_facts}
+use Rattle.stat_plan.proofs.PlanFacts.{plan_facts}
 use Rattle.overlay_core.proofs.Steps.{legal_sound}
 use Rattle.event_claims.specs.Claims.{MayBeClaimed, MayBeOut, Outs, claimed}
 use Rattle.event_claims.proofs.Claims.{claim_more}

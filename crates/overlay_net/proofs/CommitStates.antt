@@ -10,7 +10,8 @@ use Rattle.overlay_event.specs.declared.event.Event.{Event}
 use Rattle.overlay_event.specs.declared.event.Event.TheVariants.{Sample, Recv, Tick, Lose}
 use Rattle.overlay_event.specs.Events.{event_node}
 use Rattle.overlay_core.specs.Nodes.{Packet, Down}
-use Rattle.overlay_core.specs.Machine.{State, is_active, is_enabled, is_pending, step}
+use Rattle.overlay_core.specs.Machine.{State, is_active, is_enabled, step}
+use Rattle.stat_plan.specs.Machine.Overlays.{is_pending}
 use Rattle.overlay_core.specs.Runs.{after}
 use Rattle.overlay_core.specs.TreeReleases.{TreeRelease}
 use Rattle.overlay_core.proofs.Journals.{after_more}

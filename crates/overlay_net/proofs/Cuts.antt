@@ -6,7 +6,7 @@ use Rattle.std.proofs.lemmas.List.Elements.{filter-append}
 use Rattle.std.specs.List.{AllByRecursion}
 use Rattle.overlay_setup.specs.NodeSets.{up_to}
 use Rattle.stat_plan.specs.Plans.{Plan, fault, is_related, nodes}
-use Rattle.overlay_core.specs.Machine.{keep_of, to}
+use Rattle.stat_plan.specs.Machine.Overlays.{keep_of, to}
 use Rattle.overlay_core.specs.Nodes.{Packet, Down}
 use Rattle.overlay_node.specs.Frames.{IsFrame, packet_of}
 use Rattle.overlay_node.specs.Outputs.{packets_of}
@@ -15,7 +15,8 @@ use Rattle.node_inbox.specs.Inboxes.{IsInbox, queue_of}
 use Rattle.node_inbox.specs.Sends.{AreSent, inbox_at, is_alive, is_receiver, packets_to}
 use Rattle.overlay_net.specs.Claims.{notices}
 use Rattle.overlay_net.specs.Inboxes.{FrameInbox}
-use Rattle.overlay_net.specs.Losses.{AreCut, AreLost, IsCutAndTold}
+use Rattle.node_inbox.specs.Cuts.{AreCut}
+use Rattle.overlay_net.specs.Losses.{AreLost, IsCutAndTold}
 use Rattle.overlay_net.proofs.States.{bare_to}
 
 -- ---- who gets a notice
@@ -101,7 +102,7 @@ all_take R (suc k) [] h = tt
 all_take R (suc k) (x ∷ xs) h = (h.0, all_take R k xs h.1)
 
 module _ (p : Plan) (al : List Bool) (n : ℕ) (old cut new : List FrameInbox) (sends : List (ℕ × List ℕ))
-    (h : AreCut p n (nodes p) old cut) (sent : AreSent al n sends cut new) (told_is : packets_of sends ≡ notices p n) (frames : AllByRecursion (λ v. IsFrame p v.1) sends)
+    (h : AreCut n (keep_of (fault p n)) (nodes p) old cut) (sent : AreSent al n sends cut new) (told_is : packets_of sends ≡ notices p n) (frames : AllByRecursion (λ v. IsFrame p v.1) sends)
     (boxes : (b : ℕ) → IsInbox (inbox_at old b)) where
   abbrev test : ℕ → Bool
   test b = not (b == n) && is_related p n b

@@ -10,9 +10,7 @@ use Rattle.overlay_setup.specs.declared.topology.TheConstants.{NODE_LIMIT}
 use Rattle.stat_plan.specs.Invariants.{IsPlan}
 use Rattle.stat_plan.specs.Plans.{Plan, nodes}
 use Rattle.stat_plan.proofs.FirstOver.{all_in}
-use Rattle.stat_plan.proofs.InLists.{in_at}
-use Rattle.overlay_core.proofs.Lists.{in_member, up_to_below}
-use Rattle.overlay_core.proofs.Whole.{in_up_to}
+use Rattle.stat_plan.proofs.InLists.{in_at, in_member, up_to_below, up_to_in}
 use Rattle.overlay_node.specs.NodeViews.{NodeView}
 use Rattle.event_claims.specs.Claims.{Outs}
 use Rattle.node_inbox.specs.Inboxes.{senders_of}
@@ -101,7 +99,7 @@ module _ (p : Plan) (al : List Bool) (xs : List NodeView) (ib : List FrameInbox)
   pub nothing_counted : (counts : List ℕ) → length counts ≡ nodes p → AreCountedBut (up_to (nodes p)) p al xs ib out counts
   nothing_counted counts count_count = record {
     node_count = count_count;
-    events = λ b low other. absurd (true≢false (sym (in_member b (up_to (nodes p)) (in_up_to (nodes p) b low)) ∙ other));
+    events = λ b low other. absurd (true≢false (sym (in_member b (up_to (nodes p)) (up_to_in (nodes p) b low)) ∙ other));
   }
 
   -- the counts of the first nodes are theirs

@@ -8,7 +8,8 @@ use Rattle.stat_plan.specs.Plans.{Plan, fault}
 use Rattle.stat_plan.proofs.InLists.{in_append}
 use Rattle.overlay_event.specs.declared.event.Event.{Event}
 use Rattle.overlay_event.specs.declared.event.Event.TheVariants.{Sample, Recv, Tick, Lose}
-use Rattle.overlay_core.specs.Machine.{is_spent, next_sample}
+use Rattle.overlay_core.specs.Machine.{next_sample}
+use Rattle.stat_plan.specs.Machine.Overlays.{is_spent}
 use Rattle.overlay_node.specs.NodeViews.{NodeView, has_running, node_of}
 use Rattle.node_inbox.specs.Inboxes.{senders_of}
 use Rattle.node_inbox.specs.Sends.{inbox_at, is_alive}

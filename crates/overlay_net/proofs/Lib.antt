@@ -16,7 +16,6 @@ pub mod Listed
 pub mod Losing
 pub mod LosingCounts
 pub mod LostCommit
-pub mod LostLinks
 pub mod LostStates
 pub mod NextEvents
 pub mod Offers

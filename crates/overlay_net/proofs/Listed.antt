@@ -9,9 +9,8 @@ use Rattle.std.proofs.lemmas.List.{length-append}
 use Rattle.std.proofs.lemmas.Option.{none-some}
 use Rattle.overlay_setup.specs.NodeSets.{In, IsStrictlyIncreasing, up_to}
 use Rattle.stat_plan.proofs.FirstOver.{all_in}
-use Rattle.stat_plan.proofs.InLists.{in_filter, in_from_filter}
-use Rattle.overlay_core.proofs.Lists.{filter_increases, up_to_increases, up_to_below}
-use Rattle.overlay_core.proofs.Whole.{in_up_to}
+use Rattle.stat_plan.proofs.InLists.{in_filter, in_from_filter, up_to_below, up_to_in}
+use Rattle.stat_plan.proofs.Ascending.{filter_increases, up_to_increases}
 use Rattle.overlay_event.specs.declared.event.Event.{Event}
 use Rattle.overlay_net.specs.Inboxes.{WaitingFrames}
 use Rattle.node_inbox.specs.Inboxes.{is_waiting, senders_of}
@@ -102,4 +101,4 @@ pub filter_up_to : (test : ℕ → Bool) (n : ℕ) (xs : List ℕ) → IsStrictl
 filter_up_to test n xs increasing each all =
     same_increasing (filter test (up_to n)) xs (filter_increases test (up_to n) (up_to_increases n)) increasing
     (λ m i. let r = in_from_filter test m (up_to n) i in all m (up_to_below n m r.0) r.1)
-    (λ m i. let r = each m i in in_filter test m (up_to n) (in_up_to n m r.0) r.1)
+    (λ m i. let r = each m i in in_filter test m (up_to n) (up_to_in n m r.0) r.1)

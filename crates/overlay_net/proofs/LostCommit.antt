@@ -7,7 +7,8 @@ use Rattle.stat_plan.specs.Plans.{Plan, fault, nodes}
 use Rattle.overlay_event.specs.declared.event.Event.{Event}
 use Rattle.overlay_event.specs.declared.event.Event.TheVariants.{Sample, Recv, Tick, Lose}
 use Rattle.overlay_event.specs.Events.{event_node}
-use Rattle.overlay_core.specs.Machine.{State, is_enabled, keep_of}
+use Rattle.overlay_core.specs.Machine.{State, is_enabled}
+use Rattle.stat_plan.specs.Machine.Overlays.{keep_of}
 use Rattle.overlay_core.specs.TreeReleases.{TreeRelease}
 use Rattle.event_claims.specs.Claims.{MayBeOut}
 use Rattle.node_inbox.specs.Inboxes.{IsInbox, queue_of}
@@ -16,7 +17,8 @@ use Rattle.overlay_net.specs.Inboxes.{FrameInbox}
 use Rattle.overlay_net.specs.Claims.{ClaimView, IsMovedOut, LeavesNotices, Left, MayBeWorked}
 use Rattle.overlay_net.specs.Events.{IsNet}
 use Rattle.overlay_net.specs.Handled.{ExtendsBy}
-use Rattle.overlay_net.specs.Losses.{AreCut, AreLost, IsCut, full_inbox_at}
+use Rattle.node_inbox.specs.Cuts.{AreCut, IsCut, full_inbox_at}
+use Rattle.overlay_net.specs.Losses.{AreLost}
 use Rattle.overlay_net.specs.Nets.{net_view_of, state_with}
 use Rattle.overlay_net.specs.Places.{HaveFrames, PlaceView, at_home, away, nodes_in, out_at, outs_in, whole_inbox, whole_inboxes, with_frame}
 use Rattle.overlay_net.proofs.Committed.{whole_sent}
@@ -40,10 +42,10 @@ full_whole (x ∷ xs) (box ∷ boxes) (suc b) len = full_whole xs boxes b (omega
 -- where nobody has a frame of n in its hands, and n is at home
 pub whole_cut : (p : Plan) (n : ℕ) (ps : List PlaceView) (old new : List FrameInbox) → length ps ≡ length old → length old ≡ nodes p → ((b : ℕ) → IsInbox (inbox_at old b)) → out_at (outs_in ps) n ≡ None
     → ((b : ℕ) → (b == n) ≡ false → in_hand (out_at (outs_in ps) b) (frame_at ps b) n ≡ [])
-    → AreCut p n (nodes p) old new → AreCut p n (nodes p) (whole_inboxes ps old) (whole_inboxes ps new)
+    → AreCut n (keep_of (fault p n)) (nodes p) old new → AreCut n (keep_of (fault p n)) (nodes p) (whole_inboxes ps old) (whole_inboxes ps new)
 whole_cut p n ps old new len all are home free cut = record {
   inbox_count = length_whole ps new many ∙ cut.inbox_count ∙ sym (length_whole ps old len);
-  done = λ b lt. subst (λ w. IsCut p n b w (full_inbox_at (whole_inboxes ps new) b)) (sym (full_whole ps old b len)) (subst (IsCut p n b (seen old b)) (sym (full_whole ps new b many)) (each b (cut.done b lt)));
+  done = λ b lt. subst (λ w. IsCut n (keep_of (fault p n)) b w (full_inbox_at (whole_inboxes ps new) b)) (sym (full_whole ps old b len)) (subst (IsCut n (keep_of (fault p n)) b (seen old b)) (sym (full_whole ps new b many)) (each b (cut.done b lt)));
   rest = λ b le. full_whole ps new b many ∙ ap (λ (w : FrameInbox). record { waiting = with_frame (out_at (outs_in ps) b) (frame_at ps b) w.waiting; rooms = w.rooms }) (cut.rest b le) ∙ sym (full_whole ps old b len);
 }
   where
@@ -53,7 +55,7 @@ whole_cut p n ps old new len all are home free cut = record {
     seen : List FrameInbox → ℕ → FrameInbox
     seen boxes b = record { waiting = with_frame (out_at (outs_in ps) b) (frame_at ps b) (inbox_at boxes b); rooms = (full_inbox_at boxes b).rooms }
 
-    each : (b : ℕ) → IsCut p n b (full_inbox_at old b) (full_inbox_at new b) → IsCut p n b (seen old b) (seen new b)
+    each : (b : ℕ) → IsCut n (keep_of (fault p n)) b (full_inbox_at old b) (full_inbox_at new b) → IsCut n (keep_of (fault p n)) b (seen old b) (seen new b)
     each b h = record {
       own = λ t. (λ i. with_frame ((ap (out_at (outs_in ps)) (eqb-true b n t) ∙ home) i) (frame_at ps b) (inbox_at new b)) ∙ h.own t;
       cut = λ f.
@@ -135,7 +137,7 @@ module _ (p : Plan) (plan : IsPlan p) (al : List Bool) (ps : List PlaceView) (bo
       ap (λ (s : State). is_enabled p s (Lose n)) (state_refits p al ps boxes rs net frames count inboxes c old at out moved worked)
       ∙ subst (λ e. is_enabled p (state_with p al (nodes_in ps) (whole_inboxes ps boxes) rs) e ≡ true) is moved.enabled
 
-  module _ (cut new : List FrameInbox) (is_cut : AreCut p n (nodes p) boxes cut) (sent : AreSent al n left.sends cut new) where
+  module _ (cut new : List FrameInbox) (is_cut : AreCut n (keep_of (fault p n)) (nodes p) boxes cut) (sent : AreSent al n left.sends cut new) where
     cut_inboxes : (b : ℕ) → IsInbox (inbox_at cut b)
     cut_inboxes b = elim (cases_Bool (nat_lt b (nodes p))) [
       | inl t ↦ (is_cut.done b (ltb-true b (nodes p) t)).inbox
@@ -151,7 +153,7 @@ module _ (p : Plan) (plan : IsPlan p) (al : List Bool) (ps : List PlaceView) (bo
     -- the loss was done to the whole inboxes
     lost : AreLost p al n (nodes p) (whole_inboxes gone boxes) (whole_inboxes come new)
     lost = cut_and_told p al n (whole_inboxes gone boxes) (whole_inboxes come cut) (whole_inboxes come new) left.sends
-        (subst (λ w. AreCut p n (nodes p) w (whole_inboxes come cut)) alike (whole_cut p n come boxes cut come_many count inboxes home free is_cut))
+        (subst (λ w. AreCut n (keep_of (fault p n)) (nodes p) w (whole_inboxes come cut)) alike (whole_cut p n come boxes cut come_many count inboxes home free is_cut))
         (whole_sent al n left.sends come cut new cut_many cut_inboxes sent) leaves.sent leaves.frames all_inboxes
 
     pub lost_inboxes : (b : ℕ) → IsInbox (inbox_at new b)

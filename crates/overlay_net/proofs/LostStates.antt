@@ -7,7 +7,8 @@ use Rattle.std.specs.List.Sorted.{IsStrictlySortedBy}
 use Rattle.stat_plan.specs.Plans.{Plan, fault, is_related, nodes}
 use Rattle.stat_plan.specs.Machine.Waves.{put_at}
 use Rattle.overlay_event.specs.declared.event.Event.TheVariants.{Lose}
-use Rattle.overlay_core.specs.Machine.{State, is_enabled, keep_of, lose, step}
+use Rattle.overlay_core.specs.Machine.{State, is_enabled, lose, step}
+use Rattle.stat_plan.specs.Machine.Overlays.{keep_of}
 use Rattle.overlay_core.specs.Nodes.{Packet, Down}
 use Rattle.overlay_core.specs.TreeReleases.{TreeRelease, bare_releases}
 use Rattle.overlay_core.proofs.Journals.{after_more, legal_more}

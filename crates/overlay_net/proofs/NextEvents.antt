@@ -11,18 +11,20 @@ use Rattle.stat_plan.specs.Plans.{Plan, ancestors, nodes, front, is_front, is_re
 use Rattle.overlay_event.specs.declared.event.Event.{Event}
 use Rattle.overlay_event.specs.declared.event.Event.TheVariants.{Sample, Recv, Tick, Lose}
 use Rattle.overlay_event.specs.Events.{event_node}
-use Rattle.overlay_core.specs.Nodes.{Node, Packet, Up, Done, Attach, Down, Outcome, Release, handled, begin, sampled, after_tick, act_each, received, received_up, received_done, received_attach, received_down, done_work, to_parent}
-use Rattle.overlay_core.specs.Machine.{State, is_enabled, is_pending, is_wave, next_sample, commit, receive, step}
-use Rattle.overlay_core.specs.LinkInvariant.{LinkInvariant, PacketIsSound, SendIsSound}
+use Rattle.overlay_core.specs.Nodes.{Node, Packet, Up, Done, Attach, Down, Outcome, Release, handled, begin, sampled, after_tick, act_each, received, received_up, received_done, received_attach, received_down, done_work}
+use Rattle.stat_plan.specs.Machine.Overlays.{to_parent, is_pending}
+use Rattle.overlay_core.specs.Machine.{State, is_enabled, is_wave, next_sample, commit, receive, step}
+use Rattle.overlay_core.specs.LinkInvariant.{LinkInvariant}
+use Rattle.overlay_core.proofs.Acts.{PacketIsSound, SendIsSound, SendsAreSound}
 use Rattle.overlay_core.specs.TreeReleases.{TreeRelease, bare_release, bare_releases}
-use Rattle.overlay_core.proofs.PlanFacts.{plan_facts}
-use Rattle.overlay_core.proofs.Lists.{in_from_member, in_member, some_rank}
+use Rattle.stat_plan.proofs.PlanFacts.{plan_facts}
+use Rattle.stat_plan.proofs.InLists.{in_from_member, in_member, in_filter, any_from_in}
+use Rattle.overlay_core.proofs.RankSets.{some_rank}
 use Rattle.merge_filter.proofs.Daemons.{daemon_lies}
-use Rattle.overlay_core.proofs.Acts.{SendsAreSound}
 use Rattle.overlay_core.proofs.Outcomes.{next_is_named, next_is_empty, sampled_sound, tick_sound, received_sound}
-use Rattle.overlay_core.proofs.Steps.{active_parts}
+use Rattle.overlay_core.proofs.Steps.{active_parts, first_sound}
 use Rattle.overlay_core.proofs.History.{act_each_below}
-use Rattle.overlay_core.proofs.ParentLinks.{waves_above, in_filter, in_list_any, test_from_within}
+use Rattle.overlay_core.proofs.ParentLinks.{waves_above, test_from_within}
 use Rattle.overlay_node.specs.Frames.{IsFrame, packet_of}
 use Rattle.overlay_node.specs.Outputs.{packets_of}
 use Rattle.overlay_node.specs.NodeViews.{NodeView, MayHandle, MayReceive, received_with, outcome_at}
@@ -35,6 +37,7 @@ use Rattle.overlay_net.specs.Sends.{CanTake, IsTaken}
 use Rattle.overlay_net.specs.Handled.{HasHandled}
 use Rattle.overlay_net.proofs.Offers.{living_below, node_there}
 use Rattle.overlay_net.proofs.States.{popped_state, commit_state}
+use Rattle.stat_plan.proofs.Relatives.{test_from_related}
 
 none_bare : (more : List TreeRelease) → bare_releases more ≡ [] → more ≡ []
 none_bare [] e = refl
@@ -68,17 +71,17 @@ module _ (p : Plan) (plan : IsPlan p) (al : List Bool) (xs : List NodeView) (ib 
   pub may_receive : (n m : ℕ) (q : Packet) → PacketIsSound p st.alive m n q → MayReceive p n m q
   unfolding waves_at serves is_related is_under
   may_receive n m (Up s w set) is =
-      let some = some_rank set is.2 in
-      let whole = is.1 some.0 some.1 in
-      let sends : serves p m s ≡ true = in_list_any (λ d. is_within p d m) (daemons p s) whole.daemon whole.place.listed (test_from_within p whole.daemon m whole.place.within) in (
-        (waves_above p m n s w (plan_facts p plan) is.0 (in_filter (λ v. serves p m v.0) (waves_of p.streams) (s, w) is.3 sends)).0,
-        λ r there. let one = is.1 r there in daemon_lies p s one.daemon one.place.listed r one.holds,
+      let some = some_rank set is.0.2 in
+      let whole = is.0.1 some.0 some.1 in
+      let sends : serves p m s ≡ true = any_from_in (λ d. is_within p d m) whole.daemon (daemons p s) whole.place.listed (test_from_within p whole.daemon m whole.place.within) in (
+        (waves_above p m n s w (plan_facts p plan) is.0.0 (in_filter (λ v. serves p m v.0) (s, w) (waves_of p.streams) is.0.3 sends)).0,
+        λ r there. let one = is.0.1 r there in daemon_lies p s one.daemon one.place.listed r one.holds,
       )
-  may_receive n m (Done s w) is = in_filter (λ v. serves p n v.0) (waves_of p.streams) (s, w) is.2 is.1
-  may_receive n m Attach is = is
+  may_receive n m (Done s w) is = in_filter (λ v. serves p n v.0) (s, w) (waves_of p.streams) is.0.2 is.0.1
+  may_receive n m Attach is = is.0
   may_receive n m Down is = (
-    elim is.1 [ inl u ↦ or_left _ _ (in_member m (ancestors p n) u) | inr u ↦ or_right _ _ (in_member n (ancestors p m) u) ],
-    λ top. true≢false (sym sound.front ∙ ap st.alive (sym top) ∙ is.0),
+    test_from_related p n m is.0,
+    λ top. true≢false (sym sound.net.front ∙ ap st.alive (sym top) ∙ is.1 refl),
   )
 
   may_sample : (n s w : ℕ) (x : NodeView) → is_enabled p st (Sample n s w) ≡ true → slice_get xs n ≡ Some x → MayHandle p x (Sample n s w) None
@@ -91,7 +94,7 @@ module _ (p : Plan) (plan : IsPlan p) (al : List Bool) (xs : List NodeView) (ib 
   first_waits ic n m q taken = ap (map packet_of) taken.first
 
   pub packet_sound : (ic : List FrameInbox) (n m : ℕ) (q : (List ℕ)) → IsTaken ib (Recv n m) (Some q) ic → PacketIsSound p st.alive m n (packet_of q)
-  packet_sound ic n m q taken = (sound.links m n).packets (packet_of q) (subst (λ (l : List Packet). In (packet_of q) l) (sym (first_waits ic n m q taken)) (inl refl))
+  packet_sound ic n m q taken = first_sound p st m n (packet_of q) (map packet_of (queue_of (inbox_at ic n) m)) sound (first_waits ic n m q taken)
 
   -- the node may handle it
   pub may_handle : (ic : List FrameInbox) (e : Event) (x : NodeView) (packet : Option (List ℕ)) → is_enabled p st e ≡ true → IsOrdinary e → IsTaken ib e packet ic → slice_get xs (event_node e) ≡ Some x → MayHandle p x e packet
@@ -109,17 +112,17 @@ module _ (p : Plan) (plan : IsPlan p) (al : List Bool) (xs : List NodeView) (ib 
   sends_sound ic (Sample n s w) packet en ord taken =
       let t = and_parts _ _ en in
       let u = and_parts _ _ t.0 in
-      (sampled_sound p st.alive n (st.node n) s w (plan_facts p plan) (sound.kin n) (sound.books n) (in_from_member n (daemons p s) u.1) (next_is_named p (st.node n) s w t.1) (next_is_empty p (st.node n) s w t.1)).work.sends
+      (sampled_sound p st.alive n (st.node n) s w (plan_facts p plan) (sound.net.kin n) (sound.books n) (in_from_member n (daemons p s) u.1) (next_is_named p (st.node n) s w t.1) (next_is_empty p (st.node n) s w t.1)).work.sends
   sends_sound ic (Recv n m) None en ord taken = absurd taken
-  sends_sound ic (Recv n m) (Some q) en ord taken = (received_sound p st.alive n (st.node n) m (packet_of q) (plan_facts p plan) (sound.kin n) (sound.books n) (packet_sound ic n m q taken)).work.sends
-  sends_sound ic (Tick n) packet en ord taken = (tick_sound p st.alive n (st.node n) (sound.kin n) (sound.books n)).work.sends
+  sends_sound ic (Recv n m) (Some q) en ord taken = (received_sound p st.alive n (st.node n) m (packet_of q) (plan_facts p plan) (sound.net.kin n) (sound.books n) (packet_sound ic n m q taken)).work.sends
+  sends_sound ic (Tick n) packet en ord taken = (tick_sound p st.alive n (st.node n) (sound.net.kin n) (sound.books n)).work.sends
   sends_sound ic (Lose n) packet en ord taken = absurd ord
 
   receiver_below : (n m : ℕ) (q : Packet) → SendIsSound p n m q → m < nodes p
-  receiver_below n m (Up s w set) is = ((plan_facts p plan).under_nodes n m is.0).1
-  receiver_below n m (Done s w) is = ((plan_facts p plan).under_nodes m n is.0).0
-  receiver_below n m Attach is = ((plan_facts p plan).under_nodes n m is).1
-  receiver_below n m Down is = absurd is
+  receiver_below n m (Up s w set) is = ((plan_facts p plan).under_nodes n m is.0.0).1
+  receiver_below n m (Done s w) is = ((plan_facts p plan).under_nodes m n is.0.0).0
+  receiver_below n m Attach is = ((plan_facts p plan).under_nodes n m is.0).1
+  receiver_below n m Down is = absurd (is.1 refl)
 
   all_below : (n : ℕ) (sends : List (ℕ × (List ℕ))) → SendsAreSound p n (packets_of sends) → GoBelow (nodes p) sends
   all_below n [] sent = tt

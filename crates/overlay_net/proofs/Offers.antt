@@ -15,11 +15,11 @@ use Rattle.overlay_setup.specs.Trees.{climb, is_daemon, parent_of}
 use Rattle.stat_plan.specs.Invariants.{IsPlan}
 use Rattle.stat_plan.specs.Machine.Waves.{is_running}
 use Rattle.stat_plan.proofs.FirstOver.{all_in, found_in}
-use Rattle.stat_plan.proofs.InLists.{in_append, in_at, in_map, any_from_in, in_from_any}
+use Rattle.stat_plan.proofs.InLists.{in_append, in_at, in_map, any_from_in, in_from_any, in_member, in_from_member, up_to_below, eqb_self}
 use Rattle.overlay_setup.proofs.Leaves.{daemon_is_leaf}
-use Rattle.overlay_core.specs.Machine.{State, events_below, events_of, enabled_events, is_active, is_doomed, is_enabled, is_pending, is_spent, is_wave, next_sample, samples_of, start_node}
+use Rattle.overlay_core.specs.Machine.{State, events_below, events_of, enabled_events, is_active, is_doomed, is_enabled, is_wave, next_sample, samples_of, start_node}
+use Rattle.stat_plan.specs.Machine.Overlays.{is_pending, is_spent}
 use Rattle.overlay_core.specs.TreeReleases.{TreeRelease}
-use Rattle.overlay_core.proofs.Lists.{in_member, in_from_member, up_to_below, eqb_self}
 use Rattle.overlay_core.proofs.Outcomes.{next_is_named, find_passes}
 use Rattle.overlay_core.proofs.ParentLinks.{within_from_test, test_from_within}
 use Rattle.overlay_node.specs.Frames.{packet_of}

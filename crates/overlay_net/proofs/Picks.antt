@@ -5,12 +5,14 @@ use Rattle.stat_plan.specs.Invariants.{IsPlan}
 use Rattle.stat_plan.specs.Plans.{Plan}
 use Rattle.overlay_event.specs.declared.event.Event.{Event}
 use Rattle.overlay_core.specs.Machine.{State, enabled_events, is_enabled, start, step}
-use Rattle.overlay_core.specs.Pick.{PicksFrom, next_number, picked, picked_event}
+use Rattle.overlay_core.specs.Pick.{PicksFrom, picked, picked_event}
+use Rattle.stat_plan.specs.Machine.Journals.{next_number}
 use Rattle.overlay_core.specs.Runs.{IsQuiet, after, run}
 use Rattle.overlay_core.proofs.Journals.{quiet_where_empty}
 use Rattle.overlay_core.specs.Whole.{IsSound}
-use Rattle.overlay_core.proofs.PlanFacts.{plan_facts}
-use Rattle.overlay_core.proofs.Picks.{none_listed, picked_enabled, picked_is_one, picks_more}
+use Rattle.stat_plan.proofs.PlanFacts.{plan_facts}
+use Rattle.overlay_core.proofs.Picks.{picked_enabled, picked_is_one, picks_more}
+use Rattle.stat_plan.proofs.Journals.{none_listed, run_more}
 use Rattle.overlay_core.proofs.Potential.{step_decreases, weight}
 use Rattle.overlay_core.proofs.Whole.{legal_is_sound}
 use Rattle.overlay_net.specs.Nets.{NetView, IsReachedBy, state_of}
@@ -25,10 +27,6 @@ pub record HasCome (old : NetView) (seed : ℕ) (journal : List Event) (number :
   pub picks : PicksFrom old.plan seed (state_of old) journal number
   pub state : ◌≡◌ {A = State} (state_of new) (run old.plan (state_of old) journal)
   pub reached : (earlier : List Event) → IsReachedBy old earlier → IsReachedBy new (earlier ++ journal)
-
-run_more : (p : Plan) (st : State) (es : List Event) (e : Event) → run p st (es ++ e ∷ []) ≡ step p (run p st es) e
-run_more p st [] e = refl
-run_more p st (f ∷ es) e = run_more p (step p st f) es e
 
 -- where no event may come next, none is picked
 pub nothing_to_pick : (p : Plan) (st : State) (number : ℕ) → length (enabled_events p st) ≡ 0 → picked_event p st number ≡ None
@@ -52,7 +50,7 @@ may_be_picked v number e is = picked_enabled v.plan (state_of v) number e (sym i
 stepped_by : (old new : NetView) (e : Event) → new.plan ≡ old.plan → IsNet old → ExtendsBy e old new → ◌≡◌ {A = State} (state_of new) (step old.plan (state_of old) e)
 stepped_by old new e same net extends =
     let more = extends net.journal net.reached in
-    more.state ∙ ap (λ p. after p (net.journal ++ e ∷ [])) same ∙ run_more old.plan (start old.plan) net.journal e ∙ ap (λ st. step old.plan st e) (sym net.reached.state)
+    more.state ∙ ap (λ p. after p (net.journal ++ e ∷ [])) same ∙ run_more (step old.plan) (start old.plan) net.journal e ∙ ap (λ st. step old.plan st e) (sym net.reached.state)
 
 -- one event more
 pub one_more : (old mid new : NetView) (seed number : ℕ) (journal : List Event) (e : Event) → IsNet mid → HasCome old seed journal number mid → Some e ≡ picked_event mid.plan (state_of mid) (next_number number) → new.plan ≡ mid.plan → ExtendsBy e mid new → HasCome old seed (journal ++ e ∷ []) (next_number number) new
@@ -61,7 +59,7 @@ one_more old mid new seed number journal e net come pick same extends =
     record {
       plan = same ∙ come.plan;
       picks = picks_more old.plan seed (state_of old) journal number e come.picks found;
-      state = stepped_by mid new e same net extends ∙ (λ i. step (come.plan i) (come.state i) e) ∙ sym (run_more old.plan (state_of old) journal e);
+      state = stepped_by mid new e same net extends ∙ (λ i. step (come.plan i) (come.state i) e) ∙ sym (run_more (step old.plan) (state_of old) journal e);
       reached = λ earlier h. subst (IsReachedBy new) (append_assoc earlier journal (e ∷ [])) (extends (earlier ++ journal) (come.reached earlier h));
     }
 
@@ -69,7 +67,7 @@ one_more old mid new seed number journal e net come pick same extends =
 pub weighs_less : (v new : NetView) (e : Event) → IsPlan v.plan → IsNet v → new.plan ≡ v.plan → is_enabled v.plan (state_of v) e ≡ true → ExtendsBy e v new → weight v.plan (state_of new) < weight v.plan (state_of v)
 weighs_less v new e plan net same en extends =
     let sound = subst (IsSound v.plan) (sym net.reached.state) (legal_is_sound v.plan net.journal (plan_facts v.plan plan) net.reached.legal) in
-    let less : weight v.plan (step v.plan (state_of v) e) + 1 ≤ weight v.plan (state_of v) = step_decreases v.plan (state_of v) e (plan_facts v.plan plan) sound (λ n up. living_below v.plan v.alive v.nodes v.inboxes n net.parts up) en in
+    let less : weight v.plan (step v.plan (state_of v) e) + 1 ≤ weight v.plan (state_of v) = step_decreases v.plan (state_of v) e (plan_facts v.plan plan) sound en in
     let is : weight v.plan (state_of new) ≡ weight v.plan (step v.plan (state_of v) e) = ap (weight v.plan) (stepped_by v new e same net extends) in
     omega (arith, less, is)
 

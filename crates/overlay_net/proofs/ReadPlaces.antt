@@ -11,8 +11,7 @@ use Rattle.stat_plan.specs.Plans.{Plan, nodes}
 use Rattle.overlay_event.specs.declared.event.Event.{Event}
 use Rattle.overlay_event.specs.declared.event.Event.TheVariants.{Sample, Recv, Tick, Lose}
 use Rattle.overlay_core.specs.Machine.{next_sample}
-use Rattle.overlay_core.proofs.ParentLinks.{in_list_any}
-use Rattle.overlay_core.proofs.Whole.{in_up_to}
+use Rattle.stat_plan.proofs.InLists.{any_from_in, up_to_in}
 use Rattle.overlay_node.specs.NodeViews.{IsNodeOf, NodeView, has_running, node_of}
 use Rattle.event_claims.specs.Claims.{Outs, is_free, is_home, is_loss_of, receives_from}
 use Rattle.node_inbox.specs.Inboxes.{senders_of}
@@ -54,7 +53,7 @@ none_more test k before here = let same : k + 1 ≡ suc k = omega arith in ap (�
 
 -- a place that passes a test is one of all
 pub some_place : (test : ℕ → Bool) (n k : ℕ) → k < n → test k ≡ true → list_any test (up_to n) ≡ true
-some_place test n k lt here = in_list_any test (up_to n) k (in_up_to n k lt) here
+some_place test n k lt here = any_from_in test k (up_to n) (up_to_in n k lt) here
 
 -- ---- the events of a node that are free
 

@@ -18,7 +18,7 @@ use Rattle.overlay_core.specs.Bound.{bound, bound_of, longest}
 use Rattle.overlay_core.specs.Nodes.{Node, Outcome, Packet, handled}
 use Rattle.overlay_core.specs.Machine.{State, commit, is_enabled, lose, receive, start, step, with_link}
 use Rattle.overlay_core.specs.Runs.{IsLegal, after, run}
-use Rattle.overlay_core.proofs.PlanFacts.{plan_facts}
+use Rattle.stat_plan.proofs.PlanFacts.{plan_facts}
 use Rattle.overlay_core.proofs.Journals.{legal_has_room}
 
 -- ---- a journal's events, node by node

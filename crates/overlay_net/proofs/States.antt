@@ -7,7 +7,8 @@ use Rattle.std.proofs.lemmas.Option.{slice_get-get_or, slice_get_past, slice_get
 use Rattle.stat_plan.specs.Plans.{Plan}
 use Rattle.stat_plan.specs.Machine.Waves.{put_at}
 use Rattle.overlay_core.specs.Nodes.{Node, Outcome}
-use Rattle.overlay_core.specs.Machine.{State, start_node, to, commit, with_link}
+use Rattle.overlay_core.specs.Machine.{State, start_node, commit, with_link}
+use Rattle.stat_plan.specs.Machine.Overlays.{to}
 use Rattle.overlay_core.specs.TreeReleases.{TreeRelease, bare_release, bare_releases}
 use Rattle.overlay_node.specs.Frames.{packet_of}
 use Rattle.overlay_node.specs.Outputs.{packets_of}

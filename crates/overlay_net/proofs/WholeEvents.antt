@@ -11,7 +11,7 @@ use Rattle.overlay_core.specs.Machine.{State, is_enabled, step}
 use Rattle.overlay_core.specs.Runs.{after}
 use Rattle.overlay_core.specs.LinkInvariant.{LinkInvariant}
 use Rattle.overlay_core.specs.TreeReleases.{TreeRelease}
-use Rattle.overlay_core.proofs.PlanFacts.{plan_facts}
+use Rattle.stat_plan.proofs.PlanFacts.{plan_facts}
 use Rattle.overlay_core.proofs.Journals.{after_more, legal_more}
 use Rattle.overlay_core.proofs.Steps.{legal_sound}
 use Rattle.overlay_node.specs.NodeViews.{NodeView, node_of}

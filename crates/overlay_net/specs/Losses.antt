@@ -1,43 +1,25 @@
 -- What the loss of a node does to what waits, node by node.
-use Rattle.std.specs.Prelude.{◌≡◌, ◌<◌, ◌≤◌, ℕ, Bool, true, false, ◌==◌, ◌&&◌, cond, List, [], ◌∷◌, ◌++◌, map, take, length, slice_index_or}
+use Rattle.std.specs.Prelude.{◌≡◌, ◌<◌, ◌≤◌, ℕ, Bool, true, false, ◌==◌, ◌&&◌, cond, List, [], ◌∷◌, ◌++◌, map, take, length}
 use Rattle.std.specs.List.{AllByRecursion}
 use Rattle.stat_plan.specs.Plans.{Plan, fault, is_related, nodes}
 use Rattle.overlay_event.specs.declared.event.Event.{Event}
 use Rattle.overlay_event.specs.declared.event.Event.TheVariants.{Sample, Recv, Tick, Lose}
-use Rattle.overlay_core.specs.Machine.{keep_of}
+use Rattle.stat_plan.specs.Machine.Overlays.{keep_of}
 use Rattle.overlay_core.specs.Nodes.{Down}
 use Rattle.overlay_node.specs.Frames.{IsFrame, packet_of}
-use Rattle.node_inbox.specs.Inboxes.{IsInbox, queue_of, room_for}
+use Rattle.node_inbox.specs.Inboxes.{IsInbox, queue_of}
+use Rattle.node_inbox.specs.Cuts.{AreCut}
 use Rattle.overlay_net.specs.Inboxes.{FrameInbox, WaitingFrames}
-use Rattle.node_inbox.specs.Sends.{inbox_at, is_alive, no_inbox}
+use Rattle.node_inbox.specs.Sends.{inbox_at, is_alive}
 
 -- ---- the links alone
-
--- the inbox of a node, with its rooms
-abbrev pub full_inbox_at : List FrameInbox → ℕ → FrameInbox
-full_inbox_at inboxes n = slice_index_or inboxes n no_inbox
-
--- Of what waits from n for b, the first packets stay, and nothing for n itself. What waits for another from others stays, and no room
--- becomes smaller.
-pub record IsCut (p : Plan) (n b : ℕ) (old new : FrameInbox) : Type 0 where
-  pub own : (b == n) ≡ true → new.waiting ≡ []
-  pub cut : (b == n) ≡ false → queue_of new.waiting n ≡ take (keep_of (fault p n)) (queue_of old.waiting n)
-  pub others : (b == n) ≡ false → (a : ℕ) → (a == n) ≡ false → queue_of new.waiting a ≡ queue_of old.waiting a
-  pub grows : (m : ℕ) → room_for old m ≤ room_for new m
-  pub inbox : IsInbox new.waiting
-
--- the inboxes of the first nodes were cut, and each other one is unchanged
-pub record AreCut (p : Plan) (n count : ℕ) (old new : List FrameInbox) : Type 0 where
-  pub inbox_count : length new ≡ length old
-  pub done : (b : ℕ) → b < count → IsCut p n b (full_inbox_at old b) (full_inbox_at new b)
-  pub rest : (b : ℕ) → count ≤ b → full_inbox_at new b ≡ full_inbox_at old b
 
 -- an event that is a loss cuts the inboxes, and another one leaves them
 abbrev pub AreCutBy : Plan → Event → List FrameInbox → List FrameInbox → Type 0
 AreCutBy p (Sample n s w) old new = new ≡ old
 AreCutBy p (Recv n m) old new = new ≡ old
 AreCutBy p (Tick n) old new = new ≡ old
-AreCutBy p (Lose n) old new = AreCut p n (nodes p) old new
+AreCutBy p (Lose n) old new = AreCut n (keep_of (fault p n)) (nodes p) old new
 
 -- ---- the links, and who is notified
 

@@ -7,7 +7,8 @@ use Rattle.overlay_setup.specs.Scripts.{Stream}
 use Rattle.overlay_event.specs.declared.event.Event.{Event}
 use Rattle.overlay_event.specs.declared.event.Event.TheVariants.{Sample, Recv, Tick, Lose}
 use Rattle.overlay_core.specs.Nodes.{Node}
-use Rattle.overlay_core.specs.Machine.{State, is_spent, start_node, next_sample}
+use Rattle.overlay_core.specs.Machine.{State, start_node, next_sample}
+use Rattle.stat_plan.specs.Machine.Overlays.{is_spent}
 use Rattle.overlay_core.specs.Runs.{IsLegal, after}
 use Rattle.overlay_core.specs.TreeReleases.{TreeRelease, AreNumberedInOrder, bare_releases}
 use Rattle.overlay_node.specs.Frames.{packet_of}

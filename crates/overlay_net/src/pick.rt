@@ -4,7 +4,8 @@ ghost use Rattle.std.specs.Prelude.{◌≡◌, ◌<◌, ◌≤◌, ◌^◌, leng
 ghost use Rattle.stat_plan.specs.Machine.Waves.{ticks};
 ghost use Rattle.stat_plan.specs.Plans.{waves_of};
 ghost use Rattle.overlay_core.specs.Bound.{bound, bound_of, longest};
-ghost use Rattle.overlay_core.specs.Pick.{next_number, picked_event};
+ghost use Rattle.overlay_core.specs.Pick.{picked_event};
+ghost use Rattle.stat_plan.specs.Machine.Journals.{next_number};
 ghost use Rattle.overlay_net.specs.Nets.{AllHome};
 ghost use Rattle.overlay_net.specs.Picks.{HasPicked};
 ghost use Rattle.overlay_net.specs.States.{IsNetState, net_at, state_at};

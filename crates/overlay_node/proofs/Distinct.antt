@@ -4,7 +4,8 @@ use Rattle.overlay_setup.specs.NodeSets.{In, IsStrictlyIncreasing, up_to}
 use Rattle.stat_plan.specs.Invariants.{IsPlan}
 use Rattle.stat_plan.specs.Plans.{Plan, serves, waves_of, waves_at}
 use Rattle.overlay_setup.specs.Scripts.{Stream}
-use Rattle.overlay_core.proofs.Lists.{in_append, filter_from, up_to_increases}
+use Rattle.stat_plan.proofs.InLists.{in_append, in_from_filter}
+use Rattle.stat_plan.proofs.Ascending.{up_to_increases}
 use Rattle.overlay_node.specs.Acting.{AreDistinct}
 
 -- distinct keys of two lists without a common one are distinct together
@@ -43,7 +44,7 @@ once_filter test [] h = tt
 once_filter test (v ∷ vs) h = go (once_filter test vs h.1) (test v)
   where
     go : AreDistinct (filter test vs) → (b : Bool) → AreDistinct (cond b (v ∷ filter test vs) (filter test vs))
-    go ih true = (λ i. h.0 (filter_from test vs v i).0, ih)
+    go ih true = (λ i. h.0 (in_from_filter test v vs i).0, ih)
     go ih false = ih
 
 -- the waves of a plan are distinct

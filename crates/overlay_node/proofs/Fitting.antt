@@ -20,8 +20,8 @@ use Rattle.merge_filter.proofs.Daemons.{stream_some}
 use Rattle.merge_filter.proofs.Standing.{stands_from}
 use Rattle.overlay_core.specs.Nodes.{due_at}
 use Rattle.overlay_core.proofs.Settled.{after_arm, ne_from_grown}
-use Rattle.overlay_core.proofs.PlanFacts.{plan_facts}
-use Rattle.overlay_core.proofs.Lists.{empty_true, in_union, no_rank, none_from_subset, union_left}
+use Rattle.stat_plan.proofs.PlanFacts.{plan_facts}
+use Rattle.overlay_core.proofs.RankSets.{empty_true, in_union, no_rank, none_from_subset, union_left}
 use Rattle.overlay_node.specs.NodeViews.{HeldFits, HeldView, OpenFits, TimerFits}
 use Rattle.overlay_node.specs.Acting.{due_as, partial_merge}
 use Rattle.overlay_node.proofs.Sizes.{size_more, size_within}

@@ -9,7 +9,7 @@ use Rattle.overlay_setup.specs.NodeSets.{In, up_to}
 use Rattle.overlay_setup.specs.Scripts.{IsStream, Stream}
 use Rattle.stat_plan.specs.Invariants.{IsPlan}
 use Rattle.stat_plan.specs.Plans.{Plan, samples, waves_of}
-use Rattle.stat_plan.proofs.InLists.{up_to_below}
+use Rattle.stat_plan.proofs.InLists.{up_to_below, in_append}
 use Rattle.merge_filter.specs.Contributions.{Contrib, HasWave, IsPartialMerge, coverage_of}
 use Rattle.packet_frame.specs.declared.packet.Packet.{Packet as FramePacket}
 use Rattle.packet_frame.specs.declared.packet.Packet.TheVariants.{Up as FrameUp}
@@ -19,7 +19,6 @@ use Rattle.packet_frame.specs.Reading.{first_of}
 use Rattle.packet_frame.specs.Sending.{spelling_of}
 use Rattle.packet_frame.specs.Sent.{as_packet}
 use Rattle.overlay_core.specs.Nodes.{Packet, Up, Done, Attach, Down}
-use Rattle.overlay_core.proofs.Lists.{in_append}
 use Rattle.overlay_node.specs.Frames.{IsFrame, IsFrameOf, bare_packet, packet_in, packet_of, tree_packet}
 use Rattle.overlay_node.specs.Outputs.{AreFrames, Sends, frames_of, packets_of}
 

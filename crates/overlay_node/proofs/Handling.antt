@@ -15,7 +15,8 @@ use Rattle.loss_adoption.specs.NodeKins.{IsKinOf, NodeKin}
 use Rattle.wave_resend.specs.Books.{WaveAt, book_of}
 use Rattle.merge_filter.specs.Contributions.{HasWave}
 use Rattle.merge_filter.proofs.Standing.{stands_from}
-use Rattle.overlay_core.specs.Nodes.{Node, Outcome, Packet, Up, Done, Attach, Down, Release, Effects, act, act_each, begin, done_work, handled, received, received_attach, received_down, received_done, received_up, sampled, after_tick, to_parent}
+use Rattle.overlay_core.specs.Nodes.{Node, Outcome, Packet, Up, Done, Attach, Down, Release, Effects, act, act_each, begin, done_work, handled, received, received_attach, received_down, received_done, received_up, sampled, after_tick}
+use Rattle.stat_plan.specs.Machine.Overlays.{to_parent}
 use Rattle.overlay_core.specs.TreeReleases.{AreNumberedInOrder, bare_releases}
 use Rattle.overlay_core.proofs.Settled.{act_else}
 use Rattle.overlay_core.proofs.Outcomes.{next_is_empty, next_is_named, waves_at_named}

@@ -9,8 +9,7 @@ use Rattle.stat_plan.specs.Plans.{Plan, waves_of}
 use Rattle.overlay_setup.specs.Scripts.{Stream}
 use Rattle.stat_plan.specs.Machine.Waves.{Book}
 use Rattle.stat_plan.specs.declared.machine.Timer.TheVariants.{Off}
-use Rattle.stat_plan.proofs.InLists.{append_left, append_right, in_at, in_map}
-use Rattle.overlay_core.proofs.Whole.{in_up_to}
+use Rattle.stat_plan.proofs.InLists.{append_left, append_right, in_at, in_map, up_to_in}
 use Rattle.wave_resend.specs.Books.{first_waves, untouched}
 use Rattle.overlay_node.specs.NodeViews.{AreHeldFits, HeldFits, HeldView, OpenFits, held_keys, is_held_of, release_count_of}
 use Rattle.overlay_node.specs.Starts.{AreFresh, HasWaves, IsFresh}
@@ -54,7 +53,7 @@ wave_in : (xs : List Stream) (x : Stream) (w : ℕ) → In {X = Stream} x xs →
 wave_in [] x w i lt = absurd i
 wave_in (y ∷ ys) x w (inl e) lt =
     subst (λ (z : Stream). In {X = ℕ × ℕ} (x.number, w) (first_waves z.number z.waves ++ waves_of ys)) e
-    (append_left (x.number, w) (first_waves x.number x.waves) (waves_of ys) (in_map (λ (v : ℕ). (x.number, v)) w (up_to x.waves) (in_up_to x.waves w lt)))
+    (append_left (x.number, w) (first_waves x.number x.waves) (waves_of ys) (in_map (λ (v : ℕ). (x.number, v)) w (up_to x.waves) (up_to_in x.waves w lt)))
 wave_in (y ∷ ys) x w (inr i) lt = append_right (x.number, w) (first_waves y.number y.waves) (waves_of ys) (wave_in ys x w i lt)
 
 -- the plan has all waves of each of its streams

@@ -16,7 +16,8 @@ use Rattle.wave_resend.specs.Books.{HasSet, WaveAt, all_sent, armed, book_of}
 use Rattle.merge_filter.specs.Contributions.{Contrib, IsPartialMerge, contrib, coverage_of}
 use Rattle.overlay_core.specs.declared.release.Kind.{Kind}
 use Rattle.overlay_core.specs.declared.release.Kind.TheVariants.{Partial as PartialRelease, Final as FinalRelease}
-use Rattle.overlay_core.specs.Nodes.{Up, Effects, act, act_as, acted, dones, release, to_parent}
+use Rattle.overlay_core.specs.Nodes.{Up, Effects, act, act_as, acted, dones, release}
+use Rattle.stat_plan.specs.Machine.Overlays.{to_parent}
 use Rattle.overlay_core.specs.TreeReleases.{TreeRelease, bare_release, bare_releases}
 use Rattle.overlay_core.proofs.ParentLinks.{set_wave_here}
 use Rattle.overlay_core.proofs.Settled.{set_wave_else}

@@ -8,10 +8,11 @@ use Rattle.stat_plan.specs.Machine.Kin.{Kin, is_parent, nearest}
 use Rattle.stat_plan.specs.Machine.Waves.{ticked, unsent}
 use Rattle.loss_adoption.specs.NodeKins.{IsKinOf, NodeKin}
 use Rattle.wave_resend.specs.Books.{AllChange, WaveAt, book_of, keys_of}
-use Rattle.overlay_core.specs.Nodes.{Attach, Effects, act, act_each, to_parent}
+use Rattle.overlay_core.specs.Nodes.{Attach, Effects, act, act_each}
+use Rattle.stat_plan.specs.Machine.Overlays.{to_parent}
 use Rattle.overlay_core.specs.History.{of_wave}
 use Rattle.overlay_core.specs.TreeReleases.{AreNumberedInOrder, bare_releases}
-use Rattle.overlay_core.proofs.PlanFacts.{plan_facts}
+use Rattle.stat_plan.proofs.PlanFacts.{plan_facts}
 use Rattle.overlay_node.specs.Outputs.{AreFrames, Output, ReleaseFits, Sends}
 use Rattle.overlay_node.specs.NodeViews.{AreHeldFits, HeldView}
 use Rattle.overlay_node.specs.Acting.{StepsHeld, adopt, begin_again, each_by, effects_of, tell, tick_all, told}

@@ -13,7 +13,8 @@ use Rattle.overlay_event.specs.declared.event.Event.TheVariants.{Sample, Recv, T
 use Rattle.wave_resend.specs.Books.{WaveAt, book_of, keys_of}
 use Rattle.merge_filter.specs.Contributions.{Contrib, contrib}
 use Rattle.overlay_core.specs.declared.release.Kind.{Kind}
-use Rattle.overlay_core.specs.Nodes.{Effects, Packet, Up, Done, Attach, Down, Release, act, act_each, dones, due_at, to_parent}
+use Rattle.overlay_core.specs.Nodes.{Effects, Packet, Up, Done, Attach, Down, Release, act, act_each, dones, due_at}
+use Rattle.stat_plan.specs.Machine.Overlays.{to_parent}
 use Rattle.overlay_core.specs.TreeReleases.{AreNumberedInOrder, TreeRelease, bare_releases}
 use Rattle.overlay_node.specs.Frames.{packet_of}
 use Rattle.overlay_node.specs.Outputs.{Output, OutputFits, packets_of}

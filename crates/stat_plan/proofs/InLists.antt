@@ -118,6 +118,20 @@ in_from_filter {X} test x (y ∷ ys) i = by (in_from_filter test x ys) (test y) 
     by later true e (inr there) = let r = later there in (inr r.0, r.1)
     by later false e there = let r = later there in (inr r.0, r.1)
 
+-- what a filter keeps, mapped
+pub in_map_filter : {X Y : Type 0} (f : X → Y) (test : X → Bool) (xs : List X) (y : Y) → In y (map f (filter test xs)) → (x : X) × (In x xs) × (test x ≡ true) × (y ≡ f x)
+in_map_filter f test [] y h = absurd h
+in_map_filter {X} {Y} f test (z ∷ zs) y h = go (in_map_filter f test zs y) (test z) refl h
+  where
+    go : (In y (map f (filter test zs)) → (x : X) × (In x zs) × (test x ≡ true) × (y ≡ f x)) → (b : Bool) → test z ≡ b → In y (map f (cond b (z ∷ filter test zs) (filter test zs))) → (x : X) × (In x (z ∷ zs)) × (test x ≡ true) × (y ≡ f x)
+    go ih true e (inl k) = (z, inl refl, e, k)
+    go ih true e (inr k) = let r = ih k in (r.0, inr r.1, r.2, r.3)
+    go ih false e k = let r = ih k in (r.0, inr r.1, r.2, r.3)
+
+pub nil-no : {X : Type 0} (x : X) (xs : List X) → In x xs → xs ≡ [] → ⊥
+nil-no x [] h e = h
+nil-no x (y ∷ ys) h e = cc
+
 -- an element that passes a test
 pub any_from_in : {X : Type 0} (test : X → Bool) (x : X) (xs : List X) → In x xs → test x ≡ true → list_any test xs ≡ true
 any_from_in test x [] i passes = absurd i

@@ -1,5 +1,5 @@
 -- A node's kin: numbers that are added to an ascending list and taken out of it, and the nearest ancestor that isn't lost.
-use Rattle.std.proofs.Common.{◌≡◌, ◌⊎◌, inl, inr, ℕ, Bool, true, false, cond, ◌==◌, nat_lt, List, [], ◌∷◌, refl, sym, subst, ◌∙◌, eqb-true, Some}
+use Rattle.std.proofs.Common.{◌≡◌, ◌⊎◌, inl, inr, ℕ, Bool, true, false, cond, ◌==◌, nat_lt, List, [], ◌∷◌, ◌++◌, refl, sym, ap, subst, ◌∙◌, eqb-true, Some}
 use Rattle.std.proofs.lemmas.Bool.{cases_Bool, eqb-false, true≢false}
 use Rattle.overlay_setup.specs.NodeSets.{In, member, with_number, without_number}
 use Rattle.stat_plan.specs.Machine.Kin.{is_parent, nearest}
@@ -76,3 +76,13 @@ nearest_some (x ∷ xs) lost a i e = go (member x lost) refl (nearest_some xs lo
     go : (b : Bool) → member x lost ≡ b → (In a xs → member a lost ≡ false → (q : ℕ) × (nearest xs lost ≡ Some q)) → (q : ℕ) × (cond b (nearest xs lost) (Some x) ≡ Some q)
     go true k ih = ih (elim i [ inl j ↦ absurd (true≢false (sym (subst (λ y. member y lost ≡ true) (sym j) k) ∙ e)) | inr j ↦ j ]) e
     go false k ih = (x, refl)
+
+-- the nearest of a list, with those before it
+pub nearest_split : (xs lost : List ℕ) (q : ℕ) → nearest xs lost ≡ Some q → (near : List ℕ) × (far : List ℕ) × (xs ≡ near ++ q ∷ far) × (member q lost ≡ false) × ((a : ℕ) → In a near → In a lost)
+nearest_split [] lost q e = absurd (cc)
+nearest_split (x ∷ xs) lost q e = go (member x lost) refl (nearest_split xs lost q) e
+  where
+    go : (b : Bool) → member x lost ≡ b → (nearest xs lost ≡ Some q → (near : List ℕ) × (far : List ℕ) × (xs ≡ near ++ q ∷ far) × (member q lost ≡ false) × ((a : ℕ) → In a near → In a lost))
+        → cond b (nearest xs lost) (Some x) ≡ Some q → (near : List ℕ) × (far : List ℕ) × ((x ∷ xs) ≡ near ++ q ∷ far) × (member q lost ≡ false) × ((a : ℕ) → In a near → In a lost)
+    go true k ih h = let r = ih h in (x ∷ r.0, r.1, ap (λ l. x ∷ l) r.2, r.3, λ a i. elim i [ inl j ↦ subst (λ b. In b lost) (sym j) (in_from_member x lost k) | inr j ↦ r.4 a j ])
+    go false k ih h = let e : x ≡ q = cc in ([], xs, ap (λ a. a ∷ xs) e, subst (λ a. member a lost ≡ false) e k, λ a i. absurd i)

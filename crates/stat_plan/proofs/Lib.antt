@@ -19,3 +19,11 @@ pub mod WavePrefixes
 pub mod Rooted
 pub mod KinLemmas
 pub mod FaultLemmas
+pub mod Ascending
+pub mod Totals
+pub mod Relatives
+pub mod PlanFacts
+pub mod Overlays
+pub mod LossInvariant
+pub mod Weights
+pub mod Journals

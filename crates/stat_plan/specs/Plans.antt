@@ -1,5 +1,5 @@
 -- A plan: what the three files of a job say together, and what is looked up there.
-use Rattle.std.specs.Prelude.{ℕ, Bool, ◌||◌, ◌==◌, List, [], ◌∷◌, ◌++◌, map, filter, length, slice_index_or, find, Option, Some, None}
+use Rattle.std.specs.Prelude.{ℕ, ◌⊎◌, Bool, ◌||◌, ◌==◌, List, [], ◌∷◌, ◌++◌, map, filter, length, slice_index_or, find, Option, Some, None}
 use Rattle.std.specs.List.{list_any}
 use Rattle.rank_set.specs.Ranks.{Ranks, none}
 use Rattle.call_path.specs.Pairs.{Pairs}
@@ -80,6 +80,10 @@ is_under p n m = member m (ancestors p n)
 -- whether n is m itself or under it
 unfoldable pub is_within : Plan → ℕ → ℕ → Bool
 is_within p n m = (n == m) || is_under p n m
+
+-- one is an original ancestor of the other
+abbrev pub AreRelated : Plan → ℕ → ℕ → Type 0
+AreRelated p n m = IsUnder p n m ⊎ IsUnder p m n
 
 -- whether one is an original ancestor of the other
 unfoldable pub is_related : Plan → ℕ → ℕ → Bool

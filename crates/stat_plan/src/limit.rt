@@ -95,7 +95,8 @@ fn wave_is_within(
     requires parted { AreLinesParted all }
     requires nodes { (d : ℕ) → In d wanted.daemons.now → d < length all.placed.now }
     requires ranks { (r : ℕ) → Has r wanted.ranks.now → HasRankOn all.placed.now wanted.daemons.now r }
-    ensures { IfOk result (λ within. within ≡ is_within_limit (samples_wanted grain wanted.entry (lines_view all.entry))) }
+    ensures { IfOk result (λ within. within
+        ≡ is_within_limit (samples_wanted grain wanted.entry (lines_view all.entry))) }
 {
     let paths = all.paths_by(grain);
     let sets = ranks_seen(alloc, all.parted, paths.len(), wanted)?;

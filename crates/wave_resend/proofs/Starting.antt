@@ -1,5 +1,5 @@
 -- How a book starts.
-use Rattle.std.proofs.Common.{◌≡◌, inl, inr, ℕ, zero, suc, ◌+◌, ◌<◌, ◌≤◌, Bool, true, false, cond, List, [], ◌∷◌, ◌++◌, map, filter, length, get_or, drop, refl, sym, ap, subst, ◌∙◌, add-one}
+use Rattle.std.proofs.Common.{◌≡◌, inl, inr, ℕ, ◌+◌, ◌<◌, ◌≤◌, Bool, true, false, cond, List, [], ◌∷◌, ◌++◌, map, filter, length, get_or, drop, refl, sym, ap, subst, ◌∙◌, add-one}
 use Rattle.std.proofs.lemmas.List.{drop_all, map-append, append_assoc}
 use Rattle.std.proofs.lemmas.List.Elements.{filter-append}
 use Rattle.overlay_setup.specs.NodeSets.{In, IsStrictlyIncreasing, up_to}
@@ -7,7 +7,8 @@ use Rattle.overlay_setup.specs.Scripts.{Stream}
 use Rattle.stat_plan.specs.Invariants.{IsPlan}
 use Rattle.stat_plan.specs.Plans.{Plan, serves, waves_at, waves_of}
 use Rattle.stat_plan.specs.Machine.Waves.{Book}
-use Rattle.stat_plan.proofs.InLists.{in_append, in_from_filter, up_to_below}
+use Rattle.stat_plan.proofs.Ascending.{up_to_increases}
+use Rattle.stat_plan.proofs.InLists.{in_append, in_from_filter}
 use Rattle.wave_resend.specs.Books.{AreAscending, AreUntouched, WaveAt, book_of, first_waves, is_at, is_before, key_of, keys_of, untouched}
 use Rattle.wave_resend.proofs.Looking.{drop_read}
 use Rattle.wave_resend.proofs.Order.{before_from}
@@ -116,20 +117,6 @@ stream_of_wave (x ∷ xs) v i =
 map_ascends : (s : ℕ) (ws : List ℕ) → IsStrictlyIncreasing ws → AreAscending (map (λ w. (s, w)) ws)
 map_ascends s [] h = tt
 map_ascends s (w ∷ ws) h = (λ u i. (let r = wave_is_of s ws u i in before_from (s, w) u (inr (sym r.0, h.0 u.1 r.1))), map_ascends s ws h.1)
-
-append_increases : (ys : List ℕ) (x : ℕ) → IsStrictlyIncreasing ys → ((y : ℕ) → In y ys → y < x) → IsStrictlyIncreasing (ys ++ x ∷ [])
-append_increases [] x h b = (λ y i. absurd i, tt)
-append_increases (z ∷ zs) x h b = (
-  λ y i. elim (in_append y zs (x ∷ []) i) [
-    | inl j ↦ h.0 y j
-    | inr j ↦ elim j [ inl e ↦ subst (λ k. z < k) (sym e) (b z (inl refl)) | inr k ↦ absurd k ]
-  ],
-  append_increases zs x h.1 (λ y i. b y (inr i)),
-)
-
-up_to_increases : (n : ℕ) → IsStrictlyIncreasing (up_to n)
-up_to_increases zero = tt
-up_to_increases (suc n) = append_increases (up_to n) n (up_to_increases n) (λ x i. up_to_below n x i)
 
 -- the waves of ascending streams ascend
 streams_ascend : (xs : List Stream) → IsStrictlyIncreasing (map (λ x. x.number) xs) → AreAscending (waves_of xs)

@@ -1,4 +1,4 @@
-use Rattle.overlay_core.proofs.PlanFacts.{plan_facts}
+use Rattle.stat_plan.proofs.PlanFacts.{plan_facts}
 use Rattle.overlay_core.proofs.Growth.{coverage_grows}
 use Rattle.overlay_core.proofs.coverages_only_grow.Goals as goal
 

@@ -1,4 +1,4 @@
-use Rattle.overlay_core.proofs.PlanFacts.{plan_facts}
+use Rattle.stat_plan.proofs.PlanFacts.{plan_facts}
 use Rattle.overlay_core.proofs.Journals.{listed_where_enabled, quiet_where_empty}
 use Rattle.overlay_core.proofs.enabled_events_are_listed.Goals as goal
 

@@ -1,4 +1,4 @@
-use Rattle.overlay_core.proofs.PlanFacts.{plan_facts}
+use Rattle.stat_plan.proofs.PlanFacts.{plan_facts}
 use Rattle.overlay_core.proofs.Potential.{legal_is_short}
 use Rattle.overlay_core.proofs.Journals.{legal_has_room}
 use Rattle.overlay_core.proofs.legal_journals_are_short.Goals as goal

@@ -1,4 +1,4 @@
-use Rattle.overlay_core.proofs.PlanFacts.{plan_facts}
+use Rattle.stat_plan.proofs.PlanFacts.{plan_facts}
 use Rattle.overlay_core.proofs.Whole.{legal_is_sound}
 use Rattle.overlay_core.proofs.legal_journals_are_sound.Goals as goal
 

@@ -1,4 +1,4 @@
-use Rattle.overlay_core.proofs.PlanFacts.{plan_facts}
+use Rattle.stat_plan.proofs.PlanFacts.{plan_facts}
 use Rattle.overlay_core.proofs.Picks.{picked_is_whole}
 use Rattle.overlay_core.proofs.picked_journals_are_whole.Goals as goal
 

@@ -1,4 +1,4 @@
-use Rattle.overlay_core.proofs.PlanFacts.{plan_facts}
+use Rattle.stat_plan.proofs.PlanFacts.{plan_facts}
 use Rattle.overlay_core.proofs.Releases.{legal_log}
 use Rattle.overlay_core.proofs.releases_are_sound.Goals as goal
 

@@ -1,5 +1,5 @@
 use Rattle.overlay_core.proofs.NamedLosses.{named_is_lost}
-use Rattle.overlay_core.proofs.PlanFacts.{plan_facts}
+use Rattle.stat_plan.proofs.PlanFacts.{plan_facts}
 use Rattle.overlay_core.proofs.releases_name_lost_nodes.Goals as goal
 
 pub returns : goal.returns

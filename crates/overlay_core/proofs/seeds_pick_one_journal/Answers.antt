@@ -1,4 +1,4 @@
-use Rattle.overlay_core.proofs.PlanFacts.{plan_facts}
+use Rattle.stat_plan.proofs.PlanFacts.{plan_facts}
 use Rattle.overlay_core.proofs.Picks.{picked_is_picked, picked_is_one}
 use Rattle.overlay_core.proofs.seeds_pick_one_journal.Goals as goal
 

@@ -1,4 +1,4 @@
-use Rattle.overlay_core.proofs.PlanFacts.{plan_facts}
+use Rattle.stat_plan.proofs.PlanFacts.{plan_facts}
 use Rattle.overlay_core.proofs.Ended.{waits_for_all}
 use Rattle.overlay_core.proofs.waiting_streams_release_once.Goals as goal
 

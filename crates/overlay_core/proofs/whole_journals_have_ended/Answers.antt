@@ -1,4 +1,4 @@
-use Rattle.overlay_core.proofs.PlanFacts.{plan_facts}
+use Rattle.stat_plan.proofs.PlanFacts.{plan_facts}
 use Rattle.overlay_core.proofs.Ended.{whole_has_ended}
 use Rattle.overlay_core.proofs.whole_journals_have_ended.Goals as goal
 

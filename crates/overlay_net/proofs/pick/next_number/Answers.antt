@@ -1,6 +1,6 @@
 use Rattle.std.proofs.Math.Nat.{mod-add-mod}
 use Rattle.std.proofs.Common.{◌*◌, ◌^◌}
-use Rattle.overlay_core.specs.Pick.{next_number}
+use Rattle.stat_plan.specs.Machine.Journals.{next_number}
 use Rattle.overlay_net.proofs.pick.next_number.Goals as goal
 
 pub returns : goal.returns

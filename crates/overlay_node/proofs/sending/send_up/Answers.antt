@@ -1,6 +1,7 @@
 use Rattle.std.proofs.Common.{subst, sym, ◌∙◌}
 use Rattle.merge_filter.specs.Contributions.{coverage_of}
-use Rattle.overlay_core.specs.Nodes.{Up, to_parent}
+use Rattle.overlay_core.specs.Nodes.{Up}
+use Rattle.stat_plan.specs.Machine.Overlays.{to_parent}
 use Rattle.overlay_node.specs.Outputs.{Sends}
 use Rattle.overlay_node.proofs.Frames.{sends_one}
 use Rattle.overlay_node.proofs.sending.send_up.Goals as goal

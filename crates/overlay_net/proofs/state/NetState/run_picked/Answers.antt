@@ -1,5 +1,6 @@
 use Rattle.std.proofs.Common.{◌∙◌, false, refl, sym, ap, subst}
-use Rattle.overlay_core.specs.Pick.{next_number, picked_event}
+use Rattle.overlay_core.specs.Pick.{picked_event}
+use Rattle.stat_plan.specs.Machine.Journals.{next_number}
 use Rattle.overlay_net.specs.States.{net_view, state_at}
 use Rattle.overlay_net.proofs.Seen.{seen_net}
 use Rattle.overlay_net.proofs.Picks.{HasCome, all_picked, may_be_picked, one_more, weighs_less}

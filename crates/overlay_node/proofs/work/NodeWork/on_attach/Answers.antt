@@ -4,7 +4,7 @@ use Rattle.std.specs.List.{AllByRecursion}
 use Rattle.merge_filter.specs.Contributions.{HasWave}
 use Rattle.wave_resend.specs.Books.{book_of}
 use Rattle.overlay_core.specs.TreeReleases.{releases_view}
-use Rattle.overlay_core.proofs.PlanFacts.{plan_facts}
+use Rattle.stat_plan.proofs.PlanFacts.{plan_facts}
 use Rattle.overlay_node.specs.Outputs.{Output, Sends}
 use Rattle.overlay_node.specs.declared.work.NodeWork.{NodeWork}
 use Rattle.overlay_node.specs.NodeViews.{AreHeldFits, held_keys}

@@ -3,7 +3,8 @@ use Rattle.std.proofs.lemmas.Result.{on_ok_weaker}
 use Rattle.stat_plan.specs.Machine.Kin.{after_loss, is_parent}
 use Rattle.loss_adoption.specs.NodeKins.{NodeKin}
 use Rattle.loss_adoption.specs.Reactions.{IsReactionTo}
-use Rattle.overlay_core.specs.Nodes.{Attach, to_parent}
+use Rattle.overlay_core.specs.Nodes.{Attach}
+use Rattle.stat_plan.specs.Machine.Overlays.{to_parent}
 use Rattle.overlay_core.specs.TreeReleases.{releases_view}
 use Rattle.overlay_node.specs.Outputs.{Output, Sends}
 use Rattle.overlay_node.specs.declared.work.NodeWork.{NodeWork}

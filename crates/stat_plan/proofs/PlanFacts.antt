@@ -53,11 +53,6 @@ of_stream p s P Q all none_good good = go (find (λ x. x.number == s) p.streams)
     go None e = none_good
     go (Some x) e = good x (found P (λ x. x.number == s) p.streams x all e)
 
-all_in : {X : Type 0} (P : X → Type 0) (xs : List X) (x : X) → AllByRecursion P xs → In x xs → P x
-all_in P [] x h i = absurd i
-all_in P (y ∷ ys) x h (inl e) = subst P (sym e) h.0
-all_in P (y ∷ ys) x h (inr i) = all_in P ys x h.1 i
-
 -- an ascending list of numbers from a to below n has at most n - a of them
 increasing_length : (xs : List ℕ) (a n : ℕ) → IsStrictlyIncreasing xs → a ≤ n → ((x : ℕ) → In x xs → (a ≤ x) × (x < n)) → length xs + a ≤ n
 increasing_length [] a n increasing le bound = omega arith
