@@ -21,7 +21,7 @@ use Rattle.overlay_core.specs.Machine.{State, is_enabled, start, step}
 use Rattle.overlay_core.specs.Runs.{IsLegal, after, run}
 use Rattle.overlay_core.specs.TreeReleases.{AreNumberedInOrder, TreeRelease}
 use Rattle.overlay_core.proofs.Journals.{after_more, legal_has_room}
-use Rattle.overlay_core.proofs.PlanFacts.{plan_facts}
+use Rattle.stat_plan.proofs.PlanFacts.{plan_facts}
 use Rattle.overlay_core.proofs.Steps.{active_parts}
 use Rattle.overlay_core.proofs.Whole.{lives_below, start_below}
 use Rattle.event_claims.specs.Claims.{MayBeClaimed, MayBeOut, Outs, claimable_events, claimed, come_home}

@@ -48,7 +48,8 @@ fn finish<'p, R: Wait, T: PrefixTree, G: Gate>(
 ) -> Result<Ran<T>, AllocError>
     requires plan { plan_of turn ≡ context.now.plan.now }
     requires idle { IsIdle turn seat }
-    ensures { IfOk result (λ ran. IsWholeRun context.now.plan.now ran.journal (releases_view T.tree ran.releases.items)) }
+    ensures { IfOk result (λ ran. IsWholeRun context.now.plan.now ran.journal
+        (releases_view T.tree ran.releases.items)) }
 {
     let mut seat = seat;
     if work(rt, context, &turn, &mut seat).is_err() {

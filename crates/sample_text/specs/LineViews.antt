@@ -8,7 +8,7 @@ use Rattle.rank_set.specs.Runs.{ranks_between}
 use Rattle.text_lines.specs.Lines.{is_blank, begins_with_blank, number_in}
 use Rattle.overlay_setup.specs.Topologies.{Nodes}
 use Rattle.stat_plan.specs.Plans.{Sampled}
-use Rattle.sample_text.specs.Steps.{if_room, with_sample, with_line}
+use Rattle.sample_text.specs.Steps.{with_line, with_one_rank}
 use Rattle.sample_text.specs.declared.words.Line.{Line}
 use Rattle.sample_text.specs.declared.words.Line.TheVariants as line
 use Rattle.sample_text.specs.Words.{LineView, Nothing, Daemon, Stack}
@@ -22,7 +22,7 @@ line_view (line.Stack time ranks path) = Stack time.now ranks.now path.now
 -- a line gives a sample of one rank at a time, in the path that PATH writes: whatever was parsed before it
 abbrev pub SamplesOneRank : List ℕ → ℕ → ℕ → List ℕ → Type 0
 SamplesOneRank line time rank text = (t : Nodes) (s : Sampled) (line_number : ℕ) →
-    with_line t s line_number line ≡ if_room s line_number (with_sample s line_number time (union none (ranks_between rank rank)) text)
+    with_line t s line_number line ≡ with_one_rank s line_number time rank text
 
 -- a text begins with a number, and this is what stands behind the blank that follows the number
 pub record BeginsWithNumber (text : List ℕ) (n : ℕ) (rest : List ℕ) : Type 0 where

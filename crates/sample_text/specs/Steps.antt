@@ -1,6 +1,7 @@
 -- Samples with one line more, or the line's first error.
 use Rattle.std.specs.Prelude.{ℕ, zero, suc, Bool, nat_le, nat_lt, cond, List, [], ◌∷◌, ◌++◌, length, Option, None, Some, Result, Ok, Err}
-use Rattle.rank_set.specs.Ranks.{Ranks, has, those, union, is_empty, is_subset}
+use Rattle.rank_set.specs.Ranks.{Ranks, has, none, those, union, is_empty, is_subset}
+use Rattle.rank_set.specs.Runs.{ranks_between}
 use Rattle.rank_set.specs.RanksText.{ranks_text}
 use Rattle.rank_set.specs.declared.TheConstants.{RANK_LIMIT}
 use Rattle.rank_set.specs.declared.read.RanksError.{RanksError}
@@ -110,6 +111,10 @@ with_sample s line_number time ranks text =
     if_holds (is_subset ranks (all_ranks s.placed)) (Bad line_number Unplaced)
     (and_then (path_on line_number text) (λ path.
     Ok (with_sample_line s (sample time ranks path))))
+
+-- a sample of one rank, where there may be a line more
+abbrev pub with_one_rank : Sampled → ℕ → ℕ → ℕ → List ℕ → Result Sampled TextError
+with_one_rank s line_number time rank text = if_room s line_number (with_sample s line_number time (union none (ranks_between rank rank)) text)
 
 -- a line `stack TIME RANKS PATH`
 unfoldable pub with_stack : Sampled → ℕ → List ℕ → List ℕ → List ℕ → Result Sampled TextError

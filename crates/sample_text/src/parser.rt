@@ -111,7 +111,7 @@ fn lacks_rank(topology: &Topology, placed: &[RankSet]) -> bool
 }
 
 impl<'t> Parser<'t> {
-    ghost use Rattle.sample_text.specs.Steps.{sample, with_sample_line, with_daemon, with_stack, with_sample, if_room};
+    ghost use Rattle.sample_text.specs.Steps.{sample, with_sample_line, with_daemon, with_stack, with_sample, with_one_rank};
     ghost use Rattle.sample_text.specs.Taking.{takes_line, refuses_line, TakesFirstLine, RefusesFirstLine};
     ghost use Rattle.sample_text.specs.Whole.{nothing_parsed, whole};
     ghost use Rattle.sample_text.specs.Invariants.{ParserInvariant};
@@ -248,16 +248,12 @@ impl<'t> Parser<'t> {
     fn one_rank(&mut self, line_number: u64, one: OneRank<'_>) -> Result<(), TextError>
         requires ready { IsConsistent self.old }
         requires below_limit { one.rank < RANK_LIMIT }
-        ensures ok { OnOk result (
-            if_room (parser_view self.old) line_number (with_sample (parser_view self.old) line_number one.entry.time
-            (union none (ranks_between one.entry.rank one.entry.rank)) one.entry.path.now) ≡ Ok (parser_view self.new)
-            ) }
+        ensures ok { OnOk result (with_one_rank (parser_view self.old) line_number one.entry.time one.entry.rank
+            one.entry.path.now ≡ Ok (parser_view self.new)) }
         ensures nodes { parser_nodes self.new ≡ parser_nodes self.old }
         ensures consistent { OnOk result (IsConsistent self.new) }
-        ensures err { IsErrorOf result (
-            if_room (parser_view self.old) line_number (with_sample (parser_view self.old) line_number one.entry.time
-            (union none (ranks_between one.entry.rank one.entry.rank)) one.entry.path.now)
-            ) }
+        ensures err { IsErrorOf result (with_one_rank (parser_view self.old) line_number one.entry.time
+            one.entry.rank one.entry.path.now) }
     {
         if self.is_full() {
             return Err(TextError::over(line_number, Quantity::Lines, LINE_LIMIT));
