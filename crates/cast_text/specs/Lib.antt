@@ -1,0 +1,2 @@
+pub mod CastText
+pub mod Rows

@@ -1,0 +1,12 @@
+pub mod Machine
+pub mod CastInvariant
+pub mod Bound
+pub mod Picked
+pub mod Casts
+pub mod CastNodes
+pub mod CastNets
+pub mod CastStates
+pub mod CastViews
+pub mod CastEvents
+pub mod CastPicks
+pub mod Rows
