@@ -32,12 +32,13 @@ use Rattle.overlay_core.specs.Runs.{after}
 use Rattle.overlay_core.specs.TreeReleases.{AreNumberedInOrder, TreeRelease, bare_release, bare_releases}
 use Rattle.overlay_core.specs.Whole.{HasOneRelease, LosesNoDaemon}
 use Rattle.overlay_core.proofs.Ended.{waits_for_all}
-use Rattle.overlay_core.proofs.Lists.{none_from_subset, union_left, union_right, up_to_increases}
-use Rattle.overlay_core.proofs.PlanFacts.{plan_facts}
+use Rattle.overlay_core.proofs.RankSets.{none_from_subset, union_left, union_right}
+use Rattle.stat_plan.proofs.Ascending.{up_to_increases}
+use Rattle.stat_plan.proofs.PlanFacts.{plan_facts}
 use Rattle.overlay_core.proofs.Releases.{legal_log}
 use Rattle.tree_text.specs.TreeText.{tree_text}
 use Rattle.front_end.specs.ClassText.{classes_text}
-use Rattle.front_end.specs.ReleaseText.{classes_in, heading, kind_text, missing, missing_line, release_text}
+use Rattle.front_end.specs.ReleaseText.{classes_in, heading, kind_text, missing, missing_line, release_text, ranks_line, tree_and_classes}
 use Rattle.front_end.specs.Report.{AllStreamsWait, AreDistinct, AreReleasesOf, IsDirect, IsReport, IsSortedCopy, direct_release, direct_releases, fault_line, release_cmp, report_text}
 use Rattle.front_end.specs.JsonValues.{classes_data, count, list_of, object_of, ranks_data, tree_data}
 use Rattle.front_end.specs.JsonReport.{IsJsonReport, all_missing_data, fault_data, has_missing, missing_data, release_data, report_data}
@@ -183,7 +184,7 @@ same_text : (p : Plan) (r : TreeRelease) → r.tree.coverage ≡ stream_ranks p 
 unfolding release_text
 same_text p r all =
     let covered = all_are_covered p r all in
-    ap (λ lines. heading r ++ codes "covered " ++ text_of r.tree.coverage ++ 10 ∷ [] ++ lines ++ codes "tree\n" ++ tree_text r.tree ++ codes "classes\n" ++ classes_text (classes_in r.tree))
+    ap (λ lines. heading r ++ ranks_line (codes "covered ") r.tree.coverage ++ lines ++ tree_and_classes r.tree (classes_in r.tree))
     (no_missing_lines p r.tree.coverage r.lost (daemons p r.stream) covered ∙ sym (no_missing_lines p r.tree.coverage [] (daemons p r.stream) covered))
 
 same_data : (p : Plan) (r : TreeRelease) → r.tree.coverage ≡ stream_ranks p r.stream → release_data p r ≡ release_data p (unlost r)

@@ -11,9 +11,10 @@ use Rattle.overlay_setup.specs.NodeSets.{member}
 use Rattle.stat_plan.specs.Plans.{Plan, daemons}
 use Rattle.overlay_setup.specs.declared.script.Fault.{Fault}
 use Rattle.overlay_core.specs.TreeReleases.{TreeRelease}
+use Rattle.prefix_tree.specs.Tree.{Tree}
 use Rattle.tree_text.specs.TreeText.{tree_text}
 use Rattle.front_end.specs.ClassText.{classes_text}
-use Rattle.front_end.specs.ReleaseText.{classes_in, heading, missing, missing_line, missing_text, release_text}
+use Rattle.front_end.specs.ReleaseText.{classes_in, heading, missing, missing_line, missing_text, ranks_line, release_text, tree_and_classes}
 use Rattle.front_end.specs.Report.{fate_text, fault_line, report_text}
 
 -- the heading of a release
@@ -53,20 +54,31 @@ fault_written p lost fault b out a d e f is pa pd pe pf =
     regroup : (out a b c d : List ℕ) → (((out ++ a) ++ b) ++ c) ++ d ≡ out ++ (a ++ b ++ c ++ d)
     regroup out a b c d = simp append_assoc
 
--- all that a release says
-pub release_written : (p : Plan) (r : TreeRelease) (covered : Ranks) (lost : List ℕ) (blocks : List (Ranks × List Path)) (out a b c d e f g h : List ℕ) → covered ≡ r.tree.coverage → lost ≡ r.lost → blocks ≡ classes_in r.tree
-    → a ≡ out ++ heading r → b ≡ a ++ codes "covered " → c ≡ b ++ text_of covered → d ≡ c ++ 10 ∷ [] → e ≡ d ++ flat_map (missing_line p covered lost) (daemons p r.stream)
-    → f ≡ e ++ codes "tree\n" → g ≡ f ++ tree_text r.tree → h ≡ g ++ codes "classes\n" → h ++ classes_text blocks ≡ out ++ release_text p r
-unfolding release_text
-release_written p r covered lost blocks out a b c d e f g h is_covered is_lost is_blocks pa pb pc pd pe pf pg ph =
-    let lines : Ranks → List ℕ → List ℕ = λ covered lost. flat_map (missing_line p covered lost) (daemons p r.stream) in
-    let tree : List ℕ = tree_text r.tree in
-    ap (λ ys. ys ++ classes_text blocks) (ph ∙ ap (λ ys. ys ++ codes "classes\n") (pg ∙ ap (λ ys. ys ++ tree) (pf ∙ ap (λ ys. ys ++ codes "tree\n") (pe ∙ ap (λ ys. ys ++ lines covered lost) (pd ∙ ap (λ ys. ys ++ 10 ∷ []) (pc ∙ ap (λ ys. ys ++ text_of covered) (pb ∙ ap (λ ys. ys ++ codes "covered ") pa)))))))
-    ∙ regroup out (heading r) (codes "covered ") (text_of covered) (10 ∷ []) (lines covered lost) (codes "tree\n") tree (codes "classes\n") (classes_text blocks)
-    ∙ (λ i. out ++ (heading r ++ codes "covered " ++ text_of (is_covered i) ++ 10 ∷ [] ++ lines (is_covered i) (is_lost i) ++ codes "tree\n" ++ tree ++ codes "classes\n" ++ classes_text (is_blocks i)))
+-- a tree and its classes
+pub tree_written : (t : Tree) (blocks : List (Ranks × List Path)) (out a b c : List ℕ) → blocks ≡ classes_in t → a ≡ out ++ codes "tree\n" → b ≡ a ++ tree_text t → c ≡ b ++ codes "classes\n"
+    → c ++ classes_text blocks ≡ out ++ tree_and_classes t (classes_in t)
+tree_written t blocks out a b c is pa pb pc =
+    let tree : List ℕ = tree_text t in
+    ap (λ ys. ys ++ classes_text blocks) (pc ∙ ap (λ ys. ys ++ codes "classes\n") (pb ∙ ap (λ ys. ys ++ tree) pa))
+    ∙ regroup out (codes "tree\n") tree (codes "classes\n") (classes_text blocks)
+    ∙ ap (λ ks. out ++ tree_and_classes t ks) is
   where
-    regroup : (out a b c d e f g h k : List ℕ) → ((((((((out ++ a) ++ b) ++ c) ++ d) ++ e) ++ f) ++ g) ++ h) ++ k ≡ out ++ ((((((((a ++ b) ++ c) ++ d) ++ e) ++ f) ++ g) ++ h) ++ k)
-    regroup out a b c d e f g h k = simp append_assoc
+    regroup : (out a b c d : List ℕ) → (((out ++ a) ++ b) ++ c) ++ d ≡ out ++ (a ++ b ++ c ++ d)
+    regroup out a b c d = simp append_assoc
+
+-- all that a release says
+pub release_written : (p : Plan) (r : TreeRelease) (covered : Ranks) (lost out a b c : List ℕ) → covered ≡ r.tree.coverage → lost ≡ r.lost → a ≡ out ++ heading r → b ≡ a ++ ranks_line (codes "covered ") covered
+    → c ≡ b ++ flat_map (missing_line p covered lost) (daemons p r.stream) → c ++ tree_and_classes r.tree (classes_in r.tree) ≡ out ++ release_text p r
+unfolding release_text
+release_written p r covered lost out a b c is_covered is_lost pa pb pc =
+    let lines : Ranks → List ℕ → List ℕ = λ covered lost. flat_map (missing_line p covered lost) (daemons p r.stream) in
+    let rest : List ℕ = tree_and_classes r.tree (classes_in r.tree) in
+    ap (λ ys. ys ++ rest) (pc ∙ ap (λ ys. ys ++ lines covered lost) (pb ∙ ap (λ ys. ys ++ ranks_line (codes "covered ") covered) pa))
+    ∙ regroup out (heading r) (ranks_line (codes "covered ") covered) (lines covered lost) rest
+    ∙ (λ i. out ++ (heading r ++ ranks_line (codes "covered ") (is_covered i) ++ lines (is_covered i) (is_lost i) ++ rest))
+  where
+    regroup : (out a b c d : List ℕ) → (((out ++ a) ++ b) ++ c) ++ d ≡ out ++ (a ++ b ++ c ++ d)
+    regroup out a b c d = simp append_assoc
 
 -- the whole report
 pub report_written : (p : Plan) (faults : List Fault) (lost : List ℕ) (ordered : List TreeRelease) (a b c d : List ℕ) → a ≡ [] → b ≡ a ++ flat_map (release_text p) ordered → c ≡ b ++ flat_map (fault_line p lost) faults → d ≡ c ++ codes "end\n" → d ≡ report_text p faults lost ordered

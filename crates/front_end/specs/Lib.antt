@@ -5,5 +5,7 @@ pub mod Shown
 pub mod JsonValues
 pub mod JsonTokens
 pub mod JsonReport
+pub mod ViewReport
+pub mod JsonViewReport
 pub mod Laws
 pub mod Rows

@@ -47,7 +47,14 @@ missing_line p covered lost daemon =
 abbrev pub missing_lines : Plan → TreeRelease → List ℕ
 missing_lines p r = flat_map (missing_line p r.tree.coverage r.lost) (daemons p r.stream)
 
+-- a line of ranks, behind a word
+abbrev pub ranks_line : List ℕ → Ranks → List ℕ
+ranks_line word ranks = word ++ text_of ranks ++ 10 ∷ []
+
+-- the rows of a tree, and classes
+abbrev pub tree_and_classes : Tree → List (Ranks × List Path) → List ℕ
+tree_and_classes t classes = codes "tree\n" ++ tree_text t ++ codes "classes\n" ++ classes_text classes
+
 -- all that a release says
 unfoldable pub release_text : Plan → TreeRelease → List ℕ
-release_text p r =
-    heading r ++ codes "covered " ++ text_of r.tree.coverage ++ 10 ∷ [] ++ missing_lines p r ++ codes "tree\n" ++ tree_text r.tree ++ codes "classes\n" ++ classes_text (classes_in r.tree)
+release_text p r = heading r ++ ranks_line (codes "covered ") r.tree.coverage ++ missing_lines p r ++ tree_and_classes r.tree (classes_in r.tree)

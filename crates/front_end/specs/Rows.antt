@@ -24,7 +24,9 @@ use Rattle.overlay_core.specs.declared.release.Kind.{Kind}
 use Rattle.overlay_core.specs.declared.release.Kind.TheVariants.{Partial, Final}
 use Rattle.tree_text.specs.TreeText.{row_text}
 use Rattle.front_end.specs.ClassText.{classes_text}
-use Rattle.front_end.specs.ReleaseText.{heading, kind_text, missing_line, missing_lines, release_text}
+use Rattle.tree_view.specs.Views.{OfEachClass, WithFrame}
+use Rattle.front_end.specs.ViewReport.{view_line}
+use Rattle.front_end.specs.ReleaseText.{heading, kind_text, missing_line, missing_lines, release_text, ranks_line}
 use Rattle.front_end.specs.JsonValues.{classes_data, count, list_of, object_of, ranks_data, row_data}
 use Rattle.front_end.specs.JsonReport.{all_missing_data, fault_data, missing_data, release_data, report_data}
 use Rattle.front_end.specs.Report.{direct_releases, fault_line, release_cmp, report_text}
@@ -82,6 +84,13 @@ fault_not_reached : fault_line (two_daemons (loss ∷ [])) [] loss ≡ codes "fa
 unfolding digits
 fault_not_reached = refl
 
+-- the line of a view
+view_of_a_frame : view_line (WithFrame (codes "f g")) (codes "f g") ≡ codes "view frame f g\n"
+view_of_a_frame = refl
+
+view_of_representatives : view_line (OfEachClass 8) (codes "08") ≡ codes "view reps 08\n"
+view_of_representatives = refl
+
 -- whole reports
 
 -- rows put in order, the last first
@@ -102,8 +111,8 @@ entries_in_order (e ∷ es) = finmap.entries-insert path_cmp_total (finmap.from_
 -- the text of a release of a tree that has these rows below its root
 abbrev text_of_rows : Plan → TreeRelease → List (Path × Marks) → List ℕ
 text_of_rows p r rows =
-    heading r ++ codes "covered " ++ text_of r.tree.coverage ++ 10 ∷ [] ++ missing_lines p r ++ codes "tree\n" ++ flat_map row_text (([], (r.tree.coverage, none)) ∷ rows) ++ codes "classes\n"
-    ++ classes_text (classes_of (flat_map (λ e. pairs_at (in_order e.1.1) e.0) rows) r.tree.coverage)
+    heading r ++ ranks_line (codes "covered ") r.tree.coverage ++ missing_lines p r
+    ++ (codes "tree\n" ++ flat_map row_text (([], (r.tree.coverage, none)) ∷ rows) ++ codes "classes\n" ++ classes_text (classes_of (flat_map (λ e. pairs_at (in_order e.1.1) e.0) rows) r.tree.coverage))
 
 -- a release of merged samples, by a function that computes
 computed : (p : Plan) (wave number : ℕ) (kind : Kind) (samples : Pairs) (covered : Ranks) (lost : List ℕ)

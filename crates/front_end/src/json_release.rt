@@ -43,8 +43,8 @@ pub fn write_release<T: PrefixTree>(
     out.end_object()
 }
 
-// The word for the kind of a release.
-fn kind_word(kind: Kind) -> &'static str
+/// The word for the kind of a release.
+pub fn kind_word(kind: Kind) -> &'static str
     ensures { result.now ≡ kind_text kind }
 {
     match kind {

@@ -7,14 +7,18 @@ mod json_release;
 mod json_report;
 mod json_text;
 mod json_tree;
+mod json_view;
 mod laws;
 mod release_text;
 mod report;
+mod view_report;
 
 pub use json_report::{direct_json, report_json};
+pub use json_view::view_json;
 pub use laws::{
     classes_of_a_tree, direct_releases_are_distinct, json_reports_are_one,
     numbered_releases_are_distinct, ordered_releases_are_in_order, reports_are_one,
     waiting_json_reports_are_direct, waiting_reports_are_direct,
 };
 pub use report::{direct_text, report_text};
+pub use view_report::view_text;

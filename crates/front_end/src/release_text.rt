@@ -3,7 +3,7 @@ ghost use Rattle.std.specs.Prelude.{◌≡◌, ◌++◌, ◌<◌, OnOk};
 ghost use Rattle.std.specs.List.{AllByRecursion, flat_map};
 ghost use Rattle.stat_plan.specs.Plans.{daemons, nodes};
 ghost use Rattle.overlay_core.specs.TreeReleases.{release_view};
-ghost use Rattle.front_end.specs.ReleaseText.{heading, kind_text as text_of_kind, missing_line, missing_text as text_of_missing, release_text};
+ghost use Rattle.front_end.specs.ReleaseText.{classes_in, heading, kind_text as text_of_kind, missing_line, missing_text as text_of_missing, ranks_line, release_text, tree_and_classes};
 
 use crate::class_text::write_classes;
 use equiv_class::classes;
@@ -22,21 +22,40 @@ pub fn write_release<T: PrefixTree>(
 ) -> Result<(), AllocError>
     ensures { OnOk result (out.new.items ≡ out.old.items ++ release_text plan.now (release_view T.tree release.now)) }
 {
-    let classes = classes(*out.allocator(), &release.tree)?;
     let covered = release.tree.row(0).label;
     write_heading(release, out)?;
-    out.extend_from_slice(b"covered ")?;
-    covered.write_text(out)?;
-    out.push(b'\n')?;
+    write_ranks(b"covered ", covered, out)?;
     write_missing(plan, release.stream, covered, &release.lost, out)?;
+    write_tree_and_classes(&release.tree, out)
+}
+
+/// Appends the rows of a tree and its classes.
+pub fn write_tree_and_classes<T: PrefixTree>(tree: &T, out: &mut Vec<u8>) -> Result<(), AllocError>
+    ensures { OnOk result
+        (out.new.items ≡ out.old.items ++ tree_and_classes (T.tree tree.now) (classes_in (T.tree tree.now))) }
+{
+    let classes = classes(*out.allocator(), tree)?;
     out.extend_from_slice(b"tree\n")?;
-    write_tree(&release.tree, out)?;
+    write_tree(tree, out)?;
     out.extend_from_slice(b"classes\n")?;
     write_classes(&classes, out)
 }
 
-// Appends the line above a release.
-fn write_heading<T: PrefixTree>(release: &Release<T>, out: &mut Vec<u8>) -> Result<(), AllocError>
+/// Appends a line of ranks, behind a word.
+pub fn write_ranks(word: &[u8], ranks: &RankSet, out: &mut Vec<u8>) -> Result<(), AllocError>
+    ensures { OnOk result (out.new.items ≡ out.old.items ++ ranks_line word.now ranks.now) }
+{
+    out.extend_from_slice(word)?;
+    ranks.write_text(out)?;
+    out.push(b'\n')?;
+    Ok(())
+}
+
+/// Appends the line above a release.
+pub fn write_heading<T: PrefixTree>(
+    release: &Release<T>,
+    out: &mut Vec<u8>,
+) -> Result<(), AllocError>
     ensures { OnOk result (out.new.items ≡ out.old.items ++ heading (release_view T.tree release.now)) }
 {
     write_numbered(b"stream ", usize::from(release.stream), out)?;

@@ -45,8 +45,8 @@ pub fn direct_text<T: PrefixTree>(
     text_with_faults(alloc, plan, &[], releases, &[])
 }
 
-// For how many bytes of a report room is made before the first of them.
-const ROOM: usize = 98_304;
+/// For how many bytes of a report room is made before the first of them.
+pub const ROOM: usize = 98_304;
 
 // The report of some releases, with a line for each of these faults.
 fn text_with_faults<T: PrefixTree>(

@@ -1,0 +1,9 @@
+pub mod EditLemmas
+pub mod Laws
+pub mod Room
+pub mod Walk
+pub mod Places
+pub mod Lies
+pub mod Least
+pub mod SameViews
+pub mod OneFrame

@@ -1,0 +1,4 @@
+pub mod Views
+pub mod Reading
+pub mod Selections
+pub mod Rows
