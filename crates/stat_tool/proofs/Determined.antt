@@ -9,7 +9,7 @@ use Rattle.stat_plan.specs.Limits.{first_over}
 use Rattle.text_lines.specs.declared.text_error.TextError.{TextError}
 use Rattle.overlay_event.specs.declared.event.Event.{Event}
 use Rattle.stat_words.specs.Words.{Asked}
-use Rattle.stat_words.specs.Words.{Run, Sim, Replay, Direct, Gen, Frames}
+use Rattle.stat_words.specs.Words.{Run, Sim, Replay, Direct, Gen, Cast, View, Frames}
 use Rattle.stat_words.specs.declared.words.RunReport.{RunReport}
 use Rattle.stat_words.specs.declared.words.WordFault.{WordFault}
 use Rattle.topology_text.specs.Whole.{topology_of}
@@ -17,7 +17,7 @@ use Rattle.sample_text.specs.Whole.{samples_of_text}
 use Rattle.script_text.specs.Whole.{script_of}
 use Rattle.stat_tool.specs.Call.{Answered, AreTold, DeskChange, Finishes, IsDetermined, SinkChange, all_given, answer_of, answer_of_job, end_of, given}
 use Rattle.stat_tool.specs.Files.{NamedFile, files_of, limit_of}
-use Rattle.stat_tool.specs.Jobs.{Job, RunJob, SimJob, ReplayJob, DirectJob, GenJob, CaptureJob, RunOutput}
+use Rattle.stat_tool.specs.Jobs.{Job, RunJob, SimJob, ReplayJob, DirectJob, GenJob, CastJob, ViewJob, CaptureJob, RunOutput}
 use Rattle.stat_tool.specs.NextStep.{AfterPlan, Agrees, Answers, Bytes, Does, AreReadResults, ReadResult, Step, TooLong, Wants, at_capture, at_journal, at_samples, at_script, by_limit, by_samples, by_script, by_topology, next_step, plan_step}
 use Rattle.stat_tool.specs.Outputs.{HasOutput}
 use Rattle.stat_tool.specs.declared.status.Target.TheVariants.{Report, Journal}
@@ -133,6 +133,8 @@ step_stays (Sim names seed wanted) results all front settled = plan_stays (λ p 
 step_stays (Replay names journal wanted) results all front settled = plan_stays (at_journal wanted) (journal_stays wanted) results all front settled
 step_stays (Direct names form) results all front settled = plan_stays (λ p rest. Does (DirectJob p form)) (λ p rest all front settled. refl) results all front settled
 step_stays (Gen size seed) results all front settled = refl
+step_stays (Cast names seed commands) results all front settled = plan_stays (λ p rest. Does (CastJob p seed commands)) (λ p rest all front settled. refl) results all front settled
+step_stays (View names seed wanted) results all front settled = plan_stays (λ p rest. Does (ViewJob p seed wanted)) (λ p rest all front settled. refl) results all front settled
 step_stays (Frames capture) results all front settled = capture_stays results all front settled
 
 -- ---- the answers
@@ -144,6 +146,8 @@ end_of_job (SimJob p seed wanted) output has = ap end_of has.0.finished
 end_of_job (ReplayJob p events wanted) output has = ap end_of has.unfinished
 end_of_job (DirectJob p form) output has = ap end_of has.finished
 end_of_job (GenJob size seed) output has = ap end_of has.finished
+end_of_job (CastJob p seed commands) output has = ap end_of has.finished
+end_of_job (ViewJob p seed wanted) output has = ap end_of has.finished
 end_of_job (CaptureJob bytes) output has = ap end_of has.finished
 
 module _ (asked : Asked) (contents : List ℕ → Option (List ℕ)) (told : AreTold contents (files_of asked)) where

@@ -21,8 +21,8 @@ use Rattle.overlay_core.specs.TreeReleases.{AreNumberedInOrder, TreeRelease, bar
 use Rattle.overlay_core.specs.Whole.{EndsFinally, LosesNoDaemon}
 use Rattle.overlay_core.proofs.Ended.{all_of_stream, whole_has_ended, waits_for_all}
 use Rattle.overlay_core.proofs.Whole.{legal_is_sound}
-use Rattle.overlay_core.proofs.PlanFacts.{plan_facts}
-use Rattle.overlay_core.proofs.Lists.{append_right, filter_from}
+use Rattle.stat_plan.proofs.PlanFacts.{plan_facts}
+use Rattle.stat_plan.proofs.InLists.{append_right, in_from_filter}
 use Rattle.overlay_core.proofs.Releases.{legal_log}
 use Rattle.overlay_node.specs.Outputs.{ReleaseFits}
 use Rattle.front_end.specs.Report.{AllStreamsWait, AreReleasesOf, IsDirect, direct_releases}
@@ -30,7 +30,7 @@ use Rattle.front_end.proofs.Direct.{direct_where_all_wait, direct_json_where_all
 use Rattle.front_end.proofs.Orders.{reports_same, json_reports_same}
 use Rattle.stat_words.specs.declared.words.ReportForm.{ReportForm}
 use Rattle.stat_words.specs.declared.words.ReportForm.TheVariants.{Text, Json}
-use Rattle.stat_tool.specs.Reports.{CoveragesGrow, EndsWaves, EndsWithAll, IsReportIn, IsReportOf, losses_of}
+use Rattle.stat_tool.specs.Reports.{AreReleased, CoveragesGrow, EndsWaves, EndsWithAll, IsReportIn, IsReportOf, losses_of}
 
 -- ---- each wave ends with all ranks of its stream
 
@@ -38,7 +38,7 @@ ends_with_all : (p : Plan) (journal : List Event) → IsPlan p → IsWhole p jou
 ends_with_all p journal plan whole s w wave none_lost =
     let ended : EndsFinally p journal s (of_wave s w (after p journal).releases) = (whole_has_ended p journal (plan_facts p plan) whole).final s w wave in
     let among : In ended.final (of_wave s w (after p journal).releases) = subst (λ (rs : List Release). In ended.final rs) (sym ended.all) (append_right ended.final ended.before (ended.final ∷ []) (inl refl)) in
-    let found = filter_from (λ (r : Release). (r.stream == s) && (r.wave == w)) (after p journal).releases ended.final among in
+    let found = in_from_filter (λ (r : Release). (r.stream == s) && (r.wave == w)) ended.final (after p journal).releases among in
     let own : ended.final.stream ≡ s = eqb-true ended.final.stream s (and_parts (ended.final.stream == s) (ended.final.wave == w) found.1).0 in
     let sound = legal_log p journal (plan_facts p plan) whole.0 ended.final found.0 in
     record {
@@ -76,28 +76,24 @@ coverages_grow p alive s last (r ∷ rs) v h = by r.kind refl h.1 (λ more. cove
 
 -- ---- the report of a journal
 
--- what is known of a net that a journal leads to, and of the report of its releases
-pub record ReportFacts (p : Plan) (form : ReportForm) (journal : List Event) (report : List ℕ) : Type 0 where
+-- what is known of the releases of a net that a journal leads to
+pub record ReleaseFacts (p : Plan) (journal : List Event) (releases : List TreeRelease) : Type 0 where
   pub plan : IsPlan p
   pub legal : IsLegal p journal
-  pub releases : List TreeRelease
   pub reached : bare_releases releases ≡ (after p journal).releases
   pub numbered : AreNumberedInOrder [] releases
   pub trees : AllByRecursion (ReleaseFits p) releases
-  pub text : IsReportIn form p p.faults releases (losses_of journal) report
 
--- so it is the report of the journal
-pub is_report : (p : Plan) (form : ReportForm) (journal : List Event) (text : List ℕ) → ReportFacts p form journal text → IsReportOf p form journal text
-is_report p form journal text facts =
+-- so they are the releases after the journal
+pub are_released : (p : Plan) (journal : List Event) (releases : List TreeRelease) → ReleaseFacts p journal releases → AreReleased p journal releases
+are_released p journal releases facts =
     let plan = plan_facts p facts.plan in
     record {
       legal = facts.legal;
-      releases = facts.releases;
       reached = facts.reached;
       numbered = facts.numbered;
-      text = facts.text;
       sound = λ r there. legal_log p journal plan facts.legal r (subst (λ (rs : List Release). In r rs) facts.reached there);
-      direct = all_direct p facts.plan facts.releases facts.trees;
+      direct = all_direct p facts.plan releases facts.trees;
       grow = λ s w. subst (λ (rs : List Release). CoveragesGrow none (of_wave s w rs)) (sym facts.reached)
           (coverages_grow p (after p journal).alive s none (of_wave s w (after p journal).releases) (((after p journal).node (front p)).book s w) ((legal_is_sound p journal plan facts.legal).history.releases s w));
     }
@@ -157,10 +153,10 @@ same_in Json p faults releases lost text other first second = json_reports_same 
 
 pub one_report : (p : Plan) (form : ReportForm) (journal : List Event) (text other : List ℕ) → IsReportOf p form journal text → IsReportOf p form journal other → text ≡ other
 one_report p form journal text other first second =
-    let bare : bare_releases first.releases ≡ bare_releases second.releases = first.reached ∙ sym second.reached in
+    let bare : bare_releases first.releases ≡ bare_releases second.releases = first.released.reached ∙ sym second.released.reached in
     let numbers : map (λ (r : TreeRelease). r.number) first.releases ≡ map (λ (r : TreeRelease). r.number) second.releases
-    = first.numbered ∙ ap (numbers_after []) bare ∙ sym second.numbered in
-    let same : first.releases ≡ second.releases = one_release_list p first.releases second.releases bare numbers first.direct second.direct in
+    = first.released.numbered ∙ ap (numbers_after []) bare ∙ sym second.released.numbered in
+    let same : first.releases ≡ second.releases = one_release_list p first.releases second.releases bare numbers first.released.direct second.released.direct in
     same_in form p p.faults second.releases (losses_of journal) text other
     (subst (λ (rs : List TreeRelease). IsReportIn form p p.faults rs (losses_of journal) text) same first.text) second.text
 
@@ -176,4 +172,4 @@ pub direct_where_waiting : (p : Plan) (form : ReportForm) (journal : List Event)
     → IsReportIn form p p.faults (direct_releases p) (losses_of journal) text
 direct_where_waiting p form journal text plan whole report waits none_lost =
     waits_in form p journal report.releases (losses_of journal) text plan waits none_lost
-    (record { whole = whole; reached = report.reached; numbered = report.numbered; direct = report.direct }) report.text
+    (record { whole = whole; reached = report.released.reached; numbered = report.released.numbered; direct = report.released.direct }) report.text

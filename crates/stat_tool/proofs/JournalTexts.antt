@@ -7,14 +7,13 @@ use Rattle.std.specs.List.{AllByRecursion}
 use Rattle.overlay_setup.specs.NodeSets.{In, up_to}
 use Rattle.stat_plan.specs.Invariants.{IsPlan}
 use Rattle.stat_plan.specs.Plans.{Plan, nodes, waves_of}
-use Rattle.stat_plan.proofs.InLists.{in_append, in_from_map, up_to_below}
+use Rattle.stat_plan.proofs.InLists.{in_append, in_from_map, up_to_below, in_from_filter}
 use Rattle.overlay_event.specs.declared.event.Event.{Event}
 use Rattle.overlay_event.specs.declared.event.Event.TheVariants.{Recv, Tick}
 use Rattle.overlay_core.specs.Machine.{State, start, step, is_enabled, enabled_events, events_below, events_of, samples_of}
 use Rattle.overlay_core.specs.Runs.{run, after, IsLegal, IsLegalFrom}
 use Rattle.overlay_core.proofs.Journals.{after_more, legal_more, listed_where_enabled}
-use Rattle.overlay_core.proofs.Lists.{filter_from}
-use Rattle.overlay_core.proofs.PlanFacts.{HasPlanFacts, plan_facts}
+use Rattle.stat_plan.proofs.PlanFacts.{HasPlanFacts, plan_facts}
 use Rattle.journal_text.specs.Events.{AreEventsOf, IsEventOf}
 use Rattle.stat_tool.specs.NextStep.{first_refused}
 
@@ -46,7 +45,7 @@ below_is_of p (suc k) e le i = elim (in_append e (events_below p k) (events_of p
 enabled_is_of : (p : Plan) (journal : List Event) (e : Event) → HasPlanFacts p → IsLegal p journal → is_enabled p (after p journal) e ≡ true → IsEventOf p e
 unfolding enabled_events
 enabled_is_of p journal e facts legal can =
-    below_is_of p (nodes p) e (omega arith) (filter_from (is_enabled p (after p journal)) (events_below p (nodes p)) e ((listed_where_enabled p journal e facts legal).0 can)).0
+    below_is_of p (nodes p) e (omega arith) (in_from_filter (is_enabled p (after p journal)) e (events_below p (nodes p)) ((listed_where_enabled p journal e facts legal).0 can)).0
 
 rest_are_of : (p : Plan) (done es : List Event) → HasPlanFacts p → IsLegal p done → IsLegalFrom p (after p done) es → AllByRecursion (IsEventOf p) es
 rest_are_of p done [] facts legal more = tt

@@ -1,4 +1,5 @@
 pub mod Captures
+pub mod Casts
 pub mod Determined
 pub mod DirectReleases
 pub mod Forms

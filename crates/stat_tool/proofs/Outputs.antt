@@ -9,12 +9,14 @@ use Rattle.overlay_core.specs.Machine.{State, start, is_enabled, enabled_events}
 use Rattle.overlay_core.specs.Runs.{after, IsLegal, IsQuiet, IsWhole}
 use Rattle.overlay_core.specs.TreeReleases.{AreNumberedInOrder, TreeRelease, bare_releases}
 use Rattle.overlay_core.specs.Whole.{LosesNoDaemon}
+use Rattle.tree_view.specs.Reading.{view_of}
+use Rattle.tree_view.specs.Views.{TreeView}
 use Rattle.front_end.specs.Report.{AllStreamsWait}
 use Rattle.generated_job.specs.Job.{job_plan}
 use Rattle.generated_job.specs.Summary.{HasTreeOfSamples, summary_of, summary_text}
 use Rattle.generated_job.proofs.OfJournal.{is_of_journal}
 use Rattle.overlay_core.proofs.Journals.{quiet_where_empty}
-use Rattle.overlay_core.proofs.PlanFacts.{plan_facts}
+use Rattle.stat_plan.proofs.PlanFacts.{plan_facts}
 use Rattle.overlay_core.specs.Pick.{picked}
 use Rattle.overlay_core.proofs.Picks.{list_from_quiet, picked_is_whole}
 use Rattle.overlay_node.specs.Outputs.{ReleaseFits}
@@ -23,43 +25,46 @@ use Rattle.overlay_run.specs.Boards.{IsWholeRun}
 use Rattle.journal_text.specs.Reading.{ReadJournal, journal_of}
 use Rattle.journal_text.specs.Text.{journal_text}
 use Rattle.journal_text.proofs.ReadBack.{read_back}
-use Rattle.stat_words.specs.declared.words.ReportForm.{ReportForm}
+use Rattle.stat_words.specs.Words.{AskedView}
 use Rattle.stat_words.specs.declared.words.RunReport.{RunReport}
 use Rattle.stat_words.specs.declared.words.RunReport.TheVariants.{Releases, Frames}
 use Rattle.stat_tool.specs.Jobs.{RunOutput, ReplayJob}
 use Rattle.stat_tool.specs.Call.{IsEventRefusal, IsJobRefusal}
 use Rattle.stat_tool.specs.NextStep.{Answers, Does, by_bad_line, by_refused, first_refused, replay_step}
-use Rattle.stat_tool.specs.Outputs.{HasRun, HasSummary, IsReplay, IsReplayed}
-use Rattle.stat_tool.specs.Reports.{EndsWaves, IsDirectIn, IsReportIn, IsReportOf, IsWrittenIn, IsWrittenOf, losses_of}
-use Rattle.stat_tool.proofs.Headline.{direct_where_waiting, ends_waves, is_report, one_report}
+use Rattle.stat_tool.specs.Outputs.{HasRun, HasSummary, HasView, IsReplay, IsReplayed}
+use Rattle.stat_tool.specs.Reports.{AreReleased, EndsWaves, IsDirectIn, IsReportIn, IsReportOf, ViewsSamples, IsWrittenIn, IsWrittenOf, losses_of}
+use Rattle.stat_tool.proofs.Headline.{are_released, direct_where_waiting, ends_waves, one_report}
 use Rattle.stat_tool.proofs.JournalTexts.{accepted, legal_are_of, refused_at}
 use Rattle.stat_tool.specs.declared.status.Status.{Status}
 use Rattle.stat_tool.specs.declared.status.Status.TheVariants.{Done, BadWords, DeskFault, BadInput, OverLimit, SinkFault, OutOfMemory, BadJournal, Unfinished, BadFrames}
 
--- the report of what a net has released is that of the journal that leads to it
-report_of_net : (v : NetView) (p : Plan) (form : ReportForm) (journal : List Event) (releases : List TreeRelease) (text : List ℕ) → IsPlan p → v.plan ≡ p → IsReachedBy v journal → releases ≡ v.releases
-    → IsReportIn form p p.faults releases (losses_of journal) text → IsReportOf p form journal text
-report_of_net v p form journal releases text plan same reached are report =
-    is_report p form journal text (record {
+-- what a net has released are the releases after the journal that leads to it
+released_of_net : (v : NetView) (p : Plan) (journal : List Event) (releases : List TreeRelease) → IsPlan p → v.plan ≡ p → IsReachedBy v journal → releases ≡ v.releases → AreReleased p journal releases
+released_of_net v p journal releases plan same reached are =
+    subst (AreReleased p journal) (sym are)
+    (are_released p journal v.releases (record {
       plan = plan;
       legal = subst (λ (p : Plan). IsLegal p journal) same reached.legal;
-      releases = v.releases;
       reached = ap (λ (st : State). st.releases) reached.state ∙ ap (λ (p : Plan). (after p journal).releases) same;
       numbered = reached.numbered;
       trees = subst (λ (p : Plan). AllByRecursion (ReleaseFits p) v.releases) same reached.trees;
-      text = subst (λ (rs : List TreeRelease). IsReportIn form p p.faults rs (losses_of journal) text) are report;
-    })
+    }))
 
 -- what a net has released makes what is wanted of the journal that leads to it
 written_of_net : (v : NetView) (p : Plan) (wanted : RunReport) (journal : List Event) (releases : List TreeRelease) (text : List ℕ) → IsPlan p → v.plan ≡ p → IsReachedBy v journal → releases ≡ v.releases
     → IsWrittenIn wanted p releases journal text → IsWrittenOf p wanted journal text
-written_of_net v p (Releases form) journal releases text plan same reached are report = report_of_net v p form journal releases text plan same reached are report
+written_of_net v p (Releases form) journal releases text plan same reached are report =
+    record { releases = releases; released = released_of_net v p journal releases plan same reached are; text = report }
 written_of_net v p Frames journal releases text plan same reached are log = record { legal = subst (λ (p : Plan). IsLegal p journal) same reached.legal; frames = log }
 
 -- so do the releases of a whole run
 written_of_run : (p : Plan) (wanted : RunReport) (journal : List Event) (releases : List TreeRelease) (text : List ℕ) → IsPlan p → IsWholeRun p journal releases → IsWrittenIn wanted p releases journal text → IsWrittenOf p wanted journal text
 written_of_run p (Releases form) journal releases text plan run report =
-    is_report p form journal text (record { plan = plan; legal = run.whole.0; releases = releases; reached = run.released; numbered = run.numbered; trees = run.trees; text = report })
+    record {
+      releases = releases;
+      released = are_released p journal releases (record { plan = plan; legal = run.whole.0; reached = run.released; numbered = run.numbered; trees = run.trees });
+      text = report;
+    }
 written_of_run p Frames journal releases text plan run log = record { legal = run.whole.0; frames = log }
 
 -- there is one text of what is wanted of a journal
@@ -188,6 +193,24 @@ replay_made p wanted read output accepted whole same is = (
   replay_accepted p wanted read accepted whole ∙ ap (λ (es : List Event). Does (ReplayJob p es wanted)) (sym same),
   subst (λ (es : List Event). IsReplay p es wanted output) (sym same) is,
 )
+
+-- ---- views
+
+-- the output of a view of a run whose events a seed has picked
+pub has_view : (v : NetView) (q p : Plan) (seed : ℕ) (wanted : AskedView) (view : TreeView) (releases : List TreeRelease) (output : RunOutput) → view_of wanted.by wanted.argument ≡ Some view → IsPlan p → q ≡ p → v.plan ≡ q
+    → output.journal ≡ picked q seed → IsReachedBy v output.journal → releases ≡ v.releases
+    → ViewsSamples wanted view releases output.report
+    → output.unfinished ≡ None → output.journal_text ≡ [] → HasView p seed wanted output
+has_view v q p seed wanted view releases output is_view plan of_plan of_net picks reached given text finished unwritten =
+    let released : AreReleased p output.journal releases = released_of_net v p output.journal releases plan (of_net ∙ of_plan) reached given in
+    record {
+      plan = plan;
+      journal = picks ∙ ap (λ (p : Plan). picked p seed) of_plan;
+      report = record { view = view; asked = is_view; releases = releases; released = released; text = text p plan released.direct };
+      ended = ends_waves p output.journal plan (released.legal, picked_is_quiet q p seed output.journal plan of_plan picks);
+      finished = finished;
+      unwritten = unwritten;
+    }
 
 -- ---- generated jobs
 

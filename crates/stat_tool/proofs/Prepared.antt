@@ -7,12 +7,11 @@ use Rattle.overlay_event.specs.declared.event.Event.{Event}
 use Rattle.capture_text.specs.Captures.{capture_of}
 use Rattle.journal_text.specs.Reading.{ReadJournal}
 use Rattle.stat_words.specs.Words.{Asked, Names}
-use Rattle.stat_words.specs.Words.{Run, Sim, Replay, Direct, Frames}
-use Rattle.stat_words.specs.declared.words.ReportForm.{ReportForm}
+use Rattle.stat_words.specs.Words.{Replay, Frames}
 use Rattle.stat_words.specs.declared.words.RunReport.{RunReport}
 use Rattle.stat_tool.specs.Call.{DeskChange, Gave, HasJournal, HasNoJournal, HasRead, IsCaptureRefusal, IsJobRefusal, IsPlanned, IsStopped, Prepared, Prevented, Prevents, Refuses}
 use Rattle.stat_tool.specs.Files.{NamedFile, files_of, limit_of, plan_files}
-use Rattle.stat_tool.specs.Jobs.{RunJob, SimJob, ReplayJob, DirectJob, CaptureJob, RunOutput}
+use Rattle.stat_tool.specs.Jobs.{Job, ReplayJob, CaptureJob, RunOutput}
 use Rattle.stat_tool.specs.NextStep.{AfterPlan, Agrees, Answers, AreReadResults, Bytes, Does, ReadResult, Step, TooLong, Wants, at_journal, by_capture, next_step, plan_step, replay_step}
 use Rattle.stat_tool.specs.Outputs.{HasOutput}
 use Rattle.stat_tool.proofs.Stopping.{IsRestOf, failed_earlier, longer_earlier, read_no_more, read_one_more, read_too_long, whole_change, whole_earlier}
@@ -50,14 +49,10 @@ prevents_less files more desk next (Unfinished e) r = absurd r
 
 -- ---- where there is no plan, whatever the mode
 
-pub run_stops : (names : Names) (workers : ℕ) (wanted : RunReport) (desk : DeskChange) (status : Status) → IsStopped (plan_files names) desk status → Prevented (Run names workers wanted) desk status
-run_stops names workers wanted desk status s = (s.0, (s.1.0, s.1.1 (λ p rest. Does (RunJob p wanted))))
-
-pub sim_stops : (names : Names) (seed : ℕ) (wanted : RunReport) (desk : DeskChange) (status : Status) → IsStopped (plan_files names) desk status → Prevented (Sim names seed wanted) desk status
-sim_stops names seed wanted desk status s = (s.0, (s.1.0, s.1.1 (λ p rest. Does (SimJob p seed wanted))))
-
-pub direct_stops : (names : Names) (form : ReportForm) (desk : DeskChange) (status : Status) → IsStopped (plan_files names) desk status → Prevented (Direct names form) desk status
-direct_stops names form desk status s = (s.0, (s.1.0, s.1.1 (λ p rest. Does (DirectJob p form))))
+-- of a mode that reads the files of a plan alone
+pub job_stops : (names : Names) (job : Plan → Job) (desk : DeskChange) (status : Status) → IsStopped (plan_files names) desk status
+    → (results : List ReadResult) × (HasRead (plan_files names) desk results × Prevents (plan_files names) desk (plan_step results (λ p rest. Does (job p))) status)
+job_stops names job desk status s = (s.0, (s.1.0, s.1.1 (λ p rest. Does (job p))))
 
 pub replay_stops : (names : Names) (journal : List ℕ) (wanted : RunReport) (desk : DeskChange) (status : Status) → IsStopped (plan_files names) desk status → Prevented (Replay names journal wanted) desk status
 replay_stops names journal wanted desk status s = (
@@ -73,14 +68,10 @@ replay_stops names journal wanted desk status s = (
 step_at : (files : List NamedFile) (desk : DeskChange) (p : Plan) (planned : IsPlanned files desk p) (after : AfterPlan) → plan_step planned.results after ≡ after p []
 step_at files desk p planned after = ap (λ (rs : List ReadResult). plan_step rs after) (sym (append-nil planned.results)) ∙ planned.step [] after
 
-pub run_prepared : (names : Names) (workers : ℕ) (wanted : RunReport) (desk : DeskChange) (p : Plan) (output : RunOutput) → IsPlanned (plan_files names) desk p → HasOutput (RunJob p wanted) output → Prepared (Run names workers wanted) desk output
-run_prepared names workers wanted desk p output planned has = (planned.results, (planned.read, (RunJob p wanted, (step_at (plan_files names) desk p planned (λ p rest. Does (RunJob p wanted)), has))))
-
-pub sim_prepared : (names : Names) (seed : ℕ) (wanted : RunReport) (desk : DeskChange) (p : Plan) (output : RunOutput) → IsPlanned (plan_files names) desk p → HasOutput (SimJob p seed wanted) output → Prepared (Sim names seed wanted) desk output
-sim_prepared names seed wanted desk p output planned has = (planned.results, (planned.read, (SimJob p seed wanted, (step_at (plan_files names) desk p planned (λ p rest. Does (SimJob p seed wanted)), has))))
-
-pub direct_prepared : (names : Names) (form : ReportForm) (desk : DeskChange) (p : Plan) (output : RunOutput) → IsPlanned (plan_files names) desk p → HasOutput (DirectJob p form) output → Prepared (Direct names form) desk output
-direct_prepared names form desk p output planned has = (planned.results, (planned.read, (DirectJob p form, (step_at (plan_files names) desk p planned (λ p rest. Does (DirectJob p form)), has))))
+-- of a mode that reads the files of a plan alone
+pub job_prepared : (names : Names) (job : Plan → Job) (desk : DeskChange) (p : Plan) (output : RunOutput) → IsPlanned (plan_files names) desk p → HasOutput (job p) output
+    → (results : List ReadResult) × (HasRead (plan_files names) desk results × ((done : Job) × ((plan_step results (λ p rest. Does (job p)) ≡ Does done) × HasOutput done output)))
+job_prepared names job desk p output planned has = (planned.results, (planned.read, (job p, (step_at (plan_files names) desk p planned (λ p rest. Does (job p)), has))))
 
 -- memory ran out, once there is a plan
 pub no_memory : (asked : Asked) (desk : DeskChange) (results : List ReadResult) → HasRead (files_of asked) desk results → Prevented asked desk OutOfMemory

@@ -12,10 +12,10 @@ use Rattle.overlay_event.specs.declared.event.Event.{Event}
 use Rattle.stat_plan.specs.Plans.{Plan}
 use Rattle.text_lines.specs.declared.text_error.TextError.{TextError}
 use Rattle.journal_text.specs.Reading.{ReadJournal, journal_of}
-use Rattle.stat_words.specs.Words.{Asked, Run, Sim, asked}
+use Rattle.stat_words.specs.Words.{Asked, Run, Sim, Cast, asked}
 use Rattle.stat_words.specs.declared.words.WordFault.{WordFault}
 use Rattle.stat_tool.specs.Files.{NamedFile, files_of, limit_of}
-use Rattle.stat_tool.specs.Jobs.{Job, RunJob, SimJob, ReplayJob, DirectJob, GenJob, CaptureJob, RunOutput}
+use Rattle.stat_tool.specs.Jobs.{Job, RunJob, SimJob, ReplayJob, DirectJob, GenJob, CastJob, ViewJob, CaptureJob, RunOutput}
 use Rattle.stat_tool.specs.NextStep.{AfterPlan, Answers, Bytes, Does, AreReadResults, ReadResult, Step, TooLong, Wants, bytes_of, next_step, plan_step, too_long}
 use Rattle.stat_tool.specs.Outputs.{HasOutput}
 use Rattle.stat_tool.specs.Status.{refusal_of}
@@ -183,6 +183,8 @@ answer_of_job (SimJob p seed wanted) = Done
 answer_of_job (ReplayJob p events wanted) = end_of (slice_get (enabled_events p (after p events)) 0)
 answer_of_job (DirectJob p form) = Done
 answer_of_job (GenJob size seed) = Done
+answer_of_job (CastJob p seed commands) = Done
+answer_of_job (ViewJob p seed wanted) = Done
 answer_of_job (CaptureJob bytes) = Done
 
 -- the answer that a step leads to, where nothing fails
@@ -204,10 +206,11 @@ HasWritten (Unfinished e) = Unit {0}
 HasWritten (SinkFault target) = Unit {0}
 HasWritten status = ⊥
 
--- the commands that write no journal, whatever they report: all but a run and a simulation
+-- the commands that write no journal, whatever they report: all but a run, a simulation and a cast
 abbrev pub WritesNoJournal : Asked → Type 0
 WritesNoJournal (Run names workers wanted) = ⊥
 WritesNoJournal (Sim names seed wanted) = ⊥
+WritesNoJournal (Cast names seed commands) = ⊥
 WritesNoJournal command = Unit {0}
 
 -- ---- the parts of the call: no clause of a public call cites what follows

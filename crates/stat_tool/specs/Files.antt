@@ -1,7 +1,7 @@
 -- The files that a call reads.
 use Rattle.std.specs.Prelude.{ℕ, List, [], ◌∷◌, ◌++◌, map}
 use Rattle.stat_words.specs.Words.{Asked, Names}
-use Rattle.stat_words.specs.Words.{Run, Sim, Replay, Direct, Gen, Frames}
+use Rattle.stat_words.specs.Words.{Run, Sim, Replay, Direct, Gen, Cast, View, Frames}
 use Rattle.stat_tool.specs.declared.status.FileRole.{FileRole}
 use Rattle.stat_tool.specs.declared.status.FileRole.TheVariants.{Topology, Samples, Script, Journal, Capture}
 
@@ -20,6 +20,8 @@ files_of (Sim names seed wanted) = plan_files names
 files_of (Replay names journal wanted) = plan_files names ++ (Journal, journal) ∷ []
 files_of (Direct names form) = plan_files names
 files_of (Gen size seed) = []
+files_of (Cast names seed commands) = plan_files names
+files_of (View names seed wanted) = plan_files names
 files_of (Frames capture) = (Capture, capture) ∷ []
 
 -- their names

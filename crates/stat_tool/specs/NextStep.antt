@@ -17,10 +17,10 @@ use Rattle.packet_frame.specs.Fields.{Refusal}
 use Rattle.packet_frame.specs.Frame.{Message}
 use Rattle.capture_text.specs.Captures.{capture_of}
 use Rattle.stat_words.specs.Words.{Asked}
-use Rattle.stat_words.specs.Words.{Run, Sim, Replay, Direct, Gen, Frames}
+use Rattle.stat_words.specs.Words.{Run, Sim, Replay, Direct, Gen, Cast, View, Frames}
 use Rattle.stat_words.specs.declared.words.RunReport.{RunReport}
 use Rattle.stat_tool.specs.Files.{NamedFile, limit_of}
-use Rattle.stat_tool.specs.Jobs.{Job, RunJob, SimJob, ReplayJob, DirectJob, GenJob, CaptureJob}
+use Rattle.stat_tool.specs.Jobs.{Job, RunJob, SimJob, ReplayJob, DirectJob, GenJob, CastJob, ViewJob, CaptureJob}
 use Rattle.stat_tool.specs.Status.{refusal_of}
 use Rattle.stat_tool.specs.declared.status.FileRole.{FileRole}
 use Rattle.stat_tool.specs.declared.status.FileRole.TheVariants.{Topology, Samples, Script, Journal, Capture}
@@ -135,6 +135,8 @@ next_step (Sim names seed wanted) results = plan_step results (λ p rest. Does (
 next_step (Replay names journal wanted) results = plan_step results (at_journal wanted)
 next_step (Direct names form) results = plan_step results (λ p rest. Does (DirectJob p form))
 next_step (Gen size seed) results = Does (GenJob size seed)
+next_step (Cast names seed commands) results = plan_step results (λ p rest. Does (CastJob p seed commands))
+next_step (View names seed wanted) results = plan_step results (λ p rest. Does (ViewJob p seed wanted))
 next_step (Frames capture) results = at_capture results
 
 -- ---- what the files gave

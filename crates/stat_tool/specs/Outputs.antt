@@ -13,13 +13,18 @@ use Rattle.journal_text.specs.Text.{journal_text}
 use Rattle.packet_frame.specs.Frame.{Message}
 use Rattle.packet_frame.specs.Streams.{Begins}
 use Rattle.capture_text.specs.CaptureText.{text_of_capture}
+use Rattle.control_cast.specs.Casts.{ObeysAll, ObeysInOrder}
+use Rattle.control_cast.specs.Machine as cast
+use Rattle.control_cast.specs.Picked as cast_pick
+use Rattle.cast_text.specs.CastText as cast_text
 use Rattle.generated_job.specs.Job.{job_plan}
 use Rattle.generated_job.specs.Summary.{summary_of}
+use Rattle.stat_words.specs.Words.{AskedView}
 use Rattle.stat_words.specs.declared.words.ReportForm.{ReportForm}
 use Rattle.stat_words.specs.declared.words.RunReport.{RunReport}
-use Rattle.stat_tool.specs.Jobs.{Job, RunJob, SimJob, ReplayJob, DirectJob, GenJob, CaptureJob, RunOutput}
+use Rattle.stat_tool.specs.Jobs.{Job, RunJob, SimJob, ReplayJob, DirectJob, GenJob, CastJob, ViewJob, CaptureJob, RunOutput}
 use Rattle.stat_tool.specs.NextStep.{Does, replay_step}
-use Rattle.stat_tool.specs.Reports.{EndsWaves, IsDirectIn, IsReportIn, IsWrittenOf}
+use Rattle.stat_tool.specs.Reports.{EndsWaves, IsDirectIn, IsReportIn, IsViewOf, IsWrittenOf}
 
 -- A given journal, done event by event: what is wanted of it, and the first event that may still come. No journal is written.
 -- Where nothing may come, each wave has ended.
@@ -69,6 +74,29 @@ pub record HasSummary (size seed : ℕ) (output : RunOutput) : Type 0 where
   pub finished : output.unfinished ≡ None
   pub unwritten : output.journal_text ≡ []
 
+-- Commands to the nodes of a plan, whose events a seed picks: the report of the state after them, and their journal. They may
+-- come in this order, none may come after them, and no event of a run is among them.
+pub record HasCast (p : Plan) (seed commands : ℕ) (output : RunOutput) : Type 0 where
+  pub plan : IsPlan p
+  pub report : output.report ≡ cast_text.report_text p commands (cast.after p (cast_pick.picked p commands seed))
+  pub written : output.journal_text ≡ cast_text.journal_text p (cast_pick.picked p commands seed)
+  pub legal : cast.IsLegal p commands (cast_pick.picked p commands seed)
+  pub quiet : cast.IsQuiet p commands (cast.after p (cast_pick.picked p commands seed))
+  -- each node obeyed the commands from 1 on in order, each once, and each living node all of them
+  pub in_order : ObeysInOrder p (cast.after p (cast_pick.picked p commands seed))
+  pub all : ObeysAll p commands (cast.after p (cast_pick.picked p commands seed))
+  pub finished : output.unfinished ≡ None
+  pub journal : output.journal ≡ []
+
+-- A view of each release of a run whose events a seed picks. Each wave has ended; the journal is returned and not written.
+pub record HasView (p : Plan) (seed : ℕ) (wanted : AskedView) (output : RunOutput) : Type 0 where
+  pub plan : IsPlan p
+  pub journal : output.journal ≡ picked p seed
+  pub report : IsViewOf p wanted output.journal output.report
+  pub ended : EndsWaves p output.journal
+  pub finished : output.unfinished ≡ None
+  pub unwritten : output.journal_text ≡ []
+
 -- The frames of a capture, printed. They are its bytes to the last one.
 pub record HasCapture (bytes : List ℕ) (output : RunOutput) : Type 0 where
   pub frames : List (Message × ℕ)
@@ -85,6 +113,8 @@ HasOutput (SimJob p seed wanted) output = HasRun p wanted output × (output.jour
 HasOutput (ReplayJob p events wanted) output = IsReplay p events wanted output
 HasOutput (DirectJob p form) output = HasDirect p form output
 HasOutput (GenJob size seed) output = HasSummary size seed output
+HasOutput (CastJob p seed commands) output = HasCast p seed commands output
+HasOutput (ViewJob p seed wanted) output = HasView p seed wanted output
 HasOutput (CaptureJob bytes) output = HasCapture bytes output
 
 -- what was read of a journal leads to its replay, and this is that replay's output

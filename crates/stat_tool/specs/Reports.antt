@@ -1,10 +1,11 @@
 -- What a report says: the releases of a journal, and how each wave ends.
-use Rattle.std.specs.Prelude.{◌≡◌, ◌≢◌, ⊤, ℕ, List, [], ◌∷◌, ◌++◌}
+use Rattle.std.specs.Prelude.{◌≡◌, ◌≢◌, ⊤, ℕ, List, [], ◌∷◌, ◌++◌, Some}
 use Rattle.std.specs.List.{AllByRecursion}
 use Rattle.rank_set.specs.Ranks.{Ranks, none, IsSubset}
 use Rattle.overlay_setup.specs.NodeSets.{In}
 use Rattle.overlay_setup.specs.declared.script.Fault.{Fault}
 use Rattle.overlay_setup.specs.declared.script.Mode.TheVariants.{WaitForAll}
+use Rattle.stat_plan.specs.Invariants.{IsPlan}
 use Rattle.stat_plan.specs.Plans.{Plan, mode, waves_of}
 use Rattle.overlay_event.specs.declared.event.Event.{Event}
 use Rattle.overlay_event.specs.declared.event.Event.TheVariants.{Sample, Recv, Tick, Lose}
@@ -15,9 +16,15 @@ use Rattle.overlay_core.specs.Releases.{CoversAll, ReleaseIsSound}
 use Rattle.overlay_core.specs.Runs.{IsLegal, IsWhole, after}
 use Rattle.overlay_core.specs.TreeReleases.{AreNumberedInOrder, TreeRelease, bare_releases}
 use Rattle.overlay_core.specs.Whole.{EndsFinally, HasOneRelease, LosesNoDaemon}
+use Rattle.call_path.specs.Pairs.{Pairs}
+use Rattle.tree_view.specs.Reading.{view_of}
+use Rattle.tree_view.specs.Views.{TreeView}
 use Rattle.front_end.specs.JsonReport.{IsJsonReport}
+use Rattle.front_end.specs.JsonViewReport.{IsJsonViewReport}
 use Rattle.front_end.specs.Report.{IsDirect, IsReport, direct_releases}
+use Rattle.front_end.specs.ViewReport.{IsViewReport, wave_samples}
 use Rattle.frame_log.specs.FrameLog.{frame_log}
+use Rattle.stat_words.specs.Words.{AskedView}
 use Rattle.stat_words.specs.declared.words.ReportForm.{ReportForm}
 use Rattle.stat_words.specs.declared.words.RunReport.{RunReport}
 use Rattle.stat_words.specs.declared.words.RunReport.TheVariants.{Releases, Frames}
@@ -50,21 +57,45 @@ abbrev pub IsReportIn : ReportForm → Plan → List Fault → List TreeRelease 
 IsReportIn Text = IsReport
 IsReportIn Json = IsJsonReport
 
--- The text, in this form, is the report of a journal: of what the machine has released after it.
-pub record IsReportOf (p : Plan) (form : ReportForm) (journal : List Event) (report : List ℕ) : Type 0 where
+-- These are the releases after a journal.
+pub record AreReleased (p : Plan) (journal : List Event) (releases : List TreeRelease) : Type 0 where
+  -- they are those of the machine after this journal, with their numbers within their waves: 1, 2, 3 and so on
   pub legal : IsLegal p journal
-  -- the releases are those of the machine after this journal, with their numbers within their waves: 1, 2, 3 and so on
-  pub releases : List TreeRelease
   pub reached : bare_releases releases ≡ (after p journal).releases
   pub numbered : AreNumberedInOrder [] releases
-  -- the text is the report of exactly these releases, and of what came of each fault
-  pub text : IsReportIn form p p.faults releases (losses_of journal) report
   -- each is of a wave of the plan, and covers all ranks of some daemons of its stream and no others
   pub sound : (r : Release) → In r (bare_releases releases) → ReleaseIsSound p r
   -- each tree and its classes are the direct merge of the wave's samples over exactly the ranks that it covers
   pub direct : AllByRecursion (IsDirect p) releases
   -- the coverages of a wave grow, and a partial release covers more than the one before, or something if it is the first
   pub grow : (s w : ℕ) → CoveragesGrow none (of_wave s w (bare_releases releases))
+
+-- The text, in this form, is the report of a journal: of exactly the releases after it, and of what came of each fault.
+pub record IsReportOf (p : Plan) (form : ReportForm) (journal : List Event) (report : List ℕ) : Type 0 where
+  pub releases : List TreeRelease
+  pub released : AreReleased p journal releases
+  pub text : IsReportIn form p p.faults releases (losses_of journal) report
+
+-- the text, in this form, is the report of exactly these releases in a view, with this argument, where each release has
+-- these pairs
+abbrev pub IsViewReportIn : ReportForm → TreeView → List ℕ → (TreeRelease → Pairs) → List TreeRelease → List ℕ → Type 0
+IsViewReportIn Text = IsViewReport
+IsViewReportIn Json = IsJsonViewReport
+
+-- Where each of these releases is the direct merge of its wave's samples, the text is their report in a view of these
+-- samples, in the form and with the argument that were asked for.
+abbrev pub ViewsSamples : AskedView → TreeView → List TreeRelease → List ℕ → Type 0
+ViewsSamples wanted v releases text = (p : Plan) → IsPlan p → AllByRecursion (IsDirect p) releases
+    → IsViewReportIn wanted.form v wanted.argument (wave_samples p) releases text
+
+-- The text is a view of what a journal released: of exactly the releases after it. The tree and the classes of each are those
+-- of what the view keeps of its wave's samples and of the ranks that it covers.
+pub record IsViewOf (p : Plan) (wanted : AskedView) (journal : List Event) (report : List ℕ) : Type 0 where
+  pub view : TreeView
+  pub asked : view_of wanted.by wanted.argument ≡ Some view
+  pub releases : List TreeRelease
+  pub released : AreReleased p journal releases
+  pub text : IsViewReportIn wanted.form view wanted.argument (wave_samples p) releases report
 
 -- The frames that the events of a journal receive, one after another.
 pub record IsLogOf (p : Plan) (journal : List Event) (log : List ℕ) : Type 0 where

@@ -1,6 +1,6 @@
 //! From words and files to a report and a journal.
 ghost use Rattle.std.specs.Prelude.{◌≡◌, ⊤, [], Ok, IfErr, IfOk, OnOk};
-ghost use Rattle.stat_words.specs.Words.{IsInRanges, asked_of};
+ghost use Rattle.stat_words.specs.Words.{HasGoodArgument, IsInRanges, asked_of};
 ghost use Rattle.stat_tool.specs.Call.{Answered, AreAllRead, AreReadInOrder, HasWritten, IsDetermined, asked_by};
 ghost use Rattle.stat_tool.specs.Call.{Prepared, Prevented, Written, WritesNoJournal};
 ghost use Rattle.stat_tool.specs.Call.{desk_change, sink_change};
@@ -8,7 +8,8 @@ ghost use Rattle.stat_tool.specs.Files.{files_of, names_in};
 ghost use Rattle.stat_tool.specs.Views.{output_view};
 
 use crate::modes::{
-    prepare_direct, prepare_frames, prepare_gen, prepare_replay, prepare_run, prepare_sim,
+    prepare_cast, prepare_direct, prepare_frames, prepare_gen, prepare_replay, prepare_run,
+    prepare_sim, prepare_view,
 };
 use crate::output::Output;
 use crate::status::{Outcome, Status, Target};
@@ -117,6 +118,7 @@ fn prepare<R: Threads + Wait + Sync, T: PrefixTree, D: Desk, G: Gate>(
     gate: &G,
 ) -> Result<Output, Status>
     requires ranges { IsInRanges command }
+    requires argument { HasGoodArgument command }
     ensures ok { IfOk result (λ output. Prepared (asked_of command.entry)
         (desk_change D.faults D.last_fault D.gave D.contents desk.old desk.new) (output_view output)) }
     ensures err { IfErr result (Prevented (asked_of command.entry)
@@ -146,6 +148,16 @@ fn prepare<R: Threads + Wait + Sync, T: PrefixTree, D: Desk, G: Gate>(
         } => prepare_replay::<T, D>(alloc, files, journal, report, desk),
         Command::Direct { files, form } => prepare_direct::<T, D>(alloc, files, form, desk),
         Command::Gen { size, seed } => prepare_gen::<T, D>(alloc, size, seed, desk),
+        Command::Cast {
+            files,
+            seed,
+            commands,
+        } => prepare_cast::<D>(alloc, files, seed, commands, desk),
+        Command::View {
+            files,
+            seed,
+            report,
+        } => prepare_view::<T, D>(alloc, files, seed, report, desk),
         Command::Frames { capture } => prepare_frames::<T, D>(alloc, capture, desk),
     }
 }

@@ -2,12 +2,14 @@
 #![tactic(auto)]
 
 mod call;
+mod cast;
 mod generated;
 mod modes;
 mod output;
 mod program;
 mod read;
 mod status;
+mod view;
 
 pub use call::stat;
 pub use program::{Ending, RefusalLine, ending_of, run_program, run_words};

@@ -1,26 +1,30 @@
 //! The modes: from the files that the words name to an output.
-ghost use Rattle.std.specs.Prelude.{◌≡◌, ◌≤◌, ◌∷◌, ◌++◌, [], IfErr, IfOk, OnOk};
+ghost use Rattle.std.specs.Prelude.{◌≡◌, ◌≤◌, ◌∷◌, ◌++◌, [], IfErr, IfOk, OnOk, Some};
+ghost use Rattle.tree_view.specs.Reading.{view_of};
+ghost use Rattle.tree_view.specs.Views.{TreeView};
 ghost use Rattle.journal_text.specs.Reading.{read_view};
 ghost use Rattle.stat_words.specs.Words.{names_of};
-ghost use Rattle.stat_words.specs.Words.{Direct, Frames, Gen, Replay, Run, Sim};
+ghost use Rattle.stat_words.specs.Words.{Cast, Direct, Frames, Gen, Replay, Run, Sim, View, view_asked};
 ghost use Rattle.stat_tool.specs.Call.{AreAllRead, AreReadInOrder, HasJournal, HasNoJournal, Prepared, Prevented};
 ghost use Rattle.stat_tool.specs.Call.{desk_change};
 ghost use Rattle.stat_tool.specs.Files.{files_of, names_in};
 ghost use Rattle.stat_tool.specs.Views.{output_view};
 
+use crate::cast::cast_plan;
 use crate::generated::gen_job;
 use crate::output::{
     Output, capture_output, direct_plan, leave, replay_plan, run_output, sim_plan,
 };
 use crate::read::{read_file, read_plan};
 use crate::status::{FileRole, Status};
+use crate::view::view_plan;
 use journal_text::{JournalRead, read_journal};
 use overlay_event::Gate;
 use overlay_run::run_workers;
 use prefix_tree::PrefixTree;
 use stat_desk::Desk;
 use stat_plan::Plan;
-use stat_words::{Files, ReportForm, RunReport};
+use stat_words::{Files, ReportForm, RunReport, ViewReport};
 use std::alloc::Global;
 use std::sync::Wait;
 use std::thread::Threads;
@@ -194,6 +198,69 @@ pub fn prepare_gen<T: PrefixTree, D: Desk>(
 {
     match gen_job::<T>(alloc, size, seed) {
         Ok(output) => Ok(output),
+        Err(_) => Err(Status::OutOfMemory),
+    }
+}
+
+/// Commands to the nodes of a plan with the events that a seed picks.
+pub fn prepare_cast<D: Desk>(
+    alloc: Global,
+    files: Files<'_>,
+    seed: u64,
+    commands: u32,
+    desk: &mut D,
+) -> Result<Output, Status>
+    requires commands { commands ≤ 1000 }
+    ensures ok { IfOk result (λ output. Prepared (Cast (names_of files.entry) seed commands)
+        (desk_change D.faults D.last_fault D.gave D.contents desk.old desk.new) (output_view output)) }
+    ensures err { IfErr result (Prevented (Cast (names_of files.entry) seed commands)
+        (desk_change D.faults D.last_fault D.gave D.contents desk.old desk.new)) }
+    ensures reads { AreReadInOrder (D.reads desk.old) (D.reads desk.new)
+        (names_in (files_of (Cast (names_of files.entry) seed commands))) }
+    ensures all_read { OnOk result (AreAllRead (D.reads desk.old) (D.reads desk.new)
+        (names_in (files_of (Cast (names_of files.entry) seed commands)))) }
+{
+    let plan = match read_plan(alloc, files, desk) {
+        Ok(plan) => plan,
+        Err(status) => return Err(status),
+    };
+    match cast_plan(alloc, &plan, seed, commands) {
+        Ok(output) => {
+            leave(plan);
+            Ok(output)
+        }
+        Err(_) => Err(Status::OutOfMemory),
+    }
+}
+
+/// A view of each release of a run of a plan with the events that a seed picks.
+pub fn prepare_view<T: PrefixTree, D: Desk>(
+    alloc: Global,
+    files: Files<'_>,
+    seed: u64,
+    view: ViewReport<'_>,
+    desk: &mut D,
+) -> Result<Output, Status>
+    requires argument { (v : TreeView) × (view_of view.by view.argument.now ≡ Some v) }
+    ensures ok { IfOk result (λ output. Prepared (View (names_of files.entry) seed (view_asked view.entry))
+        (desk_change D.faults D.last_fault D.gave D.contents desk.old desk.new) (output_view output)) }
+    ensures err { IfErr result (Prevented (View (names_of files.entry) seed (view_asked view.entry))
+        (desk_change D.faults D.last_fault D.gave D.contents desk.old desk.new)) }
+    ensures reads { AreReadInOrder (D.reads desk.old) (D.reads desk.new)
+        (names_in (files_of (View (names_of files.entry) seed (view_asked view.entry)))) }
+    ensures all_read { OnOk result (AreAllRead (D.reads desk.old) (D.reads desk.new)
+        (names_in (files_of (View (names_of files.entry) seed (view_asked view.entry))))) }
+    ensures unwritten { IfOk result (λ output. output.journal_text.items ≡ []) }
+{
+    let plan = match read_plan(alloc, files, desk) {
+        Ok(plan) => plan,
+        Err(status) => return Err(status),
+    };
+    match view_plan::<T>(alloc, &plan, seed, view) {
+        Ok(output) => {
+            leave(plan);
+            Ok(output)
+        }
         Err(_) => Err(Status::OutOfMemory),
     }
 }

@@ -1,2 +1,3 @@
 pub mod Digits
 pub mod Simple
+pub mod Tested

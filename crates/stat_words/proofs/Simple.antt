@@ -3,7 +3,7 @@ use Rattle.std.proofs.Common.{◌≡◌, true, refl}
 use Rattle.clap.specs.Words.{is_simple, is_simple_and_free}
 use Rattle.stat_words.specs.Modes.{command_of}
 use Rattle.stat_words.specs.declared.modes.Mode.{Mode}
-use Rattle.stat_words.specs.declared.modes.Mode.TheVariants.{Run, Sim, Replay, Direct, Gen, Frames}
+use Rattle.stat_words.specs.declared.modes.Mode.TheVariants.{Run, Sim, Replay, Direct, Gen, Cast, View, Frames}
 
 pub all_are_simple : (mode : Mode) → is_simple (command_of mode) ≡ true
 all_are_simple Run = refl
@@ -11,6 +11,8 @@ all_are_simple Sim = refl
 all_are_simple Replay = refl
 all_are_simple Direct = refl
 all_are_simple Gen = refl
+all_are_simple Cast = refl
+all_are_simple View = refl
 all_are_simple Frames = refl
 
 pub all_are_free : (mode : Mode) → is_simple_and_free (command_of mode) ≡ true
@@ -19,4 +21,6 @@ all_are_free Sim = refl
 all_are_free Replay = refl
 all_are_free Direct = refl
 all_are_free Gen = refl
+all_are_free Cast = refl
+all_are_free View = refl
 all_are_free Frames = refl

@@ -2,11 +2,13 @@
 use Rattle.std.specs.Prelude.{◌≡◌, refl, ℕ, List, [], ◌∷◌, codes, Ok, Err, Some, None}
 use Rattle.clap.specs.Walk.{bundle_met, walked}
 use Rattle.clap.specs.Faults.{defaults_fault, flags_fault, walk_fault}
+use Rattle.call_path.specs.Reading.{first_error, frames, frame_error}
 use Rattle.stat_words.specs.Values.{file_name, number_of, number_between, report_form, run_report}
-use Rattle.stat_words.specs.Words.{Names, Run, Sim, Replay, Direct, Gen, Frames, asked, form_in, run_report_in, seed_in, workers_in}
+use Rattle.stat_words.specs.Words.{Names, Run, Sim, Replay, Direct, Gen, Cast, View, Frames, asked, form_in, run_report_in, seed_in, workers_in}
+use Rattle.tree_view.specs.declared.reading.ViewBy.TheVariants as by
 use Rattle.stat_words.specs.declared.words.ReportForm.TheVariants.{Text}
 use Rattle.stat_words.specs.declared.words.RunReport.TheVariants as report
-use Rattle.stat_words.specs.declared.words.Opt.TheVariants.{Capture, Seed, Size, Report}
+use Rattle.stat_words.specs.declared.words.Opt.TheVariants.{Capture, Seed, Size, Report, Commands, By, Arg}
 use Rattle.stat_words.specs.declared.words.WordFault.TheVariants.{NoMode, UnknownMode, Options, Value}
 
 -- the defaults, where an option isn't given
@@ -95,9 +97,13 @@ gen : asked (codes "gen" ∷ codes "--size=256" ∷ []) ≡ Ok (Gen 256 0)
 unfolding asked walked walk_fault bundle_met flags_fault defaults_fault
 gen = refl
 
-frames : asked (codes "frames" ∷ codes "--capture" ∷ codes "c" ∷ []) ≡ Ok (Frames (codes "c"))
+cast : asked (codes "cast" ∷ codes "--commands=1000" ∷ three_files) ≡ Ok (Cast names 0 1000)
 unfolding asked walked walk_fault bundle_met flags_fault defaults_fault
-frames = refl
+cast = refl
+
+printed_capture : asked (codes "frames" ∷ codes "--capture" ∷ codes "c" ∷ []) ≡ Ok (Frames (codes "c"))
+unfolding asked walked walk_fault bundle_met flags_fault defaults_fault
+printed_capture = refl
 
 frames_as_report : asked (codes "sim" ∷ codes "--report=frames" ∷ three_files) ≡ Ok (Sim names 0 report.Frames)
 unfolding asked walked walk_fault bundle_met flags_fault defaults_fault
@@ -172,3 +178,57 @@ bad_size = refl
 options_first : asked (codes "gen" ∷ codes "--seed=x" ∷ []) ≡ Err Options
 unfolding asked walked walk_fault bundle_met flags_fault defaults_fault
 options_first = refl
+
+-- commands: none, too many, not said how many; the seed is tested first
+no_commands : asked (codes "cast" ∷ codes "--commands=0" ∷ three_files) ≡ Err (Value Commands)
+unfolding asked walked walk_fault bundle_met flags_fault defaults_fault
+no_commands = refl
+
+too_many_commands : asked (codes "cast" ∷ codes "--commands=1001" ∷ three_files) ≡ Err (Value Commands)
+unfolding asked walked walk_fault bundle_met flags_fault defaults_fault
+too_many_commands = refl
+
+how_many_commands : asked (codes "cast" ∷ three_files) ≡ Err Options
+unfolding asked walked walk_fault bundle_met flags_fault defaults_fault
+how_many_commands = refl
+
+seed_before_commands : asked (codes "cast" ∷ codes "--commands=0" ∷ codes "--seed=x" ∷ three_files) ≡ Err (Value Seed)
+unfolding asked walked walk_fault bundle_met flags_fault defaults_fault
+seed_before_commands = refl
+
+-- views: each kind with its argument, then the first bad value; the argument is tested last
+view_of_a_frame : asked (codes "view" ∷ codes "--by=frame" ∷ codes "--arg" ∷ codes "MPI_Recv" ∷ three_files) ≡ Ok (View names 0 (record { form = Text; by = by.Frame; argument = codes "MPI_Recv" }))
+unfolding asked walked walk_fault bundle_met flags_fault defaults_fault first_error frames frame_error
+view_of_a_frame = refl
+
+view_folded : asked (codes "view" ∷ codes "--by" ∷ codes "fold" ∷ codes "--arg=f" ∷ codes "--seed=7" ∷ three_files) ≡ Ok (View names 7 (record { form = Text; by = by.Fold; argument = codes "f" }))
+unfolding asked walked walk_fault bundle_met flags_fault defaults_fault first_error frames frame_error
+view_folded = refl
+
+view_of_representatives : asked (codes "view" ∷ codes "--by=reps" ∷ codes "--arg=1000" ∷ three_files) ≡ Ok (View names 0 (record { form = Text; by = by.Reps; argument = codes "1000" }))
+unfolding asked walked walk_fault bundle_met flags_fault defaults_fault
+view_of_representatives = refl
+
+by_what : asked (codes "view" ∷ codes "--by=heap" ∷ codes "--arg=1" ∷ three_files) ≡ Err (Value By)
+unfolding asked walked walk_fault bundle_met flags_fault defaults_fault
+by_what = refl
+
+no_representatives : asked (codes "view" ∷ codes "--by=reps" ∷ codes "--arg=0" ∷ three_files) ≡ Err (Value Arg)
+unfolding asked walked walk_fault bundle_met flags_fault defaults_fault
+no_representatives = refl
+
+too_many_representatives : asked (codes "view" ∷ codes "--by=reps" ∷ codes "--arg=1001" ∷ three_files) ≡ Err (Value Arg)
+unfolding asked walked walk_fault bundle_met flags_fault defaults_fault
+too_many_representatives = refl
+
+two_frames : asked (codes "view" ∷ codes "--by=frame" ∷ codes "--arg=a;b" ∷ three_files) ≡ Err (Value Arg)
+unfolding asked walked walk_fault bundle_met flags_fault defaults_fault first_error frames frame_error
+two_frames = refl
+
+no_argument : asked (codes "view" ∷ codes "--by=frame" ∷ three_files) ≡ Err Options
+unfolding asked walked walk_fault bundle_met flags_fault defaults_fault
+no_argument = refl
+
+form_before_argument : asked (codes "view" ∷ codes "--by=frame" ∷ codes "--arg=a;b" ∷ codes "--report=frames" ∷ three_files) ≡ Err (Value Report)
+unfolding asked walked walk_fault bundle_met flags_fault defaults_fault
+form_before_argument = refl

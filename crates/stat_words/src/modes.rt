@@ -22,6 +22,10 @@ pub(crate) enum Mode {
     Direct,
     /// A generated job.
     Gen,
+    /// Commands down to the daemons.
+    Cast,
+    /// A view of each release of a run.
+    View,
     /// The frames of a capture.
     Frames,
 }
@@ -36,6 +40,8 @@ pub(crate) fn mode_of(word: &str) -> Option<Mode>
         "replay" => Some(Mode::Replay),
         "direct" => Some(Mode::Direct),
         "gen" => Some(Mode::Gen),
+        "cast" => Some(Mode::Cast),
+        "view" => Some(Mode::View),
         "frames" => Some(Mode::Frames),
         _ => None,
     }
@@ -104,6 +110,18 @@ fn command_of<'a>(alloc: Global, mode: Mode) -> Result<Command<'a>, AllocError>
         Mode::Gen => {
             let command = with_option(alloc, bare_command(alloc), Opt::Seed, false)?;
             with_option(alloc, command, Opt::Size, true)
+        }
+        Mode::Cast => {
+            let command = with_files(alloc)?;
+            let command = with_option(alloc, command, Opt::Seed, false)?;
+            with_option(alloc, command, Opt::Commands, true)
+        }
+        Mode::View => {
+            let command = with_files(alloc)?;
+            let command = with_option(alloc, command, Opt::Seed, false)?;
+            let command = with_option(alloc, command, Opt::Report, false)?;
+            let command = with_option(alloc, command, Opt::By, true)?;
+            with_option(alloc, command, Opt::Arg, true)
         }
         Mode::Frames => with_option(alloc, bare_command(alloc), Opt::Capture, true),
     }

@@ -6,10 +6,11 @@ ghost use Rattle.clap.specs.Words.{first_of};
 ghost use Rattle.stat_words.specs.Modes.{rows_in, word_of};
 ghost use Rattle.stat_words.specs.Outcomes.{IsReadAs};
 ghost use Rattle.stat_words.specs.Values.{file_name as file_name_of, is_number as is_number_in, number_between as number_between_of, report_form as report_form_of, run_report as run_report_of, value_of};
-ghost use Rattle.stat_words.specs.Words.{form_in, names_in, names_of, run_report_in, seed_in, size_in, workers_in};
+ghost use Rattle.stat_words.specs.Words.{argument_in, by_in, commands_in, form_in, names_in, names_of, run_report_in, seed_in, size_in, view_asked, view_report_in, workers_in};
 
-use crate::words::{Files, Opt, ReportForm, RunReport, WordFault};
+use crate::words::{Files, Opt, ReportForm, RunReport, ViewReport, WordFault};
 use clap::ArgMatches;
+use tree_view::ViewBy;
 
 /// How many digits a number has at most.
 const MAX_DIGITS: usize = 20;
@@ -149,6 +150,20 @@ pub(crate) fn size<'a>(matches: &ArgMatches<'a>) -> Result<u16, WordFault>
     Ok(size as u16)
 }
 
+/// The number of commands, 1 to 1,000.
+pub(crate) fn commands<'a>(matches: &ArgMatches<'a>) -> Result<u32, WordFault>
+    ensures value { result ≡ commands_in (rows_in matches.now) }
+    ensures range { IfOk result (λ n. (1 ≤ n) × (n ≤ 1000)) }
+{
+    let Some(word) = value(matches, Opt::Commands) else {
+        return Err(WordFault::Options);
+    };
+    let Some(commands) = number_between(word, 1, 1_000) else {
+        return Err(WordFault::Value(Opt::Commands));
+    };
+    Ok(commands as u32)
+}
+
 /// The form of the report.
 pub(crate) fn form<'a>(matches: &ArgMatches<'a>) -> Result<ReportForm, WordFault>
     ensures { result ≡ form_in (rows_in matches.now) }
@@ -167,4 +182,32 @@ pub(crate) fn report<'a>(matches: &ArgMatches<'a>) -> Result<RunReport, WordFaul
         Some(word) => run_report(word).ok_or(WordFault::Value(Opt::Report)),
         None => Ok(RunReport::Releases(ReportForm::Text)),
     }
+}
+
+// By what a tree is viewed.
+fn view_by<'a>(matches: &ArgMatches<'a>) -> Result<ViewBy, WordFault>
+    ensures { result ≡ by_in (rows_in matches.now) }
+{
+    let Some(word) = value(matches, Opt::By) else {
+        return Err(WordFault::Options);
+    };
+    ViewBy::read(word).ok_or(WordFault::Value(Opt::By))
+}
+
+// The argument of a view, as it was given.
+fn argument<'a>(matches: &ArgMatches<'a>) -> Result<&'a str, WordFault>
+    ensures { IsReadAs (λ s. s.now) (argument_in (rows_in matches.now)) result }
+{
+    value(matches, Opt::Arg).ok_or(WordFault::Options)
+}
+
+/// What is written of a view, before its argument is tested.
+pub(crate) fn view_report<'a>(matches: &ArgMatches<'a>) -> Result<ViewReport<'a>, WordFault>
+    ensures { IsReadAs view_asked (view_report_in (rows_in matches.now)) result }
+{
+    Ok(ViewReport {
+        form: form(matches)?,
+        by: view_by(matches)?,
+        argument: argument(matches)?,
+    })
 }

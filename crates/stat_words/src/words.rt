@@ -4,6 +4,7 @@ ghost use Rattle.stat_words.specs.Modes.{word_of};
 
 use std::fmt;
 use thiserror::Error;
+use tree_view::ViewBy;
 
 /// An option. Values are tested in this order.
 #[derive(Clone, Copy, Debug, PartialEq, Eq)]
@@ -26,6 +27,12 @@ pub enum Opt {
     Size,
     /// `--report`, what is written: `text`, `json` or, of a run, `frames`.
     Report,
+    /// `--commands`, how many commands are sent down to the daemons, 1 to 1,000.
+    Commands,
+    /// `--by`, by what a tree is viewed: `ranks`, `frame`, `fold` or `reps`.
+    By,
+    /// `--arg`, the argument of a view: ranks, a frame, or how many representatives, 1 to 1,000.
+    Arg,
 }
 
 impl Opt {
@@ -43,6 +50,9 @@ impl Opt {
             Opt::Seed => "seed",
             Opt::Size => "size",
             Opt::Report => "report",
+            Opt::Commands => "commands",
+            Opt::By => "by",
+            Opt::Arg => "arg",
         }
     }
 }
@@ -88,6 +98,17 @@ pub enum RunReport {
     Frames,
 }
 
+/// What is written of a view.
+#[derive(Clone, Copy, Debug, PartialEq, Eq)]
+pub struct ViewReport<'a> {
+    /// How the report is written.
+    pub form: ReportForm,
+    /// By what the trees are viewed.
+    pub by: ViewBy,
+    /// The argument of the view, as it was given: `View::read` takes it.
+    pub argument: &'a str,
+}
+
 /// The names of the three files. None is empty or begins with `-`.
 #[derive(Clone, Copy, Debug, PartialEq, Eq)]
 pub struct Files<'a> {
@@ -129,6 +150,18 @@ pub enum Command<'a> {
     Gen {
         size: u16,
         seed: u64,
+    },
+    /// Commands from the front end down to the daemons, in an order that is drawn from a seed; `commands` is 1 to 1,000.
+    Cast {
+        files: Files<'a>,
+        seed: u64,
+        commands: u32,
+    },
+    /// A view of each release of a run in an order that is drawn from a seed.
+    View {
+        files: Files<'a>,
+        seed: u64,
+        report: ViewReport<'a>,
     },
     /// The frames of a capture, printed.
     Frames {

@@ -1,7 +1,10 @@
 //! Which words are read, and as what.
-use stat_words::{Command, Files, Opt, ReportForm, RunReport, WordFault, WordsError, read_words};
+use stat_words::{
+    Command, Files, Opt, ReportForm, RunReport, ViewReport, WordFault, WordsError, read_words,
+};
 use std::alloc::Global;
 use std::process::Abort;
+use tree_view::ViewBy;
 
 const FILES: Files<'static> = Files {
     topology: "t",
@@ -14,7 +17,7 @@ const TEXT: RunReport = RunReport::Releases(ReportForm::Text);
 const JSON: RunReport = RunReport::Releases(ReportForm::Json);
 
 /// Words, and the command that they ask for.
-const READ: [(&str, Command<'static>); 19] = [
+const READ: [(&str, Command<'static>); 22] = [
     (
         "run --topology t --samples s --script c",
         Command::Run {
@@ -121,12 +124,44 @@ const READ: [(&str, Command<'static>); 19] = [
             report: RunReport::Frames,
         },
     ),
+    (
+        "cast --topology t --samples s --script c --commands 0003 --seed=5",
+        Command::Cast {
+            files: FILES,
+            seed: 5,
+            commands: 3,
+        },
+    ),
+    (
+        "view --topology t --samples s --script c --by reps --arg 1000",
+        Command::View {
+            files: FILES,
+            seed: 0,
+            report: ViewReport {
+                form: ReportForm::Text,
+                by: ViewBy::Reps,
+                argument: "1000",
+            },
+        },
+    ),
+    (
+        "view --arg=-x --by=fold --report json --topology t --samples s --script c --seed 7",
+        Command::View {
+            files: FILES,
+            seed: 7,
+            report: ViewReport {
+                form: ReportForm::Json,
+                by: ViewBy::Fold,
+                argument: "-x",
+            },
+        },
+    ),
     ("frames --capture c", Command::Frames { capture: "c" }),
     ("frames --capture=c", Command::Frames { capture: "c" }),
 ];
 
 /// Words that have no mode, or not the options of their mode.
-const NOT_OF_THE_TABLE: [(&str, WordFault); 28] = [
+const NOT_OF_THE_TABLE: [(&str, WordFault); 31] = [
     ("", WordFault::NoMode),
     ("trace", WordFault::UnknownMode),
     ("frame --capture c", WordFault::UnknownMode),
@@ -158,10 +193,22 @@ const NOT_OF_THE_TABLE: [(&str, WordFault); 28] = [
         "replay --topology t --samples s --script c",
         WordFault::Options,
     ),
+    (
+        "cast --topology t --samples s --script c --commands 1 --report text",
+        WordFault::Options,
+    ),
+    (
+        "view --topology t --samples s --script c --by ranks",
+        WordFault::Options,
+    ),
+    (
+        "view --topology t --samples s --script c --by ranks --arg 0 --workers 1",
+        WordFault::Options,
+    ),
 ];
 
 /// Words whose options are those of the mode, but not each value.
-const BAD_VALUES: [(&str, Opt); 29] = [
+const BAD_VALUES: [(&str, Opt); 39] = [
     ("run --topology= --samples s --script c", Opt::Topology),
     ("run --topology=-x --samples s --script c", Opt::Topology),
     ("run --topology - --samples s --script c", Opt::Topology),
@@ -227,6 +274,46 @@ const BAD_VALUES: [(&str, Opt); 29] = [
     (
         "run --topology t --samples s --script c --report frame",
         Opt::Report,
+    ),
+    (
+        "cast --topology t --samples s --script c --commands 0",
+        Opt::Commands,
+    ),
+    (
+        "cast --topology t --samples s --script c --commands 1001",
+        Opt::Commands,
+    ),
+    (
+        "view --topology t --samples s --script c --by class --arg=a;b",
+        Opt::By,
+    ),
+    (
+        "view --topology t --samples s --script c --by ranks --arg 0-",
+        Opt::Arg,
+    ),
+    (
+        "view --topology t --samples s --script c --by ranks --arg 1048576",
+        Opt::Arg,
+    ),
+    (
+        "view --topology t --samples s --script c --by ranks --arg=-",
+        Opt::Arg,
+    ),
+    (
+        "view --topology t --samples s --script c --by fold --arg a;b",
+        Opt::Arg,
+    ),
+    (
+        "view --topology t --samples s --script c --by frame --arg=",
+        Opt::Arg,
+    ),
+    (
+        "view --topology t --samples s --script c --by reps --arg 0",
+        Opt::Arg,
+    ),
+    (
+        "view --topology t --samples s --script c --by reps --arg 1001",
+        Opt::Arg,
     ),
     ("frames --capture=", Opt::Capture),
     ("frames --capture=-", Opt::Capture),

@@ -1,4 +1,4 @@
-//! Simulations, replays, direct merges and generated jobs: worked rows through whole calls.
+//! Simulations, replays, direct merges, generated jobs, views and commands: worked jobs through whole calls.
 use crate::calls::call;
 use overlay_event::Event;
 use stat_desk::MemDesk;
@@ -7,7 +7,7 @@ use std::alloc::{AllocError, Global};
 use worked_jobs::desks::{REPLAY_WORDS, WORDS, desk_of, put};
 use worked_jobs::jobs::{
     ALL_SCR, DONT_WAIT_SCR, FOUR_RELEASE, FOUR_SMP, INNER_TOP, LOST_JOURNAL, LOST_SCR, ONE_TOP,
-    TWO_TOP, WORKED,
+    SOLVER_SMP, TWO_INNER_TOP, TWO_TOP, WORKED,
 };
 
 // ---- replays
@@ -450,3 +450,207 @@ fn sums_generated_jobs_up(rt: HostRuntime) {
         assert!(rt; called.journal.bytes().is_empty());
     }
 }
+
+// ---- views
+
+// A view of the solver's job, and what is printed behind the ranks that its release covers.
+struct Viewed {
+    by: &'static str,
+    argument: &'static str,
+    report: &'static str,
+}
+
+const VIEWED: [Viewed; 4] = [
+    Viewed {
+        by: "--by=fold",
+        argument: "--arg=MPI_Barrier",
+        report: "view fold MPI_Barrier
+kept 64:[0-63]
+tree
+64:[0-63] - /
+  64:[0-63] - main
+    64:[0-63] - solver::step(Grid&)
+      63:[0-16,18-63] 63:[0-16,18-63] MPI_Barrier
+      1:[17] - solver::exchange<double, 3>(Grid const&, int)
+        1:[17] 1:[17] MPI_Recv
+classes
+class 63:[0-16,18-63] paths 1
+  main;solver::step(Grid&);MPI_Barrier
+class 1:[17] paths 1
+  main;solver::step(Grid&);solver::exchange<double, 3>(Grid const&, int);MPI_Recv
+end
+",
+    },
+    Viewed {
+        by: "--by=reps",
+        argument: "--arg=1",
+        report: "view reps 1
+kept 2:[0,17]
+tree
+2:[0,17] - /
+  2:[0,17] - main
+    2:[0,17] - solver::step(Grid&)
+      1:[0] - MPI_Barrier
+        1:[0] - PMPI_Barrier
+          1:[0] 1:[0] poll
+      1:[17] - solver::exchange<double, 3>(Grid const&, int)
+        1:[17] 1:[17] MPI_Recv
+classes
+class 1:[0] paths 1
+  main;solver::step(Grid&);MPI_Barrier;PMPI_Barrier;poll
+class 1:[17] paths 1
+  main;solver::step(Grid&);solver::exchange<double, 3>(Grid const&, int);MPI_Recv
+end
+",
+    },
+    Viewed {
+        by: "--by=frame",
+        argument: "--arg=MPI_Recv",
+        report: "view frame MPI_Recv
+kept 1:[17]
+tree
+1:[17] - /
+  1:[17] - main
+    1:[17] - solver::step(Grid&)
+      1:[17] - solver::exchange<double, 3>(Grid const&, int)
+        1:[17] 1:[17] MPI_Recv
+classes
+class 1:[17] paths 1
+  main;solver::step(Grid&);solver::exchange<double, 3>(Grid const&, int);MPI_Recv
+end
+",
+    },
+    Viewed {
+        by: "--by=ranks",
+        argument: "--arg=100",
+        report: "view ranks 100
+kept 0:[]
+tree
+0:[] - /
+classes
+end
+",
+    },
+];
+
+#[test]
+fn views_the_solver(rt: HostRuntime) {
+    let alloc = rt.alloc();
+    for view in VIEWED.as_slice() {
+        let (by, argument, rest) = (view.by, view.argument, view.report);
+        let words = [
+            "view",
+            "--topology=t",
+            "--samples=s",
+            "--script=c",
+            by,
+            argument,
+        ];
+        let mut desk = desk_of(alloc, TWO_INNER_TOP, SOLVER_SMP, ALL_SCR).expect(&rt, "memory");
+        let called = call(&rt, alloc, &mut desk, words.as_slice()).expect(&rt, "memory");
+        let report = format!(in alloc;
+            "stream 0 wave 0 release 1 final\ncovered 64:[0-63]\n{rest}"
+        ).expect(&rt, "memory");
+        assert_eq!(rt; called.status, Status::Done);
+        assert_eq!(rt; called.report.bytes(), report.as_bytes());
+        assert!(rt; called.journal.bytes().is_empty());
+    }
+}
+
+const JSON_VIEW: [&str; 7] = [
+    "view",
+    "--topology=t",
+    "--samples=s",
+    "--script=c",
+    "--report=json",
+    "--by=frame",
+    "--arg=a\"b",
+];
+
+const JSON_REPORT: &str =
+    "{\"releases\":[{\"classes\":[],\"covered\":\"64:[0-63]\",\"kept\":\"0:[]\",\"kind\":\"final\",\"number\":1,\"stream\":0,\"tree\":[{\"depth\":0,\"ends\":\"0:[]\",\"frame\":\"/\",\"label\":\"0:[]\"}],\"view\":{\"argument\":\"a\\\"b\",\"by\":\"frame\"},\"wave\":0}]}
+";
+
+#[test]
+fn views_as_json(rt: HostRuntime) {
+    let alloc = rt.alloc();
+    let mut desk = desk_of(alloc, TWO_INNER_TOP, SOLVER_SMP, ALL_SCR).expect(&rt, "memory");
+    let called = call(&rt, alloc, &mut desk, JSON_VIEW.as_slice()).expect(&rt, "memory");
+    assert_eq!(rt; called.status, Status::Done);
+    assert_eq!(rt; called.report.bytes(), JSON_REPORT.as_bytes());
+}
+
+// ---- commands
+
+// A topology of four ranks, a script, the words of a cast after those of its files, its journal and its report.
+struct Commanded {
+    topology: &'static str,
+    script: &'static str,
+    commands: &'static str,
+    journal: &'static str,
+    report: &'static str,
+}
+
+const COMMANDED: [Commanded; 2] = [
+    Commanded {
+        topology: TWO_TOP,
+        script: ALL_SCR,
+        commands: "--commands=1",
+        journal: "issue fe:0\nrecv a:0 fe:0\nrecv b:0 fe:0\n",
+        report: "command 1 ranks 4:[0-3]\ndaemon a:0 obeyed 1\ndaemon b:0 obeyed 1\nend\n",
+    },
+    Commanded {
+        topology: TWO_TOP,
+        script: "stream 0 wait-for-all waves 1 samples 1 on all\nlose b:0 after 0 keep 0\n",
+        commands: "--commands=1",
+        journal: "lose b:0\nissue fe:0\nrecv a:0 fe:0\nrecv fe:0 b:0\n",
+        report: "command 1 ranks 2:[0-1]\ndaemon a:0 obeyed 1\ndaemon b:0 obeyed 0 lost\nend\n",
+    },
+];
+
+const CAST_WORDS: [&str; 4] = ["cast", "--topology=t", "--samples=s", "--script=c"];
+
+#[test]
+fn sends_commands(rt: HostRuntime) {
+    let alloc = rt.alloc();
+    for job in COMMANDED.as_slice() {
+        let [mode, topology, samples, script] = CAST_WORDS;
+        let words = [mode, topology, samples, script, job.commands];
+        let mut desk = desk_of(alloc, job.topology, FOUR_SMP, job.script).expect(&rt, "memory");
+        let called = call(&rt, alloc, &mut desk, words.as_slice()).expect(&rt, "memory");
+        assert_eq!(rt; called.status, Status::Done);
+        assert_eq!(rt; called.report.bytes(), job.report.as_bytes());
+        assert_eq!(rt; called.journal.bytes(), job.journal.as_bytes());
+        assert!(rt; called.events.is_empty());
+    }
+}
+
+// An inner node is lost with a command on its way: whatever the seed, both daemons obey both commands.
+#[test]
+fn commands_reach_orphans(rt: HostRuntime) {
+    let alloc = rt.alloc();
+    let script = "stream 0 wait-for-all waves 1 samples 1 on all\nlose c0:0 after 1 keep 0\n";
+    let mut desk = desk_of(alloc, INNER_TOP, FOUR_SMP, script).expect(&rt, "memory");
+    for seed in 0u32..100 {
+        let option = format!(in alloc; "--seed={seed}").expect(&rt, "memory");
+        let [mode, topology, samples, script] = CAST_WORDS;
+        let words = [
+            mode,
+            topology,
+            samples,
+            script,
+            "--commands=2",
+            option.as_str(),
+        ];
+        let called = call(&rt, alloc, &mut desk, words.as_slice()).expect(&rt, "memory");
+        assert_eq!(rt; called.status, Status::Done);
+        assert_eq!(rt; called.report.bytes(), BOTH_OBEY.as_bytes());
+    }
+}
+
+const BOTH_OBEY: &str = "command 1 ranks 4:[0-3]
+command 2 ranks 4:[0-3]
+daemon a:0 obeyed 2
+daemon b:0 obeyed 2
+end
+";
