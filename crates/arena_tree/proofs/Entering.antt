@@ -6,6 +6,7 @@ use Rattle.std.specs.declared.cmp.Ordering.TheVariants.{Less, Equal, Greater}
 use Rattle.std.proofs.lemmas.List.{length-drop}
 use Rattle.rank_set.specs.Ranks.{Ranks}
 use Rattle.call_path.specs.Path.{Path}
+use Rattle.call_path.proofs.Orders.{from_frame}
 use Rattle.prefix_tree.specs.Tree.{Marks}
 use Rattle.prefix_tree.specs.Owned.{by_order}
 use Rattle.arena_tree.specs.declared.node.Link.{Link}
@@ -27,7 +28,7 @@ use Rattle.arena_tree.specs.Trail.{below_first}
 use Rattle.arena_tree.specs.Growth.{all_at, place_below, CanGrow, grown, rows_grown, GoesOn, Enters}
 use Rattle.arena_tree.proofs.Cases.{Premises, Opened, node_shared, apart_kb, off_kb, off_s, lies_s, long2}
 use Rattle.arena_tree.proofs.MergedSteps.{apply_steps-append, split_own, merge_done}
-use Rattle.arena_tree.proofs.SharedFrames.{drop_at, some_at}
+use Rattle.arena_tree.proofs.SharedFrames.{some_at}
 use Rattle.arena_tree.proofs.Totals.{rows_added-append, merge_nodes}
 use Rattle.arena_tree.proofs.Planning.{ReadsBehind, reads_behind, side_at, target_frame}
 use Rattle.arena_tree.proofs.Sharing.{parts, step_is, parts_known, few_cuts, rows_at}
@@ -250,7 +251,7 @@ module _ (h : LinkedNodes) (into : MergeTarget) (c : NodeView) (grows : CanGrow 
 
         split : (x : ℕ) (t : ChainForest) → merge_steps into.link n (target_forest cs into) (chain_of x (drop skip p) w u t) ≡ step ∷ merge_steps (FirstOf a) (length h1.nodes) kb o ++ merge_steps (NextOf a) (length h1.nodes + mb) s t
         split x t =
-            (λ i. merge_steps into.link n (read.is i) (chain_of x (drop_at p skip begins.frame begins.is i) w u t))
+            (λ i. merge_steps into.link n (read.is i) (chain_of x (from_frame p skip begins.frame begins.is i) w u t))
             ∙ parts_known into.link n a x f begins.frame fs gs m w b s u t (split_parts common own other) parted_so same_frame
             ∙ (λ i. shared_so i ∷ merge_steps (FirstOf a) (turned i) kb (rest_over 0 other w u) ++ merge_steps (NextOf a) (turned i + counted i) s t)
             ∙ (λ i. step ∷ rest_free (FirstOf a) (length h1.nodes) 0 y kb other w u i ++ merge_steps (NextOf a) (length h1.nodes + mb) s t)

@@ -4,6 +4,7 @@ use Rattle.std.specs.Prelude.{slice_get, Some}
 use Rattle.std.specs.declared.cmp.Ordering.TheVariants.{Less}
 use Rattle.rank_set.specs.Ranks.{none}
 use Rattle.call_path.specs.Path.{Path}
+use Rattle.call_path.proofs.Orders.{from_frame}
 use Rattle.prefix_tree.specs.Tree.{Marks}
 use Rattle.arena_tree.specs.declared.node.Link.TheVariants.{FirstOf, NextOf}
 use Rattle.arena_tree.specs.declared.node.ChangeStep.{ChangeStep}
@@ -20,7 +21,6 @@ use Rattle.arena_tree.specs.Targets.{target_forest}
 use Rattle.arena_tree.specs.Growth.{all_at, led_by, CanGrow, grown, rows_grown, GoesOn, Enters}
 use Rattle.arena_tree.proofs.Cases.{Premises, len1, len2, lies_k, off_n}
 use Rattle.arena_tree.proofs.MergedSteps.{merge_done}
-use Rattle.arena_tree.proofs.SharedFrames.{drop_at}
 use Rattle.arena_tree.proofs.GrowingPlaces.{holds_at, fits_at, place_at, Stands, stands}
 use Rattle.arena_tree.proofs.PlanningChains.{Sought, new_turn, target_place}
 use Rattle.arena_tree.proofs.Entering.{goes_on_after}
@@ -57,7 +57,7 @@ module _ (h : LinkedNodes) (into : MergeTarget) (grows : CanGrow h.nodes into) (
   step = New into.link (view_of (drop skip p) w 4294967295 into.place)
 
   frames_so : drop skip p ≡ g ∷ gs
-  frames_so = drop_at p skip g here
+  frames_so = from_frame p skip g here
 
   place_so : first_place k ≡ into.place
   place_so = target_place h.nodes into.node into.place into.skip grows.leads

@@ -4,6 +4,7 @@ use Rattle.std.specs.Prelude.{slice_get, Some}
 use Rattle.std.proofs.lemmas.List.{length-drop}
 use Rattle.rank_set.specs.Ranks.{Ranks}
 use Rattle.call_path.specs.Path.{Path}
+use Rattle.call_path.proofs.Orders.{from_frame}
 use Rattle.prefix_tree.specs.Tree.{Marks}
 use Rattle.arena_tree.specs.declared.target.MergeTarget.{MergeTarget}
 use Rattle.arena_tree.specs.NodeViews.{NodeView}
@@ -15,7 +16,7 @@ use Rattle.arena_tree.specs.Targets.{target_forest, IsTarget, IsAfter, next_of}
 use Rattle.arena_tree.specs.Plans.{target_below}
 use Rattle.arena_tree.specs.Growth.{CanGrow, grown, rows_grown, GoesOn, Enters}
 use Rattle.arena_tree.proofs.TurnSteps.{side_steps-none}
-use Rattle.arena_tree.proofs.SharedFrames.{drop_at, some_at}
+use Rattle.arena_tree.proofs.SharedFrames.{some_at}
 use Rattle.arena_tree.proofs.Planning.{ReadsBehind, reads_behind, target_few, target_frame, after_forest, after_target}
 use Rattle.arena_tree.proofs.Sharing.{forest_below, leads_below}
 
@@ -47,10 +48,10 @@ module _ (os : List NodeView) (other : MergeTarget) (to : IsTarget os other) (c 
   it = reads_behind os other.node other.place other.skip c at.0 to there at.1
 
   chain : target_forest os other ≡ chain_of other.place fs w b s
-  chain = it.is ∙ (λ i. chain_of other.place (sym (drop_at c.frames other.skip at.0 at.1) i) w b s)
+  chain = it.is ∙ (λ i. chain_of other.place (sym (from_frame c.frames other.skip at.0 at.1) i) w b s)
 
   pub rows_are : count_rows (target_forest os other) ≡ length fs + (count_rows b + count_rows s)
-  rows_are = let e = ap count_rows it.is in let long = ap length (drop_at c.frames other.skip at.0 at.1) in omega (arith, e, long)
+  rows_are = let e = ap count_rows it.is in let long = ap length (from_frame c.frames other.skip at.0 at.1) in omega (arith, e, long)
 
   pub some_rows : 1 ≤ count_rows (target_forest os other)
   some_rows = let long = length-drop other.skip c.frames in omega (arith, rows_are, long, frame_in)

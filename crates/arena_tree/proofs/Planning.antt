@@ -4,6 +4,7 @@ use Rattle.std.specs.Prelude.{slice_get, Some}
 use Rattle.std.proofs.lemmas.Option.{slice_get_past, slice_get_within, same_Some}
 use Rattle.std.specs.declared.cmp.Ordering.TheVariants.{Greater}
 use Rattle.call_path.specs.Path.{Path}
+use Rattle.call_path.proofs.Orders.{from_frame}
 use Rattle.prefix_tree.specs.Tree.{Marks}
 use Rattle.arena_tree.specs.declared.node.Link.{Link}
 use Rattle.arena_tree.specs.declared.node.Link.TheVariants.{NextOf}
@@ -17,7 +18,6 @@ use Rattle.arena_tree.specs.Targets.{rest_of, forest_behind, target_forest, Lead
 use Rattle.arena_tree.specs.Steps.{merge_steps}
 use Rattle.arena_tree.proofs.Changes.{none_some}
 use Rattle.arena_tree.proofs.Reading.{leads_to, leads_from, leads_nowhere, none_in, inside_node}
-use Rattle.arena_tree.proofs.SharedFrames.{drop_at}
 use Rattle.arena_tree.proofs.TurnSteps.{steps_pass}
 
 -- the node that was read, and what its links lead to
@@ -79,7 +79,7 @@ reads_behind cs node place zero c f to there one =
 reads_behind cs node place (suc i) c f to there one =
     let none : no_chains ≡ forest_at cs 4294967295 = sym (none_in cs to.4) in
     record {
-      is = ap (rest_of cs place (suc i)) there ∙ ap (λ p. chain_of place p (c.label, c.ends) (forest_at cs c.first) no_chains) (drop_at c.frames (suc i) f one)
+      is = ap (rest_of cs place (suc i)) there ∙ ap (λ p. chain_of place p (c.label, c.ends) (forest_at cs c.first) no_chains) (from_frame c.frames (suc i) f one)
           ∙ ap (λ s. chain_node place f (drop (suc i + 1) c.frames) (c.label, c.ends) (forest_at cs c.first) s) none;
       first = subst (λ (x : NodeView). LeadsToForest cs x.first) (same_Some to.0 c (sym to.1 ∙ there)) to.3;
       next = leads_nowhere cs to.4;

@@ -4,6 +4,7 @@ use Rattle.std.specs.Prelude.{slice_get, Some}
 use Rattle.std.specs.declared.cmp.Ordering.TheVariants.{Less}
 use Rattle.std.proofs.lemmas.List.{append_assoc, length-drop}
 use Rattle.call_path.specs.Path.{Path}
+use Rattle.call_path.proofs.Orders.{from_frame}
 use Rattle.prefix_tree.specs.Tree.{Marks}
 use Rattle.arena_tree.specs.declared.node.Link.{Link}
 use Rattle.arena_tree.specs.declared.node.Link.TheVariants.{FirstOf, NextOf}
@@ -18,7 +19,6 @@ use Rattle.arena_tree.specs.Steps.{new_view, nodes_added_by, nodes_added, rows_a
 use Rattle.arena_tree.specs.Reading.{chain_of, forest_at, frame_side}
 use Rattle.arena_tree.specs.Targets.{rest_of, forest_behind, target_forest, LeadsBehind, IsTarget}
 use Rattle.arena_tree.specs.Plans.{PlanView, plan_with, next_place, HasRoom, SharesChain, PlansChain}
-use Rattle.arena_tree.proofs.SharedFrames.{drop_at}
 use Rattle.arena_tree.proofs.TurnSteps.{steps_new, side_steps-none}
 use Rattle.arena_tree.proofs.Totals.{nodes_added-append, rows_added-append, merge_nodes}
 use Rattle.arena_tree.proofs.Reading.{none_in, leads_nowhere}
@@ -127,7 +127,7 @@ module _ (cs : List NodeView) (into0 into rest below : MergeTarget) (p : Path) (
   n = next_place old
 
   split_here : drop skip p ≡ g ∷ drop (skip + 1) p
-  split_here = drop_at p skip g here
+  split_here = from_frame p skip g here
 
   step_is : New into.link (new_view g (drop (skip + 1) p) w (first_place (target_forest cs into))) ≡ New into.link node
   step_is =
@@ -171,7 +171,7 @@ pub sought_all : (cs : List NodeView) (into0 into : MergeTarget) (p : Path) (ski
     → ((x : ℕ) (gs : Path) (c t : ChainForest) → merge_steps into0.link n (target_forest cs into0) (chain_node x g gs w c t) ≡ merge_steps into.link n (target_forest cs into) (chain_node x g gs w c t))
     → Sought cs into0 into (drop skip p) w n
 sought_all cs into0 into p skip g w n here same x c t =
-    let is = drop_at p skip g here in
+    let is = from_frame p skip g here in
     ap (λ fs. merge_steps into0.link n (target_forest cs into0) (chain_of x fs w c t)) is ∙ same x (drop (skip + 1) p) c t ∙ ap (λ fs. merge_steps into.link n (target_forest cs into) (chain_of x fs w c t)) (sym is)
 
 -- what is left to count

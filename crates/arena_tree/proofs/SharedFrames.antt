@@ -10,20 +10,12 @@ use Rattle.std.proofs.lemmas.Option.{same_Some}
 use Rattle.std.specs.Cmp.Lexicographic.{slice_cmp, nat_list_cmp_total}
 use Rattle.call_path.specs.Path.{Path, shared_len}
 use Rattle.call_path.proofs.Shared.{shared_within}
+use Rattle.call_path.proofs.Orders.{from_frame}
 use Rattle.prefix_tree.specs.Owned.{by_order}
 use Rattle.arena_tree.specs.RowForest.{frame_cmp}
 use Rattle.arena_tree.specs.ChainForest.{FrameSplit, no_common, with_common, split_frames, split_parts}
 use Rattle.arena_tree.proofs.Changes.{none_some}
 use Rattle.arena_tree.proofs.Orders.{cmp_itself}
-
--- a path from a frame on
-pub drop_at : (p : Path) (i : ℕ) (f : List ℕ) → slice_get p i ≡ Some f → drop i p ≡ f ∷ drop (i + 1) p
-drop_at [] i f e = absurd (none_some f e)
-drop_at (g ∷ p) zero f e = ap (λ h. h ∷ p) (same_Some g f e)
-drop_at (g ∷ p) (suc i) f e =
-    let n : i + 1 ≡ (suc i + 1) - 1 = omega arith in
-    let m : suc (i + 1) ≡ suc i + 1 = omega arith in
-    drop_at p i f e ∙ ap (λ k. f ∷ drop k (g ∷ p)) m
 
 drop_end : (p : Path) (i : ℕ) → length p ≤ i → drop i p ≡ []
 drop_end [] zero e = refl
@@ -58,7 +50,7 @@ module _ (p q : Path) (i j n : ℕ) where
   one_more is f a b =
       let ni : (i + n) + 1 ≡ i + (n + 1) = omega arith in
       let nj : (j + n) + 1 ≡ j + (n + 1) = omega arith in
-      is ∙ ap (before (take n (drop i p))) ((λ k. split_frames (drop_at p (i + n) f a k) (drop_at q (j + n) f b k)) ∙ same (drop ((i + n) + 1) p) (drop ((j + n) + 1) q))
+      is ∙ ap (before (take n (drop i p))) ((λ k. split_frames (from_frame p (i + n) f a k) (from_frame q (j + n) f b k)) ∙ same (drop ((i + n) + 1) p) (drop ((j + n) + 1) q))
       ∙ (λ k. split_parts (sym (append_assoc (take n (drop i p)) (f ∷ []) (split_frames (drop (ni k) p) (drop (nj k) q)).common) k) (split_frames (drop (ni k) p) (drop (nj k) q)).own (split_frames (drop (ni k) p) (drop (nj k) q)).other)
       ∙ ap (λ (r : Path). before r (split_frames (drop (i + (n + 1)) p) (drop (j + (n + 1)) q))) (sym (take_at (drop i p) n f (get_drop p i n f a)))
     where
@@ -68,7 +60,7 @@ module _ (p q : Path) (i j n : ℕ) where
   -- frames that differ
   pub parts : Known → (f g : List ℕ) → slice_get p (i + n) ≡ Some f → slice_get q (j + n) ≡ Some g → is_eq (frame_cmp g f) ≡ false → split_frames (drop i p) (drop j q) ≡ split_parts (take n (drop i p)) (drop (i + n) p) (drop (j + n) q)
   parts is f g a b off =
-      is ∙ ap (before (take n (drop i p))) ((λ k. split_frames (drop_at p (i + n) f a k) (drop_at q (j + n) g b k)) ∙ other (drop ((i + n) + 1) p) (drop ((j + n) + 1) q) ∙ (λ k. no_common (sym (drop_at p (i + n) f a) k) (sym (drop_at q (j + n) g b) k)))
+      is ∙ ap (before (take n (drop i p))) ((λ k. split_frames (from_frame p (i + n) f a k) (from_frame q (j + n) g b k)) ∙ other (drop ((i + n) + 1) p) (drop ((j + n) + 1) q) ∙ (λ k. no_common (sym (from_frame p (i + n) f a) k) (sym (from_frame q (j + n) g b) k)))
       ∙ (λ k. split_parts (append-nil (take n (drop i p)) k) (drop (i + n) p) (drop (j + n) q))
     where
       by : (r : Ordering) (s t : FrameSplit) → is_eq r ≡ false → by_order r s t s ≡ s
@@ -161,7 +153,7 @@ one_shared f p q = ap (λ r. cond (is_eq r) (suc (shared_len p q)) 0) (cmp_itsel
 pub first_shared : (p q : Path) (i j : ℕ) → i < length p → j < length q → slice_get p i ≡ slice_get q j → shared_len (drop i p) (drop j q) ≡ suc (shared_len (drop (i + 1) p) (drop (j + 1) q))
 first_shared p q i j lt_p lt_q same =
     let at : (f : List ℕ) × (slice_get p i ≡ Some f) = some_at p i lt_p in
-    (λ k. shared_len (drop_at p i at.0 at.1 k) (drop_at q j at.0 (sym same ∙ at.1) k)) ∙ one_shared at.0 (drop (i + 1) p) (drop (j + 1) q)
+    (λ k. shared_len (from_frame p i at.0 at.1 k) (from_frame q j at.0 (sym same ∙ at.1) k)) ∙ one_shared at.0 (drop (i + 1) p) (drop (j + 1) q)
 
 pub shares_behind : (p q : Path) (i j n : ℕ) → i < length p → j < length q → slice_get p i ≡ slice_get q j → n ≡ shared_len (drop i p) (drop j q) → SharesBehind p q i j (n - 1)
 shares_behind p q i j n lt_p lt_q same is =

@@ -6,6 +6,7 @@ use Rattle.std.proofs.lemmas.List.{length-drop, length-take-le}
 use Rattle.std.proofs.lemmas.Option.{same_Some}
 use Rattle.rank_set.specs.Ranks.{Ranks, union, union-none}
 use Rattle.call_path.specs.Path.{Path}
+use Rattle.call_path.proofs.Orders.{from_frame}
 use Rattle.prefix_tree.specs.Tree.{Marks}
 use Rattle.arena_tree.specs.declared.node.Link.{Link}
 use Rattle.arena_tree.specs.declared.node.Link.TheVariants.{FirstOf, NextOf}
@@ -24,7 +25,7 @@ use Rattle.arena_tree.specs.Plans.{PlanView, plan_with, next_place, BeginsAt, st
 use Rattle.arena_tree.specs.Trail.{IsBelow}
 use Rattle.arena_tree.proofs.MergingChains.{parted}
 use Rattle.arena_tree.proofs.Orders.{frame_exact}
-use Rattle.arena_tree.proofs.SharedFrames.{drop_at, some_at}
+use Rattle.arena_tree.proofs.SharedFrames.{some_at}
 use Rattle.arena_tree.proofs.TurnSteps.{steps_same, new_nodes_rest}
 use Rattle.arena_tree.proofs.Planning.{ReadsBehind, reads_behind, target_few, target_frame, side_at, after_forest, after_target}
 
@@ -207,7 +208,7 @@ module _ (cs : List NodeView) (into : MergeTarget) (c : NodeView) (to : IsTarget
         ≡ step ∷ merge_steps below.link (next_place old + nodes_added_by step) (target_forest cs below) (rest_over 0 other (label, ends) u)
         ++ merge_steps after.link (next_place old + nodes_added_by step + new_nodes [] (target_forest cs below) [] (rest_over 0 other (label, ends) u)) (target_forest cs after) t
     same x u t =
-        (λ i. merge_steps into.link (next_place old) (it.is i) (chain_of x (drop_at p skip g begins.is i) (label, ends) u t))
+        (λ i. merge_steps into.link (next_place old) (it.is i) (chain_of x (from_frame p skip g begins.is i) (label, ends) u t))
         ∙ parts_known into.link (next_place old) into.place x f g (drop (into.skip + 1) c.frames) (drop (skip + 1) p) m (label, ends) b s u t (split_parts common own other) parts equal
         ∙ (λ i. step_is i ∷ merge_steps (link_is i) (next_place old + added i) (below_forest i) (rest_over 0 other (label, ends) u)
         ++ merge_steps (sym after_is.link i) (next_place old + added i + new_nodes [] (below_forest i) [] (rest_over 0 other (label, ends) u)) (sym (after_forest cs into after c.next after_is) i) t)

@@ -5,14 +5,14 @@ use Rattle.std.specs.FinMap as finmap
 use Rattle.std.proofs.lemmas.Bool.{cases_lt}
 use Rattle.std.proofs.lemmas.List.Elements.{All-nil}
 use Rattle.rank_set.proofs.SomeMember.{some_member}
-use Rattle.rank_set.specs.Ranks.{Ranks, none, has, union, in_order, is_subset, subset_has}
+use Rattle.rank_set.specs.Ranks.{Ranks, none, has, union, in_order, is_subset}
 use Rattle.call_path.specs.Path.{Path, path_cmp}
 use Rattle.call_path.specs.Good.{IsGoodPath}
 use Rattle.prefix_tree.specs.Tree.{Tree, IsTree, IsLawful, tree_of, merged, covered, added, count_below, pairs_of}
 use Rattle.call_path.specs.Pairs.{Pairs, pairs_at}
 use Rattle.prefix_tree.specs.Joined.{below_frame, insert_rows, last_marks, path_rows}
 use Rattle.prefix_tree.proofs.TreeLemmas.{IsTree-tree_of, tree_merged, tree_covered, tree_added}
-use Rattle.prefix_tree.proofs.OwnedLemmas.{tree_in-none}
+use Rattle.prefix_tree.proofs.OwnedLemmas.{lies_in, tree_in-none}
 use Rattle.prefix_tree.proofs.GoodPaths.{put_rows_good, path_rows_good}
 use Rattle.arena_tree.specs.declared.node.Link.TheVariants.{Top}
 use Rattle.arena_tree.specs.NodeViews.{NodeView}
@@ -170,9 +170,6 @@ makes_none = record {
   is = tree_in-none;
   tree = record { begins = refl; nodes_hold = tt; distinct = λ x. omega arith; count = refl; within_limit = omega arith; ordered = tt; tree = subst IsTree (sym tree_in-none) (IsTree-tree_of [] none); good_paths = All-nil (λ e. IsGoodPath e.0) };
 }
-
-lies_in : (C A : Ranks) → is_subset C A ≡ true → (q : ℕ) → has C q ≡ true → has A q ≡ true
-lies_in C A within q one = subset_has C A within q one
 
 -- a path's rows put in
 module _ (A C : Ranks) (p : Path) (cs : List NodeView) (first : ℕ) (t : Tree) (seen : tree_view A cs first ≡ t) (holds_own : IsArenaTree A cs first) (other : C ≢ none) (within : is_subset C t.coverage ≡ true) (good : IsGoodPath p) where

@@ -7,6 +7,7 @@ use Rattle.packet_frame.specs.Frame.{Message, frame_form, version_form}
 use Rattle.packet_frame.specs.Reading.{first_of}
 use Rattle.packet_frame.specs.Streams.{Begins, taken}
 use Rattle.packet_frame.proofs.Feeds.{frame_some}
+use Rattle.packet_frame.proofs.StreamLaws.{not_both}
 use Rattle.capture_text.specs.Captures.{Capture, before, read_on, capture_within, capture_of, StopsAt, CaptureLaws}
 
 abbrev Frames : Type 0
@@ -21,9 +22,6 @@ fault_at at reason = record { at = at; reason = reason }
 pub nothing_begins : first_of [] ≡ Err (fault_at 0 Short)
 unfolding frame_form version_form
 nothing_begins = refl
-
-not_both : (m : Message × ℕ) (e : Refusal) (r : Result (Message × ℕ) Refusal) → r ≡ Ok m → r ≡ Err e → ⊥
-not_both m e r h k = cc
 
 begins_some : (m : Message × ℕ) → first_of [] ≡ Ok m → ⊥
 begins_some m h = not_both m (fault_at 0 Short) (first_of []) h nothing_begins

@@ -18,7 +18,7 @@ use Rattle.packet_frame.specs.Reading.{first_of}
 use Rattle.packet_frame.specs.Sent.{packet_map, tree_from}
 use Rattle.packet_frame.specs.Streams.{Begins, taken, Breaks, Fed}
 use Rattle.packet_frame.specs.Feeding.{packets_from, refused_at, Feeds, Ends}
-use Rattle.packet_frame.proofs.StreamLaws.{stream_laws}
+use Rattle.packet_frame.proofs.StreamLaws.{stream_laws, refusal_is}
 use Rattle.capture_text.specs.Captures.{capture_of, StopsAt, IsRefused}
 use Rattle.capture_text.specs.CaptureText.{packet_text, packets_text, packet_views, text_of_capture, bytes_of}
 use Rattle.capture_text.proofs.CaptureLaws.{nothing_begins, frame_length, whole_capture, stopped_capture}
@@ -133,13 +133,10 @@ reads_piece bytes left piece behind fed text at frames packets new new_text new_
 not_both : (fault : Refusal) (refusal : Option Refusal) → refusal ≡ Some fault → refusal ≡ None → ⊥
 not_both fault refusal h k = cc
 
-same_refusal : (e f : Refusal) (r : Result (Message × ℕ) Refusal) → r ≡ Err e → r ≡ Err f → e ≡ f
-same_refusal e f r h k = cc
-
 -- where a rule is broken there are bytes
 broken_some : (rest : List ℕ) (at : ℕ) (reason : FrameReason) → first_of rest ≡ Err (refused_at at reason) → is_short reason ≡ false → rest ≢ []
 broken_some rest at reason refused lasting none =
-    let same = same_refusal (refused_at 0 Short) (refused_at at reason) (first_of rest) (ap first_of none ∙ nothing_begins) refused in
+    let same = refusal_is (refused_at 0 Short) (refused_at at reason) (first_of rest) (ap first_of none ∙ nothing_begins) refused in
     true≢false (ap (λ (r : Refusal). is_short r.reason) same ∙ lasting)
 
 breaks_stops : (bytes : List ℕ) (fault : Refusal) → Breaks bytes fault → StopsAt bytes fault

@@ -1,24 +1,21 @@
 -- The list of events that may come next, node by node.
-use Rattle.std.proofs.Common.{◌≡◌, ◌≢◌, ◌≤◌, ◌<◌, inl, inr, ℕ, Bool, true, false, not, ◌&&◌, ◌==◌, nat_lt, nat_eq, cond, List, [], ◌∷◌, ◌++◌, map, filter, get_or, length, refl, sym, ap, subst, ◌∙◌, arith, eqb-true, eq-eqb, Less}
-use Rattle.std.specs.List.Sorted.{IsStrictlySortedBy}
-use Rattle.std.specs.Ordering.{nat_cmp}
+use Rattle.std.proofs.Common.{◌≡◌, ◌+◌, ◌≢◌, ◌≤◌, ◌<◌, inl, inr, ℕ, Bool, true, false, not, ◌&&◌, ◌==◌, nat_lt, nat_eq, cond, List, [], ◌∷◌, ◌++◌, map, filter, get_or, length, refl, sym, ap, subst, ◌∙◌, arith, eqb-true, eq-eqb}
 use Rattle.std.proofs.lemmas.Bool.{cases_Bool, cond-true, cond-false, eqb-false, true≢false}
-use Rattle.std.proofs.lemmas.Bool.Decides.{nat_tests}
 use Rattle.std.proofs.lemmas.List.{get_or_default, length-map}
 use Rattle.std.proofs.lemmas.List.Elements.{filter-append}
-use Rattle.stat_plan.proofs.Totals.{length_filter_le, length_up_to}
-use Rattle.overlay_setup.specs.NodeSets.{In, IsStrictlyIncreasing, up_to}
+use Rattle.overlay_setup.specs.NodeSets.{In, up_to}
 use Rattle.stat_plan.specs.Plans.{Plan, nodes, fault, front, is_front}
 use Rattle.stat_plan.specs.Invariants.{IsPlan}
-use Rattle.stat_plan.proofs.FirstOver.{all_in}
-use Rattle.stat_plan.proofs.InLists.{in_filter, in_from_filter, in_from_map, in_append, up_to_below, up_to_in}
+use Rattle.stat_plan.proofs.InLists.{in_from_map, in_append}
 use Rattle.stat_plan.proofs.PlanFacts.{plan_facts}
-use Rattle.stat_plan.proofs.Ascending.{filter_increases, up_to_increases}
+use Rattle.stat_plan.proofs.Ascending.{ascending_within_limit, increasing_from_sorted}
+use Rattle.stat_plan.proofs.Filters.{filter_mapped, filter_none, filter_same, filter_up_to}
 use Rattle.node_inbox.specs.Inboxes.{InboxView, Waiting, IsInbox, HaveSent, queue_of, senders_of}
 use Rattle.node_inbox.specs.Sends.{inbox_at, is_alive, no_inbox}
 use Rattle.control_cast.specs.declared.event.CastEvent.{CastEvent}
 use Rattle.control_cast.specs.declared.event.CastEvent.TheVariants.{Issue, Recv, Lose}
 use Rattle.stat_plan.specs.Machine.Overlays.{is_spent, is_pending, is_active, is_doomed}
+use Rattle.stat_plan.proofs.Overlays.{first_in}
 use Rattle.control_cast.specs.Machine.{Packet, State, seen, is_enabled}
 use Rattle.control_cast.specs.CastNodes.{NodeView, obeyed_of}
 use Rattle.control_cast.specs.CastNets.{node_at, start_view, state_with, AreParts, IsNet}
@@ -46,53 +43,6 @@ issues_not p commands x n f en ef ne = by (nat_eq n f) refl ∙ ap (λ b. b && n
     no true e = absurd (ne (en ∙ eqb-true x.number (front p) e ∙ sym ef))
     no false e = e
 
--- ---- filters
-
-filter_none : {X : Type 0} (f : X → Bool) (xs : List X) → ((x : X) → In x xs → f x ≡ false) → filter f xs ≡ []
-filter_none f [] h = refl
-filter_none {X} f (x ∷ xs) h = ap (λ (b : Bool). cond b (x ∷ filter f xs) (filter f xs)) (h x (inl refl)) ∙ filter_none f xs (λ y i. h y (inr i))
-
-filter_same : {X : Type 0} (f g : X → Bool) (xs : List X) → ((x : X) → f x ≡ g x) → filter f xs ≡ filter g xs
-filter_same f g [] h = refl
-filter_same {X} f g (x ∷ xs) h = ap (λ (b : Bool). cond b (x ∷ filter f xs) (filter f xs)) (h x) ∙ ap (λ (ys : List X). cond (g x) (x ∷ ys) ys) (filter_same f g xs h)
-
-filter_mapped : {X Y : Type 0} (test : Y → Bool) (f : X → Y) (xs : List X) → filter test (map f xs) ≡ map f (filter (λ x. test (f x)) xs)
-filter_mapped test f [] = refl
-filter_mapped {X} {Y} test f (x ∷ xs) = ap (λ (ys : List Y). cond (test (f x)) (f x ∷ ys) ys) (filter_mapped test f xs) ∙ go (test (f x))
-  where
-    go : (b : Bool) → cond b (f x ∷ map f (filter (λ z. test (f z)) xs)) (map f (filter (λ z. test (f z)) xs)) ≡ map f (cond b (x ∷ filter (λ z. test (f z)) xs) (filter (λ z. test (f z)) xs))
-    go true = refl
-    go false = refl
-
-same_increasing : (xs ys : List ℕ) → IsStrictlyIncreasing xs → IsStrictlyIncreasing ys → ((n : ℕ) → In n xs → In n ys) → ((n : ℕ) → In n ys → In n xs) → xs ≡ ys
-same_increasing [] [] h k f g = refl
-same_increasing [] (y ∷ ys) h k f g = absurd (g y (inl refl))
-same_increasing (x ∷ xs) [] h k f g = absurd (f x (inl refl))
-same_increasing (x ∷ xs) (y ∷ ys) h k f g =
-    let e : x ≡ y = elim (f x (inl refl)) [
-      | inl e ↦ e
-      | inr i ↦ elim (g y (inl refl)) [ inl e ↦ sym e | inr j ↦ absurd (let a : y < x = k.0 x i in let b : x < y = h.0 y j in omega arith) ]
-    ] in
-    ap (λ z. z ∷ xs) e
-    ∙ ap (λ zs. y ∷ zs)
-    (same_increasing xs ys h.1 k.1
-    (λ n i. elim (f n (inr i)) [ inl a ↦ absurd (let b : x < n = h.0 n i in omega arith) | inr j ↦ j ])
-    (λ n i. elim (g n (inr i)) [ inl a ↦ absurd (let b : y < n = k.0 n i in omega arith) | inr j ↦ j ]))
-
-less_from_order : (x y : ℕ) → nat_cmp x y ≡ Less → x < y
-less_from_order x y h = grind (arith, nat_tests)
-
-increasing_from_sorted : (xs : List ℕ) → IsStrictlySortedBy nat_cmp xs → IsStrictlyIncreasing xs
-unfolding IsStrictlySortedBy
-increasing_from_sorted [] h = tt
-increasing_from_sorted (x ∷ xs) h = (λ y i. less_from_order x y (all_in (λ y. nat_cmp x y ≡ Less) xs y h.0 i), increasing_from_sorted xs h.1)
-
-filter_up_to : (test : ℕ → Bool) (n : ℕ) (xs : List ℕ) → IsStrictlyIncreasing xs → ((m : ℕ) → In m xs → (m < n) × (test m ≡ true)) → ((m : ℕ) → m < n → test m ≡ true → In m xs) → filter test (up_to n) ≡ xs
-filter_up_to test n xs increasing each all =
-    same_increasing (filter test (up_to n)) xs (filter_increases test (up_to n) (up_to_increases n)) increasing
-    (λ m i. let r = in_from_filter test m (up_to n) i in all m (up_to_below n m r.0) r.1)
-    (λ m i. let r = each m i in in_filter test m (up_to n) (up_to_in n m r.0) r.1)
-
 -- ---- who has sent what waits
 
 -- a sender in the list has packets waiting
@@ -113,10 +63,6 @@ waits_listed (x ∷ es) m e = elim (cases_Bool (x.0 == m)) [
   | inl t ↦ inl (sym (eqb-true x.0 m t))
   | inr t ↦ inr (waits_listed es m (ap is_pending (sym (cond-false (x.0 == m) x.1 (queue_of es m) t)) ∙ e))
 ]
-
-first_in : (l : List Packet) → is_pending l ≡ true → (q : Packet) × In q l
-first_in [] e = absurd (true≢false (sym e))
-first_in (q ∷ qs) e = (q, inl refl)
 
 pub senders_below : (p : Plan) (commands : ℕ) (alive : List Bool) (xs : List NodeView) (boxes : List (InboxView Packet)) (n m : ℕ) → IsPlan p → IsNet p commands alive xs boxes → is_pending (queue_of (inbox_at boxes n) m) ≡ true → m < nodes p
 senders_below p commands alive xs boxes n m plan h e =
@@ -141,7 +87,7 @@ module _ (p : Plan) (commands : ℕ) (alive : List Bool) (xs : List NodeView) (b
   receipts act =
       filter_mapped (is_enabled p commands (state_with p alive xs boxes)) (λ m. Recv n m) (up_to (nodes p))
       ∙ ap (map (λ m. Recv n m))
-      (filter_same (λ m. is_active p (state_with p alive xs boxes).net n && is_pending (queue_of (inbox_at boxes n) m)) (λ m. is_pending (queue_of (inbox_at boxes n) m)) (up_to (nodes p)) (λ m. ap (λ b. b && is_pending (queue_of (inbox_at boxes n) m)) act)
+      (filter_same (λ m. is_active p (state_with p alive xs boxes).net n && is_pending (queue_of (inbox_at boxes n) m)) (λ m. is_pending (queue_of (inbox_at boxes n) m)) (up_to (nodes p)) (λ m _. ap (λ b. b && is_pending (queue_of (inbox_at boxes n) m)) act)
       ∙ filter_up_to (λ m. is_pending (queue_of (inbox_at boxes n) m)) (nodes p) (senders_of (inbox_at boxes n)) (increasing_from_sorted (senders_of (inbox_at boxes n)) inbox.increasing)
       (λ m i. let e = sender_waits (inbox_at boxes n) m inbox.sent i in (senders_below p commands alive xs boxes n m plan h e, e))
       (λ m l e. waits_listed (inbox_at boxes n) m e))
@@ -236,13 +182,9 @@ pub few_senders : (p : Plan) (commands : ℕ) (alive : List Bool) (xs : List Nod
 few_senders p commands alive xs boxes n box plan h lt inbox eb =
     let wb : box.waiting ≡ inbox_at boxes n = box_here p alive xs boxes n box h.parts lt eb in
     let in_box : IsInbox (inbox_at boxes n) = subst IsInbox wb inbox in
-    let s : filter (λ m. is_pending (queue_of (inbox_at boxes n) m)) (up_to (nodes p)) ≡ senders_of (inbox_at boxes n) = filter_up_to (λ m. is_pending (queue_of (inbox_at boxes n) m)) (nodes p) (senders_of (inbox_at boxes n)) (increasing_from_sorted (senders_of (inbox_at boxes n)) in_box.increasing)
-    (λ m i. let e = sender_waits (inbox_at boxes n) m in_box.sent i in (senders_below p commands alive xs boxes n m plan h e, e))
-    (λ m l e. waits_listed (inbox_at boxes n) m e) in
-    let a : length (filter (λ m. is_pending (queue_of (inbox_at boxes n) m)) (up_to (nodes p))) ≤ length (up_to (nodes p)) = length_filter_le (λ m. is_pending (queue_of (inbox_at boxes n) m)) (up_to (nodes p)) in
-    let b : length (up_to (nodes p)) ≡ nodes p = length_up_to (nodes p) in
+    let a : 0 + length (senders_of (inbox_at boxes n)) ≤ nodes p = ascending_within_limit (senders_of (inbox_at boxes n)) 0 (nodes p) (omega arith) (increasing_from_sorted (senders_of (inbox_at boxes n)) in_box.increasing)
+    (λ m i. (omega arith, senders_below p commands alive xs boxes n m plan h (sender_waits (inbox_at boxes n) m in_box.sent i))) in
     let c : length (senders_of (inbox_at boxes n)) ≡ length (inbox_at boxes n) = length-map (inbox_at boxes n) (λ e. e.0) in
-    let d : length (filter (λ m. is_pending (queue_of (inbox_at boxes n) m)) (up_to (nodes p))) ≡ length (senders_of (inbox_at boxes n)) = ap length s in
     let f : length box.waiting ≡ length (inbox_at boxes n) = ap length wb in
     let g : nodes p ≤ 512 = plan.topology.within_limit in
     omega arith

@@ -13,8 +13,9 @@ use Rattle.stat_plan.proofs.KinLemmas.{nearest_in}
 use Rattle.stat_plan.proofs.PlanFacts.{HasPlanFacts}
 use Rattle.loss_adoption.specs.NodeKins.{IsKinOf}
 use Rattle.node_inbox.specs.Inboxes.{InboxView, queue_of}
-use Rattle.node_inbox.specs.Cuts.{AreCut, IsCut, full_inbox_at}
-use Rattle.node_inbox.specs.Sends.{AreSent, inbox_at, is_alive, packets_to, GoBelow, no_inbox}
+use Rattle.node_inbox.specs.Cuts.{AreCut}
+use Rattle.node_inbox.proofs.Cutting.{queues_cut}
+use Rattle.node_inbox.specs.Sends.{AreSent, inbox_at, is_alive, packets_to, GoBelow}
 use Rattle.control_cast.specs.declared.event.CastEvent.TheVariants.{Issue, Recv, Lose}
 use Rattle.stat_plan.specs.Machine.Overlays.{to, to_parent, keep_of}
 use Rattle.control_cast.specs.Machine.{Packet, Cmd, Attach, Down, State, Outcome, numbers_after, obey, received, commit, receive, step}
@@ -221,37 +222,6 @@ cut_and_told keep true false false r o t m em et er = em ∙ sym (append-nil (ta
 cut_and_told keep true true true r o t m em et er = ap (λ l. l ++ t) em ∙ et refl ∙ ap (λ b. cond b (Down ∷ []) []) (er refl)
 cut_and_told keep true false true r o t m em et er = ap (λ l. l ++ t) em ∙ ap (λ l. take keep o ++ l) (et refl)
 
--- what a loss leaves of each link
-cut_queues : (n keep : ℕ) (old new : List (InboxView Packet)) → AreCut n keep (length old) old new → (a b : ℕ) → queue_of (inbox_at new b) a ≡ cond (b == n) [] (cond (a == n) (take keep (queue_of (inbox_at old b) a)) (queue_of (inbox_at old b) a))
-cut_queues n keep old new h a b = elim (cases_Bool (nat_lt b (length old))) [
-  | inl t ↦ within (h.done b (ltb-true b (length old) t))
-  | inr f ↦
-      let past : length old ≤ b = ltb-false b (length old) f in
-      let none : inbox_at old b ≡ [] = ap (λ (x : InboxView Packet). x.waiting) (get_or_past old b no_inbox past) in
-      let gone : inbox_at new b ≡ [] = ap (λ (x : InboxView Packet). x.waiting) (h.rest b past) ∙ none in
-      ap (λ w. queue_of w a) gone ∙ nothing (b == n) (a == n) ∙ ap (λ w. cond (b == n) [] (cond (a == n) (take keep (queue_of w a)) (queue_of w a))) (sym none)
-]
-  where
-    nothing : (x y : Bool) → ◌≡◌ {A = List Packet} [] (cond x [] (cond y (take keep []) []))
-    nothing true y = refl
-    nothing false true = none keep
-      where
-        none : (k : ℕ) → ◌≡◌ {A = List Packet} [] (take k [])
-        none zero = refl
-        none (suc k) = refl
-    nothing false false = refl
-
-    within : IsCut n keep b (full_inbox_at old b) (full_inbox_at new b) → queue_of (inbox_at new b) a ≡ cond (b == n) [] (cond (a == n) (take keep (queue_of (inbox_at old b) a)) (queue_of (inbox_at old b) a))
-    within c = elim (cases_Bool (b == n)) [
-      | inl t ↦ ap (λ w. queue_of w a) (c.own t) ∙ sym (cond-true (b == n) _ _ t)
-      | inr f ↦ elim (cases_Bool (a == n)) [
-        | inl t ↦
-            ap (queue_of (inbox_at new b)) (eqb-true a n t) ∙ c.cut f ∙ ap (λ k. take keep (queue_of (inbox_at old b) k)) (sym (eqb-true a n t))
-            ∙ sym (cond-true (a == n) _ _ t) ∙ sym (cond-false (b == n) _ _ f)
-        | inr g ↦ c.others f a g ∙ sym (cond-false (a == n) _ _ g) ∙ sym (cond-false (b == n) _ _ f)
-      ]
-    ]
-
 pub was_lost : (p : Plan) (alive dead : List Bool) (xs : List NodeView) (boxes mid more : List (InboxView Packet)) (n : ℕ) (sends : List (ℕ × Packet)) → HasPlanFacts p → n < nodes p → AreParts p alive xs boxes
     → AreCut n (keep_of (fault p n)) (length boxes) boxes mid → sends ≡ notices_below p n (nodes p) → AreSent alive n sends mid more → dead ≡ slice_set alive n false
     → state_with p dead xs more ≡ step p (state_with p alive xs boxes) (Lose n)
@@ -287,7 +257,7 @@ was_lost p alive dead xs boxes mid more n sends plan lt h cut es s ed = λ i. re
         within b u = elim (cases_Bool (nat_lt b (length alive))) [ inl t ↦ ltb-true b (length alive) t | inr f ↦ absurd (true≢false (sym u ∙ get_or_past alive b false (ltb-false b (length alive) f))) ]
 
     links : (a b : ℕ) → queue_of (inbox_at more b) a ≡ cond (b == n) [] (cond (a == n) (take keep (old a b) ++ cond (is_alive alive b && is_related p n b) (Down ∷ []) []) (old a b))
-    links a b = s.queues a b ∙ cut_and_told keep (a == n) (b == n) (is_alive alive b) (is_related p n b) (old a b) (packets_to b sends) (queue_of (inbox_at mid b) a) (cut_queues n keep boxes mid cut a b) (told b) (λ t. ap (is_related p n) (eqb-true b n t) ∙ alone)
+    links a b = s.queues a b ∙ cut_and_told keep (a == n) (b == n) (is_alive alive b) (is_related p n b) (old a b) (packets_to b sends) (queue_of (inbox_at mid b) a) (queues_cut n keep boxes mid cut a b) (told b) (λ t. ap (is_related p n) (eqb-true b n t) ∙ alone)
 
 pub parts_lost : (p : Plan) (alive dead : List Bool) (xs : List NodeView) (boxes more : List (InboxView Packet)) (n : ℕ) → AreParts p alive xs boxes → length more ≡ length boxes → dead ≡ slice_set alive n false → AreParts p dead xs more
 parts_lost p alive dead xs boxes more n h same e = record { alive_count = ap length e ∙ length-set alive n false ∙ h.alive_count; node_count = h.node_count; inbox_count = same ∙ h.inbox_count; numbers = h.numbers }

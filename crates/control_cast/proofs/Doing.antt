@@ -3,8 +3,8 @@ use Rattle.std.proofs.Common.{◌≡◌, ◌∙◌, ◌<◌, ℕ, suc, Bool, tru
 use Rattle.std.specs.List.{AllByRecursion}
 use Rattle.std.proofs.lemmas.Bool.{cases_Bool, eqb-false, true≢false}
 use Rattle.overlay_setup.specs.NodeSets.{In, member, up_to}
-use Rattle.stat_plan.specs.Plans.{Plan, nodes, fault, front}
-use Rattle.stat_plan.proofs.InLists.{in_member, up_to_in}
+use Rattle.stat_plan.specs.Plans.{AreNodes, Plan, nodes, fault, front}
+use Rattle.stat_plan.proofs.InLists.{all_below, in_member, up_to_in}
 use Rattle.stat_plan.proofs.PlanFacts.{HasPlanFacts}
 use Rattle.node_inbox.specs.Inboxes.{InboxView, queue_of}
 use Rattle.node_inbox.specs.Cuts.{AreCut}
@@ -13,9 +13,8 @@ use Rattle.control_cast.specs.declared.event.CastEvent.TheVariants.{Issue, Recv,
 use Rattle.stat_plan.specs.Machine.Overlays.{keep_of}
 use Rattle.control_cast.specs.Machine.{Packet, Outcome, obey, received}
 use Rattle.control_cast.specs.CastNodes.{MayReceive, NodeView, obeyed_of}
-use Rattle.control_cast.specs.CastNets.{AreNodes, AreParts, HasChanged, HasDone, IsFirst, IsSameAt, node_at, notices_below, state_with}
+use Rattle.control_cast.specs.CastNets.{AreParts, HasChanged, HasDone, IsFirst, IsSameAt, node_at, notices_below, state_with}
 use Rattle.control_cast.proofs.CastNets.{changed_else, issued_at, notices_go_below, obeyed_below, part_at, received_below, sends_below, parts_after, parts_lost, was_lost, was_received}
-use Rattle.control_cast.proofs.Counting.{all_below}
 
 -- ---- who sends, and to whom
 

@@ -2,10 +2,10 @@
 use Rattle.std.proofs.Common.{◌≡◌, inl, inr, ℕ, Bool, true, false, cond, ◌==◌, List, [], ◌∷◌, ◌++◌, length, refl, sym, ap, subst, ◌∙◌, eqb-true, eq-eqb, arith, Option, Some, None}
 use Rattle.std.proofs.lemmas.Bool.{cases_Bool, cond-true, cond-false, eqb-false, true≢false}
 use Rattle.std.proofs.lemmas.Option.{same_Some}
-use Rattle.overlay_setup.specs.NodeSets.{In, with_number, without_number}
+use Rattle.overlay_setup.specs.NodeSets.{In, with_number}
 use Rattle.stat_plan.specs.Machine.Kin.{Kin, is_parent, with_parent, without_child}
 use Rattle.stat_plan.specs.Plans.{Plan, IsUnder, ancestors}
-use Rattle.stat_plan.proofs.KinLemmas.{nearest_in, with_number_old, with_number_new, in_without, nearest_split}
+use Rattle.stat_plan.proofs.KinLemmas.{nearest_in, with_number_old, with_number_new, in_without, nearest_split, is_parent_some, without_other}
 use Rattle.stat_plan.proofs.PlanFacts.{HasPlanFacts}
 use Rattle.stat_plan.specs.Machine.Overlays.{to, to_parent, with_link, with_event}
 use Rattle.stat_plan.specs.Machine.LossInvariant.{EndsAt, LossInvariant}
@@ -16,16 +16,6 @@ use Rattle.stat_plan.proofs.Overlays.{ne_false, put_here, put_else, put_each, po
 use Rattle.stat_plan.proofs.LossInvariant.{SendsFit, heard_keeps}
 use Rattle.control_cast.proofs.Commands.{joined_by}
 use Rattle.control_cast.proofs.Receiving.{packet_rule, parent_is_above}
-
-without_other : (m c : ℕ) (xs : List ℕ) → (m ≡ c → ⊥) → In c xs → In c (without_number m xs)
-without_other m c [] ne i = i
-without_other m c (z ∷ zs) ne i = go (without_other m c zs ne) (m == z) refl i
-  where
-    go : (In c zs → In c (without_number m zs)) → (b : Bool) → (m == z) ≡ b → In c (z ∷ zs) → In c (cond b (without_number m zs) (z ∷ without_number m zs))
-    go ih true e (inl k) = absurd (ne (eqb-true m z e ∙ sym k))
-    go ih true e (inr k) = ih k
-    go ih false e (inl k) = inl k
-    go ih false e (inr k) = inr (ih k)
 
 -- ---- the lost node isn't the parent
 
@@ -125,10 +115,6 @@ other_keeps p commands st m n qs plan h up e np = record {
         not_parent z = true≢false (sym (subst (λ o. is_parent o m ≡ true) (sym z) (eq-eqb m m refl)) ∙ np)
 
 -- ---- the lost node is the parent
-
-pub is_parent_some : (o : Option ℕ) (m : ℕ) → is_parent o m ≡ true → o ≡ Some m
-is_parent_some None m e = absurd (true≢false (sym e))
-is_parent_some (Some a) m e = ap Some (eqb-true a m e)
 
 in_to_parent : (o : Option ℕ) (b : ℕ) (q r : Packet) → In {X = ℕ × Packet} (b, r) (to_parent o q) → (o ≡ Some b) × (r ≡ q)
 in_to_parent None b q r i = absurd i

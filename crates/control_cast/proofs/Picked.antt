@@ -1,45 +1,33 @@
 -- The list of events has exactly those that may come, and the journal that a seed picks is whole.
-use Rattle.std.proofs.Common.{◌≡◌, ◌≤◌, ◌<◌, ◌+◌, inl, inr, ℕ, suc, zero, Bool, true, false, cond, ◌==◌, List, [], ◌∷◌, ◌++◌, map, length, refl, sym, subst, arith, eqb-true, eq-eqb}
-use Rattle.std.proofs.lemmas.Bool.{and_parts, eqb-false, true≢false}
+use Rattle.std.proofs.Common.{◌≡◌, ◌≤◌, ◌<◌, ◌+◌, inl, inr, ℕ, true, cond, ◌==◌, List, [], ◌∷◌, map, length, refl, sym, subst, arith, eq-eqb}
+use Rattle.std.proofs.lemmas.Bool.{and_parts}
 use Rattle.overlay_setup.specs.NodeSets.{In, up_to}
 use Rattle.stat_plan.specs.Plans.{Plan, nodes, front, is_front}
 use Rattle.stat_plan.proofs.PlanFacts.{HasPlanFacts}
 use Rattle.stat_plan.proofs.InLists.{in_map, append_left, append_right, in_from_filter, in_filter, up_to_in}
 use Rattle.control_cast.specs.declared.event.CastEvent.{CastEvent}
 use Rattle.control_cast.specs.declared.event.CastEvent.TheVariants.{Issue, Recv, Lose}
-use Rattle.stat_plan.specs.Machine.Overlays.{is_pending}
-use Rattle.control_cast.specs.Machine.{Packet, State, start, step, is_enabled, events_of, events_below, enabled_events, after, IsLegal, IsQuiet}
+use Rattle.control_cast.specs.Machine.{State, start, step, is_enabled, events_of, events_below, enabled_events, after, IsLegal, IsQuiet}
 use Rattle.control_cast.specs.CastInvariant.{CastInvariant}
 use Rattle.control_cast.specs.Bound.{bound}
 use Rattle.stat_plan.specs.Machine.Journals.{IsLegalFrom}
 use Rattle.control_cast.specs.Casts.{AreEventsOf, IsEventOf}
 use Rattle.control_cast.specs.Picked.{picked, IsPicked}
-use Rattle.stat_plan.proofs.Journals.{ListsEnabled, quiet_from_list, picks_legal, picked_ends, picked_is_one}
+use Rattle.stat_plan.proofs.Journals.{ListsEnabled, quiet_from_list, picks_legal, picked_ends, picked_is_one, in_below}
+use Rattle.stat_plan.proofs.Overlays.{first_in}
 use Rattle.control_cast.proofs.Sound.{active_parts, step_keeps, start_cast, legal_is_sound}
 use Rattle.control_cast.proofs.Short.{sender_below, step_falls, start_is_light, legal_is_short, cast_weight}
-
-in_below : (p : Plan) (k n : ℕ) (e : CastEvent) → n < k → In e (events_of p n) → In e (events_below p k)
-in_below p zero n e lt i = absurd (omega arith)
-in_below p (suc k) n e lt i = go (n == k) refl (in_below p k n e)
-  where
-    go : (b : Bool) → (n == k) ≡ b → (n < k → In e (events_of p n) → In e (events_below p k)) → In e (events_below p k ++ events_of p k)
-    go true t ih = append_right e (events_below p k) (events_of p k) (subst (λ a. In e (events_of p a)) (eqb-true n k t) i)
-    go false t ih = let ne : n ≡ k → ⊥ = eqb-false n k t in append_left e (events_below p k) (events_of p k) (ih (omega arith) i)
-
-first_in : (l : List Packet) → is_pending l ≡ true → (q : Packet) × In q l
-first_in [] e = absurd (true≢false (sym e))
-first_in (q ∷ qs) e = (q, inl refl)
 
 can_be_named : (p : Plan) (commands : ℕ) (st : State) (e : CastEvent) → HasPlanFacts p → CastInvariant p commands st → is_enabled p commands st e ≡ true → In e (events_below p (nodes p))
 unfolding is_front
 can_be_named p commands st Issue plan h en =
-    in_below p (nodes p) (front p) Issue plan.front_below (inr (append_left Issue (cond (front p == front p) (Issue ∷ []) []) _ (subst (λ b. In Issue (cond b (Issue ∷ []) [])) (sym (eq-eqb (front p) (front p) refl)) (inl refl))))
+    in_below (events_below p) (events_of p) (λ k. refl) (nodes p) (front p) Issue plan.front_below (inr (append_left Issue (cond (front p == front p) (Issue ∷ []) []) _ (subst (λ b. In Issue (cond b (Issue ∷ []) [])) (sym (eq-eqb (front p) (front p) refl)) (inl refl))))
 can_be_named p commands st (Recv n m) plan h en =
     let t = and_parts _ _ en in
     let q = first_in (st.net.link m n) t.1 in
     let lt : m < nodes p = sender_below p m n q.0 plan ((h.base.links m n).packets q.0 q.1) in
-    in_below p (nodes p) n (Recv n m) (h.base.nodes n (active_parts p st.net n t.0).0) (inr (append_right (Recv n m) (cond (n == front p) (Issue ∷ []) []) (map (λ m. Recv n m) (up_to (nodes p))) (in_map (λ m. Recv n m) m (up_to (nodes p)) (up_to_in (nodes p) m lt))))
-can_be_named p commands st (Lose n) plan h en = in_below p (nodes p) n (Lose n) (h.base.nodes n (and_parts _ _ en).0) (inl refl)
+    in_below (events_below p) (events_of p) (λ k. refl) (nodes p) n (Recv n m) (h.base.nodes n (active_parts p st.net n t.0).0) (inr (append_right (Recv n m) (cond (n == front p) (Issue ∷ []) []) (map (λ m. Recv n m) (up_to (nodes p))) (in_map (λ m. Recv n m) m (up_to (nodes p)) (up_to_in (nodes p) m lt))))
+can_be_named p commands st (Lose n) plan h en = in_below (events_below p) (events_of p) (λ k. refl) (nodes p) n (Lose n) (h.base.nodes n (and_parts _ _ en).0) (inl refl)
 
 pub lists_enabled : (p : Plan) (commands : ℕ) → HasPlanFacts p → ListsEnabled (CastInvariant p commands) (is_enabled p commands) (enabled_events p commands)
 lists_enabled p commands plan = record {

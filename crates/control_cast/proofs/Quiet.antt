@@ -9,7 +9,8 @@ use Rattle.stat_plan.proofs.InLists.{in_from_member}
 use Rattle.control_cast.specs.declared.event.CastEvent.{CastEvent}
 use Rattle.control_cast.specs.declared.event.CastEvent.TheVariants.{Issue, Recv, Lose}
 use Rattle.stat_plan.specs.Machine.Overlays.{is_active, is_doomed, is_pending}
-use Rattle.control_cast.specs.Machine.{Packet, Attach, Down, State, seen, numbers_after, after, IsLegal, IsQuiet}
+use Rattle.stat_plan.proofs.Overlays.{none_pending}
+use Rattle.control_cast.specs.Machine.{Attach, Down, State, seen, numbers_after, after, IsLegal, IsQuiet}
 use Rattle.control_cast.specs.CastInvariant.{cmds, CastInvariant}
 use Rattle.control_cast.proofs.Sound.{legal_is_sound}
 
@@ -19,10 +20,6 @@ quiet_active p commands st n quiet up = elim (cases_Bool (is_doomed p st.net n))
   | inl t ↦ absurd (true≢false (sym (and_from _ _ up t) ∙ quiet (Lose n)))
   | inr f ↦ and_from _ _ up (subst (λ b. not b ≡ true) (sym f) refl)
 ]
-
-none_pending : (l : List Packet) → is_pending l ≡ false → l ≡ []
-none_pending [] e = refl
-none_pending (q ∷ qs) e = absurd (true≢false e)
 
 quiet_links : (p : Plan) (commands : ℕ) (st : State) (m n : ℕ) → IsQuiet p commands st → st.net.alive n ≡ true → st.net.link m n ≡ []
 quiet_links p commands st m n quiet up = elim (cases_Bool (is_pending (st.net.link m n))) [

@@ -4,7 +4,7 @@ use Rattle.std.proofs.lemmas.Bool.{cases_Bool, and_parts, cond-true, true≢fals
 use Rattle.overlay_setup.specs.NodeSets.{In, member, with_number}
 use Rattle.stat_plan.specs.Plans.{Plan, IsUnder, ancestors, nodes, front}
 use Rattle.stat_plan.specs.Machine.Kin.{Kin, nearest, is_parent, with_child, with_parent, without_child}
-use Rattle.stat_plan.proofs.KinLemmas.{nearest_in, with_number_old, with_number_new, nearest_split}
+use Rattle.stat_plan.proofs.KinLemmas.{nearest_in, with_number_old, with_number_new, nearest_split, is_parent_some}
 use Rattle.stat_plan.proofs.PlanFacts.{HasPlanFacts}
 use Rattle.stat_plan.proofs.Totals.{length_filter_le, length_filter_less, length_filter_drop}
 use Rattle.stat_plan.proofs.InLists.{in_member, in_from_member}
@@ -19,7 +19,7 @@ use Rattle.stat_plan.proofs.Overlays.{put_here, put_else}
 use Rattle.stat_plan.proofs.Weights.{weight, sends_weight, popped_weight, event_weight, loss_weight, start_weight}
 use Rattle.control_cast.proofs.Obeying.{linked, obeying, seen_here, kin_same}
 use Rattle.control_cast.proofs.Receiving.{next_comes}
-use Rattle.control_cast.proofs.Hearing.{other_outcome, parent_outcome, is_parent_some}
+use Rattle.control_cast.proofs.Hearing.{other_outcome, parent_outcome}
 use Rattle.control_cast.proofs.Sound.{active_parts, step_keeps, start_cast}
 
 -- ---- what packets and nodes weigh

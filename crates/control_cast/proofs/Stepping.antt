@@ -3,14 +3,15 @@ use Rattle.std.proofs.Common.{◌≡◌, ℕ, true, Bool, List, [], length, sym,
 use Rattle.std.specs.Prelude.{replicate}
 use Rattle.std.proofs.lemmas.List.{length-replicate}
 use Rattle.overlay_setup.specs.NodeSets.{up_to}
-use Rattle.stat_plan.specs.Plans.{Plan, nodes}
+use Rattle.stat_plan.specs.Plans.{AreNodes, Plan, nodes}
+use Rattle.stat_plan.proofs.InLists.{all_below}
 use Rattle.node_inbox.specs.Inboxes.{InboxView}
 use Rattle.control_cast.specs.declared.event.CastEvent.{CastEvent}
 use Rattle.control_cast.specs.Machine.{Packet, State, is_enabled}
 use Rattle.control_cast.specs.CastNodes.{NodeView}
-use Rattle.control_cast.specs.CastNets.{AreInitial, AreNodes, HasDone, IsNet, state_with}
+use Rattle.control_cast.specs.CastNets.{AreInitial, HasDone, IsNet, state_with}
 use Rattle.control_cast.specs.CastEvents.{AreCounted, AreCountedBut}
-use Rattle.control_cast.proofs.Counting.{all_below, counts_stay, nothing_counted}
+use Rattle.control_cast.proofs.Counting.{counts_stay, nothing_counted}
 use Rattle.control_cast.proofs.Reached.{reached_more}
 
 -- no event leads to the start

@@ -1,8 +1,9 @@
 -- The events of a node that may come next, by the node and what waits for it.
-use Rattle.std.specs.Prelude.{◌≡◌, ◌<◌, ℕ, Bool, false, ◌&&◌, nat_lt, cond, List, [], ◌∷◌, ◌++◌, map, filter, length, slice_get, Some}
+use Rattle.std.specs.Prelude.{ℕ, Bool, ◌&&◌, nat_lt, cond, List, [], ◌∷◌, ◌++◌, map, filter}
 use Rattle.overlay_setup.specs.NodeSets.{member}
 use Rattle.stat_plan.specs.Plans.{Plan, fault, is_front, nodes}
 use Rattle.node_inbox.specs.Inboxes.{Waiting, senders_of}
+use Rattle.count_tree.specs.Places.{AreCountsBut}
 use Rattle.control_cast.specs.declared.event.CastEvent.{CastEvent}
 use Rattle.control_cast.specs.declared.event.CastEvent.TheVariants.{Issue, Recv, Lose}
 use Rattle.stat_plan.specs.Machine.Overlays.{is_spent}
@@ -26,9 +27,8 @@ abbrev pub events_at : Plan → ℕ → State → ℕ → List CastEvent
 events_at p commands st n = filter (is_enabled p commands st) (events_of p n)
 
 -- the counts are those of the events of each node that may come next, but for these nodes
-pub record AreCountedBut (p : Plan) (commands : ℕ) (st : State) (rest : List ℕ) (counts : List ℕ) : Type 0 where
-  pub node_count : length counts ≡ nodes p
-  pub events : (n : ℕ) → n < nodes p → member n rest ≡ false → slice_get counts n ≡ Some (length (events_at p commands st n))
+abbrev pub AreCountedBut : Plan → ℕ → State → List ℕ → List ℕ → Type 0
+AreCountedBut p commands st rest counts = AreCountsBut (λ n. member n rest) (events_at p commands st) (nodes p) counts
 
 -- the counts are those of the events of each node that may come next
 abbrev pub AreCounted : Plan → ℕ → State → List ℕ → Type 0

@@ -1,8 +1,7 @@
 -- A net of a cast as the machine's state, and the journals that lead to it.
 use Rattle.std.specs.Prelude.{◌≡◌, ◌<◌, ℕ, zero, suc, Bool, ◌==◌, cond, List, [], ◌∷◌, ◌++◌, length, false, slice_get, slice_set, slice_index_or, Some}
-use Rattle.std.specs.List.{AllByRecursion}
 use Rattle.overlay_setup.specs.NodeSets.{member}
-use Rattle.stat_plan.specs.Plans.{Plan, nodes, is_related}
+use Rattle.stat_plan.specs.Plans.{AreNodes, Plan, nodes, is_related}
 use Rattle.stat_plan.specs.Machine.Kin.{start_kin}
 use Rattle.loss_adoption.specs.NodeKins.{IsKinOf}
 use Rattle.node_inbox.specs.Inboxes.{InboxView, queue_of}
@@ -10,10 +9,6 @@ use Rattle.node_inbox.specs.Sends.{inbox_at, is_alive}
 use Rattle.control_cast.specs.declared.event.CastEvent.{CastEvent}
 use Rattle.control_cast.specs.Machine.{Packet, Down, State, Outcome, obey, received, start, step, after, IsLegal}
 use Rattle.control_cast.specs.CastNodes.{NodeView, node_kin, obeyed_of, left_of}
-
--- each is a node of the plan
-abbrev pub AreNodes : Plan → List ℕ → Type 0
-AreNodes p numbers = AllByRecursion (λ n. n < nodes p) numbers
 
 -- a node that has done no event
 abbrev pub start_view : Plan → ℕ → NodeView

@@ -1,10 +1,9 @@
 //! The events that may come next: how many each node has, and which the `i`-th is.
 
 ghost use Rattle.std.specs.Prelude.{◌≡◌, ◌<◌, ◌≤◌, true, length, map, slice_get};
-ghost use Rattle.stat_plan.specs.Plans.{nodes};
+ghost use Rattle.stat_plan.specs.Plans.{AreNodes, nodes};
 ghost use Rattle.node_inbox.specs.Inboxes.{senders_of};
 ghost use Rattle.control_cast.specs.CastEvents.{AreCounted, AreCountedBut, active_events, events_at, may_issue, own_events};
-ghost use Rattle.control_cast.specs.CastNets.{AreNodes};
 ghost use Rattle.control_cast.specs.CastStates.{IsNetOf, nodes_state};
 ghost use Rattle.control_cast.specs.declared.event.CastEvent.TheVariants.{Recv};
 

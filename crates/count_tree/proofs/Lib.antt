@@ -3,3 +3,4 @@ pub mod Lists
 pub mod Trees
 pub mod Changes
 pub mod Descents
+pub mod Counted

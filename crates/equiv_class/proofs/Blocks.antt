@@ -7,11 +7,12 @@ use Rattle.std.specs.Ordering.{nat_cmp, eq_by_cmp}
 use Rattle.std.specs.Cmp.{both_ways, unsigned_tied}
 use Rattle.std.proofs.lemmas.Bool.{true≢false, and_parts, eqb-true, ltb-true, or_right, false_from_ne_true}
 use Rattle.rank_set.specs.Ranks.{Ranks, has, in_order, size, those, has-in_order, has-those, same_ranks}
+use Rattle.rank_set.proofs.Ordered.{filter_on, filter_twice, in_order-those, map_on}
 use Rattle.call_path.specs.Path.{Path}
 use Rattle.call_path.specs.Pairs.{Pairs}
 use Rattle.equiv_class.specs.Classes.{equivalent, is_least, paths_of, classes_of}
 use Rattle.equiv_class.proofs.Equivalent.{equivalent-from_paths, paths-from_equivalent}
-use Rattle.equiv_class.proofs.Ordered.{any_by_member, first_below, filter_on, filter_twice, in_order-those, kept_in, map_on}
+use Rattle.equiv_class.proofs.Ordered.{any_by_member, first_below, kept_in}
 
 -- each rank is equivalent to itself
 pub equivalent_itself : (P : Pairs) (r : ℕ) → equivalent P r r ≡ true

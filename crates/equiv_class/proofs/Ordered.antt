@@ -1,10 +1,10 @@
 -- Sets of ranks, and their members in order.
-use Rattle.std.proofs.Common.{◌≡◌, ℕ, ◌<◌, Bool, true, false, cond, ◌&&◌, ◌||◌, nat_lt, List, [], ◌∷◌, map, refl, sym, ap, ◌∙◌, subst, inl, inr}
+use Rattle.std.proofs.Common.{◌≡◌, ℕ, ◌<◌, Bool, true, false, cond, ◌||◌, nat_lt, List, [], ◌∷◌, sym, ap, ◌∙◌, subst, inl, inr}
 use Rattle.std.specs.List.{list_any, list_all, filter}
 use Rattle.std.specs.Ordering.{nat_cmp, eq_by_cmp, is_eq}
 use Rattle.std.specs.Cmp.{nat_cmp_total, unsigned_tied, tied_itself}
 use Rattle.std.proofs.lemmas.Bool.{true≢false, and_parts, or_cases, or_right, eqb-true, ltb-true}
-use Rattle.rank_set.specs.Ranks.{Ranks, in_order, those, is_strictly_increasing, from_T}
+use Rattle.rank_set.specs.Ranks.{Ranks, in_order, is_strictly_increasing, from_T}
 
 -- a number is tied with itself
 pub tied_self : (r : ℕ) → eq_by_cmp nat_cmp r r ≡ true
@@ -13,11 +13,6 @@ tied_self r = ap is_eq (tied_itself nat_cmp_total r)
 -- tied numbers are equal
 pub same_number : (x y : ℕ) → eq_by_cmp nat_cmp x y ≡ true → x ≡ y
 same_number x y e = eqb-true x y (sym (unsigned_tied x y) ∙ e)
-
--- what is left in order, after a test
-pub in_order-those : (t : ℕ → Bool) (s : Ranks) → in_order (those t s) ≡ filter t (in_order s)
-unfolding those
-in_order-those t s = refl
 
 -- a member of a list whose members are all above a rank
 pub above_all : (x y : ℕ) (ys : List ℕ) → list_all (λ z. nat_lt x z) ys ≡ true → list_any (eq_by_cmp nat_cmp y) ys ≡ true → x < y
@@ -45,27 +40,6 @@ any_by_member t q [] e passes = absurd (true≢false (sym e))
 any_by_member t q (x ∷ xs) e passes = elim (or_cases (eq_by_cmp nat_cmp q x) (list_any (eq_by_cmp nat_cmp q) xs) e) [
   | inl here ↦ ap (λ y. t y || list_any t xs) (sym (same_number q x here)) ∙ ap (λ b. b || list_any t xs) passes
   | inr later ↦ or_right (t x) (list_any t xs) (any_by_member t q xs later passes)
-]
-
--- tests that agree at each member keep the same members
-pub filter_on : (p q : ℕ → Bool) (xs : List ℕ) → ((x : ℕ) → list_any (eq_by_cmp nat_cmp x) xs ≡ true → p x ≡ q x) → filter p xs ≡ filter q xs
-filter_on p q [] each = refl
-filter_on p q (x ∷ xs) each =
-    (λ i. cond (each x (ap (λ b. b || list_any (eq_by_cmp nat_cmp x) xs) (tied_self x)) i) (x ∷ filter p xs) (filter p xs))
-    ∙ ap (λ ys. cond (q x) (x ∷ ys) ys) (filter_on p q xs (λ y one. each y (or_right (eq_by_cmp nat_cmp y x) (list_any (eq_by_cmp nat_cmp y) xs) one)))
-
--- functions that agree at each member give the same list
-pub map_on : {B : Type 0} (f g : ℕ → B) (xs : List ℕ) → ((x : ℕ) → list_any (eq_by_cmp nat_cmp x) xs ≡ true → f x ≡ g x) → map f xs ≡ map g xs
-map_on f g [] each = refl
-map_on f g (x ∷ xs) each =
-    (λ i. each x (ap (λ b. b || list_any (eq_by_cmp nat_cmp x) xs) (tied_self x)) i ∷ map_on f g xs (λ y one. each y (or_right (eq_by_cmp nat_cmp y x) (list_any (eq_by_cmp nat_cmp y) xs) one)) i)
-
--- two tests, one after the other
-pub filter_twice : (p q : ℕ → Bool) (xs : List ℕ) → filter p (filter q xs) ≡ filter (λ x. q x && p x) xs
-filter_twice p q [] = refl
-filter_twice p q (x ∷ xs) = elim (q x) as (λ b. filter p (cond b (x ∷ filter q xs) (filter q xs)) ≡ cond (b && p x) (x ∷ filter (λ y. q y && p y) xs) (filter (λ y. q y && p y) xs)) [
-  | true ↦ ap (λ ys. cond (p x) (x ∷ ys) ys) (filter_twice p q xs)
-  | false ↦ filter_twice p q xs
 ]
 
 -- a member that passed a test was a member

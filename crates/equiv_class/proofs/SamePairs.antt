@@ -5,6 +5,7 @@ use Rattle.std.specs.Cmp.{both_ways}
 use Rattle.std.specs.Ordering.{nat_cmp, eq_by_cmp}
 use Rattle.std.proofs.lemmas.Bool.{or_right, false_from_ne_true}
 use Rattle.rank_set.specs.Ranks.{Ranks, has, those, in_order, has-in_order, has-those, same_ranks}
+use Rattle.rank_set.proofs.Ordered.{filter_on, map_on}
 use Rattle.call_path.specs.Path.{Path}
 use Rattle.call_path.specs.Pairs.{HasNoEmptyPath, Pairs, is_pair}
 use Rattle.prefix_tree.specs.Tree.{Tree, pairs_of, tree_of}
@@ -12,7 +13,7 @@ use Rattle.prefix_tree.proofs.PairLemmas.{is_pair-pairs_of}
 use Rattle.prefix_tree.proofs.TreeLemmas.{IsTreeOf-from_equal, coverage-tree_of}
 use Rattle.equiv_class.specs.Classes.{equivalent, paths_of, classes_of, is_least}
 use Rattle.equiv_class.proofs.Equivalent.{equivalent-from_paths, paths-from_equivalent}
-use Rattle.equiv_class.proofs.Ordered.{filter_on, kept_in, map_on, tied_self}
+use Rattle.equiv_class.proofs.Ordered.{kept_in, tied_self}
 use Rattle.equiv_class.proofs.PathsInOrder.{paths_of-same}
 
 -- pairs that are the same at covered ranks make the same classes

@@ -4,6 +4,7 @@ use Rattle.std.specs.List.{AllByRecursion, list_any, filter}
 use Rattle.std.proofs.Math.Bool.{and_comm}
 use Rattle.std.proofs.lemmas.Simd.{map-map}
 use Rattle.rank_set.specs.Ranks.{Ranks, in_order, those}
+use Rattle.rank_set.proofs.Ordered.{map_on}
 use Rattle.call_path.specs.Path.{Path}
 use Rattle.call_path.specs.Pairs.{Pairs}
 use Rattle.equiv_class.specs.Classes.{classes_of, equivalent, is_least, paths_of}
@@ -15,7 +16,6 @@ use Rattle.equiv_class.specs.declared.rank_blocks.Block.{Block}
 use Rattle.equiv_class.specs.declared.rank_blocks.Blocks.{Blocks}
 use Rattle.equiv_class.specs.declared.states.Origin.{Origin}
 use Rattle.equiv_class.proofs.Filling.{turned}
-use Rattle.equiv_class.proofs.Ordered.{map_on}
 
 -- the first of a state is the least of its class
 first_is_least : (P : Pairs) (es : List (Path × Ranks)) (C : Ranks) (states : List ℕ) → AreStates states es → Lists P es → (r : ℕ) → is_first states C r ≡ is_least P C r

@@ -7,9 +7,10 @@ use Rattle.std.proofs.Math.Bool.{or-false, or-true}
 use Rattle.std.proofs.lemmas.List.{map-append}
 use Rattle.rank_set.specs.Ranks.{Ranks, has, in_order, is_empty, is_strictly_increasing, has-in_order}
 use Rattle.rank_set.specs.Runs.{IsRun}
+use Rattle.rank_set.proofs.Ordered.{filter_on, in_order-those}
 use Rattle.equiv_class.specs.States.{is_first, states_in_order, with_state}
 use Rattle.equiv_class.proofs.Filling.{AreFilled, of_state_below, same_side}
-use Rattle.equiv_class.proofs.Ordered.{above_all, any_by_member, filter_on, in_order-those, increasing_members, same_number}
+use Rattle.equiv_class.proofs.Ordered.{above_all, any_by_member, increasing_members, same_number}
 
 -- the states of the ranks below an end, by their least ranks
 abbrev pub order_below : List ℕ → Ranks → ℕ → List ℕ

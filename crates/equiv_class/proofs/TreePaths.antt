@@ -12,7 +12,7 @@ use Rattle.call_path.specs.Path.{Path, path_cmp, is_path, path_cmp_total, path_c
 use Rattle.call_path.specs.Pairs.{is_pair}
 use Rattle.prefix_tree.specs.Tree.{Tree, Marks, pairs_of}
 use Rattle.prefix_tree.specs.Joined.{in_rows, ended}
-use Rattle.prefix_tree.proofs.Rows.{in_rows-entries, first, second, less, none_from}
+use Rattle.prefix_tree.proofs.Rows.{both, first, in_rows-entries, less, none_from, own_row, second}
 use Rattle.prefix_tree.proofs.PairLemmas.{is_pair-pairs_of}
 use Rattle.equiv_class.specs.Classes.{equivalent, same_answer, paths_of}
 use Rattle.equiv_class.specs.SeenPaths.{Lists, ends_at, has_ends, paths_to, same_paths, seen_in}
@@ -31,18 +31,6 @@ same_rows r s (e ∷ es) q each =
 
 pair_rows : (t : Tree) (r : ℕ) (q : Path) → is_pair (pairs_of t) r q ≡ in_rows (ended r) (finmap.entries t.below) q
 pair_rows t r q = is_pair-pairs_of t r q ∙ sym (in_rows-entries (ended r) t.below q)
-
--- in a list in order a row is the only one of its path
-own_row : (test : Marks → Bool) (e : Path × Marks) (es : List (Path × Marks)) → T (finmap.is_sorted path_cmp (e ∷ es)) → in_rows test (e ∷ es) e.0 ≡ test e.1
-own_row test e es up = ap (λ b. (b && test e.1) || in_rows test es e.0) (is_path-itself e.0) ∙ ap (λ b. test e.1 || b) (after es up) ∙ or_false (test e.1)
-  where
-    or_false : (a : Bool) → (a || false) ≡ a
-    or_false true = refl
-    or_false false = refl
-
-    after : (fs : List (Path × Marks)) → T (finmap.is_sorted path_cmp (e ∷ fs)) → in_rows test fs e.0 ≡ false
-    after [] u = refl
-    after (f ∷ fs) u = none_from test e.0 f fs (less _ (first _ _ (first _ _ u))) (second _ _ u)
 
 -- a later row has another path than an earlier one
 skip_row : (test : Marks → Bool) (e f : Path × Marks) (es : List (Path × Marks)) → T (finmap.is_sorted path_cmp (e ∷ es)) → in_rows (λ m. true) es f.0 ≡ true → in_rows test (e ∷ es) f.0 ≡ in_rows test es f.0
@@ -86,17 +74,13 @@ find_marked r (e ∷ es) q = elim (has e.1.1 r) as (λ b. is_some (finmap.find p
   | false ↦ find_marked r es q ∙ elim (is_path q e.0) as (λ c. in_rows (ended r) es q ≡ (c && false || in_rows (ended r) es q)) [ true ↦ refl | false ↦ refl ]
 ]
 
-and_T : (a b : Bool) → T a → T b → T (a && b)
-and_T true b p q = q
-and_T false b p q = absurd p
-
 below_marked : (r : ℕ) (k : Path) (es : List (Path × Marks)) → T (below_all path_cmp k es) → T (below_all path_cmp k (marked_rows r es))
 below_marked r k [] up = tt
 below_marked r k (e ∷ es) up =
     let lt : T (is_lt (path_cmp k e.0)) = first (is_lt (path_cmp k e.0)) (below_all path_cmp k es) up in
     let rest : T (below_all path_cmp k (marked_rows r es)) = below_marked r k es (second (is_lt (path_cmp k e.0)) (below_all path_cmp k es) up) in
     elim (has e.1.1 r) as (λ b. T (below_all path_cmp k (map (λ e. let m : Path × Unit {0} = (e.0, tt) in m) (cond b (e ∷ filter (λ e. has e.1.1 r) es) (filter (λ e. has e.1.1 r) es))))) [
-      | true ↦ and_T (is_lt (path_cmp k e.0)) (below_all path_cmp k (marked_rows r es)) lt rest
+      | true ↦ both (is_lt (path_cmp k e.0)) (below_all path_cmp k (marked_rows r es)) lt rest
       | false ↦ rest
     ]
 
@@ -106,7 +90,7 @@ marked_sorted r (e ∷ es) up =
     let under : T (below_all path_cmp e.0 es) = first (below_all path_cmp e.0 es) (finmap.is_sorted path_cmp es) up in
     let rest : T (finmap.is_sorted path_cmp (marked_rows r es)) = marked_sorted r es (second (below_all path_cmp e.0 es) (finmap.is_sorted path_cmp es) up) in
     elim (has e.1.1 r) as (λ b. T (finmap.is_sorted path_cmp (map (λ e. let m : Path × Unit {0} = (e.0, tt) in m) (cond b (e ∷ filter (λ e. has e.1.1 r) es) (filter (λ e. has e.1.1 r) es))))) [
-      | true ↦ and_T (below_all path_cmp e.0 (marked_rows r es)) (finmap.is_sorted path_cmp (marked_rows r es)) (below_marked r e.0 es under) rest
+      | true ↦ both (below_all path_cmp e.0 (marked_rows r es)) (finmap.is_sorted path_cmp (marked_rows r es)) (below_marked r e.0 es under) rest
       | false ↦ rest
     ]
 

@@ -37,8 +37,8 @@ row_entry t i row d le lt h =
     at (x ∷ es) zero l s = s
     at (x ∷ es) (suc k) l s = at es k (omega arith) s
 
--- and for the frames
-frames_step : (t : Tree) → IsTree t → (i : ℕ) (row : Row) (before after : Path) → 1 ≤ i → i < length (rows_of t) → IfSome (slice_get (rows_of t) i) (Shows row) → 0 < row.depth
+-- the path of the next row
+pub frames_step : (t : Tree) → IsTree t → (i : ℕ) (row : Row) (before after : Path) → 1 ≤ i → i < length (rows_of t) → IfSome (slice_get (rows_of t) i) (Shows row) → 0 < row.depth
     → before ≡ (get_or (rows_of t) (i - 1) ([], (none, none))).0 → after ≡ take (row.depth - 1) before ++ row.frame.now ∷ []
     → (after ≡ (get_or (rows_of t) ((i + 1) - 1) ([], (none, none))).0) × (after ≡ (get_or (finmap.entries t.below) (i - 1) ([], (none, none))).0)
 frames_step t tree i row before after le lt h some so_far is =

@@ -14,8 +14,7 @@ use Rattle.overlay_core.specs.Runs.{after, IsLegal, IsQuiet}
 use Rattle.overlay_core.specs.Independent.{sender_of}
 use Rattle.stat_plan.proofs.PlanFacts.{plan_facts}
 use Rattle.overlay_core.proofs.Journals.{listed_where_enabled, quiet_where_empty}
-use Rattle.overlay_core.proofs.ParentLinks.{list_any_in}
-use Rattle.stat_plan.proofs.InLists.{any_from_in, in_from_filter, in_filter, up_to_in}
+use Rattle.stat_plan.proofs.InLists.{any_from_in, in_from_filter, in_filter, up_to_in, in_from_any}
 use Rattle.overlay_core.proofs.Steps.{active_parts}
 use Rattle.overlay_core.proofs.Whole.{lives_below, start_below}
 use Rattle.event_claims.specs.Claims.{Outs, MayBeOut, MayBeClaimed, is_home, is_loss_of, receives_from, is_free, is_claimable, claimable_events}
@@ -77,8 +76,8 @@ may_claimable p st out e h c = and_from (is_home (out (event_node e))) (is_free 
     free (Recv n m) sender packets = ap not (false_from_ne_true (is_loss_of (out m) m) (λ t. sender m refl (loss_is (out m) m t)))
     free (Tick n) sender packets = refl
     free (Lose n) sender packets = ap not (false_from_ne_true (list_any (λ k. receives_from (out k) n) (up_to (nodes p))) (λ t.
-        let k = list_any_in (λ k. receives_from (out k) n) (up_to (nodes p)) t in
-        let q = packet_is (out k.0) n k.2 in
+        let k = in_from_any (λ k. receives_from (out k) n) (up_to (nodes p)) t in
+        let q = packet_is (out k.0) n k.1.1 in
         let own : q.0 ≡ k.0 = h.own k.0 (Recv q.0 n) q.1 in
         packets n k.0 refl (q.1 ∙ ap (λ j. Some (Recv j n)) own)))
 

@@ -5,9 +5,10 @@ use Rattle.std.proofs.lemmas.Bool.Decides.{nat_tests}
 use Rattle.std.proofs.lemmas.List.FromFn.{length-map-range_with_len}
 use Rattle.overlay_setup.specs.Names.{number_of}
 use Rattle.overlay_setup.specs.Trees.{is_daemon, is_other}
+use Rattle.stat_plan.proofs.Elements.{all_append}
 use Rattle.generated_job.specs.Texts.{numbers, front_name, middle_name, daemon_name}
 use Rattle.generated_job.specs.Job.{nodes_with}
-use Rattle.generated_job.proofs.Rows.{row_append, row_all, all_append}
+use Rattle.generated_job.proofs.Rows.{row_append, row_all}
 use Rattle.generated_job.proofs.Names.{none_append, number_seam, none_of_row}
 use Rattle.generated_job.proofs.Tokens.{and_all}
 use Rattle.generated_job.proofs.Topology.{middles_differ, daemons_differ, no_daemon_before}

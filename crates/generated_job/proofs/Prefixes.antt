@@ -4,9 +4,7 @@ use Rattle.std.specs.Fmt.{decimal}
 use Rattle.std.specs.List.{range_with_len, AllByRecursion, list_any, flat_map}
 use Rattle.std.specs.Prelude.{find}
 use Rattle.std.specs.Ordering.{eq_by_cmp, nat_cmp}
-use Rattle.std.specs.Cmp.{Equal-is}
 use Rattle.std.specs.Cmp.Lexicographic.{slice_cmp}
-use Rattle.std.specs.FinMap as finmap
 use Rattle.std.proofs.lemmas.Bool.{true≢false, and_parts, or_cases, or_left, or_right, le-leb}
 use Rattle.std.proofs.lemmas.Cmp.{eq_by_cmp_equiv}
 use Rattle.std.proofs.lemmas.List.Folds.{list_any-append}
@@ -16,6 +14,7 @@ use Rattle.call_path.specs.Pairs.{Pairs, pairs_at, prefixes_of}
 use Rattle.call_path.specs.Path.{Path, is_path, is_prefix, path_cmp_total}
 use Rattle.call_path.proofs.PathLemmas.{is_path-itself}
 use Rattle.prefix_tree.proofs.PairLemmas.{any-flat_map}
+use Rattle.prefix_tree.proofs.GoodPaths.{same_frame}
 use Rattle.overlay_setup.specs.Scripts.{Scripted, Stream}
 use Rattle.overlay_setup.specs.Topologies.{Nodes}
 use Rattle.overlay_setup.specs.declared.script.Grain.{Grain}
@@ -27,9 +26,10 @@ use Rattle.stat_plan.specs.declared.plan_error.PlanError.{PlanError}
 use Rattle.stat_plan.specs.declared.plan_error.PlanError.TheVariants.{TooManyPrefixes}
 use Rattle.stat_plan.proofs.Counting.{dedup}
 use Rattle.stat_plan.proofs.WavePrefixes.{any-prefixes_of}
+use Rattle.stat_plan.proofs.Elements.{all_append}
 use Rattle.generated_job.specs.Texts.{numbers, path_with, sampled_path}
 use Rattle.generated_job.specs.Job.{job_plan, job_nodes, job_samples, job_script, sample_of}
-use Rattle.generated_job.proofs.Rows.{row_all, all_append}
+use Rattle.generated_job.proofs.Rows.{row_all}
 
 -- a path of one of the 12 kinds
 pub record IsKnown (path : Path) : Type 0 where
@@ -73,9 +73,6 @@ in_three test a b low few e =
         same_numbers : (n a : ℕ) → range_with_len a n ≡ map (λ x. x) (range_with_len a n)
         same_numbers zero a = refl
         same_numbers (suc n) a = ap (λ t. a ∷ t) (same_numbers n (a + 1))
-
-same_frame : (f g : List ℕ) → eq_by_cmp (slice_cmp nat_cmp) f g ≡ true → f ≡ g
-same_frame f g e = finmap.slice_cmp-IsAntisymmetric finmap.nat_cmp-IsAntisymmetric f g ((Equal-is (slice_cmp nat_cmp f g)).0 e)
 
 is_itself : (p q : Path) → p ≡ q → is_path p q ≡ true
 is_itself p q e = subst (λ x. is_path p x ≡ true) e (is_path-itself p)

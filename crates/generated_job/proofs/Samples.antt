@@ -13,17 +13,19 @@ use Rattle.call_path.specs.Path.{path_text}
 use Rattle.call_path.specs.Good.{IsGoodPath, is_good_frame, is_plain}
 use Rattle.call_path.proofs.ReadBack.{good_read}
 use Rattle.text_lines.specs.Lines.{lines, words, are_none, after_word, after_blanks}
-use Rattle.text_lines.specs.Parsing.{and_then, some_or, parsed_lines}
+use Rattle.text_lines.specs.Parsing.{and_then, some_or, parsed_lines, if_holds}
 use Rattle.text_lines.proofs.Parsing.{parsed_none, parsed_good}
 use Rattle.overlay_setup.specs.Daemons.{if_daemon, daemon_named}
 use Rattle.stat_plan.specs.Plans.{sampled}
 use Rattle.stat_plan.specs.Samples.{SampleLine, all_ranks}
+use Rattle.stat_plan.proofs.Elements.{all_append}
 use Rattle.overlay_setup.specs.Topologies.{Nodes}
 use Rattle.overlay_setup.specs.Trees.{is_daemon}
 use Rattle.text_lines.specs.declared.text_error.TextError.TheVariants.{Bad}
 use Rattle.text_lines.specs.declared.text_error.Reason.TheVariants.{NotADaemon, BadTime}
 use Rattle.sample_text.specs.Words.{Daemon, Stack, read_line, directive, path_in}
-use Rattle.sample_text.specs.Steps.{if_holds, daemon_on, ranks_or_error, ranks_on, time_at, time_on, are_disjoint, add_at, with_line}
+use Rattle.sample_text.specs.Steps.{daemon_on, time_at, time_on, are_disjoint, add_at, with_line}
+use Rattle.text_lines.specs.RanksWords.{ranks_or_error, ranks_on}
 use Rattle.sample_text.specs.Whole.{empty_sets, nothing_parsed, lacks_rank, whole, samples_of_text}
 use Rattle.sample_text.proofs.Lines.{whole_good}
 use Rattle.sample_text.proofs.Sets.{in_any, has-all_ranks}
@@ -35,7 +37,7 @@ use Rattle.generated_job.specs.Job.{nodes_with, job_nodes, daemon_ranks, sample_
 use Rattle.generated_job.specs.Written.{IsWord, IsLine, is_graphic}
 use Rattle.generated_job.proofs.Lines.{all_both, lines_are, words_are, line_good, line_utf8, first_off, next_off, last_left, decimal_graphic, decimal_word, numbered_word, number_is}
 use Rattle.generated_job.proofs.RankTexts.{rank_read, run_read}
-use Rattle.generated_job.proofs.Rows.{row_append, row_all, all_append}
+use Rattle.generated_job.proofs.Rows.{row_append, row_all}
 use Rattle.generated_job.proofs.Nodes.{length-parents, daemon_number, daemon_is, middle_is}
 
 -- ---- what the lines say

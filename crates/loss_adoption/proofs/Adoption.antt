@@ -1,5 +1,5 @@
 -- What a loss and an attach leave of a node's kin.
-use Rattle.std.proofs.Common.{◌≡◌, ◌≢◌, ◌<◌, ℕ, true, false, List, [], length, refl, sym, ap, subst, ◌∙◌, inl, inr, Option, None, Some, eqb-true, le_refl}
+use Rattle.std.proofs.Common.{◌≡◌, ◌≢◌, ◌<◌, ℕ, true, false, List, [], length, refl, sym, ap, subst, ◌∙◌, inl, inr, Option, None, Some, le_refl}
 use Rattle.std.specs.List.{AllByRecursion}
 use Rattle.std.proofs.lemmas.Bool.{cond-true, cond-false}
 use Rattle.overlay_setup.specs.NodeSets.{member, up_to, with_number, without_number}
@@ -8,7 +8,7 @@ use Rattle.stat_plan.specs.Machine.Kin.{Kin, after_loss, children_of, is_parent,
 use Rattle.stat_plan.specs.Plans.{Plan, ancestors, front, nodes}
 use Rattle.stat_plan.proofs.Elements.{all_from}
 use Rattle.stat_plan.proofs.InLists.{in_from_filter, up_to_below}
-use Rattle.stat_plan.proofs.KinLemmas.{member_more, nearest_same, nearest_some}
+use Rattle.stat_plan.proofs.KinLemmas.{member_more, nearest_same, nearest_some, is_parent_some}
 use Rattle.stat_plan.proofs.Rooted.{IsRooted, ancestors_end, rooted, under_front}
 use Rattle.loss_adoption.specs.declared.reaction.Reaction.{Reaction}
 use Rattle.loss_adoption.specs.declared.reaction.Reaction.TheVariants.{Stay, NewParent}
@@ -31,10 +31,6 @@ pub record IsAfterLoss (p : Plan) (old : NodeKin) (m : ℕ) (new : NodeKin) (rea
   pub kin : new ≡ record { node = old.node; kin = after_loss p old.node old.kin m }
   pub reaction_is : IsReactionTo old m new reaction
   pub fits : IsKinOf p new
-
-parent_is : (o : Option ℕ) (m : ℕ) → is_parent o m ≡ true → o ≡ Some m
-parent_is None m e = absurd (cc)
-parent_is (Some a) m e = ap Some (eqb-true a m e)
 
 -- the front end is still not known to be lost
 front_still : (p : Plan) (m : ℕ) (lost more : List ℕ) → m ≢ front p → member (front p) lost ≡ false → more ≡ with_number m lost → member (front p) more ≡ false
@@ -81,7 +77,7 @@ pub some_parent : (p : Plan) (v : NodeKin) (n : ℕ) (o : Option ℕ) (children 
 some_parent p v n o children lost more m is plan fits ne parent added nothing = elim (under_front p (length (ancestors p n)) n tree (le_refl _) old.node) [
   | (inl top) ↦
       let none_above : ancestors p n ≡ [] = ap (ancestors p) top ∙ ancestors_end p (front p) tree tree.root in
-      let is_some : o ≡ Some m = parent_is o m parent in
+      let is_some : o ≡ Some m = is_parent_some o m parent in
       let no_parent : o ≡ None = old.parent ∙ ap (λ above. nearest above lost) none_above in
       cc
   | (inr under) ↦

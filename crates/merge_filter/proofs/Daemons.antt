@@ -3,16 +3,15 @@ use Rattle.std.proofs.Common.{◌≡◌, ℕ, ◌<◌, inl, inr, Bool, true, fal
 use Rattle.std.specs.Prelude.{find, IsSome}
 use Rattle.std.specs.List.{AllByRecursion}
 use Rattle.std.proofs.lemmas.Bool.{true≢false, or_left, or_right}
-use Rattle.rank_set.specs.Ranks.{Ranks, none, has, Has, IsSubset, union, has-union}
+use Rattle.rank_set.specs.Ranks.{Ranks}
 use Rattle.stat_plan.specs.Invariants.{IsPlan}
 use Rattle.overlay_setup.specs.Scripts.{IsDaemon, IsStream, Stream}
 use Rattle.overlay_setup.specs.NodeSets.{In, member, up_to}
-use Rattle.stat_plan.specs.Samples.{ranks_with}
 use Rattle.stat_plan.specs.Plans.{Plan, ancestors, daemons, expected, front, grain, is_under, is_within, nodes, nodes_of, ranks, sample_count, ranks_on, stream_of, stream_ranks, those_within, waves_of}
 use Rattle.overlay_setup.specs.declared.script.Grain.{Grain}
 use Rattle.overlay_setup.specs.declared.script.Grain.TheVariants.{Line}
 use Rattle.stat_plan.proofs.FirstOver.{all_in, found_in}
-use Rattle.stat_plan.proofs.InLists.{in_append, in_from_map, in_map, in_member}
+use Rattle.stat_plan.proofs.InLists.{in_append, in_from_map, in_member}
 use Rattle.stat_plan.proofs.Rooted.{rooted, under_front}
 use Rattle.merge_filter.specs.Contributions.{HasWave}
 
@@ -44,10 +43,6 @@ pub grain_at : (p : Plan) (s : ℕ) (x : Stream) → stream_of p s ≡ Some x �
 unfolding grain
 grain_at p s x is = sym (ap (λ (o : Option Stream). elim o as (λ _. Grain) [ None ↦ Line | (Some x) ↦ x.grain ]) is)
 
-pub daemons_at : (p : Plan) (s : ℕ) (x : Stream) → stream_of p s ≡ Some x → x.daemons ≡ daemons p s
-unfolding daemons
-daemons_at p s x is = sym (ap (λ (o : Option Stream). elim o as (λ _. List ℕ) [ None ↦ [] | (Some x) ↦ x.daemons ]) is)
-
 -- a daemon of a stream is a node
 pub daemon_is_node : (p : Plan) (s d : ℕ) → IsPlan p → In d (daemons p s) → d < nodes p
 unfolding daemons stream_of
@@ -58,20 +53,6 @@ daemon_is_node p s d plan there = by (find (λ x. x.number == s) p.streams) refl
     by (Some x) is there =
         let stream = found_in (λ x. x.number == s) p.streams x is in
         (all_in (IsDaemon (nodes_of p)) x.daemons d (all_in (λ (x : Stream). AllByRecursion (IsDaemon (nodes_of p)) x.daemons) p.streams x plan.script_fits.daemons stream) there).0
-
-grown : (C : Ranks) (Ds : List Ranks) (r : ℕ) → Has r C → Has r (ranks_with C Ds)
-grown C [] r there = there
-grown C (D ∷ Ds) r there = grown (union C D) Ds r (has-union C D r ∙ or_left (has C r) (has D r) there)
-
-comes : (C : Ranks) (Ds : List Ranks) (D : Ranks) (r : ℕ) → In D Ds → Has r D → Has r (ranks_with C Ds)
-comes C [] D r there one = absurd there
-comes C (E ∷ Ds) D r (inl same) one = grown (union C E) Ds r (has-union C E r ∙ or_right (has C r) (has E r) (subst (Has r) same one))
-comes C (E ∷ Ds) D r (inr later) one = comes (union C E) Ds D r later one
-
--- its ranks are ranks of the stream
-pub daemon_lies : (p : Plan) (s d : ℕ) → In d (daemons p s) → IsSubset (ranks p d) (stream_ranks p s)
-unfolding stream_ranks
-daemon_lies p s d there r one = comes none (map (ranks p) (daemons p s)) (ranks p d) r (in_map (ranks p) d (daemons p s) there) one
 
 -- the ranks of all daemons of a stream
 pub all_daemons : (p : Plan) (s : ℕ) → ranks_on p (daemons p s) ≡ stream_ranks p s

@@ -1,8 +1,8 @@
 -- What the loss of a node cuts, node by node.
-use Rattle.std.proofs.Common.{◌≡◌, ◌≢◌, ◌∙◌, ◌<◌, ◌+◌, ℕ, false, ◌==◌, cond, List, [], length, get_or, slice_set, take, sym, ap, subst, inl, inr, eqb-true, eq-eqb, arith}
-use Rattle.std.proofs.lemmas.Bool.{cases_Bool, cond-true, cond-false, eqb-false, true≢false}
+use Rattle.std.proofs.Common.{◌≡◌, ◌≢◌, ◌∙◌, ◌<◌, ◌+◌, ℕ, zero, suc, Bool, true, false, ◌==◌, cond, List, [], length, get_or, slice_set, take, refl, sym, ap, subst, inl, inr, eqb-true, eq-eqb, arith}
+use Rattle.std.proofs.lemmas.Bool.{cases_Bool, cases_lt, cond-true, cond-false, eqb-false, true≢false}
 use Rattle.std.proofs.lemmas.Bool.Decides.{nat_tests}
-use Rattle.std.proofs.lemmas.List.{length-set, get_or-set_same, get_or-set_other, get_or_default}
+use Rattle.std.proofs.lemmas.List.{length-set, get_or-set_same, get_or-set_other, get_or_default, get_or_past}
 use Rattle.std.specs.List.Sorted.{IsStrictlySortedBy}
 use Rattle.std.specs.Ordering.{nat_cmp}
 use Rattle.node_inbox.specs.Inboxes.{HaveSent, InboxView, IsInbox, queue_of, room_for, senders_of}
@@ -62,21 +62,41 @@ module _ {X : Type 0} where
       here : IsCut n keep k (full_inbox_at ia k) (full_inbox_at (slice_set ib k new) k)
       here = subst (λ w. IsCut n keep k w (full_inbox_at (slice_set ib k new) k)) was (subst (IsCut n keep k (get_or ib k box)) (sym (full_here ib k new lt)) one)
 
+  -- what is left of a queue
+  abbrev left_of : (n keep a b : ℕ) → List X → List X
+  left_of n keep a b queue = cond (b == n) [] (cond (a == n) (take keep queue) queue)
+
+  none_left : (n keep a b : ℕ) → left_of n keep a b [] ≡ []
+  none_left n keep a b = by (b == n) (a == n) keep
+    where
+      by : (x y : Bool) (k : ℕ) → ◌≡◌ {A = List X} (cond x [] (cond y (take k []) [])) []
+      by true y k = refl
+      by false true zero = refl
+      by false true (suc k) = refl
+      by false false k = refl
+
+  one_queue_cut : (n keep a b : ℕ) (old new : InboxView X) → IsCut n keep b old new → queue_of new.waiting a ≡ left_of n keep a b (queue_of old.waiting a)
+  one_queue_cut n keep a b old new one = elim (cases_Bool (b == n)) [
+    | (inl t) ↦ ap (λ w. queue_of w a) (one.own t) ∙ sym (cond-true (b == n) [] _ t)
+    | (inr f) ↦ elim (cases_Bool (a == n)) [
+      | (inl s) ↦ let e : a ≡ n = eqb-true a n s in
+          ap (queue_of new.waiting) e ∙ one.cut f ∙ sym (ap (λ c. take keep (queue_of old.waiting c)) e)
+          ∙ sym (cond-true (a == n) (take keep (queue_of old.waiting a)) (queue_of old.waiting a) s)
+          ∙ sym (cond-false (b == n) [] (cond (a == n) (take keep (queue_of old.waiting a)) (queue_of old.waiting a)) f)
+      | (inr s) ↦
+          one.others f a s
+          ∙ sym (cond-false (a == n) (take keep (queue_of old.waiting a)) (queue_of old.waiting a) s)
+          ∙ sym (cond-false (b == n) [] (cond (a == n) (take keep (queue_of old.waiting a)) (queue_of old.waiting a)) f)
+    ]
+  ]
+
   -- all queues at once, as the links of a machine
-  pub queues_cut : (n keep : ℕ) (old new : List (InboxView X)) → AreCut n keep (length old) old new → (a b : ℕ) → b < length old
+  pub queues_cut : (n keep : ℕ) (old new : List (InboxView X)) → AreCut n keep (length old) old new → (a b : ℕ)
       → queue_of (inbox_at new b) a ≡ cond (b == n) [] (cond (a == n) (take keep (queue_of (inbox_at old b) a)) (queue_of (inbox_at old b) a))
-  queues_cut n keep old new h a b lt =
-      let one : IsCut n keep b (full_inbox_at old b) (full_inbox_at new b) = h.done b lt in
-      elim (cases_Bool (b == n)) [
-        | (inl t) ↦ ap (λ w. queue_of w a) (one.own t) ∙ sym (cond-true (b == n) [] _ t)
-        | (inr f) ↦ elim (cases_Bool (a == n)) [
-          | (inl s) ↦ let e : a ≡ n = eqb-true a n s in
-              ap (queue_of (inbox_at new b)) e ∙ one.cut f ∙ sym (ap (λ c. take keep (queue_of (inbox_at old b) c)) e)
-              ∙ sym (cond-true (a == n) (take keep (queue_of (inbox_at old b) a)) (queue_of (inbox_at old b) a) s)
-              ∙ sym (cond-false (b == n) [] (cond (a == n) (take keep (queue_of (inbox_at old b) a)) (queue_of (inbox_at old b) a)) f)
-          | (inr s) ↦
-              one.others f a s
-              ∙ sym (cond-false (a == n) (take keep (queue_of (inbox_at old b) a)) (queue_of (inbox_at old b) a) s)
-              ∙ sym (cond-false (b == n) [] (cond (a == n) (take keep (queue_of (inbox_at old b) a)) (queue_of (inbox_at old b) a)) f)
-        ]
-      ]
+  queues_cut n keep old new h a b = elim (cases_lt b (length old)) [
+    | (inl lt) ↦ one_queue_cut n keep a b (full_inbox_at old b) (full_inbox_at new b) (h.done b lt)
+    | (inr past) ↦
+        let none : full_inbox_at old b ≡ no_inbox = get_or_past old b no_inbox past in
+        ap (λ (w : InboxView X). queue_of w.waiting a) (h.rest b past ∙ none) ∙ sym (none_left n keep a b)
+        ∙ ap (λ (w : InboxView X). left_of n keep a b (queue_of w.waiting a)) (sym none)
+  ]

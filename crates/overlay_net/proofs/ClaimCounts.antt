@@ -1,23 +1,24 @@
 -- Which nodes an event changes: of all others the same events may be claimed as before.
 use Rattle.std.proofs.Common.{◌≡◌, ◌≢◌, ◌∙◌, ◌<◌, ℕ, Bool, false, ◌==◌, ◌||◌, not, cond, List, [], ◌∷◌, filter, length, slice_get, Option, Some, None, option_map, refl, sym, ap, subst, ◌⊎◌, inl, inr, eqb-true}
 use Rattle.std.specs.Prelude.{⊤}
-use Rattle.std.proofs.lemmas.Bool.{cases_Bool, eqb-false, true≢false}
-use Rattle.std.specs.List.{AllByRecursion, list_any}
+use Rattle.std.proofs.lemmas.Bool.{cases_Bool, eqb-false}
+use Rattle.std.specs.List.{list_any}
 use Rattle.overlay_setup.specs.NodeSets.{In, member, up_to}
 use Rattle.overlay_setup.specs.declared.script.Fault.{Fault}
-use Rattle.stat_plan.specs.Plans.{Plan, fault, nodes}
+use Rattle.stat_plan.specs.Plans.{Plan, fault, nodes, AreNodes}
 use Rattle.overlay_event.specs.declared.event.Event.{Event}
 use Rattle.overlay_event.specs.declared.event.Event.TheVariants.{Sample, Recv, Tick, Lose}
 use Rattle.overlay_event.specs.Events.{event_node}
-use Rattle.stat_plan.proofs.InLists.{in_member, up_to_below, up_to_in}
+use Rattle.stat_plan.proofs.InLists.{in_member, up_to_in}
+use Rattle.stat_plan.proofs.Filters.{filter_same}
+use Rattle.count_tree.proofs.Counted.{all_stale}
 use Rattle.event_claims.specs.Claims.{Outs, is_free, is_home, is_loss_of, receives_from}
 use Rattle.overlay_node.specs.NodeViews.{NodeView}
 use Rattle.node_inbox.specs.Sends.{inbox_at, is_alive}
 use Rattle.overlay_net.specs.Inboxes.{FrameInbox}
-use Rattle.overlay_net.specs.Events.{AreCountedBut, AreNodes, AreParts, IsOrdinary}
+use Rattle.overlay_net.specs.Events.{AreCountedBut, AreParts, IsOrdinary}
 use Rattle.overlay_net.specs.Nets.{claims_at, events_at, node_events}
 use Rattle.overlay_net.specs.Sends.{changed, with_first}
-use Rattle.overlay_net.proofs.Listed.{filter_same}
 use Rattle.overlay_net.proofs.Faultless.{faultless_ordinary}
 use Rattle.overlay_net.proofs.Offers.{own_event}
 use Rattle.overlay_net.proofs.PartsInvariant.{or_both_false}
@@ -142,10 +143,10 @@ module _ (p : Plan) (al : List Bool) (xs ys : List NodeView) (ib ic : List Frame
       → ((b : ℕ) → b ≢ event_node e → member b receivers ≡ false → inbox_at ic b ≡ inbox_at ib b)
       → AreCountedBut [] p al xs ib old counts → AreCountedBut (changed p e receivers) p al ys ic new counts
   counts_stay receivers counts node box h = record {
-    node_count = h.node_count;
-    events = λ b lt other.
+    place_count = h.place_count;
+    things = λ b lt other.
         let t = apart receivers b other in
-        h.events b lt refl ∙ ap (λ l. Some (length l)) (sym (claims_stay b t.0 t.1 (node b t.0) (box b t.0 t.2)));
+        h.things b lt refl ∙ ap (λ l. Some (length l)) (sym (claims_stay b t.0 t.1 (node b t.0) (box b t.0 t.2)));
   }
 
 -- a node of the plan, if there is one, before nodes of the plan
@@ -153,17 +154,6 @@ pub first_below : (p : Plan) (o : Option Fault) (m : ℕ) (rest : List ℕ) → 
 first_below p None m rest lt all = all
 first_below p (Some f) m rest lt all = (lt, all)
 
--- all numbers below n are below n
-pub all_below : (n : ℕ) → AllByRecursion (λ k. k < n) (up_to n)
-all_below n = each (up_to n) (up_to_below n)
-  where
-    each : (xs : List ℕ) → ((x : ℕ) → In x xs → x < n) → AllByRecursion (λ k. k < n) xs
-    each [] h = tt
-    each (x ∷ xs) h = (h x (inl refl), each xs (λ y i. h y (inr i)))
-
 -- where all nodes are still to be counted, any counts will do
 pub nothing_counted : (p : Plan) (al : List Bool) (xs : List NodeView) (ib : List FrameInbox) (out : Outs) (counts : List ℕ) → length counts ≡ nodes p → AreCountedBut (up_to (nodes p)) p al xs ib out counts
-nothing_counted p al xs ib out counts count = record {
-  node_count = count;
-  events = λ b lt other. absurd (true≢false (sym (in_member b (up_to (nodes p)) (up_to_in (nodes p) b lt)) ∙ other));
-}
+nothing_counted p al xs ib out counts count = all_stale (claims_at p al xs ib out) (nodes p) (λ b. member b (up_to (nodes p))) counts count (λ b lt. in_member b (up_to (nodes p)) (up_to_in (nodes p) b lt))

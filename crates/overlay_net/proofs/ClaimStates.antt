@@ -1,7 +1,8 @@
 -- The invariant of a net, where an event is claimed.
 use Rattle.std.proofs.Common.{◌≡◌, ◌∙◌, ◌<◌, ℕ, Bool, false, cond, List, [], length, slice_get, slice_set, Option, Some, None, refl, sym, ap, subst, eq-eqb}
 use Rattle.stat_plan.specs.Invariants.{IsPlan}
-use Rattle.stat_plan.specs.Plans.{Plan, fault, nodes}
+use Rattle.stat_plan.specs.Plans.{Plan, fault, nodes, AreNodes}
+use Rattle.stat_plan.proofs.InLists.{all_below}
 use Rattle.overlay_event.specs.declared.event.Event.{Event}
 use Rattle.overlay_event.specs.declared.event.Event.TheVariants.{Sample, Recv, Tick, Lose}
 use Rattle.overlay_event.specs.Events.{event_node}
@@ -10,13 +11,13 @@ use Rattle.overlay_core.specs.TreeReleases.{TreeRelease}
 use Rattle.event_claims.specs.Claims.{MayBeClaimed, is_loss_of}
 use Rattle.overlay_node.specs.NodeViews.{NodeView}
 use Rattle.overlay_net.specs.Inboxes.{FrameInbox}
-use Rattle.overlay_net.specs.Events.{AreCountedBut, AreLosing, AreNodes, IsOrdinary, with_loss}
+use Rattle.overlay_net.specs.Events.{AreCountedBut, AreLosing, IsOrdinary, with_loss}
 use Rattle.overlay_net.specs.Claims.{IsMovedOut}
 use Rattle.overlay_net.specs.Nets.{NetView, state_with}
 use Rattle.overlay_net.specs.Places.{PlaceView, at_home, away, nodes_in, out_at, outs_in, whole_inboxes}
 use Rattle.overlay_net.specs.Sends.{IsTaken, changed}
 use Rattle.overlay_net.specs.States.{IsClaimed, IsNetOf}
-use Rattle.overlay_net.proofs.ClaimCounts.{DifferAt, IsOutOrHome, all_below, counts_stay, first_below, losses_stay, nothing_counted}
+use Rattle.overlay_net.proofs.ClaimCounts.{DifferAt, IsOutOrHome, counts_stay, first_below, losses_stay, nothing_counted}
 use Rattle.overlay_net.proofs.Claiming.{claim_below, claim_moved, claim_within, claim_worked, frames_stay, inbox_stays, net_stays, new_count, new_inboxes, nodes_stay, out_then, outs_are, sender_below, state_stays}
 use Rattle.overlay_net.proofs.LosingCounts.{losing_same, losing_set}
 use Rattle.overlay_net.proofs.Whole.{out_else, out_here}
@@ -79,7 +80,7 @@ module _ (p : Plan) (plan : IsPlan p) (al : List Bool) (ps : List PlaceView) (bo
     counted (Sample n s w) is = stays (Sample n s w) is tt
     counted (Recv n m) is = stays (Recv n m) is tt
     counted (Tick n) is = stays (Tick n) is tt
-    counted (Lose n) is = nothing_counted p al (nodes_in gone) (whole_inboxes gone new) (out_at (outs_in gone)) counts h.counted.node_count
+    counted (Lose n) is = nothing_counted p al (nodes_in gone) (whole_inboxes gone new) (out_at (outs_in gone)) counts h.counted.place_count
 
     -- the claim
     pub claim_is : (room left : ℕ) → IsClaimed e (record { event = e; node = x; frame = f; left = None }) (view p al rs ps boxes room) (view p al rs gone new left)

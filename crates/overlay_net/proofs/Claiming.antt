@@ -17,6 +17,7 @@ use Rattle.overlay_core.specs.Nodes.{Node}
 use Rattle.overlay_core.specs.Runs.{after}
 use Rattle.overlay_core.specs.TreeReleases.{TreeRelease}
 use Rattle.stat_plan.proofs.PlanFacts.{plan_facts}
+use Rattle.count_tree.proofs.Counted.{set_else, set_here}
 use Rattle.overlay_core.proofs.Steps.{legal_sound}
 use Rattle.event_claims.specs.Claims.{MayBeClaimed, MayBeOut, Outs, claimed}
 use Rattle.event_claims.proofs.Claims.{claim_more}
@@ -37,7 +38,6 @@ use Rattle.overlay_net.proofs.PartsInvariant.{taken_all, taken_kept, waits_where
 use Rattle.overlay_net.proofs.Refits.{AreLike, nodes_set, parts_like, reached_like, set_same, state_like}
 use Rattle.overlay_net.proofs.Refitted.{as_many, place_count}
 use Rattle.overlay_net.proofs.SmallCounts.{small_count}
-use Rattle.overlay_net.proofs.States.{set_else, set_here}
 use Rattle.overlay_net.proofs.Whole.{length_whole, node_at_place, out_at_place, out_else, out_here, whole_at, whole_else, whole_here, whole_view, frame_at}
 
 -- what is taken from a node's inbox, which is at home, is taken from the whole one

@@ -5,13 +5,15 @@ use Rattle.std.proofs.lemmas.Option.{none-some, slice_get_within}
 use Rattle.std.specs.List.{AllByRecursion}
 use Rattle.overlay_setup.specs.NodeSets.{member, up_to}
 use Rattle.stat_plan.specs.Invariants.{IsPlan}
-use Rattle.stat_plan.specs.Plans.{Plan, fault, is_related, nodes}
+use Rattle.stat_plan.specs.Plans.{Plan, fault, is_related, nodes, AreNodes}
 use Rattle.overlay_event.specs.declared.event.Event.{Event}
 use Rattle.overlay_event.specs.declared.event.Event.TheVariants.{Sample, Recv, Tick, Lose}
 use Rattle.overlay_event.specs.Events.{event_node}
 use Rattle.overlay_core.specs.Nodes.{Packet, Down}
 use Rattle.overlay_core.specs.Machine.{State, is_active, is_enabled, step}
 use Rattle.stat_plan.specs.Machine.Overlays.{is_pending}
+use Rattle.stat_plan.proofs.InLists.{all_below}
+use Rattle.count_tree.proofs.Counted.{set_else, set_here}
 use Rattle.overlay_core.specs.Runs.{after}
 use Rattle.overlay_core.specs.TreeReleases.{TreeRelease}
 use Rattle.overlay_core.proofs.Journals.{after_more}
@@ -23,14 +25,14 @@ use Rattle.node_inbox.specs.Inboxes.{IsInbox, room_for}
 use Rattle.node_inbox.specs.Sends.{AreSent, GoBelow, HaveRoom, inbox_at, is_alive, room_at}
 use Rattle.overlay_net.specs.Inboxes.{FrameInbox}
 use Rattle.overlay_net.specs.Claims.{ClaimView, IsMovedOut, IsPrepared, Leaves, Left, MayBeWorked, WasWorked, notices}
-use Rattle.overlay_net.specs.Events.{AreCountedBut, AreLosing, AreNodes, IsNet, IsOrdinary, with_loss, without_lost}
+use Rattle.overlay_net.specs.Events.{AreCountedBut, AreLosing, IsNet, IsOrdinary, with_loss, without_lost}
 use Rattle.overlay_net.specs.Handled.{ExtendsBy}
 use Rattle.overlay_net.specs.Losses.{AreCutBy}
 use Rattle.overlay_net.specs.Nets.{IsReachedBy, NetView, net_view_of, state_of, state_with}
 use Rattle.overlay_net.specs.Places.{HasFrame, HaveFrames, PlaceView, at_home, away, nodes_in, out_at, outs_in, whole_inboxes, with_frame}
 use Rattle.overlay_net.specs.Sends.{changed}
 use Rattle.overlay_net.specs.States.{IsCommitted, IsNetOf}
-use Rattle.overlay_net.proofs.ClaimCounts.{DifferAt, IsOutOrHome, all_below, counts_stay, first_below, losses_stay, nothing_counted}
+use Rattle.overlay_net.proofs.ClaimCounts.{DifferAt, IsOutOrHome, counts_stay, first_below, losses_stay, nothing_counted}
 use Rattle.overlay_net.proofs.ClaimStates.{same_net, view}
 use Rattle.overlay_net.proofs.Committed.{extends, net_then, they_are_below}
 use Rattle.overlay_net.proofs.LosingCounts.{losing_same, losing_set}
@@ -38,7 +40,6 @@ use Rattle.overlay_net.proofs.LostCommit.{extends_lost, full_whole, lost_inboxes
 use Rattle.overlay_net.proofs.PartsInvariant.{receiver_is_member, receivers_below, waits_where_some}
 use Rattle.overlay_net.proofs.Refits.{nodes_set, reached_like}
 use Rattle.overlay_net.proofs.Refitted.{as_many, place_count, state_refits}
-use Rattle.overlay_net.proofs.States.{set_else, set_here}
 use Rattle.overlay_net.proofs.Whole.{frame_at, out_else, out_here, whole_else, whole_view}
 
 -- the place of a node that is out
@@ -229,7 +230,7 @@ module _ (p : Plan) (plan : IsPlan p) (al : List Bool) (ps : List PlaceView) (bo
               (net_lost_then p plan al ps boxes rs h.net h.frames h.inbox_count h.inboxes h.out c old.0 old.1 old.2 moved worked k (sym is) left l cut new was_cut to_cut),
           lost_inboxes p plan al ps boxes rs h.net h.frames h.inbox_count h.inboxes h.out c old.0 old.1 old.2 moved worked k (sym is) left l cut new was_cut to_cut,
           sent.inbox_count ∙ was_cut.inbox_count ∙ h.inbox_count,
-          nothing_counted p (slice_set al k false) (nodes_in come) (whole_inboxes come new) (out_at (outs_in come)) counts h.counted.node_count,
+          nothing_counted p (slice_set al k false) (nodes_in come) (whole_inboxes come new) (out_at (outs_in come)) counts h.counted.place_count,
         )
 
     result : Result c.event

@@ -3,7 +3,7 @@ use Rattle.std.proofs.Common.{◌≡◌, ◌∙◌, ◌<◌, ℕ, Bool, true, fa
 use Rattle.std.proofs.lemmas.Bool.{cases_Bool, eqb-false}
 use Rattle.std.proofs.lemmas.List.{length-set}
 use Rattle.stat_plan.specs.Invariants.{IsPlan}
-use Rattle.stat_plan.specs.Plans.{Plan, nodes}
+use Rattle.stat_plan.specs.Plans.{Plan, nodes, AreNodes}
 use Rattle.overlay_event.specs.declared.event.Event.{Event}
 use Rattle.overlay_event.specs.declared.event.Event.TheVariants.{Sample, Recv, Tick, Lose}
 use Rattle.overlay_event.specs.Events.{event_node}
@@ -13,7 +13,7 @@ use Rattle.node_inbox.specs.Inboxes.{IsInbox, queue_of}
 use Rattle.node_inbox.specs.Sends.{AreSent, GoBelow, inbox_at, is_alive, packets_to}
 use Rattle.overlay_net.specs.Inboxes.{FrameInbox}
 use Rattle.overlay_net.specs.Claims.{ClaimView, IsMovedOut, Leaves, Left, MayBeHandled, MayBeWorked}
-use Rattle.overlay_net.specs.Events.{AreNodes, IsNet, IsOrdinary}
+use Rattle.overlay_net.specs.Events.{IsNet, IsOrdinary}
 use Rattle.overlay_net.specs.Handled.{ExtendsBy, HasHandled}
 use Rattle.overlay_net.specs.Nets.{net_view_of, state_with}
 use Rattle.overlay_net.specs.Places.{HaveFrames, PlaceView, at_home, away, nodes_in, out_at, outs_in, whole_inbox, whole_inboxes, with_frame}

@@ -7,10 +7,10 @@ use Rattle.std.specs.List.{AllByRecursion}
 use Rattle.overlay_setup.specs.NodeSets.{up_to}
 use Rattle.stat_plan.specs.Plans.{Plan, fault, is_related, nodes}
 use Rattle.stat_plan.specs.Machine.Overlays.{keep_of, to}
+use Rattle.stat_plan.proofs.Elements.{all_append}
 use Rattle.overlay_core.specs.Nodes.{Packet, Down}
 use Rattle.overlay_node.specs.Frames.{IsFrame, packet_of}
 use Rattle.overlay_node.specs.Outputs.{packets_of}
-use Rattle.overlay_node.proofs.Frames.{all_append}
 use Rattle.node_inbox.specs.Inboxes.{IsInbox, queue_of}
 use Rattle.node_inbox.specs.Sends.{AreSent, inbox_at, is_alive, is_receiver, packets_to}
 use Rattle.overlay_net.specs.Claims.{notices}

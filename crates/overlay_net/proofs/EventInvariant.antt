@@ -5,6 +5,7 @@ use Rattle.std.proofs.lemmas.List.{length-set, map-append}
 use Rattle.std.proofs.lemmas.Option.{slice_get_within}
 use Rattle.std.specs.List.{AllByRecursion}
 use Rattle.stat_plan.specs.Plans.{Plan, nodes, front}
+use Rattle.count_tree.proofs.Counted.{set_else, set_here}
 use Rattle.overlay_event.specs.declared.event.Event.{Event}
 use Rattle.overlay_event.specs.Events.{event_node}
 use Rattle.overlay_core.specs.Nodes.{Release}
@@ -18,7 +19,6 @@ use Rattle.node_inbox.specs.Sends.{inbox_at, is_alive, AreSent, GoBelow, packets
 use Rattle.overlay_net.specs.Events.{AreParts, FrontCounts}
 use Rattle.overlay_net.specs.Sends.{IsTaken}
 use Rattle.overlay_net.specs.Handled.{HasHandled}
-use Rattle.overlay_net.proofs.States.{set_else, set_here}
 use Rattle.overlay_net.proofs.PartsInvariant.{all_append, none_where_quiet, numbers_of_both, sent_fit, some_where_waiting, taken_all, taken_kept, taken_left, taken_none}
 
 -- what is found twice is the same

@@ -6,6 +6,7 @@ use Rattle.std.specs.List.Sorted.{IsStrictlySortedBy}
 use Rattle.std.specs.Ordering.{nat_cmp}
 use Rattle.overlay_node.specs.Frames.{IsFrame, packet_of}
 use Rattle.stat_plan.specs.Plans.{Plan, nodes, front}
+use Rattle.stat_plan.proofs.Elements.{all_append}
 use Rattle.overlay_core.specs.Nodes.{Node}
 use Rattle.overlay_core.specs.Machine.{State, start, start_node}
 use Rattle.overlay_core.specs.TreeReleases.{AreNumberedInOrder, TreeRelease, bare_releases, releases_view}
@@ -16,7 +17,6 @@ use Rattle.overlay_net.specs.Nets.{AllHome, IsReachedBy, state_of, state_with}
 use Rattle.node_inbox.specs.Sends.{inbox_at, is_alive}
 use Rattle.overlay_net.specs.Events.{AreParts, IsNet, NoneIsLosing}
 use Rattle.overlay_net.specs.States.{AreClaimsCounted, AreInitial, ArePartsOf, IsNetState, net_view}
-use Rattle.overlay_node.proofs.Frames.{all_append}
 use Rattle.overlay_net.specs.Places.{HasFrame, HaveFrames, PlaceView, at_home, events_out, nodes_in, out_at, outs_in, place_view, places_view, whole_inbox, whole_inboxes}
 use Rattle.overlay_net.specs.declared.place.Place.{Place}
 use Rattle.overlay_net.specs.declared.place.Place.TheVariants.{Home}

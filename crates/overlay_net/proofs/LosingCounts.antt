@@ -3,9 +3,9 @@ use Rattle.std.proofs.Common.{◌≡◌, ◌≢◌, ◌∙◌, ◌<◌, ℕ, ◌
 use Rattle.std.proofs.lemmas.Bool.{cases_Bool, eqb-false}
 use Rattle.std.proofs.lemmas.List.{length-set}
 use Rattle.stat_plan.specs.Plans.{Plan, nodes}
+use Rattle.count_tree.proofs.Counted.{set_else, set_here}
 use Rattle.event_claims.specs.Claims.{Outs, is_loss_of}
 use Rattle.overlay_net.specs.Events.{AreLosing}
-use Rattle.overlay_net.proofs.States.{set_else, set_here}
 
 -- a node that goes out with its loss, or comes home
 pub losing_set : (p : Plan) (out new : Outs) (losing : List ℕ) (n count : ℕ) → n < nodes p → AreLosing p out losing → count ≡ cond (is_loss_of (new n) n) 1 0 → ((k : ℕ) → k ≢ n → new k ≡ out k) → AreLosing p new (slice_set losing n count)

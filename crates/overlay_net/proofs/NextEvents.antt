@@ -1,13 +1,12 @@
 -- What an event that may come next finds, and where it goes.
 use Rattle.std.proofs.Common.{◌≡◌, ◌≢◌, ◌∙◌, ◌<◌, ℕ, Bool, true, false, ◌==◌, ◌&&◌, List, [], ◌∷◌, ◌++◌, map, filter, if◌then◌else◌, slice_get, slice_set, Option, Some, None, refl, sym, ap, subst, inl, inr, eqb-true, arith}
-use Rattle.std.proofs.lemmas.Bool.{true≢false, and_parts, or_left, or_right}
+use Rattle.std.proofs.lemmas.Bool.{true≢false, and_parts}
 use Rattle.std.proofs.lemmas.Bool.Decides.{nat_tests}
 use Rattle.std.specs.List.{AllByRecursion}
-use Rattle.overlay_setup.specs.NodeSets.{In}
 use Rattle.stat_plan.specs.Invariants.{IsPlan}
 use Rattle.stat_plan.specs.Machine.Waves.{Wave, Open, Closed, set_wave, covering, growing, ticked, is_fired, unsent}
 use Rattle.stat_plan.specs.Machine.Kin.{is_parent, with_parent, without_child}
-use Rattle.stat_plan.specs.Plans.{Plan, ancestors, nodes, front, is_front, is_related, is_under, is_within, serves, daemons, ranks, waves_at, waves_of}
+use Rattle.stat_plan.specs.Plans.{Plan, nodes, front, is_front, is_related, is_under, is_within, serves, daemons, ranks, waves_at, waves_of}
 use Rattle.overlay_event.specs.declared.event.Event.{Event}
 use Rattle.overlay_event.specs.declared.event.Event.TheVariants.{Sample, Recv, Tick, Lose}
 use Rattle.overlay_event.specs.Events.{event_node}
@@ -18,9 +17,8 @@ use Rattle.overlay_core.specs.LinkInvariant.{LinkInvariant}
 use Rattle.overlay_core.proofs.Acts.{PacketIsSound, SendIsSound, SendsAreSound}
 use Rattle.overlay_core.specs.TreeReleases.{TreeRelease, bare_release, bare_releases}
 use Rattle.stat_plan.proofs.PlanFacts.{plan_facts}
-use Rattle.stat_plan.proofs.InLists.{in_from_member, in_member, in_filter, any_from_in}
+use Rattle.stat_plan.proofs.InLists.{in_from_member, in_filter, any_from_in}
 use Rattle.overlay_core.proofs.RankSets.{some_rank}
-use Rattle.merge_filter.proofs.Daemons.{daemon_lies}
 use Rattle.overlay_core.proofs.Outcomes.{next_is_named, next_is_empty, sampled_sound, tick_sound, received_sound}
 use Rattle.overlay_core.proofs.Steps.{active_parts, first_sound}
 use Rattle.overlay_core.proofs.History.{act_each_below}
@@ -38,6 +36,7 @@ use Rattle.overlay_net.specs.Handled.{HasHandled}
 use Rattle.overlay_net.proofs.Offers.{living_below, node_there}
 use Rattle.overlay_net.proofs.States.{popped_state, commit_state}
 use Rattle.stat_plan.proofs.Relatives.{test_from_related}
+use Rattle.stat_plan.proofs.LookupLemmas.{daemon_lies}
 
 none_bare : (more : List TreeRelease) → bare_releases more ≡ [] → more ≡ []
 none_bare [] e = refl

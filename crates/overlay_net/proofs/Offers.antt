@@ -2,12 +2,11 @@
 use Rattle.std.proofs.Common.{◌≡◌, ◌⊎◌, inl, inr, ◌∙◌, ℕ, suc, zero, ◌+◌, ◌-◌, ◌<◌, ◌≤◌, Bool, true, false, ◌&&◌, not, nat_eq, ◌==◌, ◌||◌, cond, List, [], ◌∷◌, ◌++◌, map, filter, find, length, get_or, drop, Option, Some, None, option_map, refl, sym, ap, subst, arith, eqb-true, eq-eqb}
 use Rattle.std.specs.Prelude.{slice_get}
 use Rattle.std.specs.List.{AllByRecursion, flat_map, list_any, sum}
-use Rattle.std.proofs.lemmas.Bool.{cases_Bool, cases_lt, true≢false}
+use Rattle.std.proofs.lemmas.Bool.{cases_Bool, true≢false}
 use Rattle.std.specs.Option.{option_eq}
-use Rattle.std.proofs.lemmas.List.{append-nil, drop_more, length-map}
+use Rattle.std.proofs.lemmas.List.{append-nil, drop_more}
 use Rattle.std.proofs.lemmas.List.Elements.{filter-append}
 use Rattle.std.proofs.lemmas.Grind.{flat_map-append}
-use Rattle.std.proofs.lemmas.Option.{slice_get-get_or}
 use Rattle.overlay_setup.specs.NodeSets.{In, IsStrictlyIncreasing, member, up_to}
 use Rattle.stat_plan.specs.Plans.{Plan, nodes, nodes_of, ancestors, is_within, daemons, stream_of, serves, waves_of, waves_at, fault}
 use Rattle.overlay_setup.specs.Scripts.{Stream, IsDaemon}
@@ -35,9 +34,12 @@ use Rattle.node_inbox.specs.Sends.{inbox_at, is_alive}
 use Rattle.overlay_net.specs.Events.{AreCounted, AreParts, IsNth, may_come, sample_at}
 use Rattle.overlay_net.specs.declared.events.Nth.{Nth}
 use Rattle.count_tree.specs.Places.{place_of}
-use Rattle.count_tree.proofs.Lists.{IsItem, finds_item, sum_of_lengths}
-use Rattle.stat_plan.proofs.TableLemmas.{at_table, length-up_to}
-use Rattle.overlay_net.proofs.Listed.{get_before, get_past, nth_past, filter_mapped, filter_none, filter_same, filter_up_to, listed_waits, increasing_from_sorted, sender_listed}
+use Rattle.count_tree.proofs.Counted.{counted_all, found_thing, no_thing, place_below, thing_within}
+use Rattle.stat_plan.proofs.TableLemmas.{length-up_to, up_to_at}
+use Rattle.stat_plan.proofs.Filters.{filter_mapped, filter_none, filter_same, filter_up_to}
+use Rattle.stat_plan.proofs.Ascending.{increasing_from_sorted}
+use Rattle.stat_plan.proofs.LookupLemmas.{stream_of_wave, wave_is_of}
+use Rattle.overlay_net.proofs.Listed.{nth_past, listed_waits, sender_listed}
 
 -- ---- the daemons of a stream of the plan
 
@@ -57,7 +59,7 @@ found_by_number (y ∷ ys) x h (inr i) = go (found_by_number ys x h.1 i) (y.numb
     go rest false e = rest
 
 -- a stream of the plan is the one of its number
-stream_is : (p : Plan) (x : Stream) → IsPlan p → In x p.streams → stream_of p x.number ≡ Some x
+pub stream_is : (p : Plan) (x : Stream) → IsPlan p → In x p.streams → stream_of p x.number ≡ Some x
 unfolding stream_of
 stream_is p x plan i = found_by_number p.streams x plan.script.streams_increase i
 
@@ -171,18 +173,6 @@ found_test p x s t o w is e =
 
 -- ---- the samples of a node
 
--- a wave of one stream has that stream's number
-wave_is_of : (s : ℕ) (ws : List ℕ) (v : ℕ × ℕ) → In {X = ℕ × ℕ} v (map (λ w. (s, w)) ws) → (v.0 ≡ s) × In v.1 ws
-wave_is_of s [] v i = absurd i
-wave_is_of s (w ∷ ws) v (inl e) = (ap (λ (y : ℕ × ℕ). y.0) e, inl (ap (λ (y : ℕ × ℕ). y.1) e))
-wave_is_of s (w ∷ ws) v (inr i) = let r = wave_is_of s ws v i in (r.0, inr r.1)
-
--- a wave's stream is one of the streams
-wave_stream : (xs : List Stream) (v : ℕ × ℕ) → In {X = ℕ × ℕ} v (waves_of xs) → In v.0 (map (λ (x : Stream). x.number) xs)
-wave_stream [] v i = absurd i
-wave_stream (x ∷ xs) v i =
-    elim (in_append v (map (λ w. (x.number, w)) (up_to x.waves)) (waves_of xs) i) [ inl a ↦ inl (wave_is_of x.number (up_to x.waves) v a).0 | inr b ↦ inr (wave_stream xs v b) ]
-
 -- a wave with the number of one of ascending streams is one of that stream's
 own_wave : (xs : List Stream) (x : Stream) (w : ℕ) → IsStrictlyIncreasing (map (λ (y : Stream). y.number) xs) → In x xs → In {X = ℕ × ℕ} (x.number, w) (waves_of xs) → In w (up_to x.waves)
 own_wave [] x w h i j = absurd i
@@ -196,7 +186,7 @@ own_wave (y ∷ ys) x w h i j = elim (in_append {X = ℕ × ℕ} (x.number, w) (
     here r (inr k) = absurd (let lt : y.number < x.number = h.0 x.number (number_in ys x k) in let e : x.number ≡ y.number = r.0 in omega arith)
 
     there : (In x ys → In {X = ℕ × ℕ} (x.number, w) (waves_of ys) → In w (up_to x.waves)) → In {X = ℕ × ℕ} (x.number, w) (waves_of ys) → (x ≡ y) ⊎ In x ys → In w (up_to x.waves)
-    there ih b (inl e) = absurd (let lt : y.number < x.number = h.0 x.number (wave_stream ys (x.number, w) b) in let k : x.number ≡ y.number = ap (λ (z : Stream). z.number) e in omega arith)
+    there ih b (inl e) = absurd (let lt : y.number < x.number = h.0 x.number (stream_of_wave ys (x.number, w) b) in let k : x.number ≡ y.number = ap (λ (z : Stream). z.number) e in omega arith)
     there ih b (inr k) = ih k b
 
 -- exactly one of the numbers below n is this one
@@ -532,44 +522,11 @@ all_claims p al xs inboxes releases out plan parts =
     ap (filter (is_claimable p out)) (all_offers p al xs inboxes releases plan parts)
     ∙ filter_flat (is_claimable p out) (events_at p al xs inboxes) (claims_at p al xs inboxes out) (up_to (nodes p)) (λ n. node_claims p al xs inboxes out n parts)
 
--- lists of one length with the same items are the same
-same_items : (xs ys : List ℕ) → length xs ≡ length ys → ((n : ℕ) → n < length ys → slice_get xs n ≡ slice_get ys n) → xs ≡ ys
-same_items [] [] len h = refl
-same_items [] (y ∷ ys) len h = absurd (omega (arith, len))
-same_items (x ∷ xs) [] len h = absurd (omega (arith, len))
-same_items (x ∷ xs) (y ∷ ys) len h =
-    let first : x ≡ y = some_same x y (h 0 (omega arith)) in
-    ap (λ z. z ∷ xs) first ∙ ap (λ zs. y ∷ zs) (same_items xs ys (omega (arith, len)) (λ n lt. h (suc n) (omega (arith, lt))))
-  where
-    some_same : (x y : ℕ) → Some x ≡ Some y → x ≡ y
-    some_same x y e = cc
-
--- the counts are the lengths of the nodes' events that may be claimed
-pub counts_are : (p : Plan) (al : List Bool) (xs : List NodeView) (inboxes : List FrameInbox) (out : Outs) (counts : List ℕ) → AreCounted p al xs inboxes out counts → counts ≡ map (λ n. length (claims_at p al xs inboxes out n)) (up_to (nodes p))
-counts_are p al xs inboxes out counts counted =
-    let len : length (map (λ n. length (claims_at p al xs inboxes out n)) (up_to (nodes p))) ≡ nodes p = length-map (up_to (nodes p)) (λ n. length (claims_at p al xs inboxes out n)) ∙ length-up_to (nodes p) in
-    same_items counts (map (λ n. length (claims_at p al xs inboxes out n)) (up_to (nodes p))) (counted.node_count ∙ sym len)
-    (λ n lt. let below : n < nodes p = omega (arith, lt, len) in
-    counted.events n below refl
-    ∙ sym (slice_get-get_or (map (λ k. length (claims_at p al xs inboxes out k)) (up_to (nodes p))) n 0 lt ∙ ap Some (at_table (λ k. length (claims_at p al xs inboxes out k)) (nodes p) n 0 below)))
-
 -- as many events may be claimed as are counted
 pub all_counted : (p : Plan) (al : List Bool) (xs : List NodeView) (inboxes : List FrameInbox) (releases : List TreeRelease) (out : Outs) (counts : List ℕ) → IsPlan p → AreParts p al xs inboxes → AreCounted p al xs inboxes out counts → sum counts ≡ length (claimable_events p (state_with p al xs inboxes releases) out)
 all_counted p al xs inboxes releases out counts plan parts counted =
-    ap sum (counts_are p al xs inboxes out counts counted)
-    ∙ sum_of_lengths (claims_at p al xs inboxes out) (up_to (nodes p))
+    counted_all (claims_at p al xs inboxes out) (nodes p) (up_to (nodes p)) (length-up_to (nodes p)) (up_to_at (nodes p)) counts counted
     ∙ ap (λ (es : List Event). length es) (sym (all_claims p al xs inboxes releases out plan parts))
-
--- each number below n is at its own index of those below n
-up_to_at : (n k : ℕ) → k < n → slice_get (up_to n) k ≡ Some k
-up_to_at zero k lt = absurd (omega (arith, lt))
-up_to_at (suc n) k lt = elim (cases_lt k n) [
-  | inl before ↦ get_before (up_to n) (n ∷ []) k k (up_to_at n k before)
-  | inr past ↦
-      let same : k ≡ n = omega (arith, lt, past) in
-      let place : k ≡ length (up_to n) + 0 = omega (arith, same, length-up_to n) in
-      ap (slice_get (up_to n ++ n ∷ [])) place ∙ get_past (up_to n) (n ∷ []) 0 ∙ ap Some (sym same)
-]
 
 -- the events of a node that was read
 pub events_read : (p : Plan) (al : List Bool) (xs : List NodeView) (inboxes : List FrameInbox) (n : ℕ) (u : Bool) (x : NodeView) (box : WaitingFrames) → u ≡ is_alive al n → slice_get xs n ≡ Some x → box ≡ inbox_at inboxes n → events_at p al xs inboxes n ≡ node_events p u x box
@@ -577,25 +534,26 @@ events_read p al xs inboxes n u x box up at is =
     ap (λ (o : Option NodeView). elim o [ None ↦ [] | Some x ↦ node_events p (is_alive al n) x (inbox_at inboxes n) ]) at ∙ (λ i. node_events p (sym up i) x (sym is i))
 
 module _ (p : Plan) (al : List Bool) (xs : List NodeView) (inboxes : List FrameInbox) (out : Outs) (counts : List ℕ) (counted : AreCounted p al xs inboxes out counts) (i : ℕ) where
-  found_item : (o : Option (ℕ × ℕ)) → place_of counts i ≡ o → IsItem (claims_at p al xs inboxes out) (up_to (nodes p)) i o
-  found_item o e = subst (IsItem (claims_at p al xs inboxes out) (up_to (nodes p)) i) (sym (ap (λ (cs : List ℕ). place_of cs i) (counts_are p al xs inboxes out counts counted)) ∙ e) (finds_item (claims_at p al xs inboxes out) (up_to (nodes p)) i)
-
   -- what the counts find is a node of the plan
   pub found_below : (n j : ℕ) → place_of counts i ≡ Some (n, j) → n < nodes p
-  found_below n j e = subst (λ k. n < k) (length-up_to (nodes p)) (found_item (Some (n, j)) e).0
+  found_below n j e = place_below (claims_at p al xs inboxes out) (nodes p) (up_to (nodes p)) (length-up_to (nodes p)) (up_to_at (nodes p)) counts counted i n j e
 
   -- it is one of that node's events
   pub found_within : (n j : ℕ) → place_of counts i ≡ Some (n, j) → j < length (claims_at p al xs inboxes out n)
-  found_within n j e = ((found_item (Some (n, j)) e).1 n (up_to_at (nodes p) n (found_below n j e))).1
+  found_within n j e = thing_within (claims_at p al xs inboxes out) (nodes p) (up_to (nodes p)) (length-up_to (nodes p)) (up_to_at (nodes p)) counts counted i n j e
 
   module _ (releases : List TreeRelease) (plan : IsPlan p) (parts : AreParts p al xs inboxes) where
     -- and that event of the node is the i-th of all
     pub found_event : (n j : ℕ) → place_of counts i ≡ Some (n, j) → slice_get (claimable_events p (state_with p al xs inboxes releases) out) i ≡ slice_get (claims_at p al xs inboxes out n) j
-    found_event n j e = ap (λ (es : List Event). slice_get es i) (all_claims p al xs inboxes releases out plan parts) ∙ ((found_item (Some (n, j)) e).1 n (up_to_at (nodes p) n (found_below n j e))).0
+    found_event n j e =
+        ap (λ (es : List Event). slice_get es i) (all_claims p al xs inboxes releases out plan parts)
+        ∙ found_thing (claims_at p al xs inboxes out) (nodes p) (up_to (nodes p)) (length-up_to (nodes p)) (up_to_at (nodes p)) counts counted i n j e
 
     -- where the counts find nothing, there is no i-th event
     pub found_none : place_of counts i ≡ None → slice_get (claimable_events p (state_with p al xs inboxes releases) out) i ≡ None
-    found_none e = ap (λ (es : List Event). slice_get es i) (all_claims p al xs inboxes releases out plan parts) ∙ found_item None e
+    found_none e =
+        ap (λ (es : List Event). slice_get es i) (all_claims p al xs inboxes releases out plan parts)
+        ∙ no_thing (claims_at p al xs inboxes out) (nodes p) (up_to (nodes p)) (length-up_to (nodes p)) (up_to_at (nodes p)) counts counted i e
 
 -- where a list begins with one event, a number of 1 or more finds in it what one less finds in the rest
 pub one_past : (e : Event) (es rest : List Event) (left : ℕ) (r : Nth) → es ≡ e ∷ rest → 0 < left → IsNth rest (left - 1) r → IsNth es left r

@@ -19,7 +19,6 @@ use Rattle.overlay_net.specs.Nets.{NetView, IsReachedBy, state_of}
 use Rattle.overlay_net.specs.Events.{IsNet}
 use Rattle.overlay_net.specs.Handled.{ExtendsBy}
 use Rattle.overlay_net.specs.Picks.{HasPicked}
-use Rattle.overlay_net.proofs.Offers.{living_below}
 
 -- the state that picked events lead to, from a net on
 pub record HasCome (old : NetView) (seed : ℕ) (journal : List Event) (number : ℕ) (new : NetView) : Type 0 where

@@ -12,6 +12,7 @@ use Rattle.overlay_event.specs.declared.event.Event.{Event}
 use Rattle.overlay_event.specs.declared.event.Event.TheVariants.{Sample, Recv, Tick, Lose}
 use Rattle.overlay_core.specs.Machine.{next_sample}
 use Rattle.stat_plan.proofs.InLists.{any_from_in, up_to_in}
+use Rattle.stat_plan.proofs.Filters.{filter_mapped}
 use Rattle.overlay_node.specs.NodeViews.{IsNodeOf, NodeView, has_running, node_of}
 use Rattle.event_claims.specs.Claims.{Outs, is_free, is_home, is_loss_of, receives_from}
 use Rattle.node_inbox.specs.Inboxes.{senders_of}
@@ -26,7 +27,7 @@ use Rattle.overlay_net.specs.Events.{IsNth, NoneIsLosing, free_senders}
 use Rattle.overlay_net.specs.declared.events.Nth.{Nth}
 use Rattle.overlay_net.specs.declared.events.Nth.TheVariants.{Found, Beyond}
 use Rattle.overlay_net.specs.States.{ArePartsOf, claims_of}
-use Rattle.overlay_net.proofs.Listed.{filter_mapped, get_before, nth_past}
+use Rattle.overlay_net.proofs.Listed.{get_before, nth_past}
 use Rattle.overlay_net.proofs.Offers.{events_read}
 use Rattle.overlay_net.proofs.Whole.{home_inbox, node_at_place, none_past, out_at_place}
 
@@ -81,12 +82,6 @@ next_free out ms k m lt at free = free_from out ms k m lt at ∙ ap (λ b. cond 
 
 pub next_lost : (out : Outs) (ms : List ℕ) (k m : ℕ) → k < length ms → Some m ≡ slice_get ms k → is_loss_of (out m) m ≡ true → free_senders out (drop k ms) ≡ free_senders out (drop (k + 1) ms)
 next_lost out ms k m lt at lost = free_from out ms k m lt at ∙ ap (λ b. cond (not b) (m ∷ free_senders out (drop (k + 1) ms)) (free_senders out (drop (k + 1) ms))) lost
-
--- where nothing is found, the list ends before
-pub ends_before : {X : Type 0} (xs : List X) (i : ℕ) → slice_get xs i ≡ None → length xs ≤ i
-ends_before [] i none = omega arith
-ends_before (x ∷ xs) zero none = absurd (none-some x (sym none))
-ends_before (x ∷ xs) (suc i) none = let le = ends_before xs i none in omega (arith, le)
 
 module _ (p : Plan) (out : Outs) (x : NodeView) where
   free_sample : (s : Stream) → filter (is_free p out) (sample_of p x s) ≡ sample_of p x s

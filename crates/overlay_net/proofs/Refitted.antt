@@ -5,6 +5,7 @@ use Rattle.std.proofs.lemmas.List.{length-map, length-set, map-append}
 use Rattle.std.proofs.lemmas.Option.{slice_get_within}
 use Rattle.std.specs.List.{AllByRecursion}
 use Rattle.stat_plan.specs.Plans.{Plan, nodes, front}
+use Rattle.count_tree.proofs.Counted.{set_else, set_here}
 use Rattle.overlay_event.specs.declared.event.Event.{Event}
 use Rattle.overlay_event.specs.declared.event.Event.TheVariants.{Sample, Recv, Tick, Lose}
 use Rattle.overlay_event.specs.Events.{event_node}
@@ -24,7 +25,6 @@ use Rattle.overlay_net.specs.Places.{HasFrame, HaveFrames, PlaceView, away, node
 use Rattle.overlay_net.proofs.Fronts.{in_hand, whole_is_inbox, whole_queue}
 use Rattle.overlay_net.proofs.PartsInvariant.{all_append}
 use Rattle.overlay_net.proofs.Refits.{AreLike, AreNodesLike, nodes_set, parts_like, reached_like, state_like}
-use Rattle.overlay_net.proofs.States.{set_else, set_here}
 use Rattle.overlay_net.proofs.Whole.{length_whole, node_at_place, whole_at, whole_else, whole_here}
 
 -- what is true of two lists together is true of the second

@@ -61,9 +61,9 @@ module _ (rest : List ℕ) (p : Plan) (al : List Bool) (ps : List PlaceView) (ol
     inboxes = λ b. subst IsInbox (sym (same b)) (h.inboxes b);
     losing = h.losing;
     counted = record {
-      node_count = h.counted.node_count;
-      events = λ b lt other.
-          h.counted.events b lt other
+      place_count = h.counted.place_count;
+      things = λ b lt other.
+          h.counted.things b lt other
           ∙ (λ i. Some (length (cond (is_home (out_at (outs_in ps) b)) (filter (is_free p (out_at (outs_in ps))) (elim (slice_get (nodes_in ps) b) as (λ _. List Event) [ None ↦ [] | (Some x) ↦ node_events p (is_alive al b) x (sym (seen_same b) i) ])) [])));
     };
   }

@@ -19,6 +19,7 @@ use Rattle.overlay_core.specs.Nodes.{Node, Outcome, Packet, handled}
 use Rattle.overlay_core.specs.Machine.{State, commit, is_enabled, lose, receive, start, step, with_link}
 use Rattle.overlay_core.specs.Runs.{IsLegal, after, run}
 use Rattle.stat_plan.proofs.PlanFacts.{plan_facts}
+use Rattle.stat_plan.proofs.Ascending.{ascending_within_limit}
 use Rattle.overlay_core.proofs.Journals.{legal_has_room}
 
 -- ---- a journal's events, node by node
@@ -71,16 +72,6 @@ pub journal_counts : (p : Plan) (journal : List Event) (n : ℕ) → ((after p j
 journal_counts p journal n = let a = run_raises p (start p) journal n in let b = start_counts p n in omega (arith, a, b)
 
 -- ---- the bound of a plan
-
--- ascending numbers of a range are no more than it has
-pub ascending_within_limit : (xs : List ℕ) (low high : ℕ) → low ≤ high → IsStrictlyIncreasing xs → ((x : ℕ) → In x xs → (low ≤ x) × (x < high)) → low + length xs ≤ high
-ascending_within_limit [] low high le increasing within = omega arith
-ascending_within_limit (x ∷ xs) low high le increasing within =
-    let here : (low ≤ x) × (x < high) = within x (inl refl) in
-    let most : suc x ≤ high = here.1 in
-    let rest : suc x + length xs ≤ high = ascending_within_limit xs (suc x) high most increasing.1 (λ y i. (increasing.0 y i, (within y (inr i)).1)) in
-    let least : low ≤ x = here.0 in
-    omega arith
 
 -- the numbers of streams are below 8
 numbers_below : (xs : List Stream) → AllByRecursion IsStream xs → (n : ℕ) → In n (map (λ (x : Stream). x.number) xs) → n < 8

@@ -1,14 +1,14 @@
 -- The state after an event, by its parts.
-use Rattle.std.proofs.Common.{◌≡◌, ◌≢◌, ◌∙◌, ◌<◌, ◌≤◌, ℕ, suc, Bool, true, false, ◌==◌, ◌&&◌, nat_lt, cond, List, [], ◌∷◌, ◌++◌, map, length, slice_get, slice_set, Option, Some, None, refl, sym, ap, subst, inl, inr, eqb-true, arith}
-use Rattle.std.proofs.lemmas.Bool.{cases_Bool, eqb-false}
-use Rattle.std.proofs.lemmas.Bool.Decides.{nat_tests}
-use Rattle.std.proofs.lemmas.List.{map-append, length-set, get_or-set_same, get_or-set_other}
-use Rattle.std.proofs.lemmas.Option.{slice_get-get_or, slice_get_past, slice_get_within}
+use Rattle.std.proofs.Common.{◌≡◌, ◌∙◌, ◌<◌, ℕ, suc, Bool, true, false, ◌==◌, ◌&&◌, cond, List, [], ◌∷◌, ◌++◌, map, length, slice_get, slice_set, Option, Some, None, refl, sym, ap, eqb-true}
+use Rattle.std.proofs.lemmas.Bool.{eqb-false}
+use Rattle.std.proofs.lemmas.List.{map-append}
+use Rattle.std.proofs.lemmas.Option.{slice_get_within}
 use Rattle.stat_plan.specs.Plans.{Plan}
 use Rattle.stat_plan.specs.Machine.Waves.{put_at}
 use Rattle.overlay_core.specs.Nodes.{Node, Outcome}
 use Rattle.overlay_core.specs.Machine.{State, start_node, commit, with_link}
 use Rattle.stat_plan.specs.Machine.Overlays.{to}
+use Rattle.count_tree.proofs.Counted.{set_here, set_else}
 use Rattle.overlay_core.specs.TreeReleases.{TreeRelease, bare_release, bare_releases}
 use Rattle.overlay_node.specs.Frames.{packet_of}
 use Rattle.overlay_node.specs.Outputs.{packets_of}
@@ -26,23 +26,6 @@ bare_to b (v ∷ vs) = go (v.0 == b) (bare_to b vs)
     go : (t : Bool) → map packet_of (packets_to b vs) ≡ to b (packets_of vs) → map packet_of (cond t (v.1 ∷ packets_to b vs) (packets_to b vs)) ≡ cond t (packet_of v.1 ∷ to b (packets_of vs)) (to b (packets_of vs))
     go true rest = ap (λ l. packet_of v.1 ∷ l) rest
     go false rest = rest
-
--- an element that replaces another one
-pub set_here : {X : Type 0} (xs : List X) (n : ℕ) (y : X) → n < length xs → slice_get (slice_set xs n y) n ≡ Some y
-set_here xs n y below =
-    slice_get-get_or (slice_set xs n y) n y (subst (λ k. n < k) (sym (length-set xs n y)) below)
-    ∙ ap Some (get_or-set_same xs n y y below)
-
-pub set_else : {X : Type 0} (xs : List X) (n b : ℕ) (y : X) → b ≢ n → slice_get (slice_set xs n y) b ≡ slice_get xs b
-set_else xs n b y other = elim (cases_Bool (nat_lt b (length xs))) [
-  | (inl t) ↦ let lt : b < length xs = grind (arith, nat_tests) in
-      slice_get-get_or (slice_set xs n y) b y (subst (λ k. b < k) (sym (length-set xs n y)) lt)
-      ∙ ap Some (get_or-set_other xs n b y y other)
-      ∙ sym (slice_get-get_or xs b y lt)
-  | (inr f) ↦ let ge : length xs ≤ b = grind (arith, nat_tests) in
-      slice_get_past (slice_set xs n y) b (subst (λ k. k ≤ b) (sym (length-set xs n y)) ge)
-      ∙ sym (slice_get_past xs b ge)
-]
 
 -- a node that replaces another one
 pub node_set : (p : Plan) (xs : List NodeView) (n : ℕ) (y : NodeView) (v : Node) → n < length xs → node_of y ≡ v → (b : ℕ) → node_at p (slice_set xs n y) b ≡ put_at (node_at p xs) n v b

@@ -3,7 +3,7 @@ use Rattle.std.proofs.Common.{◌≡◌, ◌≢◌, ◌∙◌, ◌<◌, ◌^◌,
 use Rattle.std.specs.Prelude.{Result, Ok, Err, OnOk}
 use Rattle.std.proofs.lemmas.List.{length-set}
 use Rattle.stat_plan.specs.Invariants.{IsPlan}
-use Rattle.stat_plan.specs.Plans.{Plan, nodes, front}
+use Rattle.stat_plan.specs.Plans.{Plan, nodes, front, AreNodes}
 use Rattle.overlay_event.specs.declared.event.Event.{Event}
 use Rattle.overlay_event.specs.Events.{event_node}
 use Rattle.overlay_core.specs.Nodes.{Node}
@@ -18,7 +18,7 @@ use Rattle.overlay_node.specs.NodeViews.{NodeView, node_of}
 use Rattle.overlay_net.specs.Inboxes.{FrameInbox}
 use Rattle.overlay_net.specs.Nets.{net_view_of, state_with}
 use Rattle.node_inbox.specs.Sends.{AreSent, GoBelow}
-use Rattle.overlay_net.specs.Events.{AreNodes, AreParts, FrontCounts, IsNet, IsOrdinary}
+use Rattle.overlay_net.specs.Events.{AreParts, FrontCounts, IsNet, IsOrdinary}
 use Rattle.overlay_net.specs.Handled.{ExtendsBy}
 use Rattle.overlay_net.proofs.Handed.{IsHandedOver}
 use Rattle.overlay_net.proofs.NextEvents.{go_below, only_front, stepped}

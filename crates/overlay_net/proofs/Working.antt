@@ -5,13 +5,14 @@ use Rattle.std.proofs.lemmas.List.{map-append}
 use Rattle.std.proofs.lemmas.List.Elements.{filter-append}
 use Rattle.overlay_setup.specs.NodeSets.{up_to}
 use Rattle.stat_plan.specs.Plans.{Plan, is_related, is_under}
+use Rattle.stat_plan.proofs.Elements.{all_append}
 use Rattle.overlay_event.specs.declared.event.Event.{Event}
 use Rattle.overlay_event.specs.declared.event.Event.TheVariants.{Sample, Recv, Tick, Lose}
 use Rattle.overlay_core.specs.Nodes.{Packet, Down}
 use Rattle.overlay_node.specs.Frames.{IsFrame, IsFrameOf, packet_of}
 use Rattle.overlay_node.specs.NodeViews.{NodeView}
 use Rattle.overlay_node.specs.Outputs.{AreFrames, Output, packets_of}
-use Rattle.overlay_node.proofs.Frames.{all_append, brings, is_frame}
+use Rattle.overlay_node.proofs.Frames.{brings, is_frame}
 use Rattle.overlay_net.specs.Claims.{ClaimView, Leaves, Left, WasWorked, notices}
 use Rattle.overlay_net.specs.Handled.{HasHandled}
 use Rattle.overlay_net.specs.Views.{IsClaimOf, claim_of, left_of}

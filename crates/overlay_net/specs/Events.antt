@@ -5,6 +5,7 @@ use Rattle.std.specs.List.Sorted.{IsStrictlySortedBy}
 use Rattle.std.specs.Ordering.{nat_cmp}
 use Rattle.stat_plan.specs.Plans.{Plan, daemons, nodes, front}
 use Rattle.overlay_setup.specs.NodeSets.{member}
+use Rattle.count_tree.specs.Places.{AreCountsBut}
 use Rattle.overlay_event.specs.declared.event.Event.{Event}
 use Rattle.overlay_event.specs.declared.event.Event.TheVariants.{Sample, Recv, Tick, Lose}
 use Rattle.overlay_core.specs.Machine.{is_enabled, is_wave, next_sample}
@@ -55,18 +56,13 @@ pub record AreParts (p : Plan) (alive : List Bool) (xs : List NodeView) (inboxes
   pub sent : (n : ℕ) → HaveSent (inbox_at inboxes n)
   pub increasing : (n : ℕ) → IsStrictlySortedBy nat_cmp (senders_of (inbox_at inboxes n))
 
--- each is a node of the plan
-abbrev pub AreNodes : Plan → List ℕ → Type 0
-AreNodes p numbers = AllByRecursion (λ n. n < nodes p) numbers
-
 -- the senders that are not being lost
 abbrev pub free_senders : Outs → List ℕ → List ℕ
 free_senders out senders = filter (λ m. not (is_loss_of (out m) m)) senders
 
 -- the counts are those of the events of each node that may be claimed, but for these nodes
-pub record AreCountedBut (rest : List ℕ) (p : Plan) (alive : List Bool) (xs : List NodeView) (inboxes : List FrameInbox) (out : Outs) (counts : List ℕ) : Type 0 where
-  pub node_count : length counts ≡ nodes p
-  pub events : (b : ℕ) → b < nodes p → member b rest ≡ false → slice_get counts b ≡ Some (length (claims_at p alive xs inboxes out b))
+abbrev pub AreCountedBut : List ℕ → Plan → List Bool → List NodeView → List FrameInbox → Outs → List ℕ → Type 0
+AreCountedBut rest p alive xs inboxes out counts = AreCountsBut (λ n. member n rest) (claims_at p alive xs inboxes out) (nodes p) counts
 
 -- the counts are those of the events of each node that may be claimed
 abbrev pub AreCounted : Plan → List Bool → List NodeView → List FrameInbox → Outs → List ℕ → Type 0

@@ -1,11 +1,12 @@
 //! How a node goes out for an event, and comes home.
 
 ghost use Rattle.std.specs.Prelude.{◌≡◌, ◌<◌, true, length, OnOk};
+ghost use Rattle.stat_plan.specs.Plans.{AreNodes};
 ghost use Rattle.overlay_event.specs.Events.{event_node};
 ghost use Rattle.event_claims.specs.Claims.{MayBeClaimed};
 ghost use Rattle.overlay_core.specs.Machine.{is_enabled};
 ghost use Rattle.overlay_net.specs.Claims.{FitsNet, IsPrepared, WasWorked};
-ghost use Rattle.overlay_net.specs.Events.{AreNodes, with_loss, without_lost};
+ghost use Rattle.overlay_net.specs.Events.{with_loss, without_lost};
 ghost use Rattle.overlay_net.specs.Nets.{AllHome, outs_of};
 ghost use Rattle.overlay_net.specs.Sends.{CanTake, IsTaken, changed};
 ghost use Rattle.overlay_net.specs.States.{ExtendsState, IsClaimed, IsCommitted, IsNetState, IsNetStateBut, IsSameNet, net_at, state_at};

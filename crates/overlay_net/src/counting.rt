@@ -2,12 +2,12 @@
 
 ghost use Rattle.std.specs.Prelude.{◌≡◌, ◌≤◌, ◌<◌, length};
 ghost use Rattle.std.specs.List.{flat_map};
-ghost use Rattle.stat_plan.specs.Plans.{nodes};
+ghost use Rattle.stat_plan.specs.Plans.{AreNodes, nodes};
 ghost use Rattle.overlay_node.specs.NodeViews.{IsNodeOf};
 ghost use Rattle.node_inbox.specs.Inboxes.{senders_of};
 ghost use Rattle.overlay_net.specs.Nets.{sample_of};
 ghost use Rattle.overlay_net.specs.Places.{events_out};
-ghost use Rattle.overlay_net.specs.Events.{AreNodes, free_senders};
+ghost use Rattle.overlay_net.specs.Events.{free_senders};
 ghost use Rattle.overlay_net.specs.States.{AreClaimsCounted, AreClaimsCountedBut, AreLossesCounted, ArePartsOf, claims_of};
 ghost use Rattle.overlay_net.specs.Sends.{changed, if_lost};
 

@@ -1,11 +1,12 @@
 -- A plan's waves are distinct.
-use Rattle.std.proofs.Common.{◌≡◌, inl, inr, ℕ, Bool, true, false, cond, List, [], ◌∷◌, ◌++◌, map, filter, refl, ap, arith, ◌<◌}
+use Rattle.std.proofs.Common.{◌≡◌, inl, inr, ℕ, Bool, true, false, cond, List, [], ◌∷◌, ◌++◌, map, filter, refl, arith, ◌<◌}
 use Rattle.overlay_setup.specs.NodeSets.{In, IsStrictlyIncreasing, up_to}
 use Rattle.stat_plan.specs.Invariants.{IsPlan}
 use Rattle.stat_plan.specs.Plans.{Plan, serves, waves_of, waves_at}
 use Rattle.overlay_setup.specs.Scripts.{Stream}
 use Rattle.stat_plan.proofs.InLists.{in_append, in_from_filter}
 use Rattle.stat_plan.proofs.Ascending.{up_to_increases}
+use Rattle.stat_plan.proofs.LookupLemmas.{stream_of_wave, wave_is_of}
 use Rattle.overlay_node.specs.Acting.{AreDistinct}
 
 -- distinct keys of two lists without a common one are distinct together
@@ -13,18 +14,6 @@ once_append : (xs ys : List (ℕ × ℕ)) → AreDistinct xs → AreDistinct ys 
 once_append [] ys h k distinct = k
 once_append (x ∷ xs) ys h k distinct =
     (λ i. elim (in_append x xs ys i) [ inl a ↦ h.0 a | inr b ↦ distinct x (inl refl) b ], once_append xs ys h.1 k (λ v i j. distinct v (inr i) j))
-
--- a wave of one stream has that stream's number
-wave_is_of : (s : ℕ) (ws : List ℕ) (v : ℕ × ℕ) → In {X = ℕ × ℕ} v (map (λ w. (s, w)) ws) → (v.0 ≡ s) × In v.1 ws
-wave_is_of s [] v i = absurd i
-wave_is_of s (w ∷ ws) v (inl e) = (ap (λ (y : ℕ × ℕ). y.0) e, inl (ap (λ (y : ℕ × ℕ). y.1) e))
-wave_is_of s (w ∷ ws) v (inr i) = let r = wave_is_of s ws v i in (r.0, inr r.1)
-
--- a wave's stream is one of the streams
-stream_of_wave : (xs : List Stream) (v : ℕ × ℕ) → In {X = ℕ × ℕ} v (waves_of xs) → In v.0 (map (λ x. x.number) xs)
-stream_of_wave [] v i = absurd i
-stream_of_wave (x ∷ xs) v i =
-    elim (in_append v (map (λ w. (x.number, w)) (up_to x.waves)) (waves_of xs) i) [ inl a ↦ inl (wave_is_of x.number (up_to x.waves) v a).0 | inr b ↦ inr (stream_of_wave xs v b) ]
 
 -- the waves of one stream are distinct
 once_map : (s : ℕ) (ws : List ℕ) → IsStrictlyIncreasing ws → AreDistinct (map (λ w. (s, w)) ws)

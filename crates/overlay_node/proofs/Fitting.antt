@@ -22,6 +22,7 @@ use Rattle.overlay_core.specs.Nodes.{due_at}
 use Rattle.overlay_core.proofs.Settled.{after_arm, ne_from_grown}
 use Rattle.stat_plan.proofs.PlanFacts.{plan_facts}
 use Rattle.overlay_core.proofs.RankSets.{empty_true, in_union, no_rank, none_from_subset, union_left}
+use Rattle.overlay_core.proofs.Sends.{send_grown}
 use Rattle.overlay_node.specs.NodeViews.{HeldFits, HeldView, OpenFits, TimerFits}
 use Rattle.overlay_node.specs.Acting.{due_as, partial_merge}
 use Rattle.overlay_node.proofs.Sizes.{size_more, size_within}
@@ -54,19 +55,6 @@ partial_grown (TimeOut k) false grown top (Running j) e = absurd (cc)
 partial_grown (TimeOut k) false true true Fired e = (refl, refl)
 partial_grown (TimeOut k) false true false Fired e = absurd (cc)
 partial_grown (TimeOut k) false false top Fired e = absurd (cc)
-
-send_grown : (m : Mode) (done grown top : Bool) (t : Timer) → due_act m done grown top t ≡ Send → grown ≡ true
-send_grown m true grown true t e = absurd (cc)
-send_grown m true true false t e = refl
-send_grown m true false false t e = absurd (cc)
-send_grown WaitForAll false grown top t e = absurd (cc)
-send_grown DontWait false true top t e = refl
-send_grown DontWait false false top t e = absurd (cc)
-send_grown (TimeOut k) false true top Off e = absurd (cc)
-send_grown (TimeOut k) false false top Off e = absurd (cc)
-send_grown (TimeOut k) false grown top (Running j) e = absurd (cc)
-send_grown (TimeOut k) false true top Fired e = refl
-send_grown (TimeOut k) false false top Fired e = absurd (cc)
 
 -- a timer is started in streams with a timeout alone
 pub arm_some : (p : Plan) (n : ℕ) (lost : List ℕ) (s : ℕ) (covered sent : Ranks) (timer : Timer) → IsPlan p → due_at p n lost s covered sent timer ≡ Arm → 1 ≤ ticks (mode p s)

@@ -10,6 +10,7 @@ use Rattle.overlay_setup.specs.Scripts.{IsStream, Stream}
 use Rattle.stat_plan.specs.Invariants.{IsPlan}
 use Rattle.stat_plan.specs.Plans.{Plan, samples, waves_of}
 use Rattle.stat_plan.proofs.InLists.{up_to_below, in_append}
+use Rattle.stat_plan.proofs.Elements.{all_append}
 use Rattle.merge_filter.specs.Contributions.{Contrib, HasWave, IsPartialMerge, coverage_of}
 use Rattle.packet_frame.specs.declared.packet.Packet.{Packet as FramePacket}
 use Rattle.packet_frame.specs.declared.packet.Packet.TheVariants.{Up as FrameUp}
@@ -77,11 +78,6 @@ wave_small p s w plan h = waves_small p.streams (s, w) plan.script.streams h
 -- a frame's receiver and its packet
 abbrev pair_of : ℕ × List ℕ → ℕ × Packet
 pair_of v = (v.0, packet_of v.1)
-
--- what holds of the elements of two lists holds of those of both
-pub all_append : {X : Type 0} (P : X → Type 0) (xs ys : List X) → AllByRecursion P xs → AllByRecursion P ys → AllByRecursion P (xs ++ ys)
-all_append P [] ys hx hy = hy
-all_append P (x ∷ xs) ys hx hy = (hx.0, all_append P xs ys hx.1 hy)
 
 -- one frame more
 pub sends_one : (p : Plan) (q : Packet) (to : ℕ) (bytes : List ℕ) (old new : List (ℕ × List ℕ)) → IsFrameOf p q bytes → new ≡ old ++ (to, bytes) ∷ [] → Sends p ((to, q) ∷ []) old new

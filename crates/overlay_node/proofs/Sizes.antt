@@ -1,33 +1,9 @@
 -- How many ranks a set has.
-use Rattle.std.proofs.Common.{◌≡◌, ◌≢◌, ◌⊎◌, inl, inr, ℕ, suc, true, ◌≤◌, ◌<◌, List, [], ◌∷◌, length, nat_lt, refl, sym, ap, subst, ◌∙◌, arith, eqb-true}
-use Rattle.std.specs.List.{list_all, list_any}
-use Rattle.std.specs.Ordering.{nat_cmp, eq_by_cmp}
-use Rattle.std.specs.Cmp.{unsigned_tied, nat_cmp_total, tied_itself}
-use Rattle.std.specs.Ordering.{is_eq}
-use Rattle.std.proofs.lemmas.Bool.{true≢false, and_parts, or_cases, or_left, or_right, ltb-true}
-use Rattle.rank_set.specs.Ranks.{Ranks, IsSubset, in_order, is_strictly_increasing, size, from_T, has-in_order, same_list}
+use Rattle.std.proofs.Common.{◌≡◌, ◌≢◌, ◌⊎◌, inl, inr, ℕ, suc, ◌≤◌, ◌<◌, List, [], ◌∷◌, length, refl, sym, ap, subst, ◌∙◌, arith}
+use Rattle.rank_set.specs.Ranks.{Ranks, IsSubset, in_order, size, from_T, has-in_order, same_list}
 use Rattle.overlay_setup.specs.NodeSets.{In, IsStrictlyIncreasing}
-
-above : (x : ℕ) (ys : List ℕ) → list_all (λ y. nat_lt x y) ys ≡ true → (y : ℕ) → In y ys → x < y
-above x [] h y i = absurd i
-above x (z ∷ zs) h y (inl e) = subst (λ a. x < a) (sym e) (ltb-true x z (and_parts (nat_lt x z) (list_all (λ y. nat_lt x y) zs) h).0)
-above x (z ∷ zs) h y (inr i) = above x zs (and_parts (nat_lt x z) (list_all (λ y. nat_lt x y) zs) h).1 y i
-
-ascending : (xs : List ℕ) → is_strictly_increasing xs ≡ true → IsStrictlyIncreasing xs
-ascending [] h = tt
-ascending (x ∷ xs) h = let a = and_parts (list_all (λ y. nat_lt x y) xs) (is_strictly_increasing xs) h in (above x xs a.0, ascending xs a.1)
-
-in_any : (x : ℕ) (xs : List ℕ) → In x xs → list_any (eq_by_cmp nat_cmp x) xs ≡ true
-in_any x [] i = absurd i
-in_any x (y ∷ ys) (inl e) = or_left (eq_by_cmp nat_cmp x y) (list_any (eq_by_cmp nat_cmp x) ys) (subst (λ a. eq_by_cmp nat_cmp x a ≡ true) e (ap is_eq (tied_itself nat_cmp_total x)))
-in_any x (y ∷ ys) (inr i) = or_right (eq_by_cmp nat_cmp x y) (list_any (eq_by_cmp nat_cmp x) ys) (in_any x ys i)
-
-any_in : (x : ℕ) (xs : List ℕ) → list_any (eq_by_cmp nat_cmp x) xs ≡ true → In x xs
-any_in x [] e = absurd (true≢false (sym e))
-any_in x (y ∷ ys) e = elim (or_cases (eq_by_cmp nat_cmp x y) (list_any (eq_by_cmp nat_cmp x) ys) e) [
-  | inl same ↦ inl (eqb-true x y (sym (unsigned_tied x y) ∙ same))
-  | inr later ↦ inr (any_in x ys later)
-]
+use Rattle.stat_plan.proofs.Ascending.{ascending}
+use Rattle.stat_plan.proofs.InLists.{any_in, in_any}
 
 -- an ascending list of members of another is shorter, or the same
 lists_below : (ys xs : List ℕ) → IsStrictlyIncreasing xs → IsStrictlyIncreasing ys → ((x : ℕ) → In x xs → In x ys) → (suc (length xs) ≤ length ys) ⊎ (xs ≡ ys)

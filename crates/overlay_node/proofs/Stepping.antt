@@ -1,7 +1,6 @@
 -- A step on what is held of one wave is a step on all.
 use Rattle.std.proofs.Common.{◌≡◌, ◌<◌, ◌≤◌, ◌+◌, ℕ, zero, suc, Bool, true, false, cond, ◌&&◌, ◌==◌, List, [], ◌∷◌, ◌++◌, length, get_or, take, refl, sym, ap, subst, ◌∙◌, arith, eqb-true, eq-eqb, inl, inr}
 use Rattle.std.specs.Prelude.{slice_set}
-use Rattle.std.specs.Cmp.{both_ways}
 use Rattle.std.proofs.Math.ListN.{set}
 use Rattle.std.proofs.lemmas.Bool.{and_parts, and_from, true≢false, cases_Bool}
 use Rattle.std.proofs.lemmas.List.{take_more, take_all}
@@ -9,6 +8,7 @@ use Rattle.overlay_setup.specs.NodeSets.{In}
 use Rattle.stat_plan.specs.Plans.{Plan}
 use Rattle.stat_plan.specs.Machine.Waves.{Wave, Book}
 use Rattle.wave_resend.specs.Books.{AllChange, IsIn, WaveAt, book_of, keys_of}
+use Rattle.wave_resend.proofs.Setting.{crossed, shadow, swapped}
 use Rattle.overlay_core.specs.Nodes.{Release, Effects}
 use Rattle.overlay_core.specs.History.{of_wave}
 use Rattle.overlay_core.specs.TreeReleases.{AreNumberedInOrder, bare_release, bare_releases}
@@ -18,11 +18,6 @@ use Rattle.overlay_node.specs.Acting.{AreDistinct, StepsHeld, StepsWave, each_by
 use Rattle.overlay_node.proofs.Numbering.{after_more, count_more, numbered_more}
 
 -- ---- one of all
-
-swapped : (x y a b : ℕ) → ((x == a) && (y == b)) ≡ ((a == x) && (b == y))
-swapped x y a b = both_ways _ _
-    (λ t. let u = and_parts (x == a) (y == b) t in and_from (a == x) (b == y) (eq-eqb a x (sym (eqb-true x a u.0))) (eq-eqb b y (sym (eqb-true y b u.1))))
-    (λ t. let u = and_parts (a == x) (b == y) t in and_from (x == a) (y == b) (eq-eqb x a (sym (eqb-true a x u.0))) (eq-eqb y b (sym (eqb-true b y u.1))))
 
 -- the key of each is among the keys
 pub key_at : (hs : List HeldView) (i : ℕ) (h : HeldView) → i < length hs → h ≡ get_or hs i h → In {X = ℕ × ℕ} (h.stream, h.wave) (held_keys hs)
@@ -57,15 +52,6 @@ record Replaces (p : Plan) (n : ℕ) (before after : Book) (hs : List HeldView) 
   fits : HeldFits p n g (after h.stream h.wave) → AreHeldFits p n before hs → AreHeldFits p n after new
   count_here : release_count_of hs h.stream h.wave ≡ h.release_count
   count : (a b : ℕ) → release_count_of new a b ≡ cond ((a == h.stream) && (b == h.wave)) g.release_count (release_count_of hs a b)
-
-shadow : {A : Type 0} (c : Bool) (u v r : A) → cond c u r ≡ cond c u (cond c v r)
-shadow true u v r = refl
-shadow false u v r = refl
-
-crossed : {A : Type 0} (i t : Bool) (x v r : A) → (i ≡ true → t ≡ true → ⊥) → cond i x (cond t v r) ≡ cond t v (cond i x r)
-crossed true true x v r h = absurd (h refl refl)
-crossed true false x v r h = refl
-crossed false t x v r h = refl
 
 test_for : (x : HeldView) (s w a b : ℕ) → x.stream ≡ s → x.wave ≡ w → is_held_of a b x ≡ ((a == s) && (b == w))
 test_for x s w a b es ew = swapped x.stream x.wave a b ∙ (λ i. (a == es i) && (b == ew i))

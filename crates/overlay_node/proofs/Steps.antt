@@ -18,13 +18,13 @@ use Rattle.overlay_core.specs.declared.release.Kind.{Kind}
 use Rattle.overlay_core.specs.declared.release.Kind.TheVariants.{Partial as PartialRelease, Final as FinalRelease}
 use Rattle.overlay_core.specs.Nodes.{Up, Effects, act, act_as, acted, dones, release}
 use Rattle.stat_plan.specs.Machine.Overlays.{to_parent}
+use Rattle.stat_plan.proofs.Elements.{all_append}
 use Rattle.overlay_core.specs.TreeReleases.{TreeRelease, bare_release, bare_releases}
 use Rattle.overlay_core.proofs.ParentLinks.{set_wave_here}
 use Rattle.overlay_core.proofs.Settled.{set_wave_else}
 use Rattle.overlay_node.specs.Outputs.{AreFrames, Output, OutputFits, ReleaseFits, Sends, packets_of}
 use Rattle.overlay_node.specs.NodeViews.{HeldFits, HeldView, OpenFits}
 use Rattle.overlay_node.specs.Acting.{GivesNothing, GivesNext, StepsWave, due_as, effects_of, end, end_as, release_with}
-use Rattle.overlay_node.proofs.Frames.{all_append}
 use Rattle.overlay_node.proofs.Fitting.{IsDue, arm_fits, arm_some, due_open, given_fits, open_fits, partial_new, sent_fits, some_is}
 
 -- the machine's effects, with this book and this output so far

@@ -18,8 +18,8 @@ use Rattle.board_turn.proofs.Logs.{get_set_cases, get_snoc, out_count-fill, out_
 use Rattle.overlay_core.specs.Bound.{bound}
 use Rattle.overlay_core.specs.Independent.{AreIndependent, sender_of}
 use Rattle.overlay_core.specs.Machine.{State, is_enabled, start, step}
-use Rattle.overlay_core.specs.Runs.{IsLegal, after, run}
-use Rattle.overlay_core.specs.TreeReleases.{AreNumberedInOrder, TreeRelease}
+use Rattle.overlay_core.specs.Runs.{after, run}
+use Rattle.overlay_core.specs.TreeReleases.{TreeRelease}
 use Rattle.overlay_core.proofs.Journals.{after_more, legal_has_room}
 use Rattle.stat_plan.proofs.PlanFacts.{plan_facts}
 use Rattle.overlay_core.proofs.Steps.{active_parts}
@@ -30,13 +30,13 @@ use Rattle.event_claims.proofs.Claims.{claim_more, commit_less}
 use Rattle.event_claims.proofs.Independent.{finds_through}
 use Rattle.event_claims.proofs.Releases.{releases_through}
 use Rattle.overlay_node.specs.NodeViews.{Counts}
-use Rattle.overlay_node.specs.Outputs.{ReleaseFits}
 use Rattle.overlay_net.specs.Claims.{ClaimView, FitsNet, IsMovedOut, MayBeWorked}
 use Rattle.overlay_net.specs.Nets.{AllHome, IsReachedBy, NetView, outs_of, state_of}
 use Rattle.overlay_net.specs.Places.{out_at}
 use Rattle.overlay_net.specs.States.{IsClaimed, IsCommitted, IsSameNet}
 use Rattle.overlay_net.proofs.Fitting.{fits_stay}
 use Rattle.overlay_net.proofs.SmallCounts.{small_bound}
+use Rattle.overlay_net.proofs.Refits.{reached_like}
 use Rattle.overlay_run.specs.Boards.{BoardView, IsBoard, IsDone, IsHeldBy, IsWholeRun, board_view, claimable_of}
 use Rattle.overlay_run.specs.Seats.{IsClaimAfter}
 
@@ -128,15 +128,6 @@ none_out p st out home = record {
   senders_stay = λ n m at _. let h = home n in cc;
 }
 
--- the journal leads to each net with the same state and releases
-reached_same : (v w : NetView) (journal : List Event) → w.plan ≡ v.plan → ◌≡◌ {A = State} (state_of w) (state_of v) → w.releases ≡ v.releases → IsReachedBy v journal → IsReachedBy w journal
-reached_same v w journal plan state releases h = record {
-  legal = subst (λ p. IsLegal p journal) (sym plan) h.legal;
-  state = state ∙ h.state ∙ ap (λ p. after p journal) (sym plan);
-  numbered = subst (AreNumberedInOrder []) (sym releases) h.numbered;
-  trees = subst (λ p. AllByRecursion (ReleaseFits p) w.releases) (sym plan) (subst (AllByRecursion (ReleaseFits v.plan)) (sym releases) h.trees);
-}
-
 -- ---- a new board
 
 pub new_board : (p : Plan) (net : NetView) (holders : List (Option Holding)) → net.plan ≡ p → net.failed ≡ false → IsReachedBy net [] → AllHome net → holders ≡ replicate (nodes p) None → IsBoard (board_view p net [] holders false)
@@ -216,7 +207,7 @@ module _ (v : BoardView) (net : NetView) (c : ClaimView) (e : Event) (seat : ℕ
   claim_keeps = record {
     same_plan = is.plan ∙ board.same_plan;
     usable = usable;
-    reached = reached_same v.net net v.journal is.plan is.state is.releases board.reached;
+    reached = reached_like v.net net v.journal is.plan is.state is.releases board.reached;
     out_together = subst (λ p. MayBeOut p (after p v.journal) (outs_of net)) (sym is.plan)
         (subst (λ (out : Outs). MayBeOut v.net.plan (after v.net.plan v.journal) out) (sym is.outs) (claim_more v.net.plan (after v.net.plan v.journal) (outs_of v.net) e board.out_together may));
     holder_count = length-set v.holders (event_node e) (Some now) ∙ board.holder_count;
@@ -256,7 +247,7 @@ pub same_board : (v : BoardView) (net : NetView) → IsBoard v → IsSameNet v.n
 same_board v net board same usable = record {
   same_plan = same.plan ∙ board.same_plan;
   usable = usable;
-  reached = reached_same v.net net v.journal same.plan same.state same.releases board.reached;
+  reached = reached_like v.net net v.journal same.plan same.state same.releases board.reached;
   out_together = subst (λ p. MayBeOut p (after p v.journal) (outs_of net)) (sym same.plan) (subst (λ (out : Outs). MayBeOut v.net.plan (after v.net.plan v.journal) out) (sym outs) board.out_together);
   holder_count = board.holder_count;
   out = λ n h at. ap (λ (f : Outs). f n) outs ∙ board.out n h at;

@@ -1,16 +1,15 @@
 -- The tree of rows that go on from one another has no more rows than they.
-use Rattle.std.proofs.Common.{◌≡◌, ℕ, suc, ◌+◌, ◌-◌, ◌≤◌, Bool, true, false, ◌&&◌, ◌||◌, cond, not, List, [], ◌∷◌, ◌++◌, length, map, take, Option, Some, None, refl, sym, ap, ◌∙◌, ◌⊎◌, inl, inr, arith}
-use Rattle.std.specs.Prelude.{is_some}
+use Rattle.std.proofs.Common.{◌≡◌, ℕ, suc, ◌+◌, ◌-◌, ◌≤◌, Bool, true, ◌&&◌, not, List, [], ◌∷◌, ◌++◌, length, map, take, refl, sym, ap, ◌∙◌, ◌⊎◌, inl, inr, arith}
 use Rattle.std.specs.List.{list_any}
 use Rattle.std.specs.FinMap as finmap
 use Rattle.std.proofs.lemmas.Bool.{true≢false, or_cases, and_parts, or_left, or_right}
 use Rattle.std.proofs.lemmas.List.{length-map}
 use Rattle.rank_set.specs.Ranks.{Ranks, has, is_empty}
-use Rattle.call_path.specs.Path.{Path, path_cmp, path_cmp_total, path_cmp_exact, is_path, is_prefix}
+use Rattle.call_path.specs.Path.{Path, is_path, is_prefix}
 use Rattle.call_path.specs.Pairs.{passes, is_below}
 use Rattle.call_path.proofs.PathLemmas.{is_path-exact}
-use Rattle.prefix_tree.specs.Tree.{Marks, tree_of, count_below}
-use Rattle.prefix_tree.specs.Joined.{Below, seen, if_some}
+use Rattle.prefix_tree.specs.Tree.{tree_of, count_below}
+use Rattle.prefix_tree.proofs.Keys.{len_within, seen_key}
 use Rattle.prefix_tree.proofs.PairLemmas.{pair_from_passes}
 use Rattle.prefix_tree.proofs.TreeLemmas.{IsTreeOf-tree_of}
 use Rattle.packet_frame.specs.Frame.{Row}
@@ -18,42 +17,6 @@ use Rattle.packet_frame.specs.FrameRows.{NamedRow, path_behind, rows_view}
 use Rattle.packet_frame.specs.Sent.{pairs_of_rows}
 use Rattle.packet_frame.specs.Sending.{MayBeRows}
 use Rattle.packet_frame.proofs.ReadTrees.{prefix_kept, has_path, ends_have_path, pair_of_rows}
-
-option_case : {A : Type 0} (o : Option A) → (o ≡ None) ⊎ ((x : A) × (o ≡ Some x))
-option_case None = inl refl
-option_case (Some x) = inr (x, refl)
-
--- ---- keys among a list
-
-no_key : (b : Below) → ((p : Path) → finmap.contains_key b p ≡ true → false ≡ true) → b ≡ finmap.empty
-no_key b h = finmap.same_map path_cmp_total path_cmp_exact b finmap.empty (λ q. elim (option_case (finmap.get b q)) [
-  | inl none ↦ none ∙ sym (finmap.get-empty path_cmp q)
-  | inr some ↦ absurd (true≢false (sym (h q (ap is_some some.1))))
-])
-
-removed_has : (b : Below) (p q : Path) → finmap.contains_key (finmap.remove b p) q ≡ true → (is_path q p ≡ false) × (finmap.contains_key b q ≡ true)
-removed_has b p q h =
-    let g = ap is_some (finmap.get-remove path_cmp_total b p q) in
-    by_case (is_path q p) refl (sym g ∙ h)
-  where
-    by_case : (c : Bool) → is_path q p ≡ c → is_some (cond c None (finmap.get b q)) ≡ true → (is_path q p ≡ false) × (finmap.contains_key b q ≡ true)
-    by_case true e k = absurd (true≢false (sym k))
-    by_case false e k = (e, k)
-
-one_fewer : (c : Bool) (a b : ℕ) → a ≡ cond c (b - 1) b → b ≤ a + 1
-one_fewer true a b e = omega arith
-one_fewer false a b e = omega arith
-
-or_false : (a b : Bool) → (a || b) ≡ true → a ≡ false → b ≡ true
-or_false true b h e = absurd (true≢false e)
-or_false false b h e = h
-
-len_within : (ps : List Path) (b : Below) → ((p : Path) → finmap.contains_key b p ≡ true → list_any (is_path p) ps ≡ true) → finmap.len b ≤ length ps
-len_within [] b h = let e : finmap.len b ≡ 0 = ap finmap.len (no_key b h) ∙ finmap.len-empty path_cmp _ in omega arith
-len_within (p ∷ ps) b h =
-    let rest = len_within ps (finmap.remove b p) (λ q k. let r = removed_has b p q k in or_false (is_path q p) _ (h q r.1) r.0) in
-    let one = one_fewer (finmap.contains_key b p) _ _ (finmap.len-remove path_cmp_total b p) in
-    omega arith
 
 -- ---- rows that go on from one another
 
@@ -83,13 +46,6 @@ closed before (r ∷ rs) on p q there h = elim (or_cases (is_path p r.path) (has
     | inr above ↦ prefix_next before q r rs on.0 above
   ]
 ]
-
-seen_key : (b : Below) (p : Path) → finmap.contains_key b p ≡ true → seen (λ m. true) b p ≡ true
-seen_key b p h = by_option (finmap.get b p) h
-  where
-    by_option : (o : Option Marks) → is_some o ≡ true → if_some (λ m. true) o ≡ true
-    by_option None k = k
-    by_option (Some m) k = refl
 
 not_root : (q : Path) → is_below q ≡ true → is_prefix q [] ≡ true → ⊥
 not_root [] b h = true≢false (sym b)

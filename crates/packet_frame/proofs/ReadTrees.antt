@@ -23,8 +23,8 @@ use Rattle.prefix_tree.specs.Pairs.{label}
 use Rattle.prefix_tree.specs.Tree.{Tree, Marks, IsTree, tree_of, frame_of}
 use Rattle.prefix_tree.specs.Joined.{in_rows, seen, labelled, ended}
 use Rattle.prefix_tree.proofs.Rows.{in_rows-entries, both}
-use Rattle.prefix_tree.proofs.PairLemmas.{any-pairs_of_set, any-flat_map, any_alike, pair_from_passes, passes-from_pair}
-use Rattle.prefix_tree.proofs.TreeLemmas.{tree_of-is, IsTree-tree_of}
+use Rattle.prefix_tree.proofs.PairLemmas.{and_swap, any-pairs_of_set, any-flat_map, any_alike, pair_from_passes, passes-from_pair}
+use Rattle.prefix_tree.proofs.TreeLemmas.{is_prefix-itself, tree_of-is, IsTree-tree_of}
 use Rattle.prefix_tree.proofs.Walking.{is_prefix-trans}
 use Rattle.packet_frame.specs.declared.packet.Packet.TheVariants.{Up, Done, Attach, Down}
 use Rattle.packet_frame.specs.Frame.{Row, row_of, Sent, sent_of, Message, is_after}
@@ -78,10 +78,6 @@ starts_longer : (p : Path) (name : List ℕ) → is_prefix p (p ++ name ∷ []) 
 starts_longer [] name = refl
 starts_longer (f ∷ p) name = and_from (eq_by_cmp (slice_cmp nat_cmp) f f) (is_prefix p (p ++ name ∷ [])) (ap is_eq (tied_itself nat_list_cmp_total f)) (starts_longer p name)
 
-is_prefix-itself : (p : Path) → is_prefix p p ≡ true
-is_prefix-itself [] = refl
-is_prefix-itself (f ∷ p) = and_from (eq_by_cmp (slice_cmp nat_cmp) f f) (is_prefix p p) (ap is_eq (tied_itself nat_list_cmp_total f)) (is_prefix-itself p)
-
 -- a row has the path
 abbrev pub has_path : Path → List Row → Bool
 has_path p rows = list_any (λ row. is_path p row.path) rows
@@ -89,12 +85,6 @@ has_path p rows = list_any (λ row. is_path p row.path) rows
 -- the rank's path ends there
 abbrev pub ends_at : ℕ → Path → List Row → Bool
 ends_at x p rows = list_any (λ row. is_path p row.path && has row.ends x) rows
-
-and_swap : (a b : Bool) → (a && b) ≡ (b && a)
-and_swap true true = refl
-and_swap true false = refl
-and_swap false true = refl
-and_swap false false = refl
 
 -- the pairs are what the ends say
 pub pair_of_rows : (rows : List Row) (x : ℕ) (p : Path) → is_pair (pairs_of_rows rows) x p ≡ ends_at x p rows

@@ -1,19 +1,16 @@
 -- The tree of rows, and of one row more.
-use Rattle.std.proofs.Common.{◌≡◌, true, cond, List, [], ◌∷◌, ◌++◌, refl, sym, ap, ◌∙◌, inl, inr, arith, append_assoc}
+use Rattle.std.proofs.Common.{◌≡◌, cond, List, [], ◌∷◌, ◌++◌, refl, sym, ap, ◌∙◌, inl, inr, append_assoc}
 use Rattle.std.proofs.lemmas.Grind.{flat_map-append}
 use Rattle.std.proofs.lemmas.List.{append-nil}
-use Rattle.rank_set.specs.Ranks.{Ranks, none, in_order, is_empty, none_from_size}
-use Rattle.call_path.specs.Path.{Path}
+use Rattle.rank_set.specs.Ranks.{Ranks, in_order, is_empty}
 use Rattle.call_path.specs.Pairs.{pairs_at}
 use Rattle.prefix_tree.specs.Tree.{Tree, tree_of, added}
+use Rattle.prefix_tree.proofs.PairLemmas.{no_pairs}
 use Rattle.prefix_tree.proofs.TreeLaws.{added-tree_of}
 use Rattle.packet_frame.specs.Frame.{Row}
 use Rattle.packet_frame.specs.Sent.{pairs_of_rows}
 use Rattle.packet_frame.specs.FrameRows.{grown, rows_onto}
 use Rattle.packet_frame.proofs.FormLaws.{bool_case}
-
-no_pairs : (ends : Ranks) (p : Path) → is_empty ends ≡ true → pairs_at (in_order ends) p ≡ []
-no_pairs ends p h = ap (λ s. pairs_at (in_order s) p) (let e : ends ≡ none = none_from_size ends (grind (arith, h)) in e)
 
 one_more : (rows : List Row) (row : Row) → pairs_of_rows (rows ++ row ∷ []) ≡ pairs_of_rows rows ++ pairs_at (in_order row.ends) row.path
 one_more rows row = flat_map-append (λ r. pairs_at (in_order r.ends) r.path) rows (row ∷ []) ∙ ap (λ Q. pairs_of_rows rows ++ Q) (append-nil (pairs_at (in_order row.ends) row.path))

@@ -1,5 +1,5 @@
 -- The rows of a tree may be sent, and give the tree again.
-use Rattle.std.proofs.Common.{◌≡◌, ℕ, zero, suc, ◌+◌, ◌-◌, ◌<◌, ◌≤◌, Bool, true, false, not, ◌||◌, ◌&&◌, nat_eq, List, [], ◌∷◌, ◌++◌, length, take, drop, map, Option, Some, None, Ok, refl, sym, ap, subst, ◌∙◌, arith, ◌⊎◌, inl, inr, T}
+use Rattle.std.proofs.Common.{◌≡◌, ℕ, zero, suc, ◌+◌, ◌-◌, ◌<◌, ◌≤◌, Bool, true, false, not, ◌||◌, ◌&&◌, nat_eq, List, [], ◌∷◌, ◌++◌, length, take, drop, map, Ok, refl, sym, ap, subst, ◌∙◌, arith, ◌⊎◌, inl, inr, T}
 use Rattle.std.specs.Prelude.{All, IsTrue, slice_get}
 use Rattle.std.specs.Str.{is_utf8}
 use Rattle.std.specs.Ordering.{is_eq, is_gt, is_lt, nat_cmp, eq_by_cmp, ordering_then}
@@ -17,15 +17,15 @@ use Rattle.rank_set.specs.Ranks.{Ranks, none, has, Has, in_order, size, is_empty
 use Rattle.call_path.specs.Path.{Path, path_cmp, is_path, is_prefix, path_cmp_total}
 use Rattle.call_path.specs.Good.{is_good_frame, IsGoodPath}
 use Rattle.call_path.specs.Pairs.{pairs_at, passes, is_pair, is_below}
-use Rattle.call_path.proofs.PathLemmas.{is_path-itself, is_path-exact}
+use Rattle.call_path.proofs.PathLemmas.{is_path-exact}
 use Rattle.prefix_tree.specs.Tree.{Tree, Marks, IsTree, tree_of, pairs_of, frame_of}
-use Rattle.prefix_tree.specs.Joined.{in_rows, seen, if_some, labelled, ended, IsTreeOf}
+use Rattle.prefix_tree.specs.Joined.{in_rows, seen, labelled, ended, IsTreeOf}
 use Rattle.prefix_tree.specs.Walk.{Follows, parent}
-use Rattle.prefix_tree.proofs.Rows.{in_rows-entries, none_from, none_after, first, second, less, turned}
+use Rattle.prefix_tree.proofs.Rows.{in_rows-entries, own_row, none_from, first, second, less, turned}
 use Rattle.prefix_tree.proofs.PairLemmas.{pair_from_passes}
-use Rattle.prefix_tree.proofs.TreeLemmas.{IsTreeOf-from_equal, passes-from_here}
+use Rattle.prefix_tree.proofs.TreeLemmas.{IsTreeOf-from_equal, below_from_prefix, passes-from_here}
 use Rattle.prefix_tree.proofs.GoodPaths.{good_in}
-use Rattle.prefix_tree.proofs.Walking.{between, prefix_is_take, IsTree-follows}
+use Rattle.prefix_tree.proofs.Walking.{some_there, between, prefix_is_take, IsTree-follows}
 use Rattle.packet_frame.specs.declared.packet.Packet.{Packet}
 use Rattle.packet_frame.specs.declared.packet.Packet.TheVariants.{Up, Done, Attach, Down}
 use Rattle.packet_frame.specs.Frame.{Row, row_of, is_after}
@@ -103,15 +103,6 @@ abbrev BeginsBelow : Path → List (Path × Marks) → Type 0
 BeginsBelow p [] = Unit {0}
 BeginsBelow p (e ∷ es) = is_prefix p e.0 ≡ true
 
--- of a list in order, the first row alone has its path
-first_row : (test : Marks → Bool) (e : Path × Marks) (es : List (Path × Marks)) → T (finmap.is_sorted path_cmp (e ∷ es)) → in_rows test (e ∷ es) e.0 ≡ test e.1
-first_row test e es up =
-    (λ i. (is_path-itself e.0 i && test e.1) || none_after test e.0 e es (tied_itself path_cmp_total e.0) up i) ∙ or_false (test e.1)
-  where
-    or_false : (a : Bool) → (a || false) ≡ a
-    or_false true = refl
-    or_false false = refl
-
 -- a row behind a path is behind the first, or is it
 next_in : (q : Path) (e : Path × Marks) (es : List (Path × Marks)) → T (finmap.is_sorted path_cmp (e ∷ es)) → in_rows each (e ∷ es) q ≡ true → (is_path q e.0 ≡ true) ⊎ (path_cmp e.0 q ≡ Less)
 next_in q e es up there = by (path_cmp q e.0) refl
@@ -120,15 +111,6 @@ next_in q e es up there = by (path_cmp q e.0) refl
     by Less k = absurd (true≢false (sym there ∙ none_from each q e es k up))
     by Equal k = inl (ap is_eq k)
     by Greater k = inr (turned q e.0 Greater k)
-
-some_there : (r : ℕ) (o : Option Marks) → if_some (labelled r) o ≡ true → if_some each o ≡ true
-some_there r None e = e
-some_there r (Some m) e = refl
-
-below_too : (p q : Path) → is_below p ≡ true → is_prefix p q ≡ true → is_below q ≡ true
-below_too [] q e pre = absurd (true≢false (sym e))
-below_too (f ∷ p) [] e pre = absurd (true≢false (sym pre))
-below_too (f ∷ p) (g ∷ q) e pre = refl
 
 all_three : (a b c : Bool) → a ≡ true → b ≡ true → c ≡ true → (a && (b && c)) ≡ true
 all_three true true c x y z = z
@@ -155,7 +137,7 @@ module _ (t : Tree) (is : IsTree t) where
 
   module _ (before : Path) (e : Path × Marks) (rest : List (Path × Marks)) (up : T (finmap.is_sorted path_cmp (e ∷ rest))) (step : path_cmp before e.0 ≡ Less) (behind : Behind before (e ∷ rest)) where
     here : (test : Marks → Bool) → seen test t.below e.0 ≡ test e.1
-    here test = behind test e.0 step ∙ first_row test e rest up
+    here test = behind test e.0 step ∙ own_row test e rest up
 
     behind_next : Behind e.0 rest
     behind_next test q lt = behind test q (path_cmp_total.trans before e.0 q step lt) ∙ ap (λ o. (is_eq o && test e.1) || in_rows test rest q) (turned e.0 q Less lt)
@@ -175,7 +157,7 @@ module _ (t : Tree) (is : IsTree t) where
               let ends_here : has e.1.1 r ≡ true = sym (here (ended r)) ∙ h.ends e.0 r ∙ all_three (is_below e.0) (has C r) (is_pair (pairs_of t) r e.0) parts.0 inner.0 (ap (is_pair (pairs_of t) r) (sym same) ∙ pair.seen_in) in
               absurd (true≢false (sym ends_here ∙ ap (λ s. has s r) no_ends ∙ has-none r))
         ] in
-        let labelled_there : seen (labelled r) t.below pair.path ≡ true = h.labels pair.path r ∙ all_three (is_below pair.path) (has C r) (passes (pairs_of t) r pair.path) (below_too e.0 pair.path parts.0 pair.starts) inner.0 (passes-from_here (pairs_of t) r pair.path pair.seen_in) in
+        let labelled_there : seen (labelled r) t.below pair.path ≡ true = h.labels pair.path r ∙ all_three (is_below pair.path) (has C r) (passes (pairs_of t) r pair.path) (below_from_prefix e.0 pair.path parts.0 pair.starts) inner.0 (passes-from_here (pairs_of t) r pair.path pair.seen_in) in
         record {
           path = pair.path;
           starts = pair.starts;

@@ -46,10 +46,10 @@ breaks_lasts bytes more fault b = record {
 message_is : (m n : Message × ℕ) (r : Result (Message × ℕ) Refusal) → r ≡ Ok m → r ≡ Ok n → m ≡ n
 message_is m n r h k = ok_is m n (sym h ∙ k)
 
-not_both : (m : Message × ℕ) (e : Refusal) (r : Result (Message × ℕ) Refusal) → r ≡ Ok m → r ≡ Err e → ⊥
+pub not_both : (m : Message × ℕ) (e : Refusal) (r : Result (Message × ℕ) Refusal) → r ≡ Ok m → r ≡ Err e → ⊥
 not_both m e r h k = cc
 
-refusal_is : (e f : Refusal) (r : Result (Message × ℕ) Refusal) → r ≡ Err e → r ≡ Err f → e ≡ f
+pub refusal_is : (e f : Refusal) (r : Result (Message × ℕ) Refusal) → r ≡ Err e → r ≡ Err f → e ≡ f
 refusal_is e f r h k = cc
 
 -- up to bytes that no frame begins, there is one way to cut frames off

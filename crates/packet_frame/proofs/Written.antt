@@ -8,7 +8,6 @@ use Rattle.std.specs.Str.{is_utf8}
 use Rattle.std.proofs.lemmas.List.{length-map, length-drop, drop-map, append-nil}
 use Rattle.std.proofs.lemmas.List.Folds.{flat_map-map}
 use Rattle.std.proofs.lemmas.Grind.{flat_map-append}
-use Rattle.std.proofs.lemmas.Option.{none-some, same_Some}
 use Rattle.std.proofs.lemmas.List.Elements.{All-cons, All-nil, All-head, All-tail, All-append, All-drop}
 use Rattle.rank_set.specs.declared.TheConstants.{RANK_LIMIT}
 use Rattle.rank_set.specs.declared.Run.{Run}
@@ -22,6 +21,7 @@ use Rattle.rank_places.specs.Places.{to_places}
 use Rattle.call_path.specs.Path.{Path, is_path}
 use Rattle.call_path.specs.Pairs.{pairs_at}
 use Rattle.call_path.proofs.PathLemmas.{is_path-itself}
+use Rattle.call_path.proofs.Orders.{from_frame}
 use Rattle.prefix_tree.specs.declared.Chain.{Chain}
 use Rattle.prefix_tree.specs.Tree.{Marks, Tree, IsTree, IsLawful, pairs_of, frame_of, rows_of}
 use Rattle.prefix_tree.specs.Chains.{shown, rows_shown, chained, chain_rows, IsGoodChain}
@@ -152,12 +152,6 @@ ends_covered t is cover same chain good (suc k) n some rows =
 
 -- ---- a chain
 
--- a path past some frames, the first of which is at hand
-pub frame_first : (p : Path) (i : ℕ) (f : List ℕ) → slice_get p i ≡ Some f → drop i p ≡ f ∷ drop (i + 1) p
-frame_first [] i f is = absurd (none-some f is)
-frame_first (g ∷ p) zero f is = ap (λ f. f ∷ p) (same_Some g f is)
-frame_first (g ∷ p) (suc i) f is = let n : suc (i + 1) ≡ suc i + 1 = omega arith in frame_first p i f is ∙ ap (λ k. f ∷ drop k (g ∷ p)) n
-
 no_numbers : (cover : Ranks) → set_bytes (to_places cover none) ≡ no_ends
 unfolding to_places words_of
 no_numbers cover = refl
@@ -181,10 +175,10 @@ chain_written cover chain f old a b c is first then last =
     last ∙ ap (λ ys. ys ++ ends) (then ∙ (λ i. first i ++ below_bytes (d i) fs))
     ∙ append_assoc (old ++ name_bytes chain.depth f) (below_bytes (suc chain.depth) fs) ends
     ∙ append_assoc old (name_bytes chain.depth f) (below_bytes (suc chain.depth) fs ++ ends)
-    ∙ ap (λ ys. old ++ ys) (sym (chained_bytes cover chain.depth f fs m) ∙ ap (λ p. flat_map (seen_bytes cover) (chained chain.depth p m)) (sym (frame_first chain.frames.now chain.skip f is)))
+    ∙ ap (λ ys. old ++ ys) (sym (chained_bytes cover chain.depth f fs m) ∙ ap (λ p. flat_map (seen_bytes cover) (chained chain.depth p m)) (sym (from_frame chain.frames.now chain.skip f is)))
 
 pub all_text : (p : Path) (i : ℕ) (f : List ℕ) → slice_get p i ≡ Some f → is_utf8 f ≡ true → AreText (drop (i + 1) p) → AreText (drop i p)
-all_text p i f is text rest = subst AreText (sym (frame_first p i f is)) (All-cons (λ f. is_utf8 f ≡ true) f (drop (i + 1) p) text rest)
+all_text p i f is text rest = subst AreText (sym (from_frame p i f is)) (All-cons (λ f. is_utf8 f ≡ true) f (drop (i + 1) p) text rest)
 
 -- a row more below those of a chain that are written
 pub below_more : (p : Path) (d skip i : ℕ) (f all out new : List ℕ) → skip ≤ i → slice_get p i ≡ Some f
@@ -194,7 +188,7 @@ below_more p d skip i f all out new le is more left =
     let row = no_ends ++ name_bytes (d + (i - skip)) f in
     (λ j. more j ++ below_bytes (n j) (drop (i + 1) p))
     ∙ append_assoc out row (below_bytes (suc (d + (i - skip))) (drop (i + 1) p))
-    ∙ ap (λ q. out ++ below_bytes (d + (i - skip)) q) (sym (frame_first p i f is))
+    ∙ ap (λ q. out ++ below_bytes (d + (i - skip)) q) (sym (from_frame p i f is))
     ∙ left
 
 -- ---- a tree

@@ -50,7 +50,7 @@ put_rows_good b es old new = all_good _ (λ q there. elim (or_cases (seen any_ma
   | inr theirs ↦ good_in es new q theirs
 ])
 
-same_frame : (f g : List ℕ) → eq_by_cmp (slice_cmp nat_cmp) f g ≡ true → f ≡ g
+pub same_frame : (f g : List ℕ) → eq_by_cmp (slice_cmp nat_cmp) f g ≡ true → f ≡ g
 same_frame f g e = finmap.slice_cmp-IsAntisymmetric finmap.nat_cmp-IsAntisymmetric f g ((Equal-is (slice_cmp nat_cmp f g)).0 e)
 
 prefix_frames : (q p : Path) → is_prefix q p ≡ true → All (λ f. IsTrue (is_good_frame f)) p → (length q ≤ length p) × All (λ f. IsTrue (is_good_frame f)) q

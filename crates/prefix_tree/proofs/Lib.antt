@@ -10,3 +10,4 @@ pub mod ChangeLemmas
 pub mod Places
 pub mod Putting
 pub mod ChainLemmas
+pub mod Keys

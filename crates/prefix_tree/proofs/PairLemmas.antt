@@ -1,14 +1,14 @@
 -- What pairs say of a prefix.
-use Rattle.std.proofs.Common.{◌≡◌, ℕ, Bool, true, false, ◌&&◌, ◌||◌, List, [], ◌∷◌, ◌++◌, map, refl, sym, ap, ◌∙◌, eqb, inl, inr}
+use Rattle.std.proofs.Common.{◌≡◌, ℕ, Bool, true, false, ◌&&◌, ◌||◌, List, [], ◌∷◌, ◌++◌, map, refl, sym, ap, ◌∙◌, eqb, inl, inr, arith}
 use Rattle.std.specs.List.{list_any, flat_map}
-use Rattle.std.specs.Ordering.{eq_by_cmp, is_eq, nat_cmp, ordering_then}
-use Rattle.std.specs.Cmp.{both_ways, unsigned_tied, Equal-is, tied_itself}
+use Rattle.std.specs.Ordering.{eq_by_cmp, nat_cmp}
+use Rattle.std.specs.Cmp.{unsigned_tied}
 use Rattle.std.specs.Cmp.Lexicographic.{slice_cmp}
 use Rattle.std.specs.FinMap as finmap
 use Rattle.std.proofs.lemmas.Bool.{true≢false, or_cases, and_parts, or_left, or_right}
 use Rattle.std.proofs.lemmas.List.Folds.{list_any-append}
 use Rattle.call_path.proofs.PathLemmas.{and_false, root_or_below, is_path-cons, is_path-exact, is_path-itself}
-use Rattle.rank_set.specs.Ranks.{Ranks, none, has, in_order, has-in_order, has-none}
+use Rattle.rank_set.specs.Ranks.{Ranks, none, has, in_order, has-in_order, has-none, is_empty, none_from_size}
 use Rattle.call_path.specs.Path.{Path, is_path, is_prefix}
 use Rattle.call_path.specs.Pairs.{Pairs, pairs_at, is_pair, passes, is_below}
 use Rattle.prefix_tree.specs.Pairs.{IsWithin}
@@ -39,6 +39,10 @@ any-pairs_at test (x ∷ rs) q r = ap (λ b. (eqb x r && test q) || b) (any-pair
 any_flipped : (rs : List ℕ) (r : ℕ) → list_any (λ x. eqb x r) rs ≡ list_any (eq_by_cmp nat_cmp r) rs
 any_flipped [] r = refl
 any_flipped (x ∷ rs) r = λ i. (Rattle.std.specs.Cmp.nat_eq_equiv.symm x r ∙ sym (unsigned_tied r x)) i || any_flipped rs r i
+
+-- no ranks give no pairs
+pub no_pairs : (ends : Ranks) (p : Path) → is_empty ends ≡ true → pairs_at (in_order ends) p ≡ []
+no_pairs ends p h = ap (λ s. pairs_at (in_order s) p) (let e : ends ≡ none = none_from_size ends (grind (arith, h)) in e)
 
 -- the same for the ranks of a set
 pub any-pairs_of_set : (test : Path → Bool) (C : Ranks) (q : Path) (r : ℕ) → list_any (λ e. eqb e.0 r && test e.1) (pairs_at (in_order C) q) ≡ (has C r && test q)
@@ -90,7 +94,7 @@ pub any_alike : {A : Type 0} (f g : A → Bool) → ((x : A) → f x ≡ g x) �
 any_alike f g same [] = refl
 any_alike f g same (x ∷ xs) = λ i. same x i || any_alike f g same xs i
 
-and_swap : (a b : Bool) → (a && b) ≡ (b && a)
+pub and_swap : (a b : Bool) → (a && b) ≡ (b && a)
 and_swap true true = refl
 and_swap true false = refl
 and_swap false true = refl

@@ -3,10 +3,11 @@ use Rattle.std.proofs.Common.{◌≡◌, ℕ, Bool, true, false, cond, ◌&&◌,
 use Rattle.std.specs.Ordering.{is_eq, is_lt, ordering_reverse}
 use Rattle.std.specs.declared.cmp.Ordering.{Ordering}
 use Rattle.std.specs.declared.cmp.Ordering.TheVariants.{Less, Equal, Greater}
+use Rattle.std.specs.Cmp.{tied_itself}
 use Rattle.std.specs.FinMap as finmap
 use Rattle.rank_set.specs.Ranks.{has-union}
 use Rattle.call_path.specs.Path.{Path, path_cmp, is_path, path_cmp_total}
-use Rattle.call_path.proofs.PathLemmas.{is_path-exact}
+use Rattle.call_path.proofs.PathLemmas.{is_path-exact, is_path-itself}
 use Rattle.prefix_tree.specs.Tree.{Marks}
 use Rattle.prefix_tree.specs.Joined.{Below, both_marks, put_row, insert_rows, in_rows, if_some, seen, labelled, ended}
 
@@ -84,6 +85,10 @@ none_from test q e (f ∷ es) below up =
 pub none_after : (test : Marks → Bool) (q : Path) (e : Path × Marks) (es : List (Path × Marks)) → path_cmp q e.0 ≡ Equal → T (finmap.is_sorted path_cmp (e ∷ es)) → in_rows test es q ≡ false
 none_after test q e [] same up = refl
 none_after test q e (f ∷ es) same up = none_from test q f es (path_cmp_total.congr q e.0 f.0 same ∙ less _ (first _ _ (first _ _ up))) (second _ _ up)
+
+-- so the first row alone has its path
+pub own_row : (test : Marks → Bool) (e : Path × Marks) (es : List (Path × Marks)) → T (finmap.is_sorted path_cmp (e ∷ es)) → in_rows test (e ∷ es) e.0 ≡ test e.1
+own_row test e es up = (λ i. (is_path-itself e.0 i && test e.1) || none_after test e.0 e es (tied_itself path_cmp_total e.0) up i) ∙ or_false (test e.1)
 
 -- in a list in order, the one entry of a prefix is what is found there
 in_rows-find : (test : Marks → Bool) (es : List (Path × Marks)) (q : Path) → T (finmap.is_sorted path_cmp es) → in_rows test es q ≡ if_some test (finmap.find path_cmp q es)

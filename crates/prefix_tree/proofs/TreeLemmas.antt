@@ -172,7 +172,7 @@ coverage-tree_of P C = refl
 empty_no_member : (s : Ranks) (r : ℕ) → eqb (size s) 0 ≡ true → has s r ≡ false
 empty_no_member s r e = ap (λ x. has x r) (none_from_size s (eqb-true (size s) 0 e)) ∙ has-none r
 
-is_prefix-itself : (p : Path) → is_prefix p p ≡ true
+pub is_prefix-itself : (p : Path) → is_prefix p p ≡ true
 is_prefix-itself [] = refl
 is_prefix-itself (f ∷ p) = λ i. ap is_eq (tied_itself nat_list_cmp_total f) i && is_prefix-itself p i
 
@@ -230,7 +230,7 @@ module _ (P : Pairs) (C : Ranks) where
   IsTreeOf-from_equal t e = subst (IsTreeOf P C) (sym e) IsTreeOf-tree_of
 
 -- a tree depends on which pairs there are, and not on their order or repeats
-below_from_prefix : (p q : Path) → is_below p ≡ true → is_prefix p q ≡ true → is_below q ≡ true
+pub below_from_prefix : (p q : Path) → is_below p ≡ true → is_prefix p q ≡ true → is_below q ≡ true
 below_from_prefix [] q e pre = absurd (true≢false (sym e))
 below_from_prefix (f ∷ p) [] e pre = absurd (true≢false (sym pre))
 below_from_prefix (f ∷ p) (g ∷ q) e pre = refl

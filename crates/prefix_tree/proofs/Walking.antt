@@ -68,7 +68,8 @@ is_prefix-trans (f ∷ p) (g ∷ q) (h ∷ s) a b =
 abbrev each : Marks → Bool
 each m = true
 
-some_there : (r : ℕ) (o : Option Marks) → if_some (labelled r) o ≡ true → if_some each o ≡ true
+-- where a rank is seen a row is
+pub some_there : (r : ℕ) (o : Option Marks) → if_some (labelled r) o ≡ true → if_some each o ≡ true
 some_there r None e = e
 some_there r (Some m) e = refl
 

@@ -38,10 +38,12 @@ fn put_moved(
     requires good { IsCollected out.old }
     requires above { (q x y : ℕ) → has (collected out.old) q ≡ true → 64 * index ≤ x
         → Becomes way.back (cover_of way.runs.now) x y → q < y }
-    ensures moves { IfOk result (λ after. AreMoved way.entry.back (cover_of way.entry.runs.now) after.first after.last after.target) }
+    ensures moves { IfOk result
+        (λ after. AreMoved way.entry.back (cover_of way.entry.runs.now) after.first after.last after.target) }
     ensures good { OnOk result (IsCollected out.new) }
     ensures numbers { OnOk result
-        (collected out.new ≡ union (collected out.old) (image way.entry.back (cover_of way.entry.runs.now) (ranks_in index (word ∷ [])))) }
+        (collected out.new ≡ union (collected out.old)
+        (image way.entry.back (cover_of way.entry.runs.now) (ranks_in index (word ∷ [])))) }
 {
     let mut run = before;
     let mut from = 64 * index;

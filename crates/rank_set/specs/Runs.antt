@@ -42,6 +42,10 @@ abbrev pub ranks_of_runs : List (ℕ × ℕ) → Ranks
 ranks_of_runs [] = none
 ranks_of_runs (r ∷ rs) = union (ranks_between r.0 r.1) (ranks_of_runs rs)
 
+-- the ranks of the runs of two lists
+abbrev pub ranks_of_both : List (ℕ × ℕ) → List (ℕ × ℕ) → Ranks
+ranks_of_both runs others = union (ranks_of_runs runs) (ranks_of_runs others)
+
 -- runs below the limit of ranks that begin at or above a rank, in order, with a gap before the next
 abbrev pub AreRuns : ℕ → List (ℕ × ℕ) → Type 0
 AreRuns least [] = ⊤

@@ -2,7 +2,7 @@
 
 ghost use Rattle.std.specs.Prelude.{◌≡◌, ℕ, ◌<◌, ◌≤◌, ◌+◌, ◌-◌, ◌++◌, ◌↔◌, true, OnOk, IfOk, length, get_or};
 ghost use Rattle.rank_set.specs.Ranks.{has, union, size};
-ghost use Rattle.rank_set.specs.Runs.{ranks_between, ranks_of_runs, AreRuns, IsRunInRange, run_pairs, runs_with};
+ghost use Rattle.rank_set.specs.Runs.{ranks_between, ranks_of_both, ranks_of_runs, AreRuns, IsRunInRange, run_pairs, runs_with};
 
 use crate::word_set::WordSet;
 use crate::{RANK_LIMIT, Run};
@@ -101,7 +101,7 @@ fn join_both(done: &mut Runs, pending: Run, runs: &[Run], others: &[Run]) -> Res
     ensures done { IfOk result (λ p. AreRuns 0 (runs_with done.new.items p)) }
     ensures ranks { IfOk result (λ p. ranks_of_runs (runs_with done.new.items p)
         ≡ union (ranks_of_runs (runs_with done.old.items pending))
-        (union (ranks_of_runs (run_pairs runs.now)) (ranks_of_runs (run_pairs others.now)))) }
+        (ranks_of_both (run_pairs runs.now) (run_pairs others.now))) }
 {
     let mut last = pending;
     let mut i = 0;
@@ -130,7 +130,7 @@ fn join_behind(done: &mut Runs, runs: &[Run], others: &[Run]) -> Result<(), Allo
     ensures runs { OnOk result (AreRuns 0 (run_pairs done.new.items)) }
     ensures ranks { OnOk result (ranks_of_runs (run_pairs done.new.items)
         ≡ union (ranks_of_runs (run_pairs done.old.items))
-        (union (ranks_of_runs (run_pairs runs.now)) (ranks_of_runs (run_pairs others.now)))) }
+        (ranks_of_both (run_pairs runs.now) (run_pairs others.now))) }
 {
     let Some((first, later)) = runs.split_first() else {
         done.extend_from_slice(others)?;

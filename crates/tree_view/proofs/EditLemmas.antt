@@ -1,23 +1,14 @@
 -- What the edited ends of a tree's rows say of its pairs.
-use Rattle.std.proofs.Common.{◌≡◌, ℕ, Bool, true, false, cond, ◌&&◌, ◌||◌, List, [], ◌∷◌, ◌++◌, refl, sym, ap, ◌∙◌, eqb, inl, inr}
-use Rattle.std.specs.List.{list_any, flat_map}
-use Rattle.std.specs.FinMap as finmap
-use Rattle.std.proofs.lemmas.Bool.{true≢false}
-use Rattle.rank_set.specs.Ranks.{Ranks, none, has, in_order}
+use Rattle.std.proofs.Common.{◌≡◌, ℕ, Bool, true, false, ◌&&◌, ◌||◌, List, [], ◌∷◌, refl, sym, ap, ◌∙◌, eqb}
+use Rattle.std.specs.List.{list_any}
+use Rattle.rank_set.specs.Ranks.{Ranks, has, in_order}
 use Rattle.call_path.specs.Path.{Path, is_path}
-use Rattle.call_path.specs.Pairs.{Pairs, pairs_at, is_pair}
+use Rattle.call_path.specs.Pairs.{pairs_at, is_pair}
 use Rattle.call_path.proofs.PathLemmas.{and_false, is_path-exact}
-use Rattle.prefix_tree.specs.Tree.{Marks, Tree, tree_of}
-use Rattle.prefix_tree.specs.Joined.{in_rows, seen, labelled, ended}
-use Rattle.prefix_tree.proofs.PairLemmas.{any-pairs_of_set, any-flat_map, any_alike}
-use Rattle.prefix_tree.proofs.Rows.{in_rows-entries}
+use Rattle.prefix_tree.specs.Tree.{Marks}
+use Rattle.prefix_tree.specs.Joined.{in_rows}
+use Rattle.prefix_tree.proofs.PairLemmas.{and_swap, any-pairs_of_set, any-flat_map, any_alike}
 use Rattle.tree_view.specs.Selections.{edited}
-
-and_swap : (a b : Bool) → (a && b) ≡ (b && a)
-and_swap true true = refl
-and_swap true false = refl
-and_swap false true = refl
-and_swap false false = refl
 
 -- at a path, what is said of each row's path is said of the path
 at_path : (f : Path → Bool) (q p : Path) → (is_path q p && f p) ≡ (is_path q p && f q)

@@ -1,31 +1,24 @@
 -- The laws of views: the tree of the edited ends is that of the viewed pairs.
-use Rattle.std.proofs.Common.{◌≡◌, ℕ, Bool, true, false, cond, ◌&&◌, ◌||◌, List, [], ◌∷◌, map, refl, sym, ap, ◌∙◌, eqb}
-use Rattle.std.specs.List.{list_any, filter}
-use Rattle.std.specs.Ordering.{eq_by_cmp, nat_cmp}
+use Rattle.std.proofs.Common.{◌≡◌, ℕ, Bool, true, false, cond, ◌&&◌, ◌||◌, List, [], ◌∷◌, refl, sym, ap, ◌∙◌, eqb}
+use Rattle.std.specs.Ordering.{nat_cmp}
 use Rattle.std.specs.Cmp.Lexicographic.{slice_cmp}
 use Rattle.std.specs.FinMap as finmap
 use Rattle.std.specs.Cmp.{Equal-is}
 use Rattle.std.proofs.lemmas.Bool.{true≢false, and_parts}
 use Rattle.std.proofs.lemmas.Map.Views.{any-filter_same}
-use Rattle.rank_set.specs.Ranks.{Ranks, none, has, in_order, those, has-those, has-none}
+use Rattle.rank_set.specs.Ranks.{Ranks, none, has, those, has-those, has-none}
 use Rattle.call_path.specs.Path.{Path, is_path, is_prefix}
 use Rattle.call_path.specs.Pairs.{Pairs, is_pair, passes, is_below}
 use Rattle.call_path.proofs.PathLemmas.{and_false, is_path-cons, is_path-exact}
 use Rattle.prefix_tree.specs.Tree.{Marks, Tree, tree_of}
-use Rattle.prefix_tree.specs.Joined.{in_rows, seen, labelled, ended, IsTreeOf, AreSamePairs}
-use Rattle.prefix_tree.proofs.PairLemmas.{any_alike}
+use Rattle.prefix_tree.specs.Joined.{in_rows, labelled, ended, IsTreeOf, AreSamePairs}
+use Rattle.prefix_tree.proofs.PairLemmas.{and_swap}
 use Rattle.prefix_tree.proofs.Rows.{in_rows-entries}
 use Rattle.prefix_tree.proofs.TreeLemmas.{IsTreeOf-from_equal}
 use Rattle.prefix_tree.proofs.TreeLaws.{tree_of-same_pairs}
 use Rattle.tree_view.specs.Views.{is_frame, has_frame, cut_at, was_in, with_frame, ranks_with, folded}
 use Rattle.tree_view.specs.Selections.{closes, edited, fold_ends, is_root}
 use Rattle.tree_view.proofs.EditLemmas.{is_pair-edited, in_rows-alike, in_rows-and, in_rows-never}
-
-and_swap : (a b : Bool) → (a && b) ≡ (b && a)
-and_swap true true = refl
-and_swap true false = refl
-and_swap false true = refl
-and_swap false false = refl
 
 -- ---- folded paths
 

@@ -1,14 +1,14 @@
 -- The least members of a set.
-use Rattle.std.proofs.Common.{◌≡◌, ℕ, zero, suc, ◌+◌, ◌<◌, ◌≤◌, Bool, true, false, cond, ◌&&◌, ◌||◌, ◌⊎◌, ltb, nat_lt, List, [], get_or, ◌∷◌, ◌++◌, length, map, take, drop, refl, sym, ap, ◌∙◌, subst, arith, inl, inr, lt-ltb, le-ltb}
+use Rattle.std.proofs.Common.{◌≡◌, ℕ, zero, suc, ◌+◌, ◌<◌, ◌≤◌, Bool, true, false, cond, ◌||◌, ltb, nat_lt, List, [], get_or, ◌∷◌, ◌++◌, length, take, refl, sym, ap, ◌∙◌, arith, inl, inr, lt-ltb, le-ltb}
 use Rattle.std.specs.List.{list_all, list_any, filter, flat_map}
 use Rattle.std.specs.Ordering.{nat_cmp, eq_by_cmp}
-use Rattle.std.proofs.lemmas.Bool.{true≢false, and_parts, or_cases, or_left, or_right, cases_lt}
+use Rattle.std.proofs.lemmas.Bool.{true≢false, and_parts, or_cases, or_left, cases_lt}
 use Rattle.std.proofs.lemmas.List.{append-nil, take_all}
 use Rattle.std.proofs.lemmas.Grind.{flat_map-append}
 use Rattle.equiv_class.specs.ClassList.{class_view, class_views}
 use Rattle.equiv_class.specs.declared.Class.{Class}
 use Rattle.std.proofs.lemmas.List.Folds.{list_any-append}
-use Rattle.rank_set.specs.Ranks.{Ranks, from_T, has, has-in_order, has-set_of, has-with_rank, with_rank, in_order, is_strictly_increasing, same_ranks, set_of}
+use Rattle.rank_set.specs.Ranks.{Ranks, from_T, has, has-in_order, has-set_of, has-with_rank, with_rank, in_order, is_strictly_increasing}
 use Rattle.rank_set.specs.Runs.{IsRun}
 use Rattle.call_path.specs.Path.{Path}
 use Rattle.equiv_class.proofs.Ordered.{above_all, same_number, tied_self}

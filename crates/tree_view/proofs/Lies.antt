@@ -1,19 +1,18 @@
 -- The ends of a view's rows lie in what the view covers.
-use Rattle.std.proofs.Common.{◌≡◌, ℕ, zero, suc, ◌<◌, Bool, true, false, cond, ◌&&◌, ◌||◌, List, [], ◌∷◌, ◌++◌, get_or, length, take, refl, sym, ap, ◌∙◌, subst, arith, eqb, inl, inr, Bor}
+use Rattle.std.proofs.Common.{◌≡◌, ℕ, zero, suc, ◌<◌, Bool, true, false, cond, ◌&&◌, List, [], ◌∷◌, get_or, length, refl, sym, ap, ◌∙◌, arith, eqb, inl, inr}
 use Rattle.std.specs.List.{list_any}
 use Rattle.std.specs.FinMap as finmap
 use Rattle.std.specs.Cmp.{both_ways}
 use Rattle.std.proofs.lemmas.Bool.{true≢false, and_parts, and_from, or_cases, or_left, or_right}
-use Rattle.rank_set.specs.Ranks.{Ranks, none, has, those, has-none, has-those, same_ranks, IsSubset}
+use Rattle.rank_set.specs.Ranks.{Ranks, none, has, those, has-none, has-those, same_ranks}
 use Rattle.call_path.specs.Path.{Path, is_path}
 use Rattle.call_path.specs.Pairs.{Pairs, is_pair, passes, is_below}
 use Rattle.call_path.proofs.PathLemmas.{is_path-exact, is_path-itself}
-use Rattle.prefix_tree.specs.Tree.{Marks, Tree, IsTree, tree_of, pairs_of}
+use Rattle.prefix_tree.specs.Tree.{Marks, Tree}
 use Rattle.prefix_tree.specs.Joined.{IsTreeOf, ended, in_rows, labelled}
 use Rattle.prefix_tree.proofs.Rows.{in_rows-entries}
-use Rattle.prefix_tree.proofs.TreeLemmas.{IsTreeOf-from_equal}
-use Rattle.tree_view.specs.Views.{has_frame, ranks_with, was_in, with_frame}
-use Rattle.tree_view.specs.Selections.{LieIn, closes, ends_in, fold_ends, no_entry}
+use Rattle.tree_view.specs.Views.{has_frame, ranks_with, was_in}
+use Rattle.tree_view.specs.Selections.{LieIn, closes, fold_ends, no_entry}
 
 -- a row is there
 pub in_rows_at : (test : Marks → Bool) (es : List (Path × Marks)) (k : ℕ) → k < length es → test (get_or es k no_entry).1 ≡ true → in_rows test es (get_or es k no_entry).0 ≡ true

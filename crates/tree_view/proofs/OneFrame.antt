@@ -1,5 +1,5 @@
 -- What a text that is one frame is read as.
-use Rattle.std.proofs.Common.{◌≡◌, ℕ, List, [], ◌∷◌, length, Ok, Err, None, Some, Result, refl, sym, ap, ◌∙◌, arith}
+use Rattle.std.proofs.Common.{◌≡◌, ℕ, List, [], ◌∷◌, length, Ok, None, Some, sym, ap, ◌∙◌, arith}
 use Rattle.call_path.specs.Path.{Path, path_text}
 use Rattle.call_path.specs.Reading.{first_error, frames, path_of, unless}
 use Rattle.call_path.specs.declared.read.PathError.{PathError}

@@ -1,17 +1,17 @@
 -- What a view keeps depends on the tree alone, not on the pairs that it is of.
-use Rattle.std.proofs.Common.{◌≡◌, ℕ, ◌<◌, Bool, true, false, cond, ◌&&◌, ◌||◌, List, [], ◌∷◌, map, filter, refl, sym, ap, ◌∙◌, subst, arith, eqb, inl, inr}
+use Rattle.std.proofs.Common.{◌≡◌, ℕ, Bool, true, false, cond, ◌&&◌, ◌||◌, List, [], ◌∷◌, filter, refl, sym, ap, ◌∙◌, arith, eqb, inl, inr}
 use Rattle.std.specs.FinMap as finmap
 use Rattle.std.specs.Cmp.{both_ways}
-use Rattle.std.proofs.lemmas.Bool.{true≢false, and_parts, and_from, or_cases, or_left, or_right, false_from_ne_true}
+use Rattle.std.proofs.lemmas.Bool.{true≢false, or_cases, or_left, or_right, false_from_ne_true}
 use Rattle.rank_set.specs.Ranks.{Ranks, has, those, has-those, same_ranks}
 use Rattle.call_path.specs.Path.{Path, is_path}
-use Rattle.call_path.specs.Pairs.{HasNoEmptyPath, Pairs, is_below, is_pair}
+use Rattle.call_path.specs.Pairs.{HasNoEmptyPath, Pairs, is_pair}
 use Rattle.prefix_tree.specs.Tree.{Tree, pairs_of, tree_of}
 use Rattle.prefix_tree.proofs.PairLemmas.{is_pair-pairs_of}
 use Rattle.prefix_tree.proofs.TreeLemmas.{IsTreeOf-from_equal}
 use Rattle.equiv_class.specs.Classes.{classes_of}
 use Rattle.equiv_class.proofs.SamePairs.{classes-same_pairs, classes_of_tree}
-use Rattle.tree_view.specs.Views.{TreeView, OfRanks, WithFrame, FoldedAt, OfEachClass, cut_at, folded, has_frame, least_ranks, ranks_with, reps_of, viewed_classes, viewed_pairs, viewed_ranks, viewed_tree, was_in, with_frame}
+use Rattle.tree_view.specs.Views.{TreeView, OfRanks, WithFrame, FoldedAt, OfEachClass, cut_at, folded, has_frame, least_ranks, ranks_with, viewed_classes, viewed_pairs, viewed_ranks, viewed_tree, was_in}
 use Rattle.tree_view.proofs.Laws.{fold_law, frame_law, ranks_law}
 use Rattle.tree_view.proofs.Lies.{has_pair, in_pairs}
 

@@ -1,42 +1,23 @@
 -- A tree's rows, walked in order: the path of each goes on from the one before.
-use Rattle.std.proofs.Common.{◌≡◌, ℕ, zero, suc, ◌+◌, ◌-◌, ◌<◌, ◌≤◌, Bool, true, false, not, cond, ◌&&◌, ◌||◌, List, [], ◌∷◌, ◌++◌, length, map, take, drop, get_or, append_assoc, refl, sym, ap, ◌∙◌, subst, arith, inl, inr}
+use Rattle.std.proofs.Common.{◌≡◌, ℕ, ◌+◌, ◌-◌, ◌<◌, ◌≤◌, Bool, true, false, cond, ◌&&◌, ◌||◌, List, [], ◌∷◌, ◌++◌, length, take, get_or, refl, sym, ap, ◌∙◌, arith, inl, inr}
 use Rattle.std.specs.List.{list_any, slice_get, flat_map}
 use Rattle.std.specs.Option.{IfSome}
 use Rattle.std.specs.FinMap as finmap
 use Rattle.std.proofs.lemmas.Grind.{flat_map-append}
-use Rattle.std.proofs.lemmas.List.{append-nil, length-append, length-take}
+use Rattle.std.proofs.lemmas.List.{append-nil, length-append, length-take, take_more}
 use Rattle.std.proofs.lemmas.Bool.{cases_Bool}
-use Rattle.rank_set.specs.Ranks.{Ranks, none, has, has-union, in_order, is_empty, none_from_size, union}
+use Rattle.rank_set.specs.Ranks.{Ranks, none, has, has-union, in_order, is_empty, union}
 use Rattle.std.proofs.lemmas.List.Folds.{list_any-append}
 use Rattle.tree_view.specs.Views.{has_frame}
 use Rattle.call_path.specs.Path.{Path}
 use Rattle.call_path.specs.Pairs.{pairs_at}
-use Rattle.prefix_tree.specs.Tree.{Tree, Marks, IsTree, added, frame_of, rows_of, tree_of}
+use Rattle.prefix_tree.specs.Tree.{Tree, Marks, IsTree, added, rows_of, tree_of}
 use Rattle.prefix_tree.specs.Shown.{Shows}
 use Rattle.prefix_tree.specs.declared.Row.{Row}
+use Rattle.prefix_tree.proofs.PairLemmas.{no_pairs}
 use Rattle.prefix_tree.proofs.TreeLaws.{added-tree_of}
-use Rattle.prefix_tree.proofs.Walking.{IsTree-follows}
-use Rattle.equiv_class.proofs.Walk.{follows_at, parent_frame, row_entry}
-use Rattle.prefix_tree.specs.Walk.{parent}
+use Rattle.equiv_class.proofs.Walk.{frames_step, row_entry}
 use Rattle.tree_view.specs.Selections.{edited, with_ends}
-
-no_entry : Path × Marks
-no_entry = ([], (none, none))
-
--- the frames of the next row
-pub frames_step : (t : Tree) → IsTree t → (i : ℕ) (row : Row) (before after : Path) → 1 ≤ i → i < length (rows_of t) → IfSome (slice_get (rows_of t) i) (Shows row) → 0 < row.depth
-    → before ≡ (get_or (rows_of t) (i - 1) ([], (none, none))).0 → after ≡ take (row.depth - 1) before ++ row.frame.now ∷ []
-    → (after ≡ (get_or (rows_of t) ((i + 1) - 1) ([], (none, none))).0) × (after ≡ (get_or (finmap.entries t.below) (i - 1) ([], (none, none))).0)
-frames_step t tree i row before after le lt h some so_far is =
-    let es : List (Path × Marks) = finmap.entries t.below in
-    let d : Path × Marks = ([], (none, none)) in
-    let root : Path × Marks = ([], (t.coverage, none)) in
-    let e : Path × Marks = get_or es (i - 1) d in
-    let shown : Shows row e = row_entry t i row d le lt h in
-    let walk : parent e.0 ≡ take (length e.0 - 1) (get_or (root ∷ es) (i - 1) d).0 = follows_at root es (i - 1) d (IsTree-follows t tree) (omega arith) in
-    let own : after ≡ e.0 = is ∙ (λ k. take (shown.depth k - 1) (so_far k) ++ shown.frame k ∷ []) ∙ ap (λ p. p ++ frame_of e.0 ∷ []) (sym walk) ∙ parent_frame e.0 (omega (arith, shown.depth, some)) in
-    let n : suc (i - 1) ≡ (i + 1) - 1 = omega arith in
-    (own ∙ ap (λ k. (get_or (root ∷ es) k d).0) n, own)
 
 -- the path of a row has as many frames as the row is deep
 pub row_depth : (t : Tree) (i : ℕ) (row : Row) (path : Path) → 1 ≤ i → i < length (rows_of t) → IfSome (slice_get (rows_of t) i) (Shows row)
@@ -62,15 +43,6 @@ row_step at t tree i row before after place next le lt h some so_far is place_is
     let deep : length after ≡ row.depth = row_depth t i row after le lt h step.1 in
     (step.0, step.1, deep, next_is before (others_within before row.depth row.frame.now some (ap length (sym is) ∙ deep)) place_is ∙ ap at (sym is))
 
--- the first rows and one more
-take_more : (es : List (Path × Marks)) (k : ℕ) (d : Path × Marks) → k < length es → take (suc k) es ≡ take k es ++ get_or es k d ∷ []
-take_more [] k d lt = absurd (omega arith)
-take_more (e ∷ es) zero d lt = refl
-take_more (e ∷ es) (suc k) d lt = ap (λ xs. e ∷ xs) (take_more es k d (omega arith))
-
-no_pairs : (ends : Ranks) (p : Path) → is_empty ends ≡ true → pairs_at (in_order ends) p ≡ []
-no_pairs ends p h = ap (λ s. pairs_at (in_order s) p) (let e : ends ≡ none = none_from_size ends (grind (arith, h)) in e)
-
 edited-more : (h : Path → Marks → Ranks) (es : List (Path × Marks)) (e : Path × Marks) → edited h (es ++ e ∷ []) ≡ edited h es ++ pairs_at (in_order (h e.0 e.1)) e.0
 edited-more h es e = flat_map-append (λ (e : Path × Marks). pairs_at (in_order (h e.0 e.1)) e.0) es (e ∷ []) ∙ ap (λ Q. edited h es ++ Q) (append-nil (pairs_at (in_order (h e.0 e.1)) e.0))
 
@@ -95,7 +67,7 @@ edit_step h t C i row path ends left le lt shows own is so_far =
     let d : Path × Marks = ([], (none, none)) in
     let e : Path × Marks = get_or es (i - 1) d in
     let shown : Shows row e = row_entry t i row d le lt shows in
-    let n : suc (i - 1) ≡ (i + 1) - 1 = omega arith in
+    let n : (i - 1) + 1 ≡ (i + 1) - 1 = omega arith in
     (λ k. with_ends left ((is ∙ (λ j. h (own j) (shown.label j, shown.ends j))) k) (own k))
     ∙ one_more h (take (i - 1) es) e C left so_far
     ∙ ap (λ xs. tree_of (edited h xs) C) (sym (take_more es (i - 1) d (omega arith)) ∙ ap (λ k. take k es) n)
@@ -114,7 +86,7 @@ pub any_more : (test : Path × Marks → Bool) (t : Tree) (i : ℕ) → 1 ≤ i 
 any_more test t i le lt =
     let es : List (Path × Marks) = finmap.entries t.below in
     let d : Path × Marks = ([], (none, none)) in
-    let n : (i + 1) - 1 ≡ suc (i - 1) = omega arith in
+    let n : (i + 1) - 1 ≡ (i - 1) + 1 = omega arith in
     ap (λ k. list_any test (take k es)) n ∙ ap (list_any test) (take_more es (i - 1) d (omega arith)) ∙ list_any-append test (take (i - 1) es) (get_or es (i - 1) d ∷ [])
     ∙ ap (λ b. list_any test (take (i - 1) es) || b) (or_false (test (get_or es (i - 1) d)))
   where

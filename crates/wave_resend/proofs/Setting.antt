@@ -20,11 +20,11 @@ book_read bk s w v a b = go (a == s) refl
     go true e = ap (λ z. cond (b == w) v (bk z b)) (sym (eqb-true a s e))
     go false e = refl
 
-shadow : {A : Type 0} (t : Bool) (u v r : A) → cond t u r ≡ cond t u (cond t v r)
+pub shadow : {A : Type 0} (t : Bool) (u v r : A) → cond t u r ≡ cond t u (cond t v r)
 shadow true u v r = refl
 shadow false u v r = refl
 
-swapped : (x y a b : ℕ) → ((x == a) && (y == b)) ≡ ((a == x) && (b == y))
+pub swapped : (x y a b : ℕ) → ((x == a) && (y == b)) ≡ ((a == x) && (b == y))
 swapped x y a b = both_ways _ _
     (λ t. let u = and_parts (x == a) (y == b) t in and_from (a == x) (b == y) (eq-eqb a x (sym (eqb-true x a u.0))) (eq-eqb b y (sym (eqb-true y b u.1))))
     (λ t. let u = and_parts (a == x) (b == y) t in and_from (x == a) (y == b) (eq-eqb x a (sym (eqb-true a x u.0))) (eq-eqb y b (sym (eqb-true b y u.1))))
@@ -32,7 +32,7 @@ swapped x y a b = both_ways _ _
 test_for : (e : WaveAt) (s w a b : ℕ) → e.stream ≡ s → e.wave ≡ w → is_at a b e ≡ ((a == s) && (b == w))
 test_for e s w a b es ew = swapped e.stream e.wave a b ∙ (λ i. (a == es i) && (b == ew i))
 
-crossed : {A : Type 0} (i t : Bool) (x v r : A) → (i ≡ true → t ≡ true → ⊥) → cond i x (cond t v r) ≡ cond t v (cond i x r)
+pub crossed : {A : Type 0} (i t : Bool) (x v r : A) → (i ≡ true → t ≡ true → ⊥) → cond i x (cond t v r) ≡ cond t v (cond i x r)
 crossed true true x v r h = absurd (h refl refl)
 crossed true false x v r h = refl
 crossed false t x v r h = refl

@@ -9,6 +9,7 @@ use Rattle.stat_plan.specs.Plans.{Plan, serves, waves_at, waves_of}
 use Rattle.stat_plan.specs.Machine.Waves.{Book}
 use Rattle.stat_plan.proofs.Ascending.{up_to_increases}
 use Rattle.stat_plan.proofs.InLists.{in_append, in_from_filter}
+use Rattle.stat_plan.proofs.LookupLemmas.{stream_of_wave, wave_is_of}
 use Rattle.wave_resend.specs.Books.{AreAscending, AreUntouched, WaveAt, book_of, first_waves, is_at, is_before, key_of, keys_of, untouched}
 use Rattle.wave_resend.proofs.Looking.{drop_read}
 use Rattle.wave_resend.proofs.Order.{before_from}
@@ -68,7 +69,7 @@ waves_from : (test : ℕ → Bool) (xs : List Stream) (i : ℕ) (x : Stream) →
 waves_from test xs i x lt is = ap (passing_waves test) (drop_read xs i x lt is) ∙ filter-append (λ (v : ℕ × ℕ). test v.0) (first_waves x.number x.waves) (waves_of (drop (i + 1) xs))
 
 -- a stream that passes is taken
-stream_taken : (test : ℕ → Bool) (xs : List Stream) (i : ℕ) (x : Stream) (keys : List (ℕ × ℕ)) → i < length xs → x ≡ get_or xs i x → test x.number ≡ true → keys ++ passing_waves test (drop i xs) ≡ passing_waves test xs → (keys ++ first_waves x.number x.waves) ++ passing_waves test (drop (i + 1) xs) ≡ passing_waves test xs
+pub stream_taken : (test : ℕ → Bool) (xs : List Stream) (i : ℕ) (x : Stream) (keys : List (ℕ × ℕ)) → i < length xs → x ≡ get_or xs i x → test x.number ≡ true → keys ++ passing_waves test (drop i xs) ≡ passing_waves test xs → (keys ++ first_waves x.number x.waves) ++ passing_waves test (drop (i + 1) xs) ≡ passing_waves test xs
 stream_taken test xs i x keys lt is t left =
     append_assoc keys (first_waves x.number x.waves) (passing_waves test (drop (i + 1) xs))
     ∙ ap (λ (l : List (ℕ × ℕ)). keys ++ (l ++ passing_waves test (drop (i + 1) xs))) (sym (filter_served test x.number (up_to x.waves) t))
@@ -102,16 +103,6 @@ append_ascends : (xs ys : List (ℕ × ℕ)) → AreAscending xs → AreAscendin
 append_ascends [] ys h k before = k
 append_ascends (x ∷ xs) ys h k before =
     (λ u i. elim (in_append u xs ys i) [ inl a ↦ h.0 u a | inr b ↦ before x u (inl refl) b ], append_ascends xs ys h.1 k (λ v u i j. before v u (inr i) j))
-
-wave_is_of : (s : ℕ) (ws : List ℕ) (v : ℕ × ℕ) → In v (map (λ w. (s, w)) ws) → (v.0 ≡ s) × In v.1 ws
-wave_is_of s [] v i = absurd i
-wave_is_of s (w ∷ ws) v (inl e) = (ap (λ (y : ℕ × ℕ). y.0) e, inl (ap (λ (y : ℕ × ℕ). y.1) e))
-wave_is_of s (w ∷ ws) v (inr i) = let r = wave_is_of s ws v i in (r.0, inr r.1)
-
-stream_of_wave : (xs : List Stream) (v : ℕ × ℕ) → In v (waves_of xs) → In v.0 (map (λ x. x.number) xs)
-stream_of_wave [] v i = absurd i
-stream_of_wave (x ∷ xs) v i =
-    elim (in_append v (map (λ w. (x.number, w)) (up_to x.waves)) (waves_of xs) i) [ inl a ↦ inl (wave_is_of x.number (up_to x.waves) v a).0 | inr b ↦ inr (stream_of_wave xs v b) ]
 
 -- the waves of one stream ascend
 map_ascends : (s : ℕ) (ws : List ℕ) → IsStrictlyIncreasing ws → AreAscending (map (λ w. (s, w)) ws)

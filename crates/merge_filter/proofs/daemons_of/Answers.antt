@@ -1,5 +1,5 @@
 use Rattle.std.proofs.Common.{◌∙◌}
-use Rattle.merge_filter.proofs.Daemons.{daemons_at}
+use Rattle.stat_plan.proofs.LookupLemmas.{daemons_at}
 use Rattle.merge_filter.proofs.daemons_of.Goals as goal
 
 pub returns : goal.returns

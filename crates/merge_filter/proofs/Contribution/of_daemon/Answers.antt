@@ -3,7 +3,8 @@ use Rattle.rank_set.specs.Ranks.{IsSubset}
 use Rattle.stat_plan.specs.OwnLines.{AreWaveLines}
 use Rattle.stat_plan.specs.Plans.{stream_ranks}
 use Rattle.stat_plan.specs.Shown.{wave_lines_view}
-use Rattle.merge_filter.proofs.Daemons.{daemon_is_node, daemon_lies, stream_some}
+use Rattle.stat_plan.proofs.LookupLemmas.{daemon_lies}
+use Rattle.merge_filter.proofs.Daemons.{daemon_is_node, stream_some}
 use Rattle.merge_filter.proofs.WaveTrees.{covered, in_range, lie, merged, within}
 use Rattle.merge_filter.proofs.Contribution.of_daemon.Goals as goal
 

@@ -1,6 +1,7 @@
 use Rattle.std.proofs.Common.{◌++◌, ◌∷◌, [], ◌∙◌}
 use Rattle.overlay_node.specs.NodeViews.{held_keys}
-use Rattle.overlay_node.proofs.Starting.{fresh_push, keys-push, waves_more}
+use Rattle.wave_resend.proofs.Starting.{waves_more}
+use Rattle.overlay_node.proofs.Starting.{fresh_push, keys-push}
 use Rattle.overlay_node.proofs.init.add_waves.Goals as goal
 
 pub loop-w-preserved : goal.loop-w-preserved

@@ -1,7 +1,8 @@
 use Rattle.std.proofs.Common.{◌∙◌, ap, sym}
 use Rattle.stat_plan.specs.Plans.{serves, waves_at}
 use Rattle.overlay_node.specs.NodeViews.{held_keys}
-use Rattle.overlay_node.proofs.Starting.{all_taken, held_taken, has_waves, stream_passed}
+use Rattle.wave_resend.proofs.Starting.{all_taken, stream_passed}
+use Rattle.overlay_node.proofs.Starting.{held_taken, has_waves}
 use Rattle.overlay_node.proofs.init.fresh_waves.Goals as goal
 use Rattle.overlay_node.proofs.init.fresh_waves.Goals.{then-serves+in_ok-add_waves, else-serves}
 

@@ -1,4 +1,4 @@
-use Rattle.std.proofs.Common.{◌≡◌, ◌||◌, ◌≤◌, ℕ, ltb, take}
+use Rattle.std.proofs.Common.{◌≡◌, ◌||◌, ℕ, ltb, take}
 use Rattle.std.specs.List.{filter, list_any}
 use Rattle.std.specs.Ordering.{nat_cmp, eq_by_cmp}
 use Rattle.rank_set.specs.Ranks.{has, in_order}

@@ -1,4 +1,4 @@
-use Rattle.std.proofs.Common.{◌∙◌, ap, arith, sym}
+use Rattle.std.proofs.Common.{◌∙◌, ap}
 use Rattle.std.proofs.lemmas.List.{take_all}
 use Rattle.rank_set.specs.Ranks.{has, same_ranks}
 use Rattle.equiv_class.specs.ClassList.{class_views}

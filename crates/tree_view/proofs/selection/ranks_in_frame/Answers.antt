@@ -1,4 +1,4 @@
-use Rattle.std.proofs.Common.{◌≡◌, ◌-◌, ◌&&◌, ◌++◌, [], ◌∷◌, ℕ, true, false, get_or, length, ltb, refl, take, sym, ap, ◌∙◌, arith}
+use Rattle.std.proofs.Common.{◌-◌, ◌&&◌, ◌++◌, [], ◌∷◌, ℕ, get_or, ltb, refl, take, sym, ap, ◌∙◌, arith}
 use Rattle.std.specs.List.{list_any}
 use Rattle.std.specs.FinMap as finmap
 use Rattle.rank_set.specs.Ranks.{has, has-none, none}

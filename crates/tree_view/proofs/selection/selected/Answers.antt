@@ -1,13 +1,10 @@
-use Rattle.std.proofs.Common.{◌≡◌, ◌+◌, ◌-◌, ◌≤◌, ◌<◌, ◌++◌, [], ◌∷◌, ℕ, true, get_or, length, refl, take, sym, ap, subst, ◌∙◌, arith}
+use Rattle.std.proofs.Common.{◌≡◌, ◌+◌, ◌-◌, ◌≤◌, ◌++◌, [], ◌∷◌, ℕ, true, get_or, refl, take, sym, ap, subst, ◌∙◌, arith}
 use Rattle.std.specs.FinMap as finmap
 use Rattle.std.proofs.lemmas.Bool.{true≢false}
-use Rattle.rank_set.specs.Ranks.{Ranks, none, is_subset, subset_from, union-none}
-use Rattle.call_path.specs.Path.{Path}
-use Rattle.prefix_tree.specs.Tree.{Marks, Tree, count_below, rows_of, tree_of}
-use Rattle.prefix_tree.specs.Shown.{Shows}
+use Rattle.rank_set.specs.Ranks.{none, is_subset, subset_from, union-none}
+use Rattle.prefix_tree.specs.Tree.{Tree, count_below, rows_of, tree_of}
 use Rattle.prefix_tree.proofs.TreeLemmas.{coverage-tree_of}
-use Rattle.equiv_class.proofs.Walk.{row_entry}
-use Rattle.tree_view.specs.Selections.{edited, ends_in, place_in, with_ends}
+use Rattle.tree_view.specs.Selections.{edited, ends_in, place_in}
 use Rattle.tree_view.proofs.Room.{few_edited}
 use Rattle.tree_view.proofs.Places.{no_place}
 use Rattle.tree_view.proofs.Walk.{edit_step, row_step, shown_ends}

@@ -1,7 +1,8 @@
 use Rattle.std.proofs.Common.{◌∙◌}
 use Rattle.control_cast.specs.CastStates.{state_of}
 use Rattle.control_cast.specs.Machine.{enabled_events}
-use Rattle.control_cast.proofs.Counting.{all_counted, none_to_pick, one_picked}
+use Rattle.stat_plan.proofs.Journals.{none_to_pick, one_picked}
+use Rattle.control_cast.proofs.Counting.{all_counted}
 use Rattle.control_cast.proofs.state.CastState.picked_event.Goals as goal
 
 pub returns-then-count-eq0 : goal.returns-then-count-eq0

@@ -1,9 +1,10 @@
 use Rattle.std.proofs.Common.{◌≡◌, ◌∙◌, ◌<◌, ◌≤◌, ◌+◌, ◌∷◌, length, drop, sym, ap, arith}
 use Rattle.std.proofs.lemmas.List.{length-map}
+use Rattle.stat_plan.proofs.Journals.{get_none}
 use Rattle.node_inbox.specs.Inboxes.{senders_of}
 use Rattle.overlay_net.specs.Events.{free_senders}
 use Rattle.overlay_net.specs.Places.{events_out}
-use Rattle.overlay_net.proofs.ReadPlaces.{all_free, ends_before, next_free, next_lost}
+use Rattle.overlay_net.proofs.ReadPlaces.{all_free, next_free, next_lost}
 use Rattle.overlay_net.proofs.nodes.NetNodes.free_sender_count.Goals as goal
 use Rattle.overlay_net.proofs.nodes.NetNodes.free_sender_count.Goals.{then-not-is_losing, else-not-is_losing}
 
@@ -14,7 +15,7 @@ returns-then-not-any_losing-clause-counted g c =
 
 pub unreachable-requires : goal.unreachable-requires
 unreachable-requires g c =
-    let few : length (senders_of c.args.inbox.now.waiting) ≤ c.loop-i.i = ends_before (senders_of c.args.inbox.now.waiting) c.loop-i.i (sym c.in_default.ensures) in
+    let few : length (senders_of c.args.inbox.now.waiting) ≤ c.loop-i.i = get_none (senders_of c.args.inbox.now.waiting) c.loop-i.i (sym c.in_default.ensures) in
     let count : length (senders_of c.args.inbox.now.waiting) ≡ length c.args.inbox.now.waiting = length-map c.args.inbox.now.waiting (λ e. e.0) in
     omega (arith, few, count, c.sender_count-i-end.ensures, c.loop-i-test.true)
 

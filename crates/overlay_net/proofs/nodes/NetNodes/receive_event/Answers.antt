@@ -1,6 +1,7 @@
 use Rattle.std.proofs.Common.{◌≡◌, ◌∙◌, ◌<◌, ◌≤◌, ◌+◌, ℕ, [], ◌∷◌, map, slice_get, length, drop, sym, ap, subst, arith}
 use Rattle.std.specs.Prelude.{List}
 use Rattle.std.proofs.lemmas.List.{at_drop_all, length-map}
+use Rattle.stat_plan.proofs.Journals.{get_none}
 use Rattle.overlay_event.specs.declared.event.Event.{Event}
 use Rattle.overlay_event.specs.declared.event.Event.TheVariants.{Recv}
 use Rattle.node_inbox.specs.Inboxes.{senders_of}
@@ -8,7 +9,7 @@ use Rattle.overlay_net.specs.Events.{IsNth, free_senders}
 use Rattle.overlay_net.specs.Places.{events_out}
 use Rattle.overlay_net.specs.declared.events.Nth.TheVariants.{Found, Beyond}
 use Rattle.overlay_net.proofs.Offers.{one_past}
-use Rattle.overlay_net.proofs.ReadPlaces.{all_free, ends_before, get_mapped, next_free, next_lost}
+use Rattle.overlay_net.proofs.ReadPlaces.{all_free, get_mapped, next_free, next_lost}
 use Rattle.overlay_net.proofs.nodes.NetNodes.receive_event.Goals as goal
 use Rattle.overlay_net.proofs.nodes.NetNodes.receive_event.Goals.{then-not-is_losing+else-left-eq0, else-not-is_losing}
 
@@ -23,7 +24,7 @@ returns-in-None g c =
     let senders = senders_of c.args.inbox.now.waiting in
     let free = free_senders (events_out c.args.self.now.places.items) senders in
     let same : length free ≡ length senders = ap length (all_free (events_out c.args.self.now.places.items) senders (c.any_losing.ensures c.if-not-any_losing.true)) in
-    let few : length senders ≤ c.args.i = ends_before senders c.args.i (sym c.in-None.ensures) in
+    let few : length senders ≤ c.args.i = get_none senders c.args.i (sym c.in-None.ensures) in
     let mapped : length (map {A = ℕ} {B = Event} (λ m. Recv c.args.n m) free) ≡ length free = length-map free (λ m. Recv c.args.n m) in
     let count : length senders ≡ length c.args.inbox.now.waiting = length-map c.args.inbox.now.waiting (λ e. e.0) in
     omega (arith, same, few, mapped, count, c.sender_count.ensures)

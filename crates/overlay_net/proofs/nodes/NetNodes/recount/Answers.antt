@@ -1,13 +1,12 @@
 use Rattle.std.proofs.Common.{inl, inr, ◌≡◌, ◌∙◌, List, ◌∷◌, ℕ, Option, None, slice_set, sym, ap, subst}
-use Rattle.stat_plan.specs.Plans.{Plan}
+use Rattle.stat_plan.specs.Plans.{Plan, AreNodes}
 use Rattle.overlay_event.specs.declared.event.Event.{Event}
 use Rattle.overlay_event.specs.declared.event.Event.TheVariants.{Sample, Recv, Tick}
 use Rattle.overlay_event.specs.Events.{event_node}
-use Rattle.overlay_net.specs.Events.{AreNodes}
 use Rattle.overlay_net.specs.Places.{events_out, nodes_in, places_view, whole_inboxes}
 use Rattle.overlay_net.specs.Sends.{changed, if_lost, with_first}
 use Rattle.overlay_net.specs.States.{AreClaimsCountedBut}
-use Rattle.overlay_net.proofs.EventCounts.{counted_more}
+use Rattle.overlay_net.proofs.EventCounts.{node_counted}
 use Rattle.overlay_net.proofs.nodes.NetNodes.recount.Goals as goal
 use Rattle.overlay_net.proofs.nodes.NetNodes.recount.Goals.{in-Recv, in-Sample}
 
@@ -40,8 +39,8 @@ count_nodes-requires-clause-counted g c κs within =
     ] in
     let all : changed p c.args.event rest ≡ own ∷ n ∷ rest = same ∙ ap (λ o. own ∷ with_first o rest) c.in-Some.is in
     let nodes_all : AreNodes p (own ∷ n ∷ rest) = subst (AreNodes p) all c.requires.below in
-    let first = counted_more p al xs ib out c.args.counts.now own (n ∷ rest) c.event_count.result nodes_all.0 c.event_count.ensures (subst (λ ns. AreClaimsCountedBut p c.args.self.now ns c.args.counts.now) all c.requires.counted) in
-    let second = counted_more p al xs ib out (slice_set c.args.counts.now own c.event_count.result) n rest c.event_count-in-Some.result nodes_all.1.0 c.event_count-in-Some.ensures first in
+    let first = node_counted p al xs ib out c.args.counts.now own (n ∷ rest) c.event_count.result nodes_all.0 c.event_count.ensures (subst (λ ns. AreClaimsCountedBut p c.args.self.now ns c.args.counts.now) all c.requires.counted) in
+    let second = node_counted p al xs ib out (slice_set c.args.counts.now own c.event_count.result) n rest c.event_count-in-Some.result nodes_all.1.0 c.event_count-in-Some.ensures first in
     subst (AreClaimsCountedBut p c.args.self.now rest) (sym (c.set-in-Some.ensures ∙ ap (λ cs. slice_set cs n c.event_count-in-Some.result) c.set.ensures)) second
 
 pub count_nodes-requires-in-None-clause-counted : goal.count_nodes-requires-in-None-clause-counted
@@ -63,5 +62,5 @@ count_nodes-requires-in-None-clause-counted g c κs within =
     ] in
     let all : changed p c.args.event rest ≡ own ∷ rest = same ∙ ap (λ o. own ∷ with_first o rest) c.in-None.is in
     let nodes_all : AreNodes p (own ∷ rest) = subst (AreNodes p) all c.requires.below in
-    let first = counted_more p al xs ib out c.args.counts.now own rest c.event_count.result nodes_all.0 c.event_count.ensures (subst (λ ns. AreClaimsCountedBut p c.args.self.now ns c.args.counts.now) all c.requires.counted) in
+    let first = node_counted p al xs ib out c.args.counts.now own rest c.event_count.result nodes_all.0 c.event_count.ensures (subst (λ ns. AreClaimsCountedBut p c.args.self.now ns c.args.counts.now) all c.requires.counted) in
     subst (AreClaimsCountedBut p c.args.self.now rest) (sym c.set.ensures) first

@@ -1,9 +1,7 @@
-use Rattle.std.proofs.Common.{◌≡◌, ◌∙◌, ◌-◌, ◌+◌, ℕ, length, sym, ap, arith}
+use Rattle.std.proofs.Common.{◌∙◌, ◌-◌, sym, ap, arith}
 use Rattle.std.proofs.lemmas.Result.{IfOk-weaker}
-use Rattle.call_path.specs.Path.{Path}
-use Rattle.rank_set.specs.Ranks.{Ranks}
 use Rattle.prefix_tree.specs.Tree.{Marks}
-use Rattle.tree_view.specs.Selections.{ends_in, place_in}
+use Rattle.tree_view.specs.Selections.{place_in}
 use Rattle.tree_view.proofs.Places.{fold_absent, fold_last, fold_past, frame_absent, frame_there, place_within}
 use Rattle.tree_view.proofs.selection.Selection.ends_of.Goals as goal
 
