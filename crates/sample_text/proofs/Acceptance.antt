@@ -1,8 +1,8 @@
 -- A text whose lines are good is accepted, and an accepted text is acceptable.
-use Rattle.std.proofs.Common.{◌≡◌, ◌≢◌, ◌∙◌, ◌⊎◌, inl, inr, ◌<◌, ◌+◌, ℕ, suc, Bool, true, false, ◌||◌, ◌&&◌, cond, List, [], ◌∷◌, ◌++◌, length, length-append, filter, get_or, Option, Some, Result, Ok, refl, sym, ap, subst, arith, codes, eqb-true}
+use Rattle.std.proofs.Common.{◌≡◌, ◌≢◌, ◌∙◌, ◌⊎◌, inl, inr, ◌<◌, ◌+◌, ℕ, suc, Bool, true, false, ◌||◌, ◌&&◌, cond, List, [], ◌∷◌, ◌++◌, length, length-append, filter, get_or, Option, Some, Ok, refl, sym, ap, subst, arith, codes, eqb-true}
 use Rattle.std.specs.Str.{IsUtf8}
 use Rattle.std.proofs.lemmas.Bool.{true≢false}
-use Rattle.std.proofs.lemmas.List.{ext_get_or}
+use Rattle.std.proofs.lemmas.List.{ext_get_or, append-nil}
 use Rattle.std.proofs.lemmas.List.Elements.{filter-append}
 use Rattle.rank_set.specs.Ranks.{Ranks, none, has, Has, is_empty, has-none, same_ranks, subset_from, subset_has, none_from_size}
 use Rattle.rank_set.specs.RanksText.{ranks_text}
@@ -10,13 +10,11 @@ use Rattle.call_path.specs.Path.{Path}
 use Rattle.call_path.specs.Reading.{path_of, frames, first_error, frame_error}
 use Rattle.text_lines.specs.Lines.{lines, words, is_comment, after_blanks, after_word, number_in}
 use Rattle.text_lines.specs.Directives.{is_line_of}
-use Rattle.text_lines.specs.Parsing.{and_then, parsed_lines, some_or}
-use Rattle.text_lines.specs.declared.text_error.TextError.{TextError}
+use Rattle.text_lines.specs.Parsing.{parsed_lines, some_or}
 use Rattle.text_lines.specs.declared.text_error.TextError.TheVariants.{Bad}
 use Rattle.text_lines.specs.declared.text_error.Reason.TheVariants.{NotADaemon}
 use Rattle.text_lines.proofs.Cuts.{past_blanks, word_here}
-use Rattle.text_lines.proofs.Parsing.{parsed_none}
-use Rattle.text_lines.proofs.Errors.{then_inv, ok_inj}
+use Rattle.text_lines.proofs.Parsing.{parsed_none, parsed_then, parsed_split, append_one}
 use Rattle.overlay_setup.specs.Daemons.{daemon_named}
 use Rattle.overlay_setup.specs.Names.{name_of}
 use Rattle.stat_plan.specs.Plans.{Sampled, sampled}
@@ -31,13 +29,14 @@ use Rattle.sample_text.specs.Steps.{daemon_on, add_at, sample, with_line_view, w
 use Rattle.sample_text.specs.Whole.{nothing_parsed, lacks_rank, whole, samples_of_text}
 use Rattle.sample_text.proofs.InvariantLemmas.{holds_after, fits}
 use Rattle.sample_text.proofs.LineViews.{AddsRanks, AddsSample, Changes, changes}
-use Rattle.sample_text.proofs.Numbers.{ranks_good, time_good}
+use Rattle.sample_text.proofs.Numbers.{time_good}
+use Rattle.text_lines.proofs.RanksWords.{ranks_good}
 use Rattle.sample_text.proofs.LineWords.{line_of_nothing, line_of_words, says_words}
 use Rattle.sample_text.proofs.Lines.{whole_good, samples_good}
 use Rattle.sample_text.proofs.Sets.{has-all_ranks, in_one, in_some, not_in_both, disjoint_from, empty_sets_empty, length-empty_sets}
 use Rattle.sample_text.proofs.Steps.{daemon_good, stack_good, line_good}
 use Rattle.sample_text.proofs.Texts.{path_good}
-use Rattle.sample_text.proofs.Grammar.{Written, written, is_written, append_none, append_one, accepted_parsed, sample_is_stack}
+use Rattle.sample_text.proofs.Grammar.{Written, written, is_written, accepted_parsed, sample_is_stack}
 
 -- the words after the first one
 rest_words : (line word : List ℕ) (ws : List (List ℕ)) → words line ≡ word ∷ ws → words (after_word line) ≡ ws
@@ -197,23 +196,6 @@ module _ (t : Nodes) (topology : IsTopology t) (before : List (List ℕ)) (u : S
     is_good m (inr (inl h)) = inr (h.utf8, inl (daemon_is_good m h))
     is_good m (inr (inr h)) = inr (h.utf8, inr (stack_is_good m h))
 
--- lines that are parsed, and one behind them
-module _ {S : Type 0} (step : S → ℕ → List ℕ → Result S TextError) where
-  parsed_then : (ls : List (List ℕ)) (s : S) (number : ℕ) (u m : S) (line : List ℕ) → parsed_lines step s number ls ≡ Ok u → ((k : ℕ) → step u k line ≡ Ok m) → parsed_lines step s number (ls ++ line ∷ []) ≡ Ok m
-  unfolding parsed_lines
-  parsed_then [] s number u m line e next = let same : s ≡ u = ok_inj s u e in ap (λ r. and_then r (λ x. parsed_lines step x (suc number) [])) (subst (λ x. step x number line ≡ Ok m) (sym same) (next number))
-  parsed_then (l ∷ ls) s number u m line e next =
-      let a = then_inv (step s number l) _ u e in
-      ap (λ r. and_then r (λ x. parsed_lines step x (suc number) (ls ++ line ∷ []))) a.1 ∙ parsed_then ls a.0 (suc number) u m line a.2 next
-
-  parsed_split : (ls : List (List ℕ)) (s : S) (number : ℕ) (u : S) (line : List ℕ) (after : List (List ℕ)) → parsed_lines step s number (ls ++ line ∷ after) ≡ Ok u → (m : S) × (parsed_lines step s number ls ≡ Ok m) × ((k : ℕ) × (n : S) × (step m k line ≡ Ok n))
-  unfolding parsed_lines
-  parsed_split [] s number u line after e = let a = then_inv (step s number line) _ u e in (s, refl, (number, a.0, a.1))
-  parsed_split (l ∷ ls) s number u line after e =
-      let a = then_inv (step s number l) _ u e in
-      let b = parsed_split ls a.0 (suc number) u line after a.2 in
-      (b.0, ap (λ r. and_then r (λ x. parsed_lines step x (suc number) ls)) a.1 ∙ b.1, b.2)
-
 -- fewer `stack` lines stand before one of them than in all
 fewer : (before after : List (List ℕ)) (line : List ℕ) → stack line ≡ true → length (filter stack before) < length (filter stack (before ++ line ∷ after))
 fewer before after line is =
@@ -257,7 +239,7 @@ lacks_none parents m (set ∷ sets) each =
 module _ (t : Nodes) (topology : IsTopology t) (text : List ℕ) (s : Sampled) where
   -- the lines of an acceptable text are taken, one after another
   all_taken : IsAcceptable t text s → (after before : List (List ℕ)) (u : Sampled) → parsed_lines (with_line t) (nothing_parsed t) 1 before ≡ Ok u → lines text ≡ before ++ after → (v : Sampled) × (parsed_lines (with_line t) (nothing_parsed t) 1 (lines text) ≡ Ok v)
-  all_taken a [] before u h is = (u, ap (parsed_lines (with_line t) (nothing_parsed t) 1) (is ∙ append_none before) ∙ h)
+  all_taken a [] before u h is = (u, ap (parsed_lines (with_line t) (nothing_parsed t) 1) (is ∙ append-nil before) ∙ h)
   all_taken a (line ∷ after) before u h is =
       let next = good_taken t topology before u h line (a.good_lines before after line is) (λ k. let more = fewer before after line k in let same = ap (λ ls. length (filter stack ls)) is in let limit = a.within_limit in omega arith) in
       all_taken a after (before ++ line ∷ []) next.0 (parsed_then (with_line t) before (nothing_parsed t) 1 u next.0 line h next.1) (is ∙ append_one before line after)

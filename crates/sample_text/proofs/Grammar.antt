@@ -1,6 +1,7 @@
 -- An accepted text is written as samples.
 use Rattle.std.proofs.Common.{◌≡◌, ◌∙◌, ◌⊎◌, inl, inr, ◌<◌, ℕ, zero, suc, Bool, true, false, cond, ◌||◌, ◌&&◌, not, List, [], ◌∷◌, ◌++◌, length, filter, get_or, Ok, refl, sym, ap, subst, arith, codes}
 use Rattle.std.proofs.lemmas.Bool.{true≢false, not-true}
+use Rattle.std.proofs.lemmas.List.{append-nil}
 use Rattle.rank_set.specs.Ranks.{Ranks, none, has, Has, has-none, has-union}
 use Rattle.rank_set.specs.RanksText.{ranks_text}
 use Rattle.text_lines.specs.Lines.{lines, words, says_nothing, is_comment, are_none}
@@ -16,8 +17,9 @@ use Rattle.overlay_setup.proofs.DaemonNames.{found_by_name, number_of_name}
 use Rattle.sample_text.specs.Grammar.{IsDaemonLine, PlacesRank, SomePlacesRank, IsSampleOf, AreSamplesOf, IsWritten}
 use Rattle.sample_text.specs.Steps.{add_at, with_line}
 use Rattle.sample_text.specs.Whole.{nothing_parsed, lacks_rank, whole, samples_of_text}
-use Rattle.sample_text.proofs.LineViews.{AddsRanks, Changes, changes, test_inv}
-use Rattle.text_lines.proofs.Errors.{then_inv, ok_inj}
+use Rattle.sample_text.proofs.LineViews.{AddsRanks, Changes, changes}
+use Rattle.text_lines.proofs.Errors.{then_inv, test_inv, ok_inj}
+use Rattle.text_lines.proofs.Parsing.{append_one}
 use Rattle.sample_text.proofs.Sets.{there_before, length-add_at, length-empty_sets, empty_sets_empty, or_first, or_second}
 
 -- a set that gets more ranks has those it had, and those that it gets
@@ -125,14 +127,6 @@ pub record Written (t : Nodes) (ls : List (List ℕ)) (s u : Sampled) : Type 0 w
   pub placed_from : (n r : ℕ) → n < length t.parents → Has r (get_or s.placed n none) ⊎ SomePlacesRank t ls n r → Has r (get_or u.placed n none)
   pub samples : (xs : List SampleLine) × (s.lines ++ xs ≡ u.lines) × AreSamplesOf (filter stack ls) xs
 
-pub append_none : {X : Type 0} (xs : List X) → xs ++ [] ≡ xs
-append_none [] = refl
-append_none (x ∷ xs) = ap (λ t. x ∷ t) (append_none xs)
-
-pub append_one : {X : Type 0} (xs : List X) (x : X) (ys : List X) → xs ++ (x ∷ ys) ≡ (xs ++ x ∷ []) ++ ys
-append_one [] x ys = refl
-append_one (y ∷ xs) x ys = ap (λ t. y ∷ t) (append_one xs x ys)
-
 module _ (t : Nodes) (is : IsTopology t) where
   module _ (s m u : Sampled) (line : List ℕ) (rest : List (List ℕ)) (paired : length s.placed ≡ length t.parents) (change : Changes t s line m) (later : Written t rest m u) where
     all_to : (n r : ℕ) → n < length t.parents → Has r (get_or u.placed n none) → Has r (get_or s.placed n none) ⊎ SomePlacesRank t (line ∷ rest) n r
@@ -179,7 +173,7 @@ module _ (t : Nodes) (is : IsTopology t) where
       subst (Written t [] s) same (record {
         placed_to = λ n r lt there. inl there;
         placed_from = λ n r lt. elim [ (inl old) ↦ old | (inr p) ↦ absurd p.1 ];
-        samples = ([], append_none s.lines, tt);
+        samples = ([], append-nil s.lines, tt);
       })
   written (line ∷ rest) s u number paired h =
       let a = then_inv (with_line t s number line) _ u h in

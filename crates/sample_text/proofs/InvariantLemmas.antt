@@ -22,9 +22,10 @@ use Rattle.text_lines.specs.declared.text_error.Reason.TheVariants.{NotADaemon, 
 use Rattle.text_lines.specs.declared.text_error.Quantity.TheVariants.{Lines}
 use Rattle.stat_plan.specs.declared.samples.TheConstants.{LINE_LIMIT}
 use Rattle.sample_text.specs.Words.{LineView, Nothing, Daemon, Stack, read_line}
-use Rattle.sample_text.specs.Steps.{if_holds, daemon_on, ranks_on, time_at, time_on, path_or_error, path_on, are_disjoint, add_at, sample, with_daemon, with_stack, with_line_view, with_line}
+use Rattle.sample_text.specs.Steps.{daemon_on, time_at, time_on, path_or_error, path_on, are_disjoint, add_at, sample, with_daemon, with_stack, with_line_view, with_line}
+use Rattle.text_lines.specs.RanksWords.{ranks_on}
 use Rattle.sample_text.specs.Whole.{nothing_parsed, lacks_rank}
-use Rattle.text_lines.specs.Parsing.{and_then, some_or, parsed_lines}
+use Rattle.text_lines.specs.Parsing.{and_then, some_or, parsed_lines, if_holds}
 use Rattle.overlay_setup.specs.Daemons.{if_daemon, daemon_named}
 use Rattle.sample_text.specs.Invariants.{ParserInvariant}
 use Rattle.sample_text.proofs.Sets.{length-add_at, other_set, all_ranks_grow, once_more, length-empty_sets, empty_sets_empty}

@@ -6,13 +6,12 @@ use Rattle.std.proofs.lemmas.Slice.Eq.{bytes_eq-Decides}
 use Rattle.std.proofs.lemmas.Str.{IsUtf8-from_is_utf8}
 use Rattle.rank_set.specs.Ranks.{Ranks, is_subset}
 use Rattle.rank_set.specs.RanksText.{ranks_text}
-use Rattle.rank_set.specs.declared.read.RanksError.{RanksError}
 use Rattle.call_path.specs.Path.{Path}
 use Rattle.call_path.specs.Reading.{path_of}
 use Rattle.call_path.specs.declared.read.PathError.{PathError}
 use Rattle.text_lines.specs.Lines.{words, says_nothing, is_comment, are_none, after_word, number_in}
-use Rattle.text_lines.proofs.Errors.{then_inv, ok_inj, some_inv}
-use Rattle.text_lines.specs.declared.text_error.TextError.{TextError}
+use Rattle.text_lines.proofs.Errors.{then_inv, test_inv, ok_inj, some_inv}
+use Rattle.text_lines.proofs.RanksWords.{ranks_inv}
 use Rattle.text_lines.specs.declared.text_error.TextError.TheVariants.{Bad, Over}
 use Rattle.text_lines.specs.declared.text_error.Reason.TheVariants.{NotUtf8, BadDirective, NotADaemon, BadTime, PlacedTwice, Unplaced}
 use Rattle.text_lines.specs.declared.text_error.Quantity.TheVariants.{Lines}
@@ -22,22 +21,9 @@ use Rattle.stat_plan.specs.Samples.{SampleLine, all_ranks}
 use Rattle.overlay_setup.specs.Topologies.{Nodes}
 use Rattle.stat_plan.specs.declared.samples.TheConstants.{TIME_LIMIT, LINE_LIMIT}
 use Rattle.sample_text.specs.Grammar.{IsDaemonLine, IsSampleOf}
-use Rattle.sample_text.specs.Steps.{if_holds, daemon_on, ranks_or_error, ranks_on, time_at, time_on, path_or_error, path_on, are_disjoint, add_at, sample, with_daemon, with_stack, with_line_view, with_line}
+use Rattle.sample_text.specs.Steps.{daemon_on, time_at, time_on, path_or_error, path_on, are_disjoint, add_at, sample, with_daemon, with_stack, with_line_view, with_line}
+use Rattle.text_lines.specs.RanksWords.{ranks_on}
 use Rattle.sample_text.specs.Words.{LineView, Nothing, Daemon, Stack, daemon_words, stack_words, path_in, directive, read_line}
-
--- a test that ends well
-pub test_inv : {A : Type 0} (b : Bool) (e : TextError) (next : Result A TextError) (u : A) → if_holds b e next ≡ Ok u → (b ≡ true) × (next ≡ Ok u)
-test_inv true e next u h = (refl, h)
-test_inv false e next u h = cc
-
--- words that are read
-ranks_read : (number : ℕ) (r : Result Ranks RanksError) (ranks : Ranks) → ranks_or_error number r ≡ Ok ranks → r ≡ Ok ranks
-ranks_read number (Err e) ranks h = cc
-ranks_read number (Ok x) ranks h = ap Ok (ok_inj x ranks h)
-
-ranks_inv : (number : ℕ) (word : List ℕ) (ranks : Ranks) → ranks_on number word ≡ Ok ranks → ranks_text word ≡ Ok ranks
-unfolding ranks_on
-ranks_inv number word ranks h = ranks_read number (ranks_text word) ranks h
 
 is_at_most : (a b : ℕ) → nat_le a b ≡ true → a ≤ b
 is_at_most a b e = grind (arith, nat_tests)

@@ -8,10 +8,10 @@ use Rattle.overlay_setup.specs.Trees.{is_daemon}
 use Rattle.text_lines.specs.declared.text_error.TextError.{TextError}
 use Rattle.text_lines.specs.declared.text_error.TextError.TheVariants.{Bad}
 use Rattle.text_lines.specs.declared.text_error.Reason.TheVariants.{DaemonWithoutRank}
-use Rattle.sample_text.specs.Steps.{if_holds, with_line}
+use Rattle.sample_text.specs.Steps.{with_line}
 use Rattle.sample_text.specs.Whole.{lacks_rank, whole, nothing_parsed, samples_of_text}
 use Rattle.text_lines.specs.Lines.{lines}
-use Rattle.text_lines.specs.Parsing.{and_then, parsed_lines}
+use Rattle.text_lines.specs.Parsing.{and_then, parsed_lines, if_holds}
 
 module _ (parents : List (Option ℕ)) (sets : List Ranks) (n : ℕ) where
   pub lacks_none_left : length sets ≤ n → lacks_rank parents n (drop n sets) ≡ false

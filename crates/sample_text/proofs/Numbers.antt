@@ -7,7 +7,7 @@ use Rattle.std.proofs.lemmas.Bool.{le-leb, and_parts}
 use Rattle.std.proofs.lemmas.Bool.Decides.{nat_tests}
 use Rattle.std.proofs.lemmas.List.{take_all, drop_all}
 use Rattle.rank_set.specs.Digits.{digits_len, value_after}
-use Rattle.rank_set.specs.Ranks.{Ranks, none, union}
+use Rattle.rank_set.specs.Ranks.{none, union}
 use Rattle.rank_set.specs.Runs.{ranks_between}
 use Rattle.rank_set.specs.RanksText.{number_at, ranks_text}
 use Rattle.rank_set.specs.declared.TheConstants.{RANK_LIMIT}
@@ -18,13 +18,10 @@ use Rattle.text_lines.specs.Lines.{number_in}
 use Rattle.text_lines.specs.declared.text_error.TextError.TheVariants.{Bad}
 use Rattle.text_lines.specs.declared.text_error.Reason.TheVariants.{BadTime}
 use Rattle.stat_plan.specs.declared.samples.TheConstants.{TIME_LIMIT}
-use Rattle.sample_text.specs.Steps.{if_holds, ranks_or_error, ranks_on, time_at, time_on}
+use Rattle.sample_text.specs.Steps.{time_at, time_on}
+use Rattle.text_lines.specs.Parsing.{if_holds}
 
--- words that are read, on a line
-pub ranks_good : (number : ℕ) (word : List ℕ) (ranks : Ranks) → ranks_text word ≡ Ok ranks → ranks_on number word ≡ Ok ranks
-unfolding ranks_on
-ranks_good number word ranks e = ap (ranks_or_error number) e
-
+-- a time that is read, on a line
 pub time_good : (number : ℕ) (word : List ℕ) (time : ℕ) → number_in word ≡ Some time → time ≤ TIME_LIMIT → time_on number word ≡ Ok time
 unfolding time_on
 time_good number word time e low = ap (time_at number) e ∙ ap (λ b. if_holds b (Bad number BadTime) (Ok time)) (le-leb time TIME_LIMIT low)

@@ -11,7 +11,7 @@ use Rattle.rank_set.specs.RanksText.{number_at, ends_at, second_at, after_first,
 use Rattle.rank_set.proofs.RunSets.{has-ranks_between}
 use Rattle.rank_set.proofs.Reading.{items_first, item_bad_ranks, item_good_ranks, no_items}
 use Rattle.text_lines.specs.declared.text_error.TextError.{TextError}
-use Rattle.sample_text.specs.Steps.{ranks_or_error, ranks_on}
+use Rattle.text_lines.specs.RanksWords.{ranks_or_error, ranks_on}
 use Rattle.sample_text.proofs.Sets.{or_first, or_second}
 
 -- a range doesn't go backward

@@ -10,7 +10,8 @@ use Rattle.text_lines.specs.declared.text_error.TextError.TheVariants.{Bad, Over
 use Rattle.text_lines.specs.declared.text_error.Reason.TheVariants.{PlacedTwice, Unplaced}
 use Rattle.text_lines.specs.declared.text_error.Quantity.TheVariants.{Lines}
 use Rattle.sample_text.specs.Words.{LineView, read_line}
-use Rattle.sample_text.specs.Steps.{daemon_on, ranks_on, time_on, path_on, are_disjoint, add_at, sample, if_room, with_sample, with_daemon, with_stack, with_line_view, with_line}
+use Rattle.sample_text.specs.Steps.{daemon_on, time_on, path_on, are_disjoint, add_at, sample, if_room, with_sample, with_daemon, with_stack, with_line_view, with_line}
+use Rattle.text_lines.specs.RanksWords.{ranks_on}
 use Rattle.text_lines.specs.Parsing.{and_then}
 
 -- a line `daemon NAME RANKS`

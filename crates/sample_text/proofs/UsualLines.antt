@@ -12,9 +12,11 @@ use Rattle.text_lines.specs.Parsing.{and_then}
 use Rattle.text_lines.proofs.Cuts.{word_here, blanks_past}
 use Rattle.sample_text.specs.Words.{Stack, directive, read_line}
 use Rattle.sample_text.specs.LineViews.{SamplesOneRank}
-use Rattle.sample_text.specs.Steps.{ranks_on, if_room, with_sample, with_stack}
+use Rattle.sample_text.specs.Steps.{if_room, with_sample, with_stack}
+use Rattle.text_lines.specs.RanksWords.{ranks_on}
 use Rattle.sample_text.proofs.LineWords.{line_of_words, says_words}
-use Rattle.sample_text.proofs.Numbers.{one_rank, time_good, ranks_good}
+use Rattle.sample_text.proofs.Numbers.{one_rank, time_good}
+use Rattle.text_lines.proofs.RanksWords.{ranks_good}
 use Rattle.sample_text.proofs.Steps.{line_good}
 
 -- what is left after two words is decided by what is left after the blanks

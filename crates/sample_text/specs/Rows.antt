@@ -15,7 +15,8 @@ use Rattle.rank_set.specs.RanksText.{items, item_at, ranks_at}
 use Rattle.call_path.specs.Reading.{first_error, frame_error, frames}
 use Rattle.std.specs.Str.{is_utf8, chars}
 use Rattle.sample_text.specs.Words.{read_line}
-use Rattle.sample_text.specs.Steps.{daemon_on, ranks_on, time_on, path_on, are_disjoint, sample, with_daemon, with_stack}
+use Rattle.sample_text.specs.Steps.{daemon_on, time_on, path_on, are_disjoint, sample, with_daemon, with_stack}
+use Rattle.text_lines.specs.RanksWords.{ranks_on}
 use Rattle.text_lines.specs.Parsing.{parsed_lines}
 use Rattle.overlay_setup.specs.Daemons.{daemon_named}
 use Rattle.sample_text.specs.Whole.{samples_of_text}

@@ -1,17 +1,14 @@
 -- Samples with one line more, or the line's first error.
-use Rattle.std.specs.Prelude.{ℕ, zero, suc, Bool, nat_le, nat_lt, cond, List, [], ◌∷◌, ◌++◌, length, Option, None, Some, Result, Ok, Err}
+use Rattle.std.specs.Prelude.{ℕ, zero, suc, Bool, nat_le, nat_lt, List, [], ◌∷◌, ◌++◌, length, Option, None, Some, Result, Ok, Err}
 use Rattle.rank_set.specs.Ranks.{Ranks, has, none, those, union, is_empty, is_subset}
 use Rattle.rank_set.specs.Runs.{ranks_between}
-use Rattle.rank_set.specs.RanksText.{ranks_text}
-use Rattle.rank_set.specs.declared.TheConstants.{RANK_LIMIT}
-use Rattle.rank_set.specs.declared.read.RanksError.{RanksError}
-use Rattle.rank_set.specs.declared.read.RanksError.TheVariants as ranks_error
 use Rattle.call_path.specs.Path.{Path}
 use Rattle.call_path.specs.Reading.{path_of}
 use Rattle.call_path.specs.declared.read.PathError.{PathError}
 use Rattle.call_path.specs.declared.read.PathError.TheVariants as path_error
 use Rattle.text_lines.specs.Lines.{number_in}
-use Rattle.text_lines.specs.Parsing.{and_then, some_or}
+use Rattle.text_lines.specs.Parsing.{and_then, some_or, if_holds}
+use Rattle.text_lines.specs.RanksWords.{ranks_on}
 use Rattle.overlay_setup.specs.Daemons.{daemon_named}
 use Rattle.stat_plan.specs.Plans.{Sampled}
 use Rattle.stat_plan.specs.Samples.{SampleLine, all_ranks}
@@ -19,34 +16,13 @@ use Rattle.overlay_setup.specs.Topologies.{Nodes}
 use Rattle.stat_plan.specs.declared.samples.TheConstants.{TIME_LIMIT, LINE_LIMIT}
 use Rattle.text_lines.specs.declared.text_error.TextError.{TextError}
 use Rattle.text_lines.specs.declared.text_error.TextError.TheVariants.{Bad, Over, OutOfMemory}
-use Rattle.text_lines.specs.declared.text_error.Reason.TheVariants.{NotADaemon, BadRanks, PlacedTwice, BadTime, Unplaced, BadPath}
+use Rattle.text_lines.specs.declared.text_error.Reason.TheVariants.{NotADaemon, PlacedTwice, BadTime, Unplaced, BadPath}
 use Rattle.text_lines.specs.declared.text_error.Quantity.TheVariants as quantity
 use Rattle.sample_text.specs.Words.{LineView, Nothing, Daemon, Stack, read_line}
-
--- a second step where a test holds, else a error
-abbrev pub if_holds : {A : Type 0} → Bool → TextError → Result A TextError → Result A TextError
-if_holds test error next = cond test next (Err error)
 
 -- the daemon that NAME names
 unfoldable pub daemon_on : Nodes → ℕ → List ℕ → Result ℕ TextError
 daemon_on t line_number name = some_or (Bad line_number NotADaemon) (daemon_named name t)
-
--- the error of a line whose RANKS are refused
-abbrev pub error_of_ranks : ℕ → RanksError → TextError
-error_of_ranks line_number ranks_error.Empty = Bad line_number BadRanks
-error_of_ranks line_number (ranks_error.BadNumber place) = Bad line_number BadRanks
-error_of_ranks line_number (ranks_error.Backward place) = Bad line_number BadRanks
-error_of_ranks line_number (ranks_error.OverLimit place) = Over line_number quantity.Ranks RANK_LIMIT
-error_of_ranks line_number ranks_error.OutOfMemory = OutOfMemory
-
--- RANKS as they are read
-abbrev pub ranks_or_error : ℕ → Result Ranks RanksError → Result Ranks TextError
-ranks_or_error line_number (Err e) = Err (error_of_ranks line_number e)
-ranks_or_error line_number (Ok ranks) = Ok ranks
-
--- the ranks that RANKS write
-unfoldable pub ranks_on : ℕ → List ℕ → Result Ranks TextError
-ranks_on line_number word = ranks_or_error line_number (ranks_text word)
 
 -- the number that TIME writes, none where it writes no number
 abbrev pub time_at : ℕ → Option ℕ → Result ℕ TextError

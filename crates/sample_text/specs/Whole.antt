@@ -8,8 +8,8 @@ use Rattle.overlay_setup.specs.Trees.{is_daemon}
 use Rattle.text_lines.specs.declared.text_error.TextError.{TextError}
 use Rattle.text_lines.specs.declared.text_error.TextError.TheVariants.{Bad}
 use Rattle.text_lines.specs.declared.text_error.Reason.TheVariants.{DaemonWithoutRank}
-use Rattle.text_lines.specs.Parsing.{and_then, parsed_lines}
-use Rattle.sample_text.specs.Steps.{if_holds, with_line}
+use Rattle.text_lines.specs.Parsing.{and_then, parsed_lines, if_holds}
+use Rattle.sample_text.specs.Steps.{with_line}
 
 -- so many sets without a rank
 abbrev pub empty_sets : ℕ → List Ranks

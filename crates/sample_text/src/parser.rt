@@ -4,7 +4,7 @@ ghost use Rattle.std.specs.Prelude.{◌≡◌, ◌≢◌, ◌<◌, not, nat_lt, 
 ghost use Rattle.rank_set.specs.Ranks.{none, union, has};
 ghost use Rattle.rank_set.specs.Runs.{ranks_between};
 ghost use Rattle.text_lines.specs.Parsing.{IsValueOf, IsErrorOf};
-ghost use Rattle.sample_text.specs.Steps.{daemon_on, ranks_on, time_on, are_disjoint, add_at};
+ghost use Rattle.sample_text.specs.Steps.{daemon_on, time_on, are_disjoint, add_at};
 ghost use Rattle.sample_text.specs.Whole.{empty_sets, lacks_rank};
 
 use crate::paths::Paths;
@@ -12,10 +12,10 @@ use crate::words::{
     Line, OneRank, OneRankStart, one_rank_line, one_rank_start, read_line, read_other_line,
 };
 use overlay_setup::Topology;
-use rank_set::{RANK_LIMIT, RankSet, RanksError, read_ranks};
+use rank_set::{RANK_LIMIT, RankSet};
 use stat_plan::{LINE_LIMIT, LineList, Samples, TIME_LIMIT};
 use std::alloc::{AllocError, Global};
-use text_lines::{Quantity, Reason, TextError, next_text_line, number_in};
+use text_lines::{Quantity, Reason, TextError, next_text_line, number_in, ranks_on};
 
 /// The ranks by node number, and the samples.
 #[derive(Drop)]
@@ -49,22 +49,6 @@ fn daemon_on(topology: &Topology, line_number: u64, name: &[u8]) -> Result<u32, 
     match topology.daemon_named(name) {
         Some(n) => Ok(n),
         None => Err(TextError::bad(line_number, Reason::NotADaemon)),
-    }
-}
-
-// The ranks that a word writes.
-#[tactic(auto, unfolding(crate::specs::Steps::ranks_on))]
-fn ranks_on(alloc: Global, line_number: u64, word: &[u8]) -> Result<RankSet, TextError>
-    ensures ok { IsValueOf result (ranks_on line_number word.now) }
-    ensures err { IsErrorOf result (ranks_on line_number word.now) }
-{
-    match read_ranks(alloc, word) {
-        Ok(ranks) => Ok(ranks),
-        Err(RanksError::OutOfMemory) => Err(TextError::OutOfMemory),
-        Err(RanksError::OverLimit(_)) => {
-            Err(TextError::over(line_number, Quantity::Ranks, RANK_LIMIT))
-        }
-        Err(_) => Err(TextError::bad(line_number, Reason::BadRanks)),
     }
 }
 

@@ -1,19 +1,19 @@
 -- A text whose lines are good is accepted, and an accepted text is acceptable.
-use Rattle.std.proofs.Common.{◌≡◌, ◌≢◌, ◌∙◌, ◌↔◌, inl, inr, ◌<◌, ◌≤◌, ℕ, suc, Bool, true, false, ◌||◌, cond, nat_eq, List, [], ◌∷◌, ◌++◌, length, length-append, filter, map, Option, Some, Result, Ok, Err, refl, sym, ap, subst, arith, codes, zero-le, le-ltb, eq-eqb, ne_eqb}
+use Rattle.std.proofs.Common.{◌≡◌, ◌≢◌, ◌∙◌, ◌↔◌, inl, inr, ◌<◌, ◌≤◌, ℕ, suc, Bool, true, false, ◌||◌, cond, nat_eq, List, [], ◌∷◌, ◌++◌, length, length-append, filter, map, Option, Some, Ok, Err, refl, sym, ap, subst, arith, codes, zero-le, le-ltb, eq-eqb, ne_eqb}
 use Rattle.std.specs.List.{list_any}
 use Rattle.std.specs.Result.{IfOk}
 use Rattle.std.specs.Str.{bytes_eq}
 use Rattle.std.proofs.lemmas.Bool.{true≢false, lt-leb}
 use Rattle.std.proofs.lemmas.List.Elements.{filter-append}
+use Rattle.std.proofs.lemmas.List.{append-nil}
 use Rattle.text_lines.specs.Lines.{lines, words, says_nothing, is_comment, are_none, number_in}
 use Rattle.text_lines.specs.Directives.{is_line_of}
-use Rattle.text_lines.specs.Parsing.{and_then, some_or, parsed_lines}
+use Rattle.text_lines.specs.Parsing.{some_or, parsed_lines}
 use Rattle.text_lines.specs.declared.text_error.TextError.{TextError}
 use Rattle.text_lines.specs.declared.text_error.TextError.TheVariants.{Bad, Over}
 use Rattle.text_lines.specs.declared.text_error.Reason.TheVariants.{BadNumber, NotADaemon, LosesFront, SecondLoss}
 use Rattle.text_lines.specs.declared.text_error.Quantity.TheVariants.{Streams, Waves, Faults}
-use Rattle.text_lines.proofs.Parsing.{parsed_none}
-use Rattle.text_lines.proofs.Errors.{then_inv, ok_inj}
+use Rattle.text_lines.proofs.Parsing.{parsed_none, parsed_then, parsed_split, append_one}
 use Rattle.overlay_setup.specs.Daemons.{IsDaemonNamed}
 use Rattle.overlay_setup.specs.Scripts.{IsMode, IsStream, IsFault, Stream, stream, Scripted, scripted}
 use Rattle.overlay_setup.specs.Names.{number_of}
@@ -290,31 +290,6 @@ module _ (t : Nodes) (topology : IsTopology t) (before : List (List ℕ)) (u : S
     is_good m (inr (inl h)) = inr (inl (stream_is_good m h))
     is_good m (inr (inr h)) = inr (inr (loss_is_good m h))
 
--- lines that are parsed, and one behind them
-module _ {S : Type 0} (step : S → ℕ → List ℕ → Result S TextError) where
-  parsed_then : (ls : List (List ℕ)) (s : S) (number : ℕ) (u m : S) (line : List ℕ) → parsed_lines step s number ls ≡ Ok u → ((k : ℕ) → step u k line ≡ Ok m) → parsed_lines step s number (ls ++ line ∷ []) ≡ Ok m
-  unfolding parsed_lines
-  parsed_then [] s number u m line e next = let same : s ≡ u = ok_inj s u e in ap (λ r. and_then r (λ x. parsed_lines step x (suc number) [])) (subst (λ x. step x number line ≡ Ok m) (sym same) (next number))
-  parsed_then (l ∷ ls) s number u m line e next =
-      let a = then_inv (step s number l) _ u e in
-      ap (λ r. and_then r (λ x. parsed_lines step x (suc number) (ls ++ line ∷ []))) a.1 ∙ parsed_then ls a.0 (suc number) u m line a.2 next
-
-  parsed_split : (ls : List (List ℕ)) (s : S) (number : ℕ) (u : S) (line : List ℕ) (after : List (List ℕ)) → parsed_lines step s number (ls ++ line ∷ after) ≡ Ok u → (m : S) × (parsed_lines step s number ls ≡ Ok m) × ((k : ℕ) × (n : S) × (step m k line ≡ Ok n))
-  unfolding parsed_lines
-  parsed_split [] s number u line after e = let a = then_inv (step s number line) _ u e in (s, refl, (number, a.0, a.1))
-  parsed_split (l ∷ ls) s number u line after e =
-      let a = then_inv (step s number l) _ u e in
-      let b = parsed_split ls a.0 (suc number) u line after a.2 in
-      (b.0, ap (λ r. and_then r (λ x. parsed_lines step x (suc number) ls)) a.1 ∙ b.1, b.2)
-
-append_none : {X : Type 0} (xs : List X) → xs ++ [] ≡ xs
-append_none [] = refl
-append_none (x ∷ xs) = ap (λ t. x ∷ t) (append_none xs)
-
-append_one : {X : Type 0} (xs : List X) (x : X) (ys : List X) → xs ++ (x ∷ ys) ≡ (xs ++ x ∷ []) ++ ys
-append_one [] x ys = refl
-append_one (y ∷ xs) x ys = ap (λ t. y ∷ t) (append_one xs x ys)
-
 -- fewer `lose` lines stand before one of them than in all
 fewer : (before after : List (List ℕ)) (line : List ℕ) → loses line ≡ true → length (filter loses before) < length (filter loses (before ++ line ∷ after))
 fewer before after line is =
@@ -354,7 +329,7 @@ whole_ok c some = by c.streams some
 module _ (t : Nodes) (topology : IsTopology t) (text : List ℕ) (c : Scripted) where
   -- the lines of an acceptable text are taken, one after another
   all_taken : IsAcceptable t text c → (after before : List (List ℕ)) (u : Scripted) → parsed_lines (with_line t) (scripted [] []) 1 before ≡ Ok u → lines text ≡ before ++ after → (v : Scripted) × (parsed_lines (with_line t) (scripted [] []) 1 (lines text) ≡ Ok v)
-  all_taken a [] before u h is = (u, ap (parsed_lines (with_line t) (scripted [] []) 1) (is ∙ append_none before) ∙ h)
+  all_taken a [] before u h is = (u, ap (parsed_lines (with_line t) (scripted [] []) 1) (is ∙ append-nil before) ∙ h)
   all_taken a (line ∷ after) before u h is =
       let next = good_taken t topology before u h line (a.good_lines before after line is) (λ k. let more = fewer before after line k in let same = ap (λ ls. length (filter loses ls)) is in let limit = a.within_limit in omega arith) in
       all_taken a after (before ++ line ∷ []) next.0 (parsed_then (with_line t) before (scripted [] []) 1 u next.0 line h next.1) (is ∙ append_one before line after)

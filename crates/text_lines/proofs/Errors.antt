@@ -1,7 +1,7 @@
 -- Errors that a call hands on.
-use Rattle.std.proofs.Common.{◌≡◌, Option, None, Some, Ok, Err, Result, refl, ap, sym, subst}
+use Rattle.std.proofs.Common.{◌≡◌, Bool, true, false, Option, None, Some, Ok, Err, Result, refl, ap, sym, subst}
 use Rattle.std.specs.Result.{IfOk, IfErr, IsErr, IsErrAnd}
-use Rattle.text_lines.specs.Parsing.{and_then, some_or, IsValueOf}
+use Rattle.text_lines.specs.Parsing.{and_then, some_or, if_holds, IsValueOf}
 use Rattle.text_lines.specs.declared.text_error.TextError.{TextError}
 
 -- what is true of an error is true of the result that hands it on
@@ -21,6 +21,11 @@ pub then_inv : {A B : Type 0} (r : Result A TextError) (next : A → Result B Te
     (x : A) × (r ≡ Ok x) × (next x ≡ Ok y)
 then_inv (Err e) next y h = cc
 then_inv (Ok x) next y h = (x, refl, h)
+
+-- a test that ends well
+pub test_inv : {A : Type 0} (b : Bool) (e : TextError) (next : Result A TextError) (y : A) → if_holds b e next ≡ Ok y → (b ≡ true) × (next ≡ Ok y)
+test_inv true e next y h = (refl, h)
+test_inv false e next y h = cc
 
 abbrev good : {A : Type 0} → A → Result A TextError
 good x = Ok x

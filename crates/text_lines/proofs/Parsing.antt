@@ -1,7 +1,8 @@
 -- Lines one after another, one line at a time.
-use Rattle.std.proofs.Common.{◌≡◌, ◌≢◌, inl, inr, ℕ, suc, ◌+◌, List, [], ◌∷◌, Result, Ok, Err, refl, ap, ◌∙◌, subst, sym, arith}
+use Rattle.std.proofs.Common.{◌≡◌, ◌≢◌, inl, inr, ℕ, suc, ◌+◌, List, [], ◌∷◌, ◌++◌, append_assoc, Result, Ok, Err, refl, ap, ◌∙◌, subst, sym, arith}
 use Rattle.text_lines.specs.declared.text_error.TextError.{TextError}
 use Rattle.text_lines.specs.declared.text_error.TextError.TheVariants.{OutOfMemory}
+use Rattle.text_lines.proofs.Errors.{ok_inj, then_inv}
 use Rattle.text_lines.specs.Parsing.{and_then, parsed_lines, TakesLines, RefusesLines, TakesBy, RefusesBy}
 
 module _ {P : Type 0} (takes : P → ℕ → List ℕ → P → Type 0) (refuses : P → ℕ → List ℕ → TextError → Type 0) (old : P) (line_number : ℕ) where
@@ -39,6 +40,28 @@ module _ {S : Type 0} (step : S → ℕ → List ℕ → Result S TextError) (s 
   pub parsed_bad : (line : List ℕ) (rest : List (List ℕ)) (e : TextError) → step s line_number line ≡ Err e → parsed_lines step s line_number (line ∷ rest) ≡ Err e
   unfolding parsed_lines
   parsed_bad line rest e is = ap (λ r. and_then r (λ more. parsed_lines step more (suc line_number) rest)) is
+
+-- lines that are parsed, and one behind them
+module _ {S : Type 0} (step : S → ℕ → List ℕ → Result S TextError) where
+  pub parsed_then : (ls : List (List ℕ)) (s : S) (number : ℕ) (u m : S) (line : List ℕ) → parsed_lines step s number ls ≡ Ok u → ((k : ℕ) → step u k line ≡ Ok m) → parsed_lines step s number (ls ++ line ∷ []) ≡ Ok m
+  unfolding parsed_lines
+  parsed_then [] s number u m line e next = let same : s ≡ u = ok_inj s u e in ap (λ r. and_then r (λ x. parsed_lines step x (suc number) [])) (subst (λ x. step x number line ≡ Ok m) (sym same) (next number))
+  parsed_then (l ∷ ls) s number u m line e next =
+      let a = then_inv (step s number l) _ u e in
+      ap (λ r. and_then r (λ x. parsed_lines step x (suc number) (ls ++ line ∷ []))) a.1 ∙ parsed_then ls a.0 (suc number) u m line a.2 next
+
+  -- lines that are parsed, cut before one of them
+  pub parsed_split : (ls : List (List ℕ)) (s : S) (number : ℕ) (u : S) (line : List ℕ) (after : List (List ℕ)) → parsed_lines step s number (ls ++ line ∷ after) ≡ Ok u → (m : S) × (parsed_lines step s number ls ≡ Ok m) × ((k : ℕ) × (n : S) × (step m k line ≡ Ok n))
+  unfolding parsed_lines
+  parsed_split [] s number u line after e = let a = then_inv (step s number line) _ u e in (s, refl, (number, a.0, a.1))
+  parsed_split (l ∷ ls) s number u line after e =
+      let a = then_inv (step s number l) _ u e in
+      let b = parsed_split ls a.0 (suc number) u line after a.2 in
+      (b.0, ap (λ r. and_then r (λ x. parsed_lines step x (suc number) ls)) a.1 ∙ b.1, b.2)
+
+-- one line more before the others
+pub append_one : {X : Type 0} (xs : List X) (x : X) (ys : List X) → xs ++ (x ∷ ys) ≡ (xs ++ x ∷ []) ++ ys
+append_one xs x ys = sym (append_assoc xs (x ∷ []) ys)
 
 -- a parser that goes by a step
 module _ {P S C : Type 0} (context : P → C) (view : P → S) (step : C → S → ℕ → List ℕ → Result S TextError) where

@@ -1,5 +1,5 @@
 -- What a text is parsed as, and what a parser makes of its lines one after another.
-use Rattle.std.specs.Prelude.{◌≡◌, ◌≢◌, ◌⊎◌, ℕ, suc, List, [], ◌∷◌, Option, None, Some, Result, Ok, Err, IfOk, IfErr}
+use Rattle.std.specs.Prelude.{◌≡◌, ◌≢◌, ◌⊎◌, ℕ, suc, Bool, cond, List, [], ◌∷◌, Option, None, Some, Result, Ok, Err, IfOk, IfErr}
 use Rattle.text_lines.specs.declared.text_error.TextError.{TextError}
 use Rattle.text_lines.specs.declared.text_error.TextError.TheVariants.{OutOfMemory}
 
@@ -20,6 +20,10 @@ and_then (Ok x) next = next x
 abbrev pub some_or : {A : Type 0} → TextError → Option A → Result A TextError
 some_or error None = Err error
 some_or error (Some x) = Ok x
+
+-- a second step where a test holds, else an error
+abbrev pub if_holds : {A : Type 0} → Bool → TextError → Result A TextError → Result A TextError
+if_holds test error next = cond test next (Err error)
 
 -- What lines are parsed as, one after another, where the first of them has a number: a step parses one line more. The
 -- first error decides.

@@ -182,8 +182,8 @@ pub fn says_nothing(line: &[u8]) -> bool
     }
 }
 
-// Whether each byte is a digit.
-fn are_digits(word: &[u8]) -> bool
+/// Whether each byte is a digit.
+pub fn are_digits(word: &[u8]) -> bool
     ensures { result ≡ list_all is_ascii_digit word.now }
 {
     word.iter().all(|b| b.is_ascii_digit())

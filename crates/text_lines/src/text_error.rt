@@ -23,7 +23,7 @@ pub enum Reason {
     TwoRoots,
     /// A node cannot be reached from the root.
     Unreached,
-    /// A line of samples is not UTF-8.
+    /// A line of samples or values is not UTF-8.
     NotUtf8,
     /// A line does not have the words that such a line must have.
     BadDirective,
@@ -35,7 +35,7 @@ pub enum Reason {
     PlacedTwice,
     /// A word is not a time from 0 to 65,535.
     BadTime,
-    /// A rank of a sample is placed on no daemon yet.
+    /// A rank of a sample or of a value is placed on no daemon, or on none yet.
     Unplaced,
     /// The path of a sample is not a valid path.
     BadPath,
@@ -53,6 +53,10 @@ pub enum Reason {
     SecondLoss,
     /// A script has no stream.
     NoStream,
+    /// A rank has a value by an earlier line.
+    ValueTwice,
+    /// A word is not a value from -1,000,000,000,000 to 1,000,000,000,000.
+    BadValue,
 }
 
 /// What a text has too much of.
