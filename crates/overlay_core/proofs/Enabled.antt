@@ -1,11 +1,9 @@
 -- The list of enabled events has each of them.
-use Rattle.std.proofs.Common.{◌≡◌, ◌<◌, inl, inr, ℕ, suc, zero, Bool, true, false, ◌==◌, List, [], ◌∷◌, ◌++◌, map, refl, sym, ap, subst, arith, eqb-true}
-use Rattle.std.proofs.lemmas.Bool.{and_parts, eqb-false, true≢false}
+use Rattle.std.proofs.Common.{◌≡◌, inl, inr, ℕ, true, List, [], ◌∷◌, ◌++◌, map, refl, ap}
+use Rattle.std.proofs.lemmas.Bool.{and_parts}
 use Rattle.overlay_setup.specs.NodeSets.{In, up_to}
 use Rattle.stat_plan.specs.Plans.{Plan, nodes, waves_of}
-use Rattle.overlay_core.specs.Nodes.{Packet}
 use Rattle.overlay_core.specs.Machine.{State, is_enabled, samples_of, events_of, events_below, enabled_events}
-use Rattle.stat_plan.specs.Machine.Overlays.{is_pending}
 use Rattle.stat_plan.proofs.PlanFacts.{HasPlanFacts}
 use Rattle.overlay_core.specs.LinkInvariant.{LinkInvariant}
 use Rattle.overlay_event.specs.declared.event.Event.{Event}
@@ -14,7 +12,8 @@ use Rattle.stat_plan.proofs.InLists.{append_left, append_right, in_from_filter, 
 use Rattle.overlay_core.proofs.Outcomes.{next_is_named}
 use Rattle.overlay_core.proofs.Steps.{active_parts}
 use Rattle.overlay_core.proofs.Potential.{sender_below}
-use Rattle.stat_plan.proofs.Journals.{ListsEnabled}
+use Rattle.stat_plan.proofs.Journals.{ListsEnabled, in_below}
+use Rattle.stat_plan.proofs.Overlays.{first_in}
 use Rattle.overlay_core.specs.Whole.{IsSound}
 
 in_samples : (n : ℕ) (vs : List (ℕ × ℕ)) (s w : ℕ) → In (s, w) vs → In (Sample n s w) (samples_of n vs)
@@ -22,31 +21,19 @@ in_samples n [] s w i = absurd i
 in_samples n (v ∷ vs) s w (inl e) = let es : s ≡ v.0 = ap (λ y. y.0) e in let ew : w ≡ v.1 = ap (λ y. y.1) e in inl (cc)
 in_samples n (v ∷ vs) s w (inr i) = inr (in_samples n vs s w i)
 
-in_below : (p : Plan) (k n : ℕ) (e : Event) → n < k → In e (events_of p n) → In e (events_below p k)
-in_below p zero n e lt i = absurd (omega arith)
-in_below p (suc k) n e lt i = go (n == k) refl (in_below p k n e)
-  where
-    go : (b : Bool) → (n == k) ≡ b → (n < k → In e (events_of p n) → In e (events_below p k)) → In e (events_below p k ++ events_of p k)
-    go true t ih = append_right e (events_below p k) (events_of p k) (subst (λ a. In e (events_of p a)) (eqb-true n k t) i)
-    go false t ih = let ne : n ≡ k → ⊥ = eqb-false n k t in append_left e (events_below p k) (events_of p k) (ih (omega arith) i)
-
-first_in : (l : List Packet) → is_pending l ≡ true → (q : Packet) × In q l
-first_in [] e = absurd (true≢false (sym e))
-first_in (q ∷ qs) e = (q, inl refl)
-
 can_be_named : (p : Plan) (st : State) (e : Event) → HasPlanFacts p → LinkInvariant p st → is_enabled p st e ≡ true → In e (events_below p (nodes p))
 can_be_named p st (Sample n s w) plan h e =
     let t = and_parts _ _ e in
     let u = and_parts _ _ t.0 in
-    in_below p (nodes p) n (Sample n s w) (h.net.nodes n (active_parts p st n u.0).0) (inr (append_left (Sample n s w) (samples_of n (waves_of p.streams) ++ map (λ m. Recv n m) (up_to (nodes p))) (Tick n ∷ []) (append_left (Sample n s w) (samples_of n (waves_of p.streams)) (map (λ m. Recv n m) (up_to (nodes p))) (in_samples n (waves_of p.streams) s w (next_is_named p (st.node n) s w t.1)))))
+    in_below (events_below p) (events_of p) (λ k. refl) (nodes p) n (Sample n s w) (h.net.nodes n (active_parts p st n u.0).0) (inr (append_left (Sample n s w) (samples_of n (waves_of p.streams) ++ map (λ m. Recv n m) (up_to (nodes p))) (Tick n ∷ []) (append_left (Sample n s w) (samples_of n (waves_of p.streams)) (map (λ m. Recv n m) (up_to (nodes p))) (in_samples n (waves_of p.streams) s w (next_is_named p (st.node n) s w t.1)))))
 can_be_named p st (Recv n m) plan h e =
     let t = and_parts _ _ e in
     let q = first_in (st.link m n) t.1 in
     let lt = sender_below p m n q.0 plan ((h.net.links m n).packets q.0 q.1) in
-    in_below p (nodes p) n (Recv n m) (h.net.nodes n (active_parts p st n t.0).0) (inr (append_left (Recv n m) (samples_of n (waves_of p.streams) ++ map (λ m. Recv n m) (up_to (nodes p))) (Tick n ∷ []) (append_right (Recv n m) (samples_of n (waves_of p.streams)) (map (λ m. Recv n m) (up_to (nodes p))) (in_map (λ m. Recv n m) m (up_to (nodes p)) (up_to_in (nodes p) m lt)))))
+    in_below (events_below p) (events_of p) (λ k. refl) (nodes p) n (Recv n m) (h.net.nodes n (active_parts p st n t.0).0) (inr (append_left (Recv n m) (samples_of n (waves_of p.streams) ++ map (λ m. Recv n m) (up_to (nodes p))) (Tick n ∷ []) (append_right (Recv n m) (samples_of n (waves_of p.streams)) (map (λ m. Recv n m) (up_to (nodes p))) (in_map (λ m. Recv n m) m (up_to (nodes p)) (up_to_in (nodes p) m lt)))))
 can_be_named p st (Tick n) plan h e =
-    in_below p (nodes p) n (Tick n) (h.net.nodes n (active_parts p st n (and_parts _ _ e).0).0) (inr (append_right (Tick n) (samples_of n (waves_of p.streams) ++ map (λ m. Recv n m) (up_to (nodes p))) (Tick n ∷ []) (inl refl)))
-can_be_named p st (Lose n) plan h e = in_below p (nodes p) n (Lose n) (h.net.nodes n (and_parts _ _ e).0) (inl refl)
+    in_below (events_below p) (events_of p) (λ k. refl) (nodes p) n (Tick n) (h.net.nodes n (active_parts p st n (and_parts _ _ e).0).0) (inr (append_right (Tick n) (samples_of n (waves_of p.streams) ++ map (λ m. Recv n m) (up_to (nodes p))) (Tick n ∷ []) (inl refl)))
+can_be_named p st (Lose n) plan h e = in_below (events_below p) (events_of p) (λ k. refl) (nodes p) n (Lose n) (h.net.nodes n (and_parts _ _ e).0) (inl refl)
 
 pub enabled_listed : (p : Plan) (st : State) (e : Event) → HasPlanFacts p → LinkInvariant p st → is_enabled p st e ≡ true → In e (enabled_events p st)
 unfolding enabled_events

@@ -15,8 +15,9 @@ use Rattle.overlay_core.specs.Losses.{IsLost}
 use Rattle.overlay_core.specs.History.{of_wave}
 use Rattle.overlay_core.specs.Whole.{EndsFinally, HasEnded, LosesNoDaemon, HasOneRelease}
 use Rattle.stat_plan.proofs.PlanFacts.{HasPlanFacts}
-use Rattle.stat_plan.proofs.InLists.{in_from_filter}
-use Rattle.overlay_core.proofs.RankSets.{in_union, union_left, union_right, same_from_members, no_rank}
+use Rattle.stat_plan.proofs.InLists.{in_from_filter, in_map}
+use Rattle.stat_plan.proofs.LookupLemmas.{ranks_come}
+use Rattle.overlay_core.proofs.RankSets.{in_union, same_from_members, no_rank}
 use Rattle.overlay_core.proofs.Whole.{EndsWith, whole_is_over, dead_is_lost}
 use Rattle.overlay_core.proofs.Releases.{legal_log}
 
@@ -76,22 +77,13 @@ in_ranks_with f (d ∷ ds) first r h = elim (in_ranks_with f ds (union first (f 
   | inr k ↦ inr (k.0, inr k.1, k.2)
 ]
 
-first_stays : (f : ℕ → Ranks) (ds : List ℕ) (first : Ranks) (r : ℕ) → Has r first → Has r (ranks_with first (map f ds))
-first_stays f [] first r h = h
-first_stays f (d ∷ ds) first r h = first_stays f ds (union first (f d)) r (union_left r first (f d) h)
-
-each_is_with : (f : ℕ → Ranks) (ds : List ℕ) (first : Ranks) (d r : ℕ) → In d ds → Has r (f d) → Has r (ranks_with first (map f ds))
-each_is_with f [] first d r i h = absurd i
-each_is_with f (x ∷ ds) first d r (inl e) h = first_stays f ds (union first (f x)) r (union_right r first (f x) (subst (λ y. Has r (f y)) e h))
-each_is_with f (x ∷ ds) first d r (inr i) h = each_is_with f ds (union first (f x)) d r i h
-
 -- ranks of daemons of a stream, all of them, are the ranks of the stream
 pub all_of_stream : (p : Plan) (s : ℕ) (covered : Ranks) → ((r : ℕ) → Has r covered → (d : ℕ) × In d (daemons p s) × Has r (ranks p d)) → ((d : ℕ) → In d (daemons p s) → (r : ℕ) → Has r (ranks p d) → Has r covered) → covered ≡ stream_ranks p s
 unfolding stream_ranks
 all_of_stream p s covered from each = same_from_members covered (all_ranks (map (ranks p) (daemons p s))) up down
   where
     up : (r : ℕ) → Has r covered → Has r (all_ranks (map (ranks p) (daemons p s)))
-    up r h = let k = from r h in each_is_with (ranks p) (daemons p s) none k.0 r k.1 k.2
+    up r h = let k = from r h in ranks_come none (map (ranks p) (daemons p s)) (ranks p k.0) r (in_map (ranks p) k.0 (daemons p s) k.1) k.2
 
     down : (r : ℕ) → Has r (all_ranks (map (ranks p) (daemons p s))) → Has r covered
     down r h = elim (in_ranks_with (ranks p) (daemons p s) none r h) [ inl i ↦ absurd (no_rank r i) | inr k ↦ each k.0 k.1 r k.2 ]

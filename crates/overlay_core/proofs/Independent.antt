@@ -54,8 +54,8 @@ link_else : (st : State) (j k : ℕ) (qs : List Packet) (n m : ℕ) → k ≢ n 
 unfolding with_link
 link_else st j k qs n m ne = cond_both {A = List Packet} ((m == j) && (n == k)) qs (st.link m n) (λ l. l ≡ st.link m n) (λ e. absurd (ne (sym (eqb-true n k (and_parts (m == j) (n == k) e).1)))) (λ e. refl)
 
--- the first packet of a link stays the first
-first_else : (p : Plan) (st : State) (f : Event) (n m : ℕ) → event_node f ≢ n → f ≢ Lose m → is_pending (st.link m n) ≡ true → first_from m ((step p st f).link m n) ≡ first_from m (st.link m n)
+-- the first packet of a link stays the first at an event of another node than the receiver, unless the sender is lost
+pub first_else : (p : Plan) (st : State) (f : Event) (n m : ℕ) → event_node f ≢ n → f ≢ Lose m → is_pending (st.link m n) ≡ true → first_from m ((step p st f).link m n) ≡ first_from m (st.link m n)
 unfolding lose
 first_else p st (Sample k s w) n m ne keeps pending = commit_first st k _ n m pending
 first_else p st (Recv k j) n m ne keeps pending = go (st.link j k)

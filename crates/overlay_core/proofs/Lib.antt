@@ -20,3 +20,4 @@ pub mod Sends
 pub mod Journals
 pub mod Inhabited
 pub mod Growth
+pub mod SampleFree

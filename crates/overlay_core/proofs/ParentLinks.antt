@@ -1,7 +1,6 @@
 -- How an event of a node changes its waves, against what it sends.
 use Rattle.rank_set.specs.Ranks.{Ranks, none, is_same, Has, IsSubset}
 use Rattle.std.proofs.Common.{◌≡◌, ◌⊎◌, inl, inr, ℕ, Bool, true, false, cond, not, ◌&&◌, ◌==◌, List, [], ◌∷◌, ◌++◌, map, filter, refl, sym, ap, subst, ◌∙◌, eqb-true, eq-eqb, Some, None}
-use Rattle.std.specs.List.{list_any}
 use Rattle.std.proofs.lemmas.Bool.{cond_both, and_from, or_cases, or_left, or_right, cond-true}
 use Rattle.overlay_setup.specs.NodeSets.{In, with_number, without_number}
 use Rattle.stat_plan.specs.Plans.{Plan, IsUnder, ancestors, serves, mode, is_front, front, daemons, is_within, is_under, waves_at, waves_of}
@@ -19,8 +18,8 @@ use Rattle.stat_plan.specs.declared.machine.Timer.{Timer}
 use Rattle.stat_plan.specs.declared.machine.Timer.TheVariants.{Off, Running, Fired}
 use Rattle.stat_plan.specs.declared.machine.Act.{Act}
 use Rattle.stat_plan.specs.declared.machine.Act.TheVariants.{Hold, Arm, Send, Partial, Final}
-use Rattle.stat_plan.proofs.KinLemmas.{with_number_old, with_number_new}
-use Rattle.stat_plan.proofs.InLists.{append_left, append_right, in_member, in_from_member, any_from_in, in_filter, in_from_filter}
+use Rattle.stat_plan.proofs.KinLemmas.{with_number_old, with_number_new, without_other}
+use Rattle.stat_plan.proofs.InLists.{append_left, append_right, in_member, in_from_member, any_from_in, in_filter, in_from_filter, in_from_any}
 use Rattle.overlay_core.proofs.RankSets.{union_left, union_right, no_rank, empty_true}
 
 -- r goes to m in an Up of the wave
@@ -321,11 +320,6 @@ done_links p alive n x m s w =
     only : {v : ℕ × Packet} → In v ((m, Done s w) ∷ []) → v ≡ (m, Done s w)
     only = elim [ inl e ↦ e | inr i ↦ absurd i ]
 
--- a node above one that serves a stream serves it
-pub list_any_in : {X : Type 0} (test : X → Bool) (xs : List X) → list_any test xs ≡ true → (x : X) × (In x xs) × (test x ≡ true)
-list_any_in test [] e = absurd (cc)
-list_any_in test (x ∷ xs) e = elim (or_cases (test x) (list_any test xs) e) [ inl a ↦ (x, inl refl, a) | inr b ↦ let r = list_any_in test xs b in (r.0, inr r.1, r.2) ]
-
 pub within_from_test : (p : Plan) (d n : ℕ) → is_within p d n ≡ true → (d ≡ n) ⊎ IsUnder p d n
 unfolding is_within is_under
 within_from_test p d n e = elim (or_cases (d == n) _ e) [ inl a ↦ inl (eqb-true d n a) | inr b ↦ inr (in_from_member n (ancestors p d) b) ]
@@ -335,12 +329,13 @@ unfolding is_within is_under
 test_from_within p d n (inl e) = or_left _ _ (eq-eqb d n e)
 test_from_within p d n (inr u) = or_right _ _ (in_member n (ancestors p d) u)
 
+-- a node above one that serves a stream serves it
 pub serves_above : (p : Plan) (m n s : ℕ) → HasPlanFacts p → IsUnder p m n → serves p m s ≡ true → serves p n s ≡ true
 unfolding serves
 serves_above p m n s plan u e =
-    let r = list_any_in (λ d. is_within p d m) (daemons p s) e in
-    any_from_in (λ d. is_within p d n) r.0 (daemons p s) r.1
-    (test_from_within p r.0 n (elim (within_from_test p r.0 m r.2) [ inl k ↦ inr (subst (λ a. IsUnder p a n) (sym k) u) | inr k ↦ inr (plan.under_trans r.0 m n k u) ]))
+    let r = in_from_any (λ d. is_within p d m) (daemons p s) e in
+    any_from_in (λ d. is_within p d n) r.0 (daemons p s) r.1.0
+    (test_from_within p r.0 n (elim (within_from_test p r.0 m r.1.1) [ inl k ↦ inr (subst (λ a. IsUnder p a n) (sym k) u) | inr k ↦ inr (plan.under_trans r.0 m n k u) ]))
 
 pub waves_above : (p : Plan) (m n s w : ℕ) → HasPlanFacts p → IsUnder p m n → In (s, w) (waves_at p m) → (In (s, w) (waves_at p n)) × (serves p m s ≡ true)
 unfolding waves_at
@@ -373,16 +368,6 @@ attach_links p alive n x m plan u = record {
   where
     only : {v : ℕ × Packet} → In v ((m, Attach) ∷ []) → v ≡ (m, Attach)
     only = elim [ inl e ↦ e | inr i ↦ absurd i ]
-
-without_other : (m c : ℕ) (xs : List ℕ) → (m ≡ c → ⊥) → In c xs → In c (without_number m xs)
-without_other m c [] ne i = i
-without_other m c (z ∷ zs) ne i = go (without_other m c zs ne) (m == z) refl i
-  where
-    go : (In c zs → In c (without_number m zs)) → (b : Bool) → (m == z) ≡ b → In c (z ∷ zs) → In c (cond b (without_number m zs) (z ∷ without_number m zs))
-    go ih true e (inl k) = absurd (ne (eqb-true m z e ∙ sym k))
-    go ih true e (inr k) = ih k
-    go ih false e (inl k) = inl k
-    go ih false e (inr k) = inr (ih k)
 
 unsent_none : (v : Wave) → sent_of (unsent v) ≡ none
 unsent_none (Open covered sent t) = refl

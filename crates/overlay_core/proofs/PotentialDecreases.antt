@@ -1,6 +1,6 @@
 -- The weight of a node, of a packet and of a wave, and that no outcome weighs more than what it came from.
 use Rattle.rank_set.specs.Ranks.{Ranks, none, has, union, is_subset, is_same, Has, IsSubset, has-in_order, in_order}
-use Rattle.std.proofs.Common.{◌≡◌, ◌≢◌, ◌≤◌, ◌+◌, ◌*◌, max, inl, inr, ℕ, suc, zero, Bool, true, false, cond, not, ◌&&◌, ◌==◌, List, [], ◌∷◌, ◌++◌, map, filter, length, find, refl, sym, ap, subst, ◌∙◌, arith, eqb-true, Option, Some, None, le_refl, zero-le, mul-le-mul_right}
+use Rattle.std.proofs.Common.{◌≡◌, ◌≢◌, ◌≤◌, ◌+◌, ◌*◌, max, inl, inr, ℕ, suc, zero, Bool, true, false, cond, not, ◌&&◌, ◌==◌, List, [], ◌∷◌, ◌++◌, map, filter, length, find, refl, sym, ap, subst, ◌∙◌, arith, Option, Some, None, le_refl, zero-le, mul-le-mul_right}
 use Rattle.std.specs.List.{list_any, list_all}
 use Rattle.std.specs.Ordering.{nat_cmp, eq_by_cmp, is_eq}
 use Rattle.std.specs.Cmp.{nat_cmp_total, tied_itself}
@@ -24,13 +24,13 @@ use Rattle.stat_plan.specs.declared.machine.Timer.{Timer}
 use Rattle.stat_plan.specs.declared.machine.Timer.TheVariants.{Off, Running, Fired}
 use Rattle.stat_plan.specs.declared.machine.Act.{Act}
 use Rattle.stat_plan.specs.declared.machine.Act.TheVariants.{Hold, Arm, Send, Partial, Final}
-use Rattle.stat_plan.proofs.KinLemmas.{with_number_old, with_number_new, nearest_in, nearest_split}
+use Rattle.stat_plan.proofs.KinLemmas.{with_number_old, with_number_new, nearest_in, nearest_split, is_parent_some}
 use Rattle.overlay_core.proofs.RankSets.{test_from_same, same_from_members, union_left, subset_from_test, test_from_subset, no_rank, empty_true, none_from_subset}
-use Rattle.stat_plan.proofs.InLists.{in_member, in_from_member, in_from_filter}
+use Rattle.stat_plan.proofs.InLists.{in_member, in_from_member, in_from_filter, in_from_any}
 use Rattle.stat_plan.proofs.Totals.{total, total_append, total_drop, total_increase, length_filter_le, length_filter_less, length_filter_drop}
 use Rattle.overlay_core.proofs.Acts.{IsSubsetOf, each_wave_set, send_grown}
 use Rattle.overlay_core.proofs.Outcomes.{waves_at_named}
-use Rattle.overlay_core.proofs.ParentLinks.{set_wave_here, test_from_within, list_any_in}
+use Rattle.overlay_core.proofs.ParentLinks.{set_wave_here, test_from_within}
 use Rattle.overlay_core.proofs.Settled.{after_arm}
 use Rattle.stat_plan.proofs.Weights.{sends_weight as overlay_sends_weight}
 
@@ -332,12 +332,12 @@ running_decreases p n s lost Closed e h = absurd (true≢false (sym e))
 pub tick_decreases : (p : Plan) (n : ℕ) (x : Node) → length x.kin.children ≤ nodes p → NodeIsSettled p n x → list_any (λ v. is_running (x.book v.0 v.1)) (waves_at p n) ≡ true → Decreases p n x 0 (after_tick p n x)
 unfolding after_tick book_weight
 tick_decreases p n x few hc e =
-    let r = list_any_in (λ v. is_running (x.book v.0 v.1)) (waves_at p n) e in
+    let r = in_from_any (λ v. is_running (x.book v.0 v.1)) (waves_at p n) e in
     let b : Book = λ s w. ticked (x.book s w) in
     let vs = filter (λ v. is_fired (ticked (x.book v.0 v.1))) (waves_at p n) in
     let d : book_weight p n b + 1 ≤ book_weight p n x.book =
-    total_drop (λ v. wave_weight p n v.0 (b v.0 v.1)) (λ v. wave_weight p n v.0 (x.book v.0 v.1)) 1 r.0 (waves_of p.streams) (λ v i. ticked_decreases p n v.0 (x.book v.0 v.1)) (waves_at_named p n r.0 r.1)
-    (running_decreases p n r.0.0 x.kin.lost (x.book r.0.0 r.0.1) r.2 (hc r.0.0 r.0.1 r.1)) in
+    total_drop (λ v. wave_weight p n v.0 (b v.0 v.1)) (λ v. wave_weight p n v.0 (x.book v.0 v.1)) 1 r.0 (waves_of p.streams) (λ v i. ticked_decreases p n v.0 (x.book v.0 v.1)) (waves_at_named p n r.0 r.1.0)
+    (running_decreases p n r.0.0 x.kin.lost (x.book r.0.0 r.0.1) r.1.1 (hc r.0.0 r.0.1 r.1.0)) in
     let a : work_weight p n (act_each p n x.kin vs (begin b)) ≤ work_weight p n (begin b) = act_each_decreases p n x.kin vs (begin b) (λ v i. waves_at_named p n v (in_from_filter (λ v. is_fired (ticked (x.book v.0 v.1))) v (waves_at p n) i).0) few in
     let z : work_weight p n (begin b) ≡ book_weight p n b = begin_weight p n b in
     omega arith
@@ -387,10 +387,6 @@ kin_drop p n m lost i f =
 unsent_decreases : (p : Plan) (n s : ℕ) (v : Wave) → wave_weight p n s (unsent v) ≤ wave_weight p n s v + (tick_cap p + 1)
 unsent_decreases p n s (Open covered sent timer) = let a = pend_off (tick_cap p) covered none in omega arith
 unsent_decreases p n s Closed = zero-le
-
-is_parent_some : (o : Option ℕ) (m : ℕ) → is_parent o m ≡ true → o ≡ Some m
-is_parent_some None m e = absurd (true≢false (sym e))
-is_parent_some (Some a) m e = ap Some (eqb-true a m e)
 
 pub down_decreases : (p : Plan) (alive : ℕ → Bool) (n : ℕ) (x : Node) (m : ℕ) → KinIsSound p alive n x.kin → length x.kin.children ≤ nodes p → length (without_child x.kin m).children ≤ nodes p → Decreases p n x 1 (received_down p n x m)
 unfolding received_down book_weight parent_cost wave_count

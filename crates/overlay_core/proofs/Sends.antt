@@ -15,7 +15,7 @@ use Rattle.stat_plan.specs.declared.machine.Timer.{Timer}
 use Rattle.stat_plan.specs.declared.machine.Timer.TheVariants.{Off, Running, Fired}
 use Rattle.stat_plan.specs.declared.machine.Act.{Act}
 use Rattle.stat_plan.specs.declared.machine.Act.TheVariants.{Hold, Arm, Send, Partial, Final}
-use Rattle.stat_plan.proofs.KinLemmas.{with_number_new}
+use Rattle.stat_plan.proofs.KinLemmas.{with_number_new, is_parent_some}
 use Rattle.overlay_event.specs.declared.event.Event.{Event}
 use Rattle.overlay_event.specs.declared.event.Event.TheVariants.{Sample, Recv, Tick, Lose}
 use Rattle.overlay_core.specs.declared.release.Kind.TheVariants.{Partial as PartialRelease, Final as FinalRelease}
@@ -78,7 +78,7 @@ wave_is x a b v s w e t =
 abbrev pub spent : ℕ → ℕ → Effects → ℕ
 spent s w k = sends_in s w k + one_if (is_unsent (k.book s w))
 
-send_grown : (m : Mode) (done grown top : Bool) (t : Timer) → due_act m done grown top t ≡ Send → grown ≡ true
+pub send_grown : (m : Mode) (done grown top : Bool) (t : Timer) → due_act m done grown top t ≡ Send → grown ≡ true
 send_grown m done true top t e = refl
 send_grown m true false true t e = absurd (cc)
 send_grown m true false false t e = absurd (cc)
@@ -273,13 +273,9 @@ nearest_is_new (a ∷ above) lost m e = cond_both {A = Option ℕ} (member a los
     differs true t f = absurd (true≢false (sym e ∙ (ap (λ y. member y lost) (eqb-true m a t) ∙ f)))
     differs false t f = t
 
-parent_some : (o : Option ℕ) (m : ℕ) → is_parent o m ≡ true → o ≡ Some m
-parent_some None m e = absurd (true≢false (sym e))
-parent_some (Some a) m e = ap Some (eqb-true a m e)
-
 has_moved : (p : Plan) (n : ℕ) (kin : Kin) (m : ℕ) → is_parent kin.parent m ≡ true → one_if (not (is_same_parent kin.parent (with_parent p n kin m).parent)) ≡ 1
 has_moved p n kin m e =
-    ap (λ o. one_if (not (is_same_parent o (nearest (ancestors p n) (with_number m kin.lost))))) (parent_some kin.parent m e)
+    ap (λ o. one_if (not (is_same_parent o (nearest (ancestors p n) (with_number m kin.lost))))) (is_parent_some kin.parent m e)
     ∙ ap (λ b. one_if (not b)) (nearest_is_new (ancestors p n) (with_number m kin.lost) m (in_member m (with_number m kin.lost) (with_number_new m kin.lost)))
 
 -- who sends no ranks, and keeps its parent and its waves, owes nothing

@@ -21,10 +21,10 @@ use Rattle.stat_plan.specs.declared.machine.Act.TheVariants.{Hold, Arm, Send, Pa
 use Rattle.overlay_event.specs.declared.event.Event.{Event}
 use Rattle.overlay_event.specs.declared.event.Event.TheVariants.{Sample, Recv, Tick, Lose}
 use Rattle.overlay_core.proofs.RankSets.{test_from_same, same_from_members, union_left, subset_from_test, none_from_subset, empty_true, same_true}
-use Rattle.stat_plan.proofs.InLists.{list_all_in, in_from_filter, in_filter}
+use Rattle.stat_plan.proofs.InLists.{list_all_in, in_from_filter, in_filter, in_from_any}
 use Rattle.overlay_core.proofs.Acts.{each_wave_set}
 use Rattle.overlay_core.proofs.Outcomes.{next_is_empty}
-use Rattle.overlay_core.proofs.ParentLinks.{set_wave_here, list_any_in}
+use Rattle.overlay_core.proofs.ParentLinks.{set_wave_here}
 use Rattle.overlay_core.proofs.Commits.{next_node, commit_node}
 use Rattle.stat_plan.proofs.Overlays.{was_alive}
 
@@ -313,12 +313,12 @@ start_settled p plan n u s w i = (held_at_start (mode p s) (complete p n [] s no
     nothing : complete p n [] s none ≡ true → ⊥
     nothing e =
         let v = in_from_filter (λ v. serves p n v.0) (s, w) (waves_of p.streams) i in
-        let r = list_any_in (λ d. is_within p d n) (daemons p s) v.1 in
-        let t = list_all_in (λ d. not (is_within p d n) || is_subset (ranks p d) none || member d []) (daemons p s) r.0 e r.1 in
+        let r = in_from_any (λ d. is_within p d n) (daemons p s) v.1 in
+        let t = list_all_in (λ d. not (is_within p d n) || is_subset (ranks p d) none || member d []) (daemons p s) r.0 e r.1.0 in
         elim (or_cases (not (is_within p r.0 n) || is_subset (ranks p r.0) none) (member r.0 []) t) [
           | inl a ↦ elim (or_cases (not (is_within p r.0 n)) (is_subset (ranks p r.0) none) a) [
-            | inl b ↦ true≢false (sym b ∙ not_from_true _ r.2)
-            | inr b ↦ plan.daemon_ranks r.0 s r.1 (none_from_subset (ranks p r.0) (subset_from_test (ranks p r.0) none b))
+            | inl b ↦ true≢false (sym b ∙ not_from_true _ r.1.1)
+            | inr b ↦ plan.daemon_ranks r.0 s r.1.0 (none_from_subset (ranks p r.0) (subset_from_test (ranks p r.0) none b))
           ]
           | inr a ↦ true≢false (sym a)
         ]

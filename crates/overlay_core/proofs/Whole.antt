@@ -30,7 +30,7 @@ use Rattle.overlay_core.proofs.RankSets.{test_from_subset, no_rank, some_rank, s
 use Rattle.overlay_core.proofs.Steps.{step_sound, start_sound}
 use Rattle.overlay_core.proofs.ParentLinks.{within_from_test, test_from_within, waves_above}
 use Rattle.overlay_core.proofs.ParentChild.{step_pairs}
-use Rattle.stat_plan.proofs.Overlays.{was_alive, now_dead}
+use Rattle.stat_plan.proofs.Overlays.{was_alive, now_dead, none_pending}
 use Rattle.overlay_core.specs.Losses.{IsLost}
 use Rattle.overlay_core.proofs.Settled.{step_settled, start_settled}
 use Rattle.overlay_core.proofs.History.{step_history, start_history}
@@ -69,10 +69,6 @@ quiet_active p st n quiet up = elim (cases_Bool (is_doomed p st n)) [
   | inl t ↦ absurd (true≢false (sym (and_from _ _ up t) ∙ quiet (Lose n)))
   | inr f ↦ and_from _ _ up (subst (λ b. not b ≡ true) (sym f) refl)
 ]
-
-none_pending : (l : List Packet) → is_pending l ≡ false → l ≡ []
-none_pending [] e = refl
-none_pending (q ∷ qs) e = absurd (true≢false e)
 
 quiet_links : (p : Plan) (st : State) (m n : ℕ) → IsQuiet p st → st.alive n ≡ true → st.link m n ≡ []
 quiet_links p st m n quiet up = elim (cases_Bool (is_pending (st.link m n))) [

@@ -22,7 +22,8 @@ ghost use Rattle.overlay_core.specs.Whole.{HasEnded, HasOneRelease, IsSound, Los
 ghost use Rattle.overlay_event.specs.declared.event.Event.{Event};
 ghost use Rattle.stat_plan.specs.Invariants.{IsPlan};
 ghost use Rattle.overlay_setup.specs.NodeSets.{In};
-ghost use Rattle.stat_plan.specs.Plans.{Plan, nodes, mode, waves_of};
+ghost use Rattle.stat_plan.specs.Plans.{Plan, nodes, mode, waves_of, with_lines};
+ghost use Rattle.stat_plan.specs.Samples.{SampleLine};
 ghost use Rattle.overlay_setup.specs.declared.script.Mode.TheVariants.{WaitForAll};
 ghost use Rattle.std.specs.List.{AllByRecursion};
 ghost use Rattle.std.specs.Prelude.{◌≡◌, ◌≤◌, ◌<◌, ◌+◌, ◌↔◌, true, false, length, List, [], ◌∷◌, ◌++◌, Some, ℕ};
@@ -132,4 +133,18 @@ pub fn independent_events_commute()
         → KeepsOutcome p e st (step p st f) }
     ensures several { (p : Plan) (st : State) (e : Event) (fs : List Event) → AllByRecursion (AreIndependent e) fs
         → is_enabled p st e ≡ true → KeepsOutcome p e st (run p st fs) }
+{}
+
+/// A law: what was sampled changes no run. Two plans that differ in their lines of samples alone have the same states, the
+/// same enabled events and the same legal and picked journals.
+pub fn samples_change_no_run()
+    ensures state { (p : Plan) (lines : List SampleLine) (journal : List Event)
+        → after (with_lines p lines) journal ≡ after p journal }
+    ensures enabled { (p : Plan) (lines : List SampleLine) (st : State) (e : Event)
+        → is_enabled (with_lines p lines) st e ≡ is_enabled p st e }
+    ensures listed { (p : Plan) (lines : List SampleLine) (st : State)
+        → enabled_events (with_lines p lines) st ≡ enabled_events p st }
+    ensures legal { (p : Plan) (lines : List SampleLine) (journal : List Event)
+        → IsLegal (with_lines p lines) journal ↔ IsLegal p journal }
+    ensures picked { (p : Plan) (lines : List SampleLine) (seed : ℕ) → picked (with_lines p lines) seed ≡ picked p seed }
 {}

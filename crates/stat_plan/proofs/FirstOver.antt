@@ -10,11 +10,11 @@ use Rattle.overlay_setup.specs.declared.script.Grain.{Grain}
 use Rattle.overlay_setup.specs.declared.script.Grain.TheVariants.{Line}
 use Rattle.stat_plan.specs.Invariants.{IsJob}
 use Rattle.overlay_setup.specs.Scripts.{IsDaemon, Stream}
-use Rattle.stat_plan.specs.Plans.{Plan, nodes, nodes_of, samples, sample_count, grain, daemons, stream_of, stream_ranks, ranks_on, waves_of}
+use Rattle.stat_plan.specs.Plans.{AreNodes, Plan, nodes, nodes_of, samples, sample_count, grain, daemons, stream_of, stream_ranks, ranks_on, waves_of}
 use Rattle.stat_plan.specs.Limits.{RefusesAt, first_over, is_over, is_within_limit, stream_waves, wave_is_within}
 use Rattle.stat_plan.specs.declared.plan_error.PlanError.{PlanError}
 use Rattle.stat_plan.specs.declared.plan_error.PlanError.TheVariants.{TooManyPrefixes, OutOfMemory}
-use Rattle.stat_plan.proofs.InLists.{eqb_self}
+use Rattle.stat_plan.proofs.InLists.{eqb_self, in_at}
 use Rattle.stat_plan.proofs.Elements.{all_element}
 
 -- nothing is found in the first part
@@ -133,6 +133,10 @@ pub all_in : {X : Type 0} (P : X → Type 0) (xs : List X) (x : X) → AllByRecu
 all_in P [] x all i = absurd i
 all_in P (y ∷ ys) x all (inl e) = subst P (sym e) all.0
 all_in P (y ∷ ys) x all (inr i) = all_in P ys x all.1 i
+
+-- each of some nodes is a node
+pub node_below : (p : Plan) (numbers : List ℕ) (k : ℕ) → AreNodes p numbers → k < length numbers → get_or numbers k 0 < nodes p
+node_below p numbers k all lt = all_in (λ n. n < nodes p) numbers (get_or numbers k 0) all (in_at numbers k 0 lt)
 
 -- the daemons of a stream of a job are nodes
 pub daemons_are_nodes : (p : Plan) (i : ℕ) (d : Stream) → IsJob p → i < length p.streams → (n : ℕ) → In n (get_or p.streams i d).daemons → n < nodes p

@@ -1,6 +1,8 @@
 -- What a list holds.
 use Rattle.std.proofs.Common.{◌≡◌, ◌⊎◌, inl, inr, ℕ, suc, zero, Bool, true, false, ◌||◌, ◌==◌, List, [], ◌∷◌, ◌++◌, map, filter, cond, Some, take, get_or, length, refl, sym, ap, subst, ◌∙◌, arith, eqb-true, eq-eqb, ◌<◌}
-use Rattle.std.specs.List.{list_all, list_any, Contains}
+use Rattle.std.specs.List.{AllByRecursion, list_all, list_any, Contains}
+use Rattle.std.specs.Ordering.{nat_cmp, eq_by_cmp, is_eq}
+use Rattle.std.specs.Cmp.{unsigned_tied, nat_cmp_total, tied_itself}
 use Rattle.std.specs.Prelude.{slice_get}
 use Rattle.std.specs.List.Sorted.{IsPermutation}
 use Rattle.std.proofs.lemmas.List.Sorted.{Contains-permutation}
@@ -15,6 +17,19 @@ in_member x (y ∷ ys) (inr h) = or_right (x == y) (member x ys) (in_member x ys
 pub in_from_member : (x : ℕ) (xs : List ℕ) → member x xs ≡ true → In x xs
 in_from_member x [] e = absurd (cc)
 in_from_member x (y ∷ ys) e = elim (or_cases (x == y) (member x ys) e) [ inl a ↦ inl (eqb-true x y a) | inr b ↦ inr (in_from_member x ys b) ]
+
+-- a number is in a list just where one of the list compares as the same
+pub in_any : (x : ℕ) (xs : List ℕ) → In x xs → list_any (eq_by_cmp nat_cmp x) xs ≡ true
+in_any x [] i = absurd i
+in_any x (y ∷ ys) (inl e) = or_left (eq_by_cmp nat_cmp x y) (list_any (eq_by_cmp nat_cmp x) ys) (subst (λ a. eq_by_cmp nat_cmp x a ≡ true) e (ap is_eq (tied_itself nat_cmp_total x)))
+in_any x (y ∷ ys) (inr i) = or_right (eq_by_cmp nat_cmp x y) (list_any (eq_by_cmp nat_cmp x) ys) (in_any x ys i)
+
+pub any_in : (x : ℕ) (xs : List ℕ) → list_any (eq_by_cmp nat_cmp x) xs ≡ true → In x xs
+any_in x [] e = absurd (true≢false (sym e))
+any_in x (y ∷ ys) e = elim (or_cases (eq_by_cmp nat_cmp x y) (list_any (eq_by_cmp nat_cmp x) ys) e) [
+  | inl same ↦ inl (eqb-true x y (sym (unsigned_tied x y) ∙ same))
+  | inr later ↦ inr (any_in x ys later)
+]
 
 pub in_append : {X : Type 0} (x : X) (xs ys : List X) → In x (xs ++ ys) → In x xs ⊎ In x ys
 in_append x [] ys h = inr h
@@ -98,6 +113,14 @@ up_to_below (suc n) i there = elim (in_append i (up_to n) (n ∷ []) there) [
   | (inl before) ↦ let lt = up_to_below n i before in omega (arith, lt)
   | (inr last) ↦ elim last [ (inl e) ↦ omega (arith, e) | (inr nothing) ↦ absurd nothing ]
 ]
+
+-- all numbers below n are below n
+pub all_below : (n : ℕ) → AllByRecursion (λ k. k < n) (up_to n)
+all_below n = each (up_to n) (up_to_below n)
+  where
+    each : (xs : List ℕ) → ((x : ℕ) → In x xs → x < n) → AllByRecursion (λ k. k < n) xs
+    each [] h = tt
+    each (x ∷ xs) h = (h x (inl refl), each xs (λ y i. h y (inr i)))
 
 -- what a filter keeps
 pub in_filter : {X : Type 0} (test : X → Bool) (x : X) (xs : List X) → In x xs → test x ≡ true → In x (filter test xs)

@@ -9,6 +9,7 @@ use Rattle.call_path.specs.Path.{Path, path_cmp}
 use Rattle.overlay_setup.specs.NodeSets.{In, up_to}
 use Rattle.stat_plan.specs.PathOrder.{AreInOrder, IsOrderOf, numbered}
 use Rattle.stat_plan.proofs.InLists.{in_from_map, in_map, in_permuted, up_to_below, up_to_in}
+use Rattle.stat_plan.proofs.TableLemmas.{length-up_to}
 
 -- a list that is sorted by what f gives is sorted where f gave it
 pub sorted_map : {X Y : Type 0} (f : X → Y) (lt : Y → Y → Bool) (xs : List X) → IsSortedBy (λ x y. lt (f x) (f y)) xs → IsSortedBy lt (map f xs)
@@ -22,10 +23,6 @@ sorted_map f lt (x ∷ xs) up k d low high =
 -- path i, with its number
 abbrev pub path_at : List Path → ℕ → Path × ℕ
 path_at paths i = (get_or paths i [], i)
-
-pub length-up_to : (n : ℕ) → length (up_to n) ≡ n
-length-up_to Rattle.std.proofs.Common.zero = λ i. 0
-length-up_to (Rattle.std.proofs.Common.suc n) = let long = Rattle.std.proofs.lemmas.List.length-append (up_to n) (n ∷ []) in let rest = length-up_to n in omega (arith, long, rest)
 
 -- what references to paths with numbers show
 abbrev pub numbered_view : List (Bor Path × ℕ) → List (Path × ℕ)

@@ -1,8 +1,9 @@
 -- Journals of any machine: what each step keeps, how long they can be, and the journal that a seed picks.
 use Rattle.std.proofs.Common.{◌≡◌, ◌≤◌, ◌<◌, ◌+◌, ◌/◌, ◌%◌, ◌^◌, inl, inr, ℕ, suc, zero, Bool, true, false, List, [], ◌∷◌, ◌++◌, length, refl, sym, ap, subst, ◌∙◌, arith, zero-le, Option, Some, None}
 use Rattle.std.specs.Prelude.{slice_get}
-use Rattle.std.proofs.lemmas.Bool.{true≢false}
+use Rattle.std.proofs.lemmas.Bool.{cases_lt, true≢false}
 use Rattle.overlay_setup.specs.NodeSets.{In}
+use Rattle.stat_plan.proofs.InLists.{append_left, append_right}
 use Rattle.stat_plan.specs.Machine.Journals.{next_number, run, IsLegalFrom, IsQuietState, event_by, picked_from, PicksFrom, ArePickedFrom}
 
 -- ---- what each step keeps, each legal journal keeps
@@ -44,12 +45,20 @@ pub record ListsEnabled {S E : Type 0} (P : S → Type 0) (enabled : S → E →
   pub may_come : (st : S) (e : E) → In e (events st) → enabled st e ≡ true
   pub listed : (st : S) (e : E) → P st → enabled st e ≡ true → In e (events st)
 
+-- where the events that can be named are those of the nodes, node by node, each node's are among them
+pub in_below : {E : Type 0} (below own : ℕ → List E) → ((k : ℕ) → below (suc k) ≡ below k ++ own k) → (k n : ℕ) (e : E) → n < k → In e (own n) → In e (below k)
+in_below below own more zero n e lt i = absurd (omega arith)
+in_below below own more (suc k) n e lt i = subst (In e) (sym (more k)) (elim (cases_lt n k) [
+  | inl before ↦ append_left e (below k) (own k) (in_below below own more k n e before i)
+  | inr past ↦ let last : n ≡ k = omega (arith, lt, past) in append_right e (below k) (own k) (subst (λ m. In e (own m)) last i)
+])
+
 pub get_in : {X : Type 0} (xs : List X) (i : ℕ) (x : X) → slice_get xs i ≡ Some x → In x xs
 get_in [] i x e = absurd (cc)
 get_in (y ∷ ys) zero x e = inl (cc)
 get_in (y ∷ ys) (suc i) x e = inr (get_in ys i x e)
 
-get_none : {X : Type 0} (xs : List X) (i : ℕ) → slice_get xs i ≡ None → length xs ≤ i
+pub get_none : {X : Type 0} (xs : List X) (i : ℕ) → slice_get xs i ≡ None → length xs ≤ i
 get_none [] i e = zero-le
 get_none (y ∷ ys) zero e = absurd (cc)
 get_none (y ∷ ys) (suc i) e = let k : length ys ≤ i = get_none ys i e in omega arith
@@ -108,3 +117,14 @@ picked_is_one {S} {E} step events (suc most) x st [] y h ends lt = subst (λ (o 
 picked_is_one {S} {E} step events (suc most) x st (e ∷ es) y h ends lt =
     let ih : es ≡ picked_from step events most (next_number x) (step st e) = picked_is_one step events most (next_number x) (step st e) es y h.1 ends (omega arith) in
     subst (λ (o : Option E). e ∷ es ≡ elim o [ None ↦ [] | Some e ↦ e ∷ picked_from step events most (next_number x) (step st e) ]) (sym h.0) (ap (λ l. e ∷ l) ih)
+
+-- ---- a number picks an event, where they are counted
+
+-- where no event may come next, none is picked
+pub none_to_pick : {E : Type 0} (es : List E) (number count : ℕ) → count ≡ length es → count ≡ 0 → None ≡ event_by es number
+none_to_pick [] number count is e = refl
+none_to_pick (x ∷ xs) number count is e = absurd (omega (arith, is, e))
+
+-- else it is the one of that number
+pub one_picked : {E : Type 0} (es : List E) (number count : ℕ) (o : Option E) → count ≡ length es → o ≡ slice_get es (number / 2 ^ 33 % count) → o ≡ event_by es number
+one_picked es number count o is e = e ∙ ap (λ k. slice_get es (number / 2 ^ 33 % k)) is

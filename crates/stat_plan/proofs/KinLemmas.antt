@@ -1,5 +1,5 @@
 -- A node's kin: numbers that are added to an ascending list and taken out of it, and the nearest ancestor that isn't lost.
-use Rattle.std.proofs.Common.{◌≡◌, ◌⊎◌, inl, inr, ℕ, Bool, true, false, cond, ◌==◌, nat_lt, List, [], ◌∷◌, ◌++◌, refl, sym, ap, subst, ◌∙◌, eqb-true, Some}
+use Rattle.std.proofs.Common.{◌≡◌, ◌⊎◌, inl, inr, ℕ, Bool, true, false, cond, ◌==◌, nat_lt, List, [], ◌∷◌, ◌++◌, refl, sym, ap, subst, ◌∙◌, eqb-true, Option, None, Some}
 use Rattle.std.proofs.lemmas.Bool.{cases_Bool, eqb-false, true≢false}
 use Rattle.overlay_setup.specs.NodeSets.{In, member, with_number, without_number}
 use Rattle.stat_plan.specs.Machine.Kin.{is_parent, nearest}
@@ -45,6 +45,16 @@ in_without x y (z ∷ zs) h = go (in_without x y zs) (y == z) h
     go ih false (inl e) = inl e
     go ih false (inr k) = inr (ih k)
 
+pub without_other : (m c : ℕ) (xs : List ℕ) → (m ≡ c → ⊥) → In c xs → In c (without_number m xs)
+without_other m c [] ne i = i
+without_other m c (z ∷ zs) ne i = go (without_other m c zs ne) (m == z) refl i
+  where
+    go : (In c zs → In c (without_number m zs)) → (b : Bool) → (m == z) ≡ b → In c (z ∷ zs) → In c (cond b (without_number m zs) (z ∷ without_number m zs))
+    go ih true b (inl k) = absurd (ne (eqb-true m z b ∙ sym k))
+    go ih true b (inr k) = ih k
+    go ih false b (inl k) = inl k
+    go ih false b (inr k) = inr (ih k)
+
 -- the member test of a list with one number more
 pub member_more : (a m : ℕ) (lost : List ℕ) → (a ≡ m → ⊥) → member a lost ≡ false → member a (with_number m lost) ≡ false
 member_more a m lost ne e = elim (cases_Bool (member a (with_number m lost))) [ inl t ↦ absurd (elim (in_with_number a m lost (in_from_member a (with_number m lost) t)) [ inl i ↦ ne i | inr i ↦ let k : member a lost ≡ true = in_member a lost i in cc ]) | inr f ↦ f ]
@@ -86,3 +96,9 @@ nearest_split (x ∷ xs) lost q e = go (member x lost) refl (nearest_split xs lo
         → cond b (nearest xs lost) (Some x) ≡ Some q → (near : List ℕ) × (far : List ℕ) × ((x ∷ xs) ≡ near ++ q ∷ far) × (member q lost ≡ false) × ((a : ℕ) → In a near → In a lost)
     go true k ih h = let r = ih h in (x ∷ r.0, r.1, ap (λ l. x ∷ l) r.2, r.3, λ a i. elim i [ inl j ↦ subst (λ b. In b lost) (sym j) (in_from_member x lost k) | inr j ↦ r.4 a j ])
     go false k ih h = let e : x ≡ q = cc in ([], xs, ap (λ a. a ∷ xs) e, subst (λ a. member a lost ≡ false) e k, λ a i. absurd i)
+
+-- ---- who is the parent
+
+pub is_parent_some : (o : Option ℕ) (m : ℕ) → is_parent o m ≡ true → o ≡ Some m
+is_parent_some None m e = absurd (true≢false (sym e))
+is_parent_some (Some a) m e = ap Some (eqb-true a m e)

@@ -27,3 +27,4 @@ pub mod Overlays
 pub mod LossInvariant
 pub mod Weights
 pub mod Journals
+pub mod Filters

@@ -9,16 +9,16 @@ use Rattle.std.proofs.lemmas.Cmp.{nat_eq_equiv}
 use Rattle.std.proofs.lemmas.Bool.{true≢false, cases_lt, leb-true, false_from_ne_true, or_cases, or_left, or_right}
 use Rattle.std.proofs.lemmas.List.{take_more, length-append, get_or_append_left, get_or-append-add}
 use Rattle.std.proofs.lemmas.Option.{none-some, slice_get-get_or, slice_get_within, get_or_from_slice_get}
-use Rattle.rank_set.specs.Ranks.{Ranks, none, has, Has, in_order, union, has-union, has-none, has-in_order}
+use Rattle.rank_set.specs.Ranks.{IsSubset, Ranks, none, has, Has, in_order, union, has-union, has-none, has-in_order}
 use Rattle.rank_set.proofs.SomeMember.{some_member}
-use Rattle.overlay_setup.specs.NodeSets.{In, member}
+use Rattle.overlay_setup.specs.NodeSets.{In, member, up_to}
 use Rattle.stat_plan.specs.Samples.{ranks_with, prefix_count, IsWithinLimit}
 use Rattle.stat_plan.specs.Invariants.{IsJob, IsPlan}
 use Rattle.overlay_setup.specs.Scripts.{IsDaemon, Stream}
-use Rattle.stat_plan.specs.Plans.{Plan, nodes, nodes_of, ranks, daemons, stream_of, serves, is_within, those_within, ranks_on, expected, waves_of, samples as wave_samples}
+use Rattle.stat_plan.specs.Plans.{Plan, nodes, nodes_of, ranks, daemons, stream_of, stream_ranks, serves, is_within, those_within, ranks_on, expected, waves_of, samples as wave_samples}
 use Rattle.stat_plan.specs.Limits.{first_over, is_over, wave_is_within}
 use Rattle.stat_plan.specs.Tables.{AreExpected, AreAllExpected}
-use Rattle.stat_plan.proofs.InLists.{in_filter, in_from_filter, any_from_in, in_from_any, in_map, in_from_map}
+use Rattle.stat_plan.proofs.InLists.{in_append, in_filter, in_from_filter, any_from_in, in_from_any, in_map, in_from_map}
 use Rattle.stat_plan.proofs.FirstOver.{all_in, found_in}
 
 first_of : (xs : List ℕ) (r : ℕ) → slice_get xs 0 ≡ Some r → (rest : List ℕ) × (xs ≡ r ∷ rest)
@@ -53,14 +53,15 @@ in_ranks C (D ∷ Ds) r there = elim (in_ranks (union C D) Ds r there) [
   | (inr later) ↦ inr (later.0, (inr later.1.0, later.1.1))
 ]
 
-stays : (C : Ranks) (Ds : List Ranks) (r : ℕ) → Has r C → Has r (ranks_with C Ds)
-stays C [] r there = there
-stays C (D ∷ Ds) r there = stays (union C D) Ds r (has-union C D r ∙ or_left (has C r) (has D r) there)
+-- a rank of the first set, and one of another, is a rank of all
+pub ranks_stay : (C : Ranks) (Ds : List Ranks) (r : ℕ) → Has r C → Has r (ranks_with C Ds)
+ranks_stay C [] r there = there
+ranks_stay C (D ∷ Ds) r there = ranks_stay (union C D) Ds r (has-union C D r ∙ or_left (has C r) (has D r) there)
 
-comes : (C : Ranks) (Ds : List Ranks) (D : Ranks) (r : ℕ) → In D Ds → Has r D → Has r (ranks_with C Ds)
-comes C [] D r i there = absurd i
-comes C (E ∷ Ds) D r (inl e) there = stays (union C E) Ds r (has-union C E r ∙ or_right (has C r) (has E r) (ap (λ s. has s r) (sym e) ∙ there))
-comes C (E ∷ Ds) D r (inr i) there = comes (union C E) Ds D r i there
+pub ranks_come : (C : Ranks) (Ds : List Ranks) (D : Ranks) (r : ℕ) → In D Ds → Has r D → Has r (ranks_with C Ds)
+ranks_come C [] D r i there = absurd i
+ranks_come C (E ∷ Ds) D r (inl e) there = ranks_stay (union C E) Ds r (has-union C E r ∙ or_right (has C r) (has E r) (ap (λ s. has s r) (sym e) ∙ there))
+ranks_come C (E ∷ Ds) D r (inr i) there = ranks_come (union C E) Ds D r i there
 
 -- a node that expects some rank serves the stream
 pub serves_some : (p : Plan) (n s r : ℕ) → Has r (expected p n s) → serves p n s ≡ true
@@ -95,7 +96,7 @@ unfolding expected serves
 serves_none p n s plan nothing = false_from_ne_true (list_any (λ d. is_within p d n) (daemons p s)) (λ some.
     let found = in_from_any (λ d. is_within p d n) (daemons p s) some in
     let rank = some_member (ranks p found.0) (daemon_has_ranks p s found.0 plan found.1.0) in
-    let there = comes none (map (ranks p) (those_within p n (daemons p s))) (ranks p found.0) rank.0 (in_map (ranks p) found.0 (those_within p n (daemons p s)) (in_filter (λ d. is_within p d n) found.0 (daemons p s) found.1.0 found.1.1)) rank.1 in
+    let there = ranks_come none (map (ranks p) (those_within p n (daemons p s))) (ranks p found.0) rank.0 (in_map (ranks p) found.0 (those_within p n (daemons p s)) (in_filter (λ d. is_within p d n) found.0 (daemons p s) found.1.0 found.1.1)) rank.1 in
     true≢false (sym there ∙ ap (λ s. has s rank.0) nothing ∙ has-none rank.0))
 
 -- a stream that the plan has not is served by no node
@@ -180,3 +181,25 @@ plan_from p job none = record {
         later : (b : Bool) → cond b (Some u) (find test us) ≡ None → find test us ≡ None
         later true e = absurd (Rattle.std.proofs.lemmas.Option.none-some u (sym e))
         later false e = e
+
+-- ---- the daemons and the waves of a stream
+
+pub daemons_at : (p : Plan) (s : ℕ) (x : Stream) → stream_of p s ≡ Some x → x.daemons ≡ daemons p s
+unfolding daemons
+daemons_at p s x is = sym (ap (λ (o : Option Stream). elim o as (λ _. List ℕ) [ None ↦ [] | (Some x) ↦ x.daemons ]) is)
+
+-- the ranks of a daemon are ranks of the stream
+pub daemon_lies : (p : Plan) (s d : ℕ) → In d (daemons p s) → IsSubset (ranks p d) (stream_ranks p s)
+unfolding stream_ranks
+daemon_lies p s d there r one = ranks_come none (map (ranks p) (daemons p s)) (ranks p d) r (in_map (ranks p) d (daemons p s) there) one
+
+pub wave_is_of : (s : ℕ) (ws : List ℕ) (v : ℕ × ℕ) → In {X = ℕ × ℕ} v (map (λ w. (s, w)) ws) → (v.0 ≡ s) × In v.1 ws
+wave_is_of s [] v i = absurd i
+wave_is_of s (w ∷ ws) v (inl e) = (ap (λ (y : ℕ × ℕ). y.0) e, inl (ap (λ (y : ℕ × ℕ). y.1) e))
+wave_is_of s (w ∷ ws) v (inr i) = let r = wave_is_of s ws v i in (r.0, inr r.1)
+
+-- the stream of a wave is one of the streams
+pub stream_of_wave : (xs : List Stream) (v : ℕ × ℕ) → In v (waves_of xs) → In v.0 (map (λ x. x.number) xs)
+stream_of_wave [] v i = absurd i
+stream_of_wave (x ∷ xs) v i =
+    elim (in_append v (map (λ w. (x.number, w)) (up_to x.waves)) (waves_of xs) i) [ inl a ↦ inl (wave_is_of x.number (up_to x.waves) v a).0 | inr b ↦ inr (stream_of_wave xs v b) ]

@@ -1,12 +1,12 @@
 -- How links change, and that each change of an overlay keeps its invariant.
 use Rattle.std.proofs.Common.{◌≡◌, ◌⊎◌, inl, inr, ℕ, Bool, true, false, cond, ◌&&◌, ◌==◌, List, [], ◌∷◌, ◌++◌, take, refl, sym, ap, subst, ◌∙◌, append-nil, eqb-true, eq-eqb}
-use Rattle.std.proofs.lemmas.Bool.{cond_both, cond-true, cond-false, and_parts, and_from, cases_Bool, eqb-false}
+use Rattle.std.proofs.lemmas.Bool.{cond_both, cond-true, cond-false, and_parts, and_from, cases_Bool, eqb-false, true≢false}
 use Rattle.overlay_setup.specs.NodeSets.{In}
 use Rattle.stat_plan.specs.Machine.Waves.{put_at}
 use Rattle.stat_plan.specs.Machine.Kin.{Kin}
 use Rattle.stat_plan.specs.Plans.{Plan, fault, is_related}
 use Rattle.stat_plan.proofs.InLists.{in_append, append_left, append_right, in_take}
-use Rattle.stat_plan.specs.Machine.Overlays.{Overlay, to, with_link, with_event, with_loss, keep_of}
+use Rattle.stat_plan.specs.Machine.Overlays.{Overlay, is_pending, to, with_link, with_event, with_loss, keep_of}
 use Rattle.stat_plan.specs.Machine.LossInvariant.{EndsAt}
 
 -- ---- lists that end at the notice
@@ -22,6 +22,16 @@ ends_without notice (x ∷ xs) h = ((λ e. absurd (h (inl (sym e)))), ends_witho
 pub ends_take : {X : Type 0} (notice : X) (b : Bool) → EndsAt notice (cond b (notice ∷ []) [])
 ends_take notice true = ((λ e. refl), tt)
 ends_take notice false = tt
+
+-- ---- what is on the way
+
+pub first_in : {X : Type 0} (l : List X) → is_pending l ≡ true → (q : X) × In q l
+first_in [] e = absurd (true≢false (sym e))
+first_in (q ∷ qs) e = (q, inl refl)
+
+pub none_pending : {X : Type 0} (l : List X) → is_pending l ≡ false → l ≡ []
+none_pending [] e = refl
+none_pending (q ∷ qs) e = absurd (true≢false e)
 
 -- ---- what a number is put at, and what stays
 

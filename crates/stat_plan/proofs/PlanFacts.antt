@@ -113,7 +113,8 @@ some_daemon p all s w i = go (find (λ x. x.number == s) p.streams) refl
     go None e = absurd (wave_stream p.streams s w i e)
     go (Some x) e = let k = found IsStream (λ x. x.number == s) p.streams x all e in first_one x.daemons k.has_daemons
 
-increasing : (p : Plan) (s : ℕ) → IsPlan p → IsStrictlyIncreasing (daemons p s)
+-- the daemons of a stream are in ascending order
+pub increasing : (p : Plan) (s : ℕ) → IsPlan p → IsStrictlyIncreasing (daemons p s)
 unfolding daemons
 increasing p s plan = of_stream p s IsStream (λ o. IsStrictlyIncreasing (elim o [ None ↦ [] | Some x ↦ x.daemons ])) plan.script.streams tt (λ x good. good.daemons_increase)
 

@@ -1,11 +1,9 @@
 -- Tables by number.
 use Rattle.std.proofs.Common.{◌≡◌, ℕ, zero, suc, ◌+◌, ◌-◌, ◌<◌, List, [], ◌∷◌, ◌++◌, length, get_or, map, Option, None, Some, refl, sym, ap, subst, ◌∙◌, arith}
-use Rattle.std.proofs.lemmas.List.{map-append, length-append, length-map, append_assoc}
-use Rattle.std.proofs.lemmas.List.{get_or_append_left, get_or-append-add}
+use Rattle.std.proofs.Common.{inl, inr, slice_get, Vec, Global}
 use Rattle.std.proofs.lemmas.Bool.{cases_lt}
-use Rattle.std.proofs.Common.{inl, inr}
-use Rattle.std.proofs.Common.{Vec, Global}
-use Rattle.std.proofs.lemmas.List.{get_or-map}
+use Rattle.std.proofs.lemmas.List.{append_assoc, get_or_append_left, get_or-append-add, get_or-map, length-append, length-map, map-append, map-id}
+use Rattle.std.proofs.lemmas.Option.{slice_get-get_or}
 use Rattle.overlay_setup.specs.NodeSets.{In, up_to}
 use Rattle.stat_plan.specs.Tables.{rows_view, ancestors_table}
 use Rattle.stat_plan.specs.Plans.{Plan, nodes, ancestors}
@@ -31,6 +29,12 @@ at_table f (suc n) k d lt =
           let place : k ≡ length (map f (up_to n)) + 0 = omega (arith, same, len) in
           ap (λ i. get_or (map f (up_to n) ++ f n ∷ []) i d) place ∙ get_or-append-add (map f (up_to n)) (f n ∷ []) 0 d ∙ ap f (sym same)
     ]
+
+-- each number below n is at its own index of those below n
+pub up_to_at : (n k : ℕ) → k < n → slice_get (up_to n) k ≡ Some k
+up_to_at n k lt =
+    slice_get-get_or (up_to n) k 0 (omega (arith, lt, length-up_to n))
+    ∙ ap (λ xs. Some (get_or xs k 0)) (sym (map-id (up_to n))) ∙ ap Some (at_table (λ i. i) n k 0 lt)
 
 -- one link of a climb
 pub climb-more : (parents : List (Option ℕ)) (k n p : ℕ) → parent_of parents n ≡ Some p → climb parents (suc k) n ≡ p ∷ climb parents k p

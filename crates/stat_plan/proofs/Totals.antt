@@ -55,14 +55,6 @@ total_at f g (suc n) k h lt =
           omega arith
     ]
 
-pub length_up_to : (n : ℕ) → length (up_to n) ≡ n
-length_up_to zero = refl
-length_up_to (suc n) = len_append (up_to n) n ∙ ap suc (length_up_to n)
-  where
-    len_append : (xs : List ℕ) (y : ℕ) → length (xs ++ y ∷ []) ≡ suc (length xs)
-    len_append [] y = refl
-    len_append (x ∷ xs) y = ap suc (len_append xs y)
-
 pub length_filter_le : {X : Type 0} (test : X → Bool) (xs : List X) → length (filter test xs) ≤ length xs
 length_filter_le test [] = zero-le
 length_filter_le {X} test (x ∷ xs) = go (test x) (length_filter_le test xs)

@@ -34,12 +34,12 @@ count_same xs ys same =
     let d = dedup xs in
     sym d.number ∙ length-from_keys (eq_by_cmp_equiv path_cmp_total) d.keys ys d.distinct (λ x. d.members x ∙ same x)
 
-in_flat_map : {X Y : Type 0} (f : X → List Y) (y : Y) (x : X) (xs : List X) → In x xs → In y (f x) → In y (flat_map f xs)
+pub in_flat_map : {X Y : Type 0} (f : X → List Y) (y : Y) (x : X) (xs : List X) → In x xs → In y (f x) → In y (flat_map f xs)
 in_flat_map f y x [] there one = absurd there
 in_flat_map f y x (z ∷ xs) (inl e) one = append_left y (f z) (flat_map f xs) (subst (λ v. In y (f v)) e one)
 in_flat_map f y x (z ∷ xs) (inr there) one = append_right y (f z) (flat_map f xs) (in_flat_map f y x xs there one)
 
-in_from_flat_map : {X Y : Type 0} (f : X → List Y) (y : Y) (xs : List X) → In y (flat_map f xs) → (x : X) × (In x xs × In y (f x))
+pub in_from_flat_map : {X Y : Type 0} (f : X → List Y) (y : Y) (xs : List X) → In y (flat_map f xs) → (x : X) × (In x xs × In y (f x))
 in_from_flat_map f y [] there = absurd there
 in_from_flat_map f y (x ∷ xs) there = elim (in_append y (f x) (flat_map f xs) there) [
   | (inl here) ↦ (x, (inl refl, here))

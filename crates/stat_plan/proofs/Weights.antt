@@ -6,7 +6,8 @@ use Rattle.overlay_setup.specs.NodeSets.{up_to}
 use Rattle.stat_plan.specs.Plans.{Plan, nodes, is_related, fault}
 use Rattle.stat_plan.specs.Machine.Kin.{Kin}
 use Rattle.stat_plan.proofs.InLists.{up_to_below}
-use Rattle.stat_plan.proofs.Totals.{total, total_append, total_le, total_bound, total_at, length_up_to}
+use Rattle.stat_plan.proofs.TableLemmas.{length-up_to}
+use Rattle.stat_plan.proofs.Totals.{total, total_append, total_le, total_bound, total_at}
 use Rattle.stat_plan.specs.Machine.Overlays.{Overlay, start_overlay, to, with_link, with_event, with_loss, keep_of}
 
 abbrev pub nodes_weight : {X : Type 0} → Plan → (ℕ → ℕ) → Overlay X → ℕ
@@ -140,7 +141,7 @@ loss_weight p w own notice v n light lt up =
     let hn : h n ≡ 0 = ap (total w) (cond-true (n == n) [] _ (eq-eqb n n refl)) in
     let ks : total k (up_to (nodes p)) ≡ total (λ b. total w (v.link n b)) (up_to (nodes p)) + total (λ b. 1) (up_to (nodes p)) = total_plus (λ b. total w (v.link n b)) (λ b. 1) (up_to (nodes p)) in
     let ones : total {X = ℕ} (λ b. 1) (up_to (nodes p)) ≤ length (up_to (nodes p)) * 1 = total_bound (λ b. 1) 1 (up_to (nodes p)) (λ b i. le_refl _) in
-    let len : length (up_to (nodes p)) ≡ nodes p = length_up_to (nodes p) in
+    let len : length (up_to (nodes p)) ≡ nodes p = length-up_to (nodes p) in
     let outer : total (row_weight p w (with_loss notice p v n)) (up_to (nodes p)) + row_weight p w v n ≤ total (row_weight p w v) (up_to (nodes p)) + row_weight p w (with_loss notice p v n) n =
     total_at (row_weight p w (with_loss notice p v n)) (row_weight p w v) (nodes p) n (λ a ne. total_le (λ b. total w ((with_loss notice p v n).link a b)) (λ b. total w (v.link a b)) (up_to (nodes p)) (λ b i. row_less a b ne)) lt in
     omega arith
@@ -178,7 +179,7 @@ pub start_weight : {X : Type 0} (p : Plan) (w : X → ℕ) (own : ℕ → ℕ) (
 start_weight {X} p w own c few =
     let a : nodes_weight p own (start_overlay {X = X} p) ≤ length (up_to (nodes p)) * (nodes p + c) = total_bound (λ a. cond ((start_overlay {X = X} p).alive a) (nodes p + own a) 0) (nodes p + c) (up_to (nodes p)) (λ a i. each a) in
     let b : links_weight p w (start_overlay p) ≡ 0 = total_nothing (row_weight p w (start_overlay p)) (up_to (nodes p)) (λ a. total_nothing (λ b. total w []) (up_to (nodes p)) (λ b. refl)) in
-    let len : length (up_to (nodes p)) * (nodes p + c) ≡ nodes p * (nodes p + c) = ap (λ l. l * (nodes p + c)) (length_up_to (nodes p)) in
+    let len : length (up_to (nodes p)) * (nodes p + c) ≡ nodes p * (nodes p + c) = ap (λ l. l * (nodes p + c)) (length-up_to (nodes p)) in
     omega arith
   where
     each : (a : ℕ) → cond (nat_lt a (nodes p)) (nodes p + own a) 0 ≤ nodes p + c

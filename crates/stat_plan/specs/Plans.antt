@@ -1,6 +1,6 @@
 -- A plan: what the three files of a job say together, and what is looked up there.
-use Rattle.std.specs.Prelude.{ℕ, ◌⊎◌, Bool, ◌||◌, ◌==◌, List, [], ◌∷◌, ◌++◌, map, filter, length, slice_index_or, find, Option, Some, None}
-use Rattle.std.specs.List.{list_any}
+use Rattle.std.specs.Prelude.{ℕ, ◌<◌, ◌⊎◌, Bool, ◌||◌, ◌==◌, List, [], ◌∷◌, ◌++◌, map, filter, length, slice_index_or, find, Option, Some, None}
+use Rattle.std.specs.List.{AllByRecursion, list_any}
 use Rattle.rank_set.specs.Ranks.{Ranks, none}
 use Rattle.call_path.specs.Pairs.{Pairs}
 use Rattle.overlay_setup.specs.NodeSets.{In, member, up_to}
@@ -43,6 +43,10 @@ plan_of t s c = record {
   faults = c.faults;
 }
 
+-- the plan with these lines in place of its samples
+abbrev pub with_lines : Plan → List SampleLine → Plan
+with_lines p lines = record { names = p.names; parents = p.parents; placed = p.placed; lines = lines; streams = p.streams; faults = p.faults }
+
 -- what each of the three texts says of a plan
 abbrev pub nodes_of : Plan → Nodes
 nodes_of p = record { names = p.names; parents = p.parents }
@@ -56,6 +60,10 @@ scripted_of p = record { streams = p.streams; faults = p.faults }
 -- how many nodes there are
 abbrev pub nodes : Plan → ℕ
 nodes p = length p.parents
+
+-- each is the number of a node
+abbrev pub AreNodes : Plan → List ℕ → Type 0
+AreNodes p numbers = AllByRecursion (λ n. n < nodes p) numbers
 
 -- the front end
 unfoldable pub front : Plan → ℕ

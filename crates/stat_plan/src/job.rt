@@ -3,19 +3,21 @@
 ghost use Rattle.std.specs.Prelude.{◌≡◌, ◌<◌, ℕ, IfOk, length, map, slice_index_or};
 ghost use Rattle.rank_set.specs.Ranks.{none};
 ghost use Rattle.call_path.specs.Functions.{func};
-ghost use Rattle.stat_plan.specs.Invariants.{IsJob, SamplesFit};
+ghost use Rattle.stat_plan.specs.Invariants.{AreSamples, IsJob, SamplesFit};
 ghost use Rattle.overlay_setup.specs.Scripts.{ScriptFits};
 ghost use Rattle.overlay_setup.specs.NodeSets.{In};
 ghost use Rattle.stat_plan.specs.OwnLines.{AreWaveLines};
 ghost use Rattle.stat_plan.specs.PathOrder.{IsOrderOf};
-ghost use Rattle.stat_plan.specs.Plans.{plan_of, nodes, front, ranks_on};
+ghost use Rattle.stat_plan.specs.Plans.{plan_of, nodes, front, ranks_on, sampled, with_lines};
 ghost use Rattle.overlay_setup.specs.Names.{name_of};
 ghost use Rattle.stat_plan.specs.Shown.{AreLinesParted, AreNumbered, lines_view, wave_lines_view};
-ghost use Rattle.stat_plan.specs.StackLines.{PathIndicesInRange};
+ghost use Rattle.stat_plan.specs.StackLines.{PathIndicesInRange, lines_of};
 ghost use Rattle.overlay_setup.specs.Trees.{parent_of, is_daemon};
 
+use crate::line_list::LineList;
 use crate::samples::{Lines, Samples, WaveLines, WaveTimes};
 use crate::wave_lines::Wanted;
+use call_path::CallPath;
 use overlay_setup::{Fault, Script, StreamDef, Topology};
 use rank_set::RankSet;
 use std::alloc::{AllocError, Global};
@@ -57,6 +59,26 @@ impl Job {
             samples,
             script,
         }
+    }
+
+    /// The job with these lines in place of its samples.
+    pub fn with_lines(
+        self,
+        alloc: Global,
+        paths: Vec<CallPath>,
+        lines: LineList,
+    ) -> Result<Job, AllocError>
+        requires numbered { PathIndicesInRange paths.items lines }
+        requires samples { AreSamples (sampled self.placed (lines_of paths.items lines)) }
+        ensures { IfOk result (λ job. job ≡ with_lines self (lines_of paths.items lines)) }
+    {
+        let Job {
+            topology,
+            samples,
+            script,
+        } = self;
+        let samples = samples.with_lines(alloc, paths, lines)?;
+        Ok(Job::new(topology, samples, script))
     }
 
     /// The invariant of a job, for the prover. It does nothing.

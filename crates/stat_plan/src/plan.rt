@@ -8,7 +8,8 @@ ghost use Rattle.stat_plan.specs.Limits.{RefusesAt, first_over};
 ghost use Rattle.overlay_setup.specs.Names.{name_of, number_of};
 ghost use Rattle.overlay_setup.specs.NodeSets.{In};
 ghost use Rattle.stat_plan.specs.OwnLines.{AreWaveLines};
-ghost use Rattle.stat_plan.specs.Plans.{ancestors, expected, fault, front, is_under, nodes, plan_of, ranks, ranks_on, serves, stream_of};
+ghost use Rattle.stat_plan.specs.Plans.{ancestors, expected, fault, front, is_under, nodes, plan_of, ranks, ranks_on, serves, stream_of, with_lines};
+ghost use Rattle.stat_plan.specs.StackLines.{PathIndicesInRange, lines_of};
 ghost use Rattle.stat_plan.specs.Shown.{AreNumbered, IsStreamOf, wave_lines_view};
 ghost use Rattle.stat_plan.specs.Tables.{AreAllExpected, AreFaults, ancestors_table, rows_view};
 ghost use Rattle.overlay_setup.specs.Trees.{is_daemon};
@@ -18,9 +19,11 @@ use crate::expected::expected_sets;
 use crate::find::stream_index;
 use crate::job::Job;
 use crate::limit::check_limit;
+use crate::line_list::LineList;
 use crate::plan_error::PlanError;
 use crate::samples::{Samples, WaveLines, WaveTimes};
 use crate::wave_lines::Wanted;
+use call_path::CallPath;
 use overlay_setup::{Fault, Script, StreamDef, Topology};
 use rank_set::RankSet;
 use std::alloc::{AllocError, Global};
@@ -130,6 +133,32 @@ impl Plan {
         let ancestors = ancestors_table(alloc, job.topology())?;
         let expected = expected_tables(alloc, &job, &ancestors)?;
         let faults = fault_table(alloc, &job)?;
+        Ok(Plan {
+            job,
+            ancestors,
+            expected,
+            faults,
+        })
+    }
+
+    /// The plan with these lines in place of its samples.
+    pub fn with_lines(
+        self,
+        alloc: Global,
+        paths: Vec<CallPath>,
+        lines: LineList,
+    ) -> Result<Plan, AllocError>
+        requires numbered { PathIndicesInRange paths.items lines }
+        requires plan { IsPlan (with_lines self (lines_of paths.items lines)) }
+        ensures { IfOk result (λ plan. plan ≡ with_lines self (lines_of paths.items lines)) }
+    {
+        let Plan {
+            job,
+            ancestors,
+            expected,
+            faults,
+        } = self;
+        let job = job.with_lines(alloc, paths, lines)?;
         Ok(Plan {
             job,
             ancestors,

@@ -215,6 +215,21 @@ impl Samples {
         })
     }
 
+    /// The same ranks, with these lines in place of the samples. Their paths stand by their numbers.
+    pub fn with_lines(
+        self,
+        alloc: Global,
+        paths: Vec<CallPath>,
+        lines: LineList,
+    ) -> Result<Samples, AllocError>
+        requires numbered { PathIndicesInRange paths.items lines }
+        requires samples { AreSamples (sampled self.placed (lines_of paths.items lines)) }
+        ensures { IfOk result (λ samples. samples ≡ sampled self.placed (lines_of paths.items lines)) }
+    {
+        let Samples { placed, .. } = self;
+        Samples::new(alloc, placed, paths, lines)
+    }
+
     /// The invariant of samples, for the prover. It does nothing.
     pub fn invariant(&self)
         ensures { AreSamples self.now }
