@@ -1,0 +1,14 @@
+pub mod Totals
+pub mod Wholes
+pub mod NumberTexts
+pub mod Carried
+pub mod PartSamples
+pub mod FewWaves
+pub mod PartPlan
+pub mod Small
+pub mod Times
+pub mod PartMaking
+pub mod RowValues
+pub mod AllLines
+pub mod LineMaking
+pub mod Exact

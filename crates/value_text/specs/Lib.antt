@@ -1,0 +1,6 @@
+pub mod Numbers
+pub mod Words
+pub mod Steps
+pub mod Grammar
+pub mod Views
+pub mod Rows

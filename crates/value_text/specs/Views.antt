@@ -1,0 +1,44 @@
+-- What the code's values and its parser mean.
+use Rattle.std.specs.Prelude.{◌≡◌, ◌≤◌, ◌<◌, ◌≤ℤ◌, ℕ, zero, suc, ℤ, pos, neg_ℤ, List, [], ◌∷◌, length, map, slice_index_or, slice_get, Option, None, Some}
+use Rattle.rank_set.specs.Ranks.{Ranks, Has}
+use Rattle.value_text.specs.Numbers.{Numbers}
+use Rattle.value_text.specs.declared.parser.Parser.{Parser}
+
+-- the number that an entry stands for: 0 for none, and k + 1 for the k-th of the numbers
+abbrev pub number_at : List ℤ → ℕ → Option ℤ
+number_at numbers zero = None
+number_at numbers (suc k) = slice_get numbers k
+
+-- a number, or none, before others; nothing where that would be none alone
+abbrev pub number_before : Option ℤ → Numbers → Numbers
+number_before None [] = []
+number_before None (e ∷ v) = None ∷ e ∷ v
+number_before (Some z) v = Some z ∷ v
+
+-- the numbers of ranks up to the last that has one
+abbrev pub up_to_last : Numbers → Numbers
+up_to_last [] = []
+up_to_last (e ∷ v) = number_before e (up_to_last v)
+
+-- the numbers of ranks by their entries
+abbrev pub numbers_view : List ℕ → List ℤ → Numbers
+numbers_view entries numbers = up_to_last (map (number_at numbers) entries)
+
+-- numbers from -1,000,000,000,000 to 1,000,000,000,000, and entries that stand for one of them or for none
+pub record AreEntries (entries : List ℕ) (numbers : List ℤ) : Type 0 where
+  pub within : (r : ℕ) → slice_index_or entries r 0 ≤ length numbers
+  pub small : (k : ℕ) (z : ℤ) → slice_get numbers k ≡ Some z →
+      (neg_ℤ (pos 1000000000000) ≤ℤ z) × (z ≤ℤ pos 1000000000000)
+
+-- the numbers so far
+abbrev pub parser_view : Parser → Numbers
+parser_view parser = numbers_view parser.entries parser.numbers.items
+
+-- the ranks that are on a daemon
+abbrev pub parser_placed : Parser → Ranks
+parser_placed parser = parser.placed
+
+-- each rank that is on a daemon has an entry
+pub record IsConsistent (parser : Parser) : Type 0 where
+  pub room : (r : ℕ) → Has r parser.placed → r < length parser.entries
+  pub entries : AreEntries parser.entries parser.numbers.items
