@@ -6,10 +6,6 @@ use Rattle.overlay_setup.specs.Scripts.{IsDaemon, Stream}
 use Rattle.stat_plan.specs.Plans.{Plan, daemons, nodes, nodes_of, stream_of}
 use Rattle.stat_plan.proofs.FirstOver.{all_in, found_in}
 
-pub daemons_at : (p : Plan) (s : ℕ) (x : Stream) → stream_of p s ≡ Some x → x.daemons ≡ daemons p s
-unfolding daemons
-daemons_at p s x is = sym (ap (λ (o : Option Stream). elim o as (λ _. List ℕ) [ None ↦ [] | (Some x) ↦ x.daemons ]) is)
-
 pub no_daemons : (p : Plan) (s : ℕ) → stream_of p s ≡ None → [] ≡ daemons p s
 unfolding daemons
 no_daemons p s is = sym (ap (λ (o : Option Stream). elim o as (λ _. List ℕ) [ None ↦ [] | (Some x) ↦ x.daemons ]) is)

@@ -12,14 +12,12 @@ use Rattle.std.proofs.lemmas.List.Elements.{filter-append}
 use Rattle.std.proofs.lemmas.List.Sorted.{IsPermutation-refl, IsPermutation-sym}
 use Rattle.serde_json.specs.Data.{string}
 use Rattle.serde_json.specs.Written.{compact_text}
-use Rattle.rank_set.specs.Ranks.{Ranks, Has, IsSubset, has, has-those, is_empty, none, size-none, union}
-use Rattle.rank_set.specs.Text.{text_of}
+use Rattle.rank_set.specs.Ranks.{Ranks, IsSubset, has, has-those, is_empty, none, size-none}
 use Rattle.std.proofs.lemmas.Map.Keys.{IsDistinct-from_sorted}
 use Rattle.prefix_tree.specs.Tree.{tree_of}
 use Rattle.stat_plan.specs.Invariants.{IsPlan}
 use Rattle.overlay_setup.specs.NodeSets.{In, IsStrictlyIncreasing, up_to}
 use Rattle.stat_plan.specs.Plans.{Plan, daemons, ranks, samples, stream_ranks, waves_of}
-use Rattle.stat_plan.specs.Samples.{ranks_with}
 use Rattle.overlay_setup.specs.Scripts.{Stream}
 use Rattle.overlay_setup.specs.declared.script.Fault.{Fault}
 use Rattle.stat_plan.proofs.FirstOver.{all_in}
@@ -32,12 +30,12 @@ use Rattle.overlay_core.specs.Runs.{after}
 use Rattle.overlay_core.specs.TreeReleases.{AreNumberedInOrder, TreeRelease, bare_release, bare_releases}
 use Rattle.overlay_core.specs.Whole.{HasOneRelease, LosesNoDaemon}
 use Rattle.overlay_core.proofs.Ended.{waits_for_all}
-use Rattle.overlay_core.proofs.RankSets.{none_from_subset, union_left, union_right}
+use Rattle.overlay_core.proofs.RankSets.{none_from_subset}
 use Rattle.stat_plan.proofs.Ascending.{up_to_increases}
 use Rattle.stat_plan.proofs.PlanFacts.{plan_facts}
+use Rattle.stat_plan.proofs.LookupLemmas.{daemon_lies, stream_of_wave}
+use Rattle.stat_plan.proofs.Elements.{all_from}
 use Rattle.overlay_core.proofs.Releases.{legal_log}
-use Rattle.tree_text.specs.TreeText.{tree_text}
-use Rattle.front_end.specs.ClassText.{classes_text}
 use Rattle.front_end.specs.ReleaseText.{classes_in, heading, kind_text, missing, missing_line, release_text, ranks_line, tree_and_classes}
 use Rattle.front_end.specs.Report.{AllStreamsWait, AreDistinct, AreReleasesOf, IsDirect, IsReport, IsSortedCopy, direct_release, direct_releases, fault_line, release_cmp, report_text}
 use Rattle.front_end.specs.JsonValues.{classes_data, count, list_of, object_of, ranks_data, tree_data}
@@ -71,13 +69,6 @@ stream_waves s (w ∷ ws) up = (
   stream_waves s ws up.1,
 )
 
-stream_of_wave : (xs : List Stream) (v : ℕ × ℕ) → In v (waves_of xs) → In v.0 (map (λ x. x.number) xs)
-stream_of_wave [] v i = absurd i
-stream_of_wave (x ∷ xs) v i = elim (in_append v (map (λ w. (x.number, w)) (up_to x.waves)) (waves_of xs) i) [
-  | inl j ↦ inl (ap (λ (u : ℕ × ℕ). u.0) (in_from_map (λ (w : ℕ). (x.number, w)) (up_to x.waves) v j).1.1)
-  | inr j ↦ inr (stream_of_wave xs v j)
-]
-
 waves_increase : (xs : List Stream) → IsStrictlyIncreasing (map (λ x. x.number) xs) → WavesRise (waves_of xs)
 waves_increase [] up = tt
 waves_increase (x ∷ xs) up =
@@ -97,15 +88,11 @@ before_is_less p v u (inr later) =
     let less : nat_cmp v.1 u.1 ≡ Less = sym (nat_cmp_is v.1 u.1 Less later.1) in
     λ i. ordering_then (ordering_then (same i) (less i)) (nat_cmp 1 1)
 
-all_by : {X : Type 0} (P : X → Type 0) (xs : List X) → ((x : X) → In x xs → P x) → AllByRecursion P xs
-all_by P [] each = tt
-all_by P (x ∷ xs) each = (each x (inl refl), all_by P xs (λ y i. each y (inr i)))
-
 direct_increase : (p : Plan) (vs : List (ℕ × ℕ)) → WavesRise vs → IsStrictlySortedBy release_cmp (map (direct_release p) vs)
 unfolding IsStrictlySortedBy
 direct_increase p [] up = tt
 direct_increase p (v ∷ vs) up = (
-  all_by (λ r. release_cmp (direct_release p v) r ≡ Less) (map (direct_release p) vs)
+  all_from (λ r. release_cmp (direct_release p v) r ≡ Less) (map (direct_release p) vs)
       (λ r i.
       let from = in_from_map (direct_release p) vs r i in
       subst (λ (x : TreeRelease). release_cmp (direct_release p v) x ≡ Less) (sym from.1.1) (before_is_less p v from.0 (up.0 from.0 from.1.0))),
@@ -141,19 +128,6 @@ only_one x y (inr none) = absurd none
 
 -- ---- a release of all ranks of its stream shows no lost node
 
-ranks_stay : (f : ℕ → Ranks) (ds : List ℕ) (first : Ranks) (r : ℕ) → Has r first → Has r (ranks_with first (map f ds))
-ranks_stay f [] first r h = h
-ranks_stay f (d ∷ ds) first r h = ranks_stay f ds (union first (f d)) r (union_left r first (f d) h)
-
-ranks_among : (f : ℕ → Ranks) (ds : List ℕ) (first : Ranks) (d r : ℕ) → In d ds → Has r (f d) → Has r (ranks_with first (map f ds))
-ranks_among f [] first d r i h = absurd i
-ranks_among f (x ∷ ds) first d r (inl e) h = ranks_stay f ds (union first (f x)) r (union_right r first (f x) (subst (λ y. Has r (f y)) e h))
-ranks_among f (x ∷ ds) first d r (inr i) h = ranks_among f ds (union first (f x)) d r i h
-
-in_stream : (p : Plan) (s d : ℕ) → In d (daemons p s) → IsSubset (ranks p d) (stream_ranks p s)
-unfolding stream_ranks
-in_stream p s d i r h = ranks_among (ranks p) (daemons p s) none d r i h
-
 none_missing : (p : Plan) (covered : Ranks) (d : ℕ) → IsSubset (ranks p d) covered → is_empty (missing p covered d) ≡ true
 none_missing p covered d within =
     let no_rank : missing p covered d ≡ none = none_from_subset (missing p covered d) (λ r h.
@@ -178,7 +152,7 @@ abbrev unlost : TreeRelease → TreeRelease
 unlost r = record { stream = r.stream; wave = r.wave; number = r.number; kind = r.kind; tree = r.tree; lost = [] }
 
 all_are_covered : (p : Plan) (r : TreeRelease) → r.tree.coverage ≡ stream_ranks p r.stream → (d : ℕ) → In d (daemons p r.stream) → is_empty (missing p r.tree.coverage d) ≡ true
-all_are_covered p r all d i = none_missing p r.tree.coverage d (subst (λ c. IsSubset (ranks p d) c) (sym all) (in_stream p r.stream d i))
+all_are_covered p r all d i = none_missing p r.tree.coverage d (subst (λ c. IsSubset (ranks p d) c) (sym all) (daemon_lies p r.stream d i))
 
 same_text : (p : Plan) (r : TreeRelease) → r.tree.coverage ≡ stream_ranks p r.stream → release_text p r ≡ release_text p (unlost r)
 unfolding release_text

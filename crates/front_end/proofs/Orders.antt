@@ -1,5 +1,5 @@
 -- Releases have one order, and a sort finds it.
-use Rattle.std.proofs.Common.{◌≡◌, ℕ, zero, suc, ◌+◌, ◌<◌, inl, inr, Bool, false, List, [], ◌∷◌, ◌++◌, map, length, get_or, sym, subst, ◌∙◌, ap, arith}
+use Rattle.std.proofs.Common.{◌≡◌, ℕ, zero, suc, ◌+◌, ◌<◌, inl, inr, false, List, [], ◌∷◌, ◌++◌, map, length, get_or, sym, subst, ◌∙◌, ap, arith}
 use Rattle.std.specs.Cmp.{IsTotalOrder}
 use Rattle.std.specs.List.{All, IsDistinct}
 use Rattle.std.specs.List.Sorted.{IsPermutation, IsSortedBy, IsStrictlySortedBy}
@@ -10,7 +10,6 @@ use Rattle.std.proofs.lemmas.Bool.{true≢false}
 use Rattle.std.proofs.lemmas.Cmp.{eq_by_cmp_equiv, nat_cmp_total, on_total, then_total}
 use Rattle.std.proofs.lemmas.List.Sorted.{All-permutation, IsPermutation-map, IsPermutation-sym, IsPermutation-trans}
 use Rattle.std.proofs.lemmas.Map.Keys.{IsDistinct-IsPermutation, apart_from_distinct, sorted_from_all_adjacent}
-use Rattle.std.proofs.lemmas.List.{get_or-map, length-map}
 use Rattle.std.proofs.lemmas.Simd.{map-map}
 use Rattle.std.specs.Borrow.{Bor}
 use Rattle.serde_json.specs.Written.{compact_text}
@@ -19,6 +18,7 @@ use Rattle.overlay_setup.specs.NodeSets.{In}
 use Rattle.overlay_setup.specs.declared.script.Fault.{Fault}
 use Rattle.stat_plan.specs.Plans.{Plan}
 use Rattle.stat_plan.proofs.FirstOver.{all_in}
+use Rattle.stat_plan.proofs.InOrder.{sorted_map}
 use Rattle.overlay_core.specs.TreeReleases.{TreeRelease, release_view, releases_view}
 use Rattle.overlay_core.specs.declared.release.Release.{Release}
 use Rattle.front_end.specs.Report.{AreDistinct, IsSortedCopy, IsReport, release_cmp, report_text}
@@ -98,15 +98,6 @@ reports_same p faults given lost text other one two =
 pub json_reports_same : (p : Plan) (faults : List Fault) (given : List TreeRelease) (lost text other : List ℕ) → IsJsonReport p faults given lost text → IsJsonReport p faults given lost other → text ≡ other
 json_reports_same p faults given lost text other one two =
     one.is ∙ ap (λ rs. compact_text (report_data p faults lost rs) ++ 10 ∷ []) (same_order given one.ordered two.ordered one.in_order two.in_order) ∙ sym two.is
-
--- a list that is sorted by what f gives is sorted where f gave it
-sorted_map : {X Y : Type 0} (f : X → Y) (lt : Y → Y → Bool) (xs : List X) → IsSortedBy (λ x y. lt (f x) (f y)) xs → IsSortedBy lt (map f xs)
-sorted_map f lt [] up k d low high = absurd (omega arith)
-sorted_map f lt (x ∷ xs) up k d low high =
-    let within : k + 1 < length (x ∷ xs) = omega (arith, length-map (x ∷ xs) f) in
-    let later : get_or (map f (x ∷ xs)) (k + 1) d ≡ f (get_or (x ∷ xs) (k + 1) x) = get_or-map f (x ∷ xs) (k + 1) x d within in
-    let here : get_or (map f (x ∷ xs)) k d ≡ f (get_or (x ∷ xs) k x) = get_or-map f (x ∷ xs) k x d (omega arith) in
-    (λ i. lt (later i) (here i)) ∙ up k x (omega arith) within
 
 -- what references show is in order where what they refer to is distinct, and a sort by stream, wave and number moved them
 pub in_order_from_sort : {X : Type 0} (tree : X → Tree) (given : List (Release X)) (all sorted : List (Bor (Release X))) → AreDistinct (releases_view tree given) → map (λ r. r.now) all ≡ given → IsPermutation all sorted

@@ -155,11 +155,12 @@ module _ (v : TreeView) (argument : List ℕ) (P : Pairs) (r : TreeRelease) (som
 abbrev IsOf : (TreeRelease → Pairs) → TreeRelease → Type 0
 IsOf pairs r = HasNoEmptyPath (pairs r) × (r.tree ≡ tree_of (pairs r) r.tree.coverage)
 
-same_map : {X Y : Type 0} (f g : X → Y) (xs : List X) → ((x : X) → In x xs → f x ≡ g x) → map f xs ≡ map g xs
+-- functions that agree on a list give the same of it
+pub same_map : {X Y : Type 0} (f g : X → Y) (xs : List X) → ((x : X) → In x xs → f x ≡ g x) → map f xs ≡ map g xs
 same_map f g [] each = refl
 same_map f g (x ∷ xs) each = λ i. each x (inl refl) i ∷ same_map f g xs (λ y there. each y (inr there)) i
 
-same_texts : {X : Type 0} (f g : X → List ℕ) (xs : List X) → ((x : X) → In x xs → f x ≡ g x) → flat_map f xs ≡ flat_map g xs
+pub same_texts : {X : Type 0} (f g : X → List ℕ) (xs : List X) → ((x : X) → In x xs → f x ≡ g x) → flat_map f xs ≡ flat_map g xs
 same_texts f g [] each = refl
 same_texts f g (x ∷ xs) each = λ i. each x (inl refl) i ++ same_texts f g xs (λ y there. each y (inr there)) i
 

@@ -17,15 +17,19 @@ use Rattle.front_end.specs.ClassText.{classes_text}
 use Rattle.front_end.specs.ReleaseText.{classes_in, heading, missing, missing_line, missing_text, ranks_line, release_text, tree_and_classes}
 use Rattle.front_end.specs.Report.{fate_text, fault_line, report_text}
 
--- the heading of a release
-pub heading_written : (out stream wave number kind a b c d e f : List ℕ) → a ≡ out ++ codes "stream " ++ stream → b ≡ a ++ codes " wave " ++ wave → c ≡ b ++ codes " release " ++ number → d ≡ c ++ 32 ∷ [] → e ≡ d ++ kind → f ≡ e ++ 10 ∷ []
-    → f ≡ out ++ (codes "stream " ++ stream ++ codes " wave " ++ wave ++ codes " release " ++ number ++ 32 ∷ [] ++ kind ++ 10 ∷ [])
-heading_written out stream wave number kind a b c d e f pa pb pc pd pe pf =
-    pf ∙ ap (λ ys. ys ++ 10 ∷ []) (pe ∙ ap (λ ys. ys ++ kind) (pd ∙ ap (λ ys. ys ++ 32 ∷ []) (pc ∙ ap (λ ys. ys ++ codes " release " ++ number) (pb ∙ ap (λ ys. ys ++ codes " wave " ++ wave) pa))))
-    ∙ regroup out (codes "stream ") stream (codes " wave ") wave (codes " release ") number (32 ∷ []) kind (10 ∷ [])
+-- which release it is
+pub words_written : (out stream wave number kind a b c d e : List ℕ) → a ≡ out ++ codes "stream " ++ stream → b ≡ a ++ codes " wave " ++ wave → c ≡ b ++ codes " release " ++ number → d ≡ c ++ 32 ∷ [] → e ≡ d ++ kind
+    → e ≡ out ++ (codes "stream " ++ stream ++ codes " wave " ++ wave ++ codes " release " ++ number ++ 32 ∷ [] ++ kind)
+words_written out stream wave number kind a b c d e pa pb pc pd pe =
+    pe ∙ ap (λ ys. ys ++ kind) (pd ∙ ap (λ ys. ys ++ 32 ∷ []) (pc ∙ ap (λ ys. ys ++ codes " release " ++ number) (pb ∙ ap (λ ys. ys ++ codes " wave " ++ wave) pa)))
+    ∙ regroup out (codes "stream ") stream (codes " wave ") wave (codes " release ") number (32 ∷ []) kind
   where
-    regroup : (out a b c d e f g h k : List ℕ) → ((((((((out ++ a) ++ b) ++ c) ++ d) ++ e) ++ f) ++ g) ++ h) ++ k ≡ out ++ ((((((((a ++ b) ++ c) ++ d) ++ e) ++ f) ++ g) ++ h) ++ k)
-    regroup out a b c d e f g h k = simp append_assoc
+    regroup : (out a b c d e f g h : List ℕ) → (((((((out ++ a) ++ b) ++ c) ++ d) ++ e) ++ f) ++ g) ++ h ≡ out ++ (((((((a ++ b) ++ c) ++ d) ++ e) ++ f) ++ g) ++ h)
+    regroup out a b c d e f g h = simp append_assoc
+
+-- with the end of its line
+pub heading_written : (out words a b : List ℕ) → a ≡ out ++ words → b ≡ a ++ 10 ∷ [] → b ≡ out ++ (words ++ 10 ∷ [])
+heading_written out words a b pa pb = pb ∙ ap (λ ys. ys ++ 10 ∷ []) pa ∙ append_assoc out words (10 ∷ [])
 
 -- ranks of which there are some are not empty
 pub some_ranks : (s : Ranks) → (size s ≡ 0 → ⊥) → is_empty s ≡ false

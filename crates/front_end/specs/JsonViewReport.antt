@@ -8,6 +8,7 @@ use Rattle.tree_view.specs.Reading.{by_of, by_word}
 use Rattle.tree_view.specs.Views.{TreeView, viewed_classes, viewed_ranks, viewed_tree}
 use Rattle.front_end.specs.ReleaseText.{kind_text}
 use Rattle.front_end.specs.Report.{IsSortedCopy}
+use Rattle.front_end.specs.ViewReport.{HavePairs}
 use Rattle.front_end.specs.JsonValues.{classes_data, count, list_of, object_of, ranks_data, tree_data}
 
 -- by what a release is viewed, and the argument as it was given
@@ -37,3 +38,7 @@ pub record IsJsonViewReport (v : TreeView) (argument : List ℕ) (pairs : TreeRe
   pub ordered : List TreeRelease
   pub in_order : IsSortedCopy given ordered
   pub is : text ≡ compact_text (view_report_data v argument pairs ordered) ++ 10 ∷ []
+
+-- the text is that report, of whatever pairs the trees of the releases are
+abbrev pub IsJsonViewReportOfAny : TreeView → List ℕ → List TreeRelease → List ℕ → Type 0
+IsJsonViewReportOfAny v argument given text = (pairs : TreeRelease → Pairs) → HavePairs pairs given → IsJsonViewReport v argument pairs given text

@@ -7,5 +7,7 @@ pub mod JsonTokens
 pub mod JsonReport
 pub mod ViewReport
 pub mod JsonViewReport
+pub mod SumsReport
+pub mod JsonSumsReport
 pub mod Laws
 pub mod Rows

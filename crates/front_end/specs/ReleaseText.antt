@@ -25,9 +25,13 @@ abbrev pub kind_text : Kind → List ℕ
 kind_text Partial = codes "partial"
 kind_text Final = codes "final"
 
--- the line above a release: its stream, its wave, the release's number within its wave, and whether it is the last
+-- which release it is: its stream, its wave, its number within its wave, and whether it is the last
+abbrev pub release_words : TreeRelease → List ℕ
+release_words r = codes "stream " ++ decimal r.stream ++ codes " wave " ++ decimal r.wave ++ codes " release " ++ decimal r.number ++ 32 ∷ [] ++ kind_text r.kind
+
+-- the line above a release
 abbrev pub heading : TreeRelease → List ℕ
-heading r = codes "stream " ++ decimal r.stream ++ codes " wave " ++ decimal r.wave ++ codes " release " ++ decimal r.number ++ 32 ∷ [] ++ kind_text r.kind ++ 10 ∷ []
+heading r = release_words r ++ 10 ∷ []
 
 -- the ranks of a daemon that are not covered
 abbrev pub missing : Plan → Ranks → ℕ → Ranks

@@ -42,3 +42,7 @@ pub record IsViewReport (v : TreeView) (argument : List ℕ) (pairs : TreeReleas
   pub ordered : List TreeRelease
   pub in_order : IsSortedCopy given ordered
   pub is : text ≡ view_report_text v argument pairs ordered
+
+-- the text is that report, of whatever pairs the trees of the releases are
+abbrev pub IsViewReportOfAny : TreeView → List ℕ → List TreeRelease → List ℕ → Type 0
+IsViewReportOfAny v argument given text = (pairs : TreeRelease → Pairs) → HavePairs pairs given → IsViewReport v argument pairs given text

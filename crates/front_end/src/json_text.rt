@@ -5,11 +5,12 @@ ghost use Rattle.json.specs.Print.{print};
 ghost use Rattle.serde_json.specs.Data.{string};
 ghost use Rattle.rank_set.specs.Text.{text_of};
 ghost use Rattle.call_path.specs.Path.{path_text as text_of_path};
+ghost use Rattle.front_end.specs.JsonSumsReport.{value_data};
 ghost use Rattle.front_end.specs.JsonValues.{count as count_data};
 ghost use Rattle.front_end.specs.JsonTokens.{member_tokens, value_tokens};
 
 use call_path::CallPath;
-use json::Writer;
+use json::{Token, Writer};
 use rank_set::RankSet;
 use std::alloc::{AllocError, Global};
 use std::marker::Model;
@@ -110,7 +111,18 @@ impl JsonText {
         self.writer.string(text)
     }
 
-    /// Appends a member whose value is a number.
+    /// Appends a member whose value is a number, or `null` where there is none.
+    pub fn value(&mut self, key: &str, value: Option<i64>) -> Result<(), AllocError>
+        ensures { OnOk result (self.new ≡ self.old ++ member_tokens key.now (value_data value)) }
+    {
+        self.writer.key(key)?;
+        match value {
+            Some(number) => self.writer.i64(number),
+            None => self.writer.token(Token::Null),
+        }
+    }
+
+    /// Appends a member whose value is a count.
     pub fn count(&mut self, key: &str, n: u64) -> Result<(), AllocError>
         ensures { OnOk result (self.new ≡ self.old ++ member_tokens key.now (count_data n)) }
     {

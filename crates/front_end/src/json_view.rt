@@ -1,14 +1,13 @@
 //! The report of a view as JSON.
 ghost use Rattle.std.specs.Prelude.{◌≡◌, ◌++◌, IfOk, OnOk, map};
-ghost use Rattle.call_path.specs.Pairs.{Pairs};
-ghost use Rattle.overlay_core.specs.TreeReleases.{TreeRelease, release_view, releases_view};
+ghost use Rattle.overlay_core.specs.TreeReleases.{release_view, releases_view};
 ghost use Rattle.tree_view.specs.Reading.{tree_view};
 ghost use Rattle.front_end.specs.JsonTokens.{value_tokens};
 ghost use Rattle.front_end.specs.JsonValues.{list_of};
-ghost use Rattle.front_end.specs.JsonViewReport.{IsJsonViewReport, view_data, viewed_data};
+ghost use Rattle.front_end.specs.JsonViewReport.{IsJsonViewReport, IsJsonViewReportOfAny, view_data, viewed_data};
 ghost use Rattle.front_end.specs.Report.{AreDistinct};
 ghost use Rattle.front_end.specs.Shown.{shown_releases};
-ghost use Rattle.front_end.specs.ViewReport.{HavePairs, own_pairs};
+ghost use Rattle.front_end.specs.ViewReport.{own_pairs};
 
 use crate::json_release::kind_word;
 use crate::json_text::{JsonText, ranks_text};
@@ -31,9 +30,8 @@ pub fn view_json<T: PrefixTree>(
     requires distinct { AreDistinct (releases_view T.tree releases.now) }
     ensures own { IfOk result (λ text. IsJsonViewReport (tree_view view.now) argument.now own_pairs
         (releases_view T.tree releases.now) text.items) }
-    ensures pairs { IfOk result (λ text. (pairs : TreeRelease → Pairs)
-        → HavePairs pairs (releases_view T.tree releases.now)
-        → IsJsonViewReport (tree_view view.now) argument.now pairs (releases_view T.tree releases.now) text.items) }
+    ensures pairs { IfOk result (λ text. IsJsonViewReportOfAny (tree_view view.now) argument.now
+        (releases_view T.tree releases.now) text.items) }
 {
     own_json(alloc, releases, view, argument)
 }

@@ -5,15 +5,18 @@
 mod class_text;
 mod json_release;
 mod json_report;
+mod json_sums;
 mod json_text;
 mod json_tree;
 mod json_view;
 mod laws;
 mod release_text;
 mod report;
+mod sums_report;
 mod view_report;
 
 pub use json_report::{direct_json, report_json};
+pub use json_sums::sums_json;
 pub use json_view::view_json;
 pub use laws::{
     classes_of_a_tree, direct_releases_are_distinct, json_reports_are_one,
@@ -21,4 +24,5 @@ pub use laws::{
     waiting_json_reports_are_direct, waiting_reports_are_direct,
 };
 pub use report::{direct_text, report_text};
+pub use sums_report::sums_text;
 pub use view_report::view_text;

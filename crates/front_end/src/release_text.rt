@@ -3,7 +3,7 @@ ghost use Rattle.std.specs.Prelude.{◌≡◌, ◌++◌, ◌<◌, OnOk};
 ghost use Rattle.std.specs.List.{AllByRecursion, flat_map};
 ghost use Rattle.stat_plan.specs.Plans.{daemons, nodes};
 ghost use Rattle.overlay_core.specs.TreeReleases.{release_view};
-ghost use Rattle.front_end.specs.ReleaseText.{classes_in, heading, kind_text as text_of_kind, missing_line, missing_text as text_of_missing, ranks_line, release_text, tree_and_classes};
+ghost use Rattle.front_end.specs.ReleaseText.{classes_in, heading, kind_text as text_of_kind, missing_line, missing_text as text_of_missing, ranks_line, release_text, release_words, tree_and_classes};
 
 use crate::class_text::write_classes;
 use equiv_class::classes;
@@ -58,12 +58,23 @@ pub fn write_heading<T: PrefixTree>(
 ) -> Result<(), AllocError>
     ensures { OnOk result (out.new.items ≡ out.old.items ++ heading (release_view T.tree release.now)) }
 {
+    write_release_words(release, out)?;
+    out.push(b'\n')?;
+    Ok(())
+}
+
+/// Appends which release it is.
+pub fn write_release_words<T: PrefixTree>(
+    release: &Release<T>,
+    out: &mut Vec<u8>,
+) -> Result<(), AllocError>
+    ensures { OnOk result (out.new.items ≡ out.old.items ++ release_words (release_view T.tree release.now)) }
+{
     write_numbered(b"stream ", usize::from(release.stream), out)?;
     write_numbered(b" wave ", usize::from(release.wave), out)?;
     write_numbered(b" release ", release.number as usize, out)?;
     out.push(b' ')?;
     out.extend_from_slice(kind_text(release.kind))?;
-    out.push(b'\n')?;
     Ok(())
 }
 

@@ -1,12 +1,11 @@
 //! The text of the report of a view.
 ghost use Rattle.std.specs.Prelude.{◌≡◌, ◌++◌, IfOk, OnOk};
 ghost use Rattle.std.specs.List.{flat_map};
-ghost use Rattle.call_path.specs.Pairs.{Pairs};
-ghost use Rattle.overlay_core.specs.TreeReleases.{TreeRelease, release_view, releases_view};
+ghost use Rattle.overlay_core.specs.TreeReleases.{release_view, releases_view};
 ghost use Rattle.tree_view.specs.Reading.{tree_view};
 ghost use Rattle.front_end.specs.Report.{AreDistinct};
 ghost use Rattle.front_end.specs.Shown.{shown_releases};
-ghost use Rattle.front_end.specs.ViewReport.{HavePairs, IsViewReport, own_pairs, view_line, viewed_text};
+ghost use Rattle.front_end.specs.ViewReport.{IsViewReport, IsViewReportOfAny, own_pairs, view_line, viewed_text};
 
 use crate::release_text::{write_heading, write_ranks, write_tree_and_classes};
 use crate::report::{ROOM, in_order};
@@ -30,9 +29,8 @@ pub fn view_text<T: PrefixTree>(
     requires distinct { AreDistinct (releases_view T.tree releases.now) }
     ensures own { IfOk result (λ text. IsViewReport (tree_view view.now) argument.now own_pairs
         (releases_view T.tree releases.now) text.items) }
-    ensures pairs { IfOk result (λ text. (pairs : TreeRelease → Pairs)
-        → HavePairs pairs (releases_view T.tree releases.now)
-        → IsViewReport (tree_view view.now) argument.now pairs (releases_view T.tree releases.now) text.items) }
+    ensures pairs { IfOk result (λ text. IsViewReportOfAny (tree_view view.now) argument.now
+        (releases_view T.tree releases.now) text.items) }
 {
     own_text(alloc, releases, view, argument)
 }

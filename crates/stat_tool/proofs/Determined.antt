@@ -8,8 +8,8 @@ use Rattle.stat_plan.specs.Plans.{Plan, Sampled, plan_of}
 use Rattle.stat_plan.specs.Limits.{first_over}
 use Rattle.text_lines.specs.declared.text_error.TextError.{TextError}
 use Rattle.overlay_event.specs.declared.event.Event.{Event}
-use Rattle.stat_words.specs.Words.{Asked}
-use Rattle.stat_words.specs.Words.{Run, Sim, Replay, Direct, Gen, Cast, View, Frames}
+use Rattle.stat_words.specs.Words.{Asked, AskedSums}
+use Rattle.stat_words.specs.Words.{Run, Sim, Replay, Direct, Gen, Cast, Sums, View, Frames}
 use Rattle.stat_words.specs.declared.words.RunReport.{RunReport}
 use Rattle.stat_words.specs.declared.words.WordFault.{WordFault}
 use Rattle.topology_text.specs.Whole.{topology_of}
@@ -17,8 +17,8 @@ use Rattle.sample_text.specs.Whole.{samples_of_text}
 use Rattle.script_text.specs.Whole.{script_of}
 use Rattle.stat_tool.specs.Call.{Answered, AreTold, DeskChange, Finishes, IsDetermined, SinkChange, all_given, answer_of, answer_of_job, end_of, given}
 use Rattle.stat_tool.specs.Files.{NamedFile, files_of, limit_of}
-use Rattle.stat_tool.specs.Jobs.{Job, RunJob, SimJob, ReplayJob, DirectJob, GenJob, CastJob, ViewJob, CaptureJob, RunOutput}
-use Rattle.stat_tool.specs.NextStep.{AfterPlan, Agrees, Answers, Bytes, Does, AreReadResults, ReadResult, Step, TooLong, Wants, at_capture, at_journal, at_samples, at_script, by_limit, by_samples, by_script, by_topology, next_step, plan_step}
+use Rattle.stat_tool.specs.Jobs.{Job, RunJob, SimJob, ReplayJob, DirectJob, GenJob, CastJob, SumsJob, ViewJob, CaptureJob, RunOutput}
+use Rattle.stat_tool.specs.NextStep.{AfterPlan, Agrees, Answers, Bytes, Does, AreReadResults, ReadResult, Step, TooLong, Wants, at_capture, at_journal, at_samples, at_script, at_values, by_limit, by_samples, by_script, by_topology, next_step, plan_step}
 use Rattle.stat_tool.specs.Outputs.{HasOutput}
 use Rattle.stat_tool.specs.declared.status.Target.TheVariants.{Report, Journal}
 use Rattle.stat_tool.specs.declared.status.Status.{Status}
@@ -118,6 +118,15 @@ journal_stays wanted p [] all front settled = absurd settled
 journal_stays wanted p (g ∷ rest) [] front settled = absurd front
 journal_stays wanted p (g ∷ rest) (h ∷ all) front settled = ap (λ (x : ReadResult). at_journal wanted p (x ∷ all)) (sym front.0) ∙ same_journal wanted p g rest all
 
+same_values : (seed : ℕ) (wanted : AskedSums) (p : Plan) (g : ReadResult) (rest all : List ReadResult) → at_values seed wanted p (g ∷ all) ≡ at_values seed wanted p (g ∷ rest)
+same_values seed wanted p TooLong rest all = refl
+same_values seed wanted p (Bytes bytes) rest all = refl
+
+values_stay : (seed : ℕ) (wanted : AskedSums) → IsStable (at_values seed wanted)
+values_stay seed wanted p [] all front settled = absurd settled
+values_stay seed wanted p (g ∷ rest) [] front settled = absurd front
+values_stay seed wanted p (g ∷ rest) (h ∷ all) front settled = ap (λ (x : ReadResult). at_values seed wanted p (x ∷ all)) (sym front.0) ∙ same_values seed wanted p g rest all
+
 same_capture : (g : ReadResult) (rest all : List ReadResult) → at_capture (g ∷ all) ≡ at_capture (g ∷ rest)
 same_capture TooLong rest all = refl
 same_capture (Bytes bytes) rest all = refl
@@ -134,6 +143,7 @@ step_stays (Replay names journal wanted) results all front settled = plan_stays 
 step_stays (Direct names form) results all front settled = plan_stays (λ p rest. Does (DirectJob p form)) (λ p rest all front settled. refl) results all front settled
 step_stays (Gen size seed) results all front settled = refl
 step_stays (Cast names seed commands) results all front settled = plan_stays (λ p rest. Does (CastJob p seed commands)) (λ p rest all front settled. refl) results all front settled
+step_stays (Sums names seed wanted) results all front settled = plan_stays (at_values seed wanted) (values_stay seed wanted) results all front settled
 step_stays (View names seed wanted) results all front settled = plan_stays (λ p rest. Does (ViewJob p seed wanted)) (λ p rest all front settled. refl) results all front settled
 step_stays (Frames capture) results all front settled = capture_stays results all front settled
 
@@ -147,6 +157,7 @@ end_of_job (ReplayJob p events wanted) output has = ap end_of has.unfinished
 end_of_job (DirectJob p form) output has = ap end_of has.finished
 end_of_job (GenJob size seed) output has = ap end_of has.finished
 end_of_job (CastJob p seed commands) output has = ap end_of has.finished
+end_of_job (SumsJob p v seed f form) output has = ap end_of has.finished
 end_of_job (ViewJob p seed wanted) output has = ap end_of has.finished
 end_of_job (CaptureJob bytes) output has = ap end_of has.finished
 

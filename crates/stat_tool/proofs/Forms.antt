@@ -1,7 +1,9 @@
 -- Reports in either form.
-use Rattle.std.proofs.Common.{◌≡◌, ℕ, List, [], ◌∷◌, sym, subst}
+use Rattle.std.proofs.Common.{◌≡◌, ℕ, List, [], ◌∷◌, Option, sym, subst}
+use Rattle.std.proofs.Math.IntN.{ℤ}
 use Rattle.std.specs.List.{AllByRecursion}
 use Rattle.overlay_core.specs.TreeReleases.{TreeRelease}
+use Rattle.overlay_setup.specs.NodeSets.{In}
 use Rattle.overlay_setup.specs.declared.script.Fault.{Fault}
 use Rattle.stat_plan.specs.Invariants.{IsPlan}
 use Rattle.stat_plan.specs.Plans.{Plan}
@@ -12,9 +14,13 @@ use Rattle.stat_words.specs.declared.words.ReportForm.{ReportForm}
 use Rattle.stat_words.specs.declared.words.ReportForm.TheVariants.{Text, Json}
 use Rattle.stat_words.specs.Words.{AskedView}
 use Rattle.tree_view.specs.Views.{TreeView}
+use Rattle.rank_sums.specs.declared.fold.Fold.{Fold}
+use Rattle.front_end.specs.JsonSumsReport.{IsJsonSumsReport}
 use Rattle.front_end.specs.JsonViewReport.{IsJsonViewReport}
+use Rattle.front_end.specs.SumsReport.{IsSumsReport, tree_value}
+use Rattle.front_end.proofs.SumsWritten.{json_of_values, sums_of_values}
 use Rattle.front_end.specs.ViewReport.{HavePairs, IsViewReport, wave_samples}
-use Rattle.stat_tool.specs.Reports.{IsReportIn, IsViewReportIn}
+use Rattle.stat_tool.specs.Reports.{IsReportIn, IsSumsReportIn, IsViewReportIn}
 
 -- a text of some releases is that of equal ones, in this form
 pub in_text : (form : ReportForm) (p : Plan) (faults : List Fault) (rs qs : List TreeRelease) (ls ms text : List ℕ) → form ≡ Text → rs ≡ qs → ls ≡ ms → IsReport p faults rs ls text → IsReportIn form p faults qs ms text
@@ -35,6 +41,19 @@ in_view_text wanted v p rs text is report = subst (λ (f : ReportForm). IsViewRe
 pub in_view_json : (wanted : AskedView) (v : TreeView) (p : Plan) (rs : List TreeRelease) (text : List ℕ) → wanted.form ≡ Json → IsJsonViewReport v wanted.argument (wave_samples p) rs text
     → IsViewReportIn wanted.form v wanted.argument (wave_samples p) rs text
 in_view_json wanted v p rs text is report = subst (λ (f : ReportForm). IsViewReportIn f v wanted.argument (wave_samples p) rs text) (sym is) report
+
+-- a report of sums of some releases, in this form
+pub in_sums_text : (form : ReportForm) (f : Fold) (value : TreeRelease → Option ℤ) (rs : List TreeRelease) (text : List ℕ) → form ≡ Text → IsSumsReport f value rs text → IsSumsReportIn form f value rs text
+in_sums_text form f value rs text is report = subst (λ (form : ReportForm). IsSumsReportIn form f value rs text) (sym is) report
+
+pub in_sums_json : (form : ReportForm) (f : Fold) (value : TreeRelease → Option ℤ) (rs : List TreeRelease) (text : List ℕ) → form ≡ Json → IsJsonSumsReport f value rs text → IsSumsReportIn form f value rs text
+in_sums_json form f value rs text is report = subst (λ (form : ReportForm). IsSumsReportIn form f value rs text) (sym is) report
+
+-- whatever says the values
+pub sums_say : (form : ReportForm) (f : Fold) (value : TreeRelease → Option ℤ) (rs : List TreeRelease) (text : List ℕ) → ((r : TreeRelease) → In r rs → tree_value f r ≡ value r)
+    → IsSumsReportIn form f (tree_value f) rs text → IsSumsReportIn form f value rs text
+sums_say Text f value rs text same report = sums_of_values f value rs text same report
+sums_say Json f value rs text same report = json_of_values f value rs text same report
 
 -- releases that are direct merges are of the samples of their waves
 pub have_samples : (p : Plan) (rs : List TreeRelease) → IsPlan p → AllByRecursion (IsDirect p) rs → HavePairs (wave_samples p) rs

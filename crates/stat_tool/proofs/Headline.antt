@@ -30,7 +30,7 @@ use Rattle.front_end.proofs.Direct.{direct_where_all_wait, direct_json_where_all
 use Rattle.front_end.proofs.Orders.{reports_same, json_reports_same}
 use Rattle.stat_words.specs.declared.words.ReportForm.{ReportForm}
 use Rattle.stat_words.specs.declared.words.ReportForm.TheVariants.{Text, Json}
-use Rattle.stat_tool.specs.Reports.{AreReleased, CoveragesGrow, EndsWaves, EndsWithAll, IsReportIn, IsReportOf, losses_of}
+use Rattle.stat_tool.specs.Reports.{AreAfter, AreReleased, CoveragesGrow, EndsWaves, EndsWithAll, IsReportIn, IsReportOf, losses_of}
 
 -- ---- each wave ends with all ranks of its stream
 
@@ -85,18 +85,24 @@ pub record ReleaseFacts (p : Plan) (journal : List Event) (releases : List TreeR
   pub trees : AllByRecursion (ReleaseFits p) releases
 
 -- so they are the releases after the journal
-pub are_released : (p : Plan) (journal : List Event) (releases : List TreeRelease) → ReleaseFacts p journal releases → AreReleased p journal releases
-are_released p journal releases facts =
-    let plan = plan_facts p facts.plan in
+pub are_after : (p : Plan) (journal : List Event) (releases : List TreeRelease) → IsPlan p → IsLegal p journal → bare_releases releases ≡ (after p journal).releases → AreNumberedInOrder [] releases → AreAfter p journal releases
+are_after p journal releases is legal reached numbered =
+    let plan = plan_facts p is in
     record {
-      legal = facts.legal;
-      reached = facts.reached;
-      numbered = facts.numbered;
-      sound = λ r there. legal_log p journal plan facts.legal r (subst (λ (rs : List Release). In r rs) facts.reached there);
-      direct = all_direct p facts.plan releases facts.trees;
-      grow = λ s w. subst (λ (rs : List Release). CoveragesGrow none (of_wave s w rs)) (sym facts.reached)
-          (coverages_grow p (after p journal).alive s none (of_wave s w (after p journal).releases) (((after p journal).node (front p)).book s w) ((legal_is_sound p journal plan facts.legal).history.releases s w));
+      legal = legal;
+      reached = reached;
+      numbered = numbered;
+      sound = λ r there. legal_log p journal plan legal r (subst (λ (rs : List Release). In r rs) reached there);
+      grow = λ s w. subst (λ (rs : List Release). CoveragesGrow none (of_wave s w rs)) (sym reached)
+          (coverages_grow p (after p journal).alive s none (of_wave s w (after p journal).releases) (((after p journal).node (front p)).book s w) ((legal_is_sound p journal plan legal).history.releases s w));
     }
+
+-- with their trees
+pub are_released : (p : Plan) (journal : List Event) (releases : List TreeRelease) → ReleaseFacts p journal releases → AreReleased p journal releases
+are_released p journal releases facts = record {
+  bare = are_after p journal releases facts.plan facts.legal facts.reached facts.numbered;
+  direct = all_direct p facts.plan releases facts.trees;
+}
 
 -- a whole journal ends each wave
 pub ends_waves : (p : Plan) (journal : List Event) → IsPlan p → IsWhole p journal → EndsWaves p journal
@@ -153,9 +159,9 @@ same_in Json p faults releases lost text other first second = json_reports_same 
 
 pub one_report : (p : Plan) (form : ReportForm) (journal : List Event) (text other : List ℕ) → IsReportOf p form journal text → IsReportOf p form journal other → text ≡ other
 one_report p form journal text other first second =
-    let bare : bare_releases first.releases ≡ bare_releases second.releases = first.released.reached ∙ sym second.released.reached in
+    let bare : bare_releases first.releases ≡ bare_releases second.releases = first.released.bare.reached ∙ sym second.released.bare.reached in
     let numbers : map (λ (r : TreeRelease). r.number) first.releases ≡ map (λ (r : TreeRelease). r.number) second.releases
-    = first.released.numbered ∙ ap (numbers_after []) bare ∙ sym second.released.numbered in
+    = first.released.bare.numbered ∙ ap (numbers_after []) bare ∙ sym second.released.bare.numbered in
     let same : first.releases ≡ second.releases = one_release_list p first.releases second.releases bare numbers first.released.direct second.released.direct in
     same_in form p p.faults second.releases (losses_of journal) text other
     (subst (λ (rs : List TreeRelease). IsReportIn form p p.faults rs (losses_of journal) text) same first.text) second.text
@@ -172,4 +178,4 @@ pub direct_where_waiting : (p : Plan) (form : ReportForm) (journal : List Event)
     → IsReportIn form p p.faults (direct_releases p) (losses_of journal) text
 direct_where_waiting p form journal text plan whole report waits none_lost =
     waits_in form p journal report.releases (losses_of journal) text plan waits none_lost
-    (record { whole = whole; reached = report.released.reached; numbered = report.released.numbered; direct = report.released.direct }) report.text
+    (record { whole = whole; reached = report.released.bare.reached; numbered = report.released.bare.numbered; direct = report.released.direct }) report.text

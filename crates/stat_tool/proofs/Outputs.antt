@@ -25,15 +25,24 @@ use Rattle.overlay_run.specs.Boards.{IsWholeRun}
 use Rattle.journal_text.specs.Reading.{ReadJournal, journal_of}
 use Rattle.journal_text.specs.Text.{journal_text}
 use Rattle.journal_text.proofs.ReadBack.{read_back}
+use Rattle.stat_plan.proofs.Elements.{all_from}
+use Rattle.value_text.specs.Numbers.{Numbers}
+use Rattle.rank_sums.specs.Folds.{fold_of}
+use Rattle.rank_sums.specs.PartTrees.{SaysNumbersWithin}
+use Rattle.rank_sums.specs.Sums.{AreSums, IsMerged, IsPartPlan}
+use Rattle.rank_sums.specs.declared.fold.Fold.{Fold}
+use Rattle.front_end.specs.SumsReport.{SayNumbers, tree_value}
 use Rattle.stat_words.specs.Words.{AskedView}
+use Rattle.stat_words.specs.declared.words.ReportForm.{ReportForm}
 use Rattle.stat_words.specs.declared.words.RunReport.{RunReport}
 use Rattle.stat_words.specs.declared.words.RunReport.TheVariants.{Releases, Frames}
 use Rattle.stat_tool.specs.Jobs.{RunOutput, ReplayJob}
 use Rattle.stat_tool.specs.Call.{IsEventRefusal, IsJobRefusal}
 use Rattle.stat_tool.specs.NextStep.{Answers, Does, by_bad_line, by_refused, first_refused, replay_step}
-use Rattle.stat_tool.specs.Outputs.{HasRun, HasSummary, HasView, IsReplay, IsReplayed}
-use Rattle.stat_tool.specs.Reports.{AreReleased, EndsWaves, IsDirectIn, IsReportIn, IsReportOf, ViewsSamples, IsWrittenIn, IsWrittenOf, losses_of}
-use Rattle.stat_tool.proofs.Headline.{are_released, direct_where_waiting, ends_waves, one_report}
+use Rattle.stat_tool.specs.Outputs.{HasRun, HasSummary, HasSums, HasView, IsReplay, IsReplayed}
+use Rattle.stat_tool.specs.Reports.{AreReleased, EndsWaves, IsDirectIn, IsSumsReportIn, ViewsSamples, IsWrittenIn, IsWrittenOf}
+use Rattle.stat_tool.proofs.Headline.{are_after, are_released, direct_where_waiting, ends_waves, one_report}
+use Rattle.stat_tool.proofs.Forms.{sums_say}
 use Rattle.stat_tool.proofs.JournalTexts.{accepted, legal_are_of, refused_at}
 use Rattle.stat_tool.specs.declared.status.Status.{Status}
 use Rattle.stat_tool.specs.declared.status.Status.TheVariants.{Done, BadWords, DeskFault, BadInput, OverLimit, SinkFault, OutOfMemory, BadJournal, Unfinished, BadFrames}
@@ -207,10 +216,46 @@ has_view v q p seed wanted view releases output is_view plan of_plan of_net pick
       plan = plan;
       journal = picks ∙ ap (λ (p : Plan). picked p seed) of_plan;
       report = record { view = view; asked = is_view; releases = releases; released = released; text = text p plan released.direct };
-      ended = ends_waves p output.journal plan (released.legal, picked_is_quiet q p seed output.journal plan of_plan picks);
+      ended = ends_waves p output.journal plan (released.bare.legal, picked_is_quiet q p seed output.journal plan of_plan picks);
       finished = finished;
       unwritten = unwritten;
     }
+
+-- ---- sums
+
+-- the output of the sums of a run whose events a seed has picked, where the parts of the plan's daemons were sampled
+pub has_sums : (v : NetView) (p parts : Plan) (n : Numbers) (f : Fold) (form : ReportForm) (seed : ℕ) (releases : List TreeRelease) (output : RunOutput) → IsPlan p → v.plan ≡ parts → picked parts seed ≡ picked p seed
+    → output.journal ≡ picked parts seed → IsReachedBy v output.journal → releases ≡ v.releases → AreSums p n f output.journal releases
+    → IsSumsReportIn form f (tree_value f) releases output.report
+    → output.unfinished ≡ None → output.journal_text ≡ [] → HasSums p n seed f form output
+has_sums v p parts n f form seed releases output plan of_net same picks reached given sums text finished unwritten =
+    let journal : output.journal ≡ picked p seed = picks ∙ same in
+    record {
+      plan = plan;
+      journal = journal;
+      report = record {
+        releases = releases;
+        released = are_after p output.journal releases plan sums.legal sums.released (subst (AreNumberedInOrder []) (sym given) reached.numbered);
+        text = sums_say form f (λ r. fold_of f n r.tree.coverage) releases output.report sums.values text;
+      };
+      ended = ends_waves p output.journal plan (sums.legal, picked_is_quiet p p seed output.journal plan refl journal);
+      finished = finished;
+      unwritten = unwritten;
+    }
+
+-- the releases of a net of parts are sums
+pub net_sums : (v : NetView) (p parts : Plan) (n : Numbers) (f : Fold) (journal : List Event) (releases : List TreeRelease) → IsPartPlan p n f parts → v.plan ≡ parts → IsReachedBy v journal → releases ≡ v.releases
+    → ((p parts : Plan) (n : Numbers) (f : Fold) (journal : List Event) (rs : List TreeRelease) → IsPartPlan p n f parts → IsLegal parts journal → bare_releases rs ≡ (after parts journal).releases → AllByRecursion (IsMerged parts) rs → AreSums p n f journal rs)
+    → AreSums p n f journal releases
+net_sums v p parts n f journal releases of of_net reached given exact =
+    exact p parts n f journal releases of
+    (subst (λ (p : Plan). IsLegal p journal) of_net reached.legal)
+    (ap bare_releases given ∙ ap (λ (st : State). st.releases) reached.state ∙ ap (λ (p : Plan). (after p journal).releases) of_net)
+    (subst (AllByRecursion (IsMerged parts)) (sym given) (subst (λ (p : Plan). AllByRecursion (IsMerged p) v.releases) of_net reached.trees))
+
+-- so their trees say numbers
+pub sums_read : (p : Plan) (n : Numbers) (f : Fold) (journal : List Event) (releases : List TreeRelease) → AreSums p n f journal releases → SayNumbers f releases
+sums_read p n f journal releases sums = all_from (λ (r : TreeRelease). SaysNumbersWithin f r.tree) releases sums.readable
 
 -- ---- generated jobs
 

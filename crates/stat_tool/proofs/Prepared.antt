@@ -1,22 +1,26 @@
 -- From a plan and the output of its job to what the files of a mode lead to.
-use Rattle.std.proofs.Common.{◌≡◌, inl, inr, ℕ, List, [], ◌∷◌, ◌++◌, Option, length, refl, sym, ap, subst, ◌∙◌, arith, append-nil}
+use Rattle.std.proofs.Common.{◌≡◌, inl, inr, ℕ, List, [], ◌∷◌, ◌++◌, Option, Err, length, refl, sym, ap, subst, ◌∙◌, arith, append-nil}
+use Rattle.std.specs.Prelude.{Result}
 use Rattle.overlay_setup.specs.NodeSets.{In}
 use Rattle.stat_plan.specs.Plans.{Plan}
 use Rattle.stat_plan.proofs.InLists.{append_left}
 use Rattle.overlay_event.specs.declared.event.Event.{Event}
 use Rattle.capture_text.specs.Captures.{capture_of}
 use Rattle.journal_text.specs.Reading.{ReadJournal}
-use Rattle.stat_words.specs.Words.{Asked, Names}
-use Rattle.stat_words.specs.Words.{Replay, Frames}
+use Rattle.value_text.specs.Numbers.{Numbers}
+use Rattle.stat_words.specs.Words.{Asked, AskedSums, Names}
+use Rattle.stat_words.specs.Words.{Replay, Sums, Frames}
 use Rattle.stat_words.specs.declared.words.RunReport.{RunReport}
-use Rattle.stat_tool.specs.Call.{DeskChange, Gave, HasJournal, HasNoJournal, HasRead, IsCaptureRefusal, IsJobRefusal, IsPlanned, IsStopped, Prepared, Prevented, Prevents, Refuses}
+use Rattle.stat_tool.specs.Call.{DeskChange, Gave, HasJournal, HasNoJournal, HasRead, IsCaptureRefusal, IsJobRefusal, IsPlanned, IsStopped, Prepared, Prevented, Prevents, Refuses, StopsAt, Tells}
 use Rattle.stat_tool.specs.Files.{NamedFile, files_of, limit_of, plan_files}
-use Rattle.stat_tool.specs.Jobs.{Job, ReplayJob, CaptureJob, RunOutput}
-use Rattle.stat_tool.specs.NextStep.{AfterPlan, Agrees, Answers, AreReadResults, Bytes, Does, ReadResult, Step, TooLong, Wants, at_journal, by_capture, next_step, plan_step, replay_step}
+use Rattle.stat_tool.specs.Jobs.{Job, ReplayJob, SumsJob, CaptureJob, RunOutput}
+use Rattle.stat_tool.specs.NextStep.{AfterPlan, Agrees, Answers, AreReadResults, Bytes, Does, ReadResult, Step, TooLong, Wants, at_journal, at_values, by_capture, by_values, next_step, plan_step, replay_step, too_long, values_of}
 use Rattle.stat_tool.specs.Outputs.{HasOutput}
-use Rattle.stat_tool.proofs.Stopping.{IsRestOf, failed_earlier, longer_earlier, read_no_more, read_one_more, read_too_long, whole_change, whole_earlier}
+use Rattle.stat_tool.specs.Status.{refusal_of}
+use Rattle.text_lines.specs.declared.text_error.TextError.{TextError}
+use Rattle.stat_tool.proofs.Stopping.{IsRestOf, read_no_more, read_one_more, read_too_long, stops, unread, whole_change, whole_earlier}
 use Rattle.stat_tool.specs.declared.status.FileRole.{FileRole}
-use Rattle.stat_tool.specs.declared.status.FileRole.TheVariants.{Journal, Capture}
+use Rattle.stat_tool.specs.declared.status.FileRole.TheVariants.{Journal, Capture, Values}
 use Rattle.stat_tool.specs.declared.status.Status.{Status}
 use Rattle.stat_tool.specs.declared.status.Status.TheVariants.{Done, BadWords, DeskFault, BadInput, OverLimit, SinkFault, OutOfMemory, BadJournal, Unfinished, BadFrames}
 
@@ -54,12 +58,21 @@ pub job_stops : (names : Names) (job : Plan → Job) (desk : DeskChange) (status
     → (results : List ReadResult) × (HasRead (plan_files names) desk results × Prevents (plan_files names) desk (plan_step results (λ p rest. Does (job p))) status)
 job_stops names job desk status s = (s.0, (s.1.0, s.1.1 (λ p rest. Does (job p))))
 
-pub replay_stops : (names : Names) (journal : List ℕ) (wanted : RunReport) (desk : DeskChange) (status : Status) → IsStopped (plan_files names) desk status → Prevented (Replay names journal wanted) desk status
-replay_stops names journal wanted desk status s = (
+-- of a mode that reads one file more
+abbrev pub files_and : Names → FileRole → List ℕ → List NamedFile
+files_and names role name = plan_files names ++ (role, name) ∷ []
+
+-- what the files gave is why the call stops
+abbrev pub StopsLast : Names → FileRole → List ℕ → AfterPlan → DeskChange → Status → Type 0
+StopsLast names role name after desk status =
+    (results : List ReadResult) × (HasRead (files_and names role name) desk results × Prevents (files_and names role name) desk (plan_step results after) status)
+
+pub last_stops : (names : Names) (role : FileRole) (name : List ℕ) (after : AfterPlan) (desk : DeskChange) (status : Status) → IsStopped (plan_files names) desk status → StopsLast names role name after desk status
+last_stops names role name after desk status s = (
   s.0,
   (
-    record { gave = s.1.0.gave; contents = read_less desk.contents (plan_files names) ((Journal, journal) ∷ []) s.0 s.1.0.contents },
-    prevents_less (plan_files names) ((Journal, journal) ∷ []) desk (plan_step s.0 (at_journal wanted)) status (s.1.1 (at_journal wanted)),
+    record { gave = s.1.0.gave; contents = read_less desk.contents (plan_files names) ((role, name) ∷ []) s.0 s.1.0.contents },
+    prevents_less (plan_files names) ((role, name) ∷ []) desk (plan_step s.0 after) status (s.1.1 after),
   ),
 )
 
@@ -77,78 +90,75 @@ job_prepared names job desk p output planned has = (planned.results, (planned.re
 pub no_memory : (asked : Asked) (desk : DeskChange) (results : List ReadResult) → HasRead (files_of asked) desk results → Prevented asked desk OutOfMemory
 no_memory asked desk results read = (results, (read, tt))
 
+-- ---- the file behind those of a plan
+
+module _ (names : Names) (role : FileRole) (name : List ℕ) (after : AfterPlan) (wants : (p : Plan) → after p [] ≡ Wants role) (long : (p : Plan) → after p (TooLong ∷ []) ≡ Answers (too_long role))
+    (desk first rest : DeskChange) (p : Plan) (planned : IsPlanned (plan_files names) first p) (read : AreReadResults desk.contents (plan_files names) planned.results) (is_rest : IsRestOf desk rest planned.results) where
+  steps : Unit {0} → List ReadResult → Step
+  steps i results = plan_step results after
+
+  without_last : AreReadResults desk.contents (files_and names role name) planned.results
+  without_last = read_less desk.contents (plan_files names) ((role, name) ∷ []) planned.results read
+
+  with_last : (g : ReadResult) → Agrees (desk.contents name) (limit_of role) g → AreReadResults desk.contents (files_and names role name) (planned.results ++ g ∷ [])
+  with_last g agrees = read_on desk.contents (plan_files names) ((role, name) ∷ []) planned.results (g ∷ []) read planned.all (agrees, tt)
+
+  -- where it was not read
+  pub last_unread : (status : Status) → Refuses role name rest status → StopsLast names role name after desk status
+  unfolding steps
+  last_unread status r =
+      let s = unread steps (files_and names role name) desk rest role name planned.results is_rest (λ i. step_at (plan_files names) first p planned after ∙ wants p) (λ i. planned.step (TooLong ∷ []) after ∙ long p)
+      (inr (inr (inr (inl refl)))) without_last with_last status r in
+      (s.0, (s.1.0, s.1.1 tt))
+
+  -- where it was read
+  pub last_read : (bytes : List ℕ) → Gave rest name (limit_of role) bytes → HasRead (files_and names role name) desk (planned.results ++ Bytes bytes ∷ [])
+  last_read bytes given = read_one_more (files_and names role name) desk rest planned.results is_rest name (limit_of role) bytes given
+      (with_last (Bytes bytes) (whole_earlier (files_and names role name) desk rest planned.results is_rest name (limit_of role) bytes given))
+
+  -- where its text has an error
+  pub last_refused : {A : Type 0} (read_as : List ℕ → Result A TextError) → ((bytes : List ℕ) (e : TextError) → read_as bytes ≡ Err e → after p (Bytes bytes ∷ []) ≡ Answers (refusal_of role e))
+      → (status : Status) → StopsAt read_as role name rest status → StopsLast names role name after desk status
+  unfolding steps
+  last_refused read_as bad status r =
+      let s = stops steps (files_and names role name) desk rest role name planned.results is_rest (λ i. step_at (plan_files names) first p planned after ∙ wants p) (λ i. planned.step (TooLong ∷ []) after ∙ long p)
+      (inr (inr (inr (inl refl)))) without_last with_last read_as (λ bytes e is i. planned.step (Bytes bytes ∷ []) after ∙ bad bytes e is) status r in
+      (s.0, (s.1.0, s.1.1 tt))
+
+  -- memory ran out behind it
+  pub last_no_memory : (bytes : List ℕ) → Gave rest name (limit_of role) bytes → StopsLast names role name after desk OutOfMemory
+  last_no_memory bytes given = (planned.results ++ Bytes bytes ∷ [], (last_read bytes given, tt))
+
+  -- the job that it leads to
+  pub last_prepared : (bytes : List ℕ) (job : Job) (output : RunOutput) → Gave rest name (limit_of role) bytes → after p (Bytes bytes ∷ []) ≡ Does job → HasOutput job output
+      → (results : List ReadResult) × (HasRead (files_and names role name) desk results × ((done : Job) × ((plan_step results after ≡ Does done) × HasOutput done output)))
+  last_prepared bytes job output given leads has = (planned.results ++ Bytes bytes ∷ [], (last_read bytes given, (job, (planned.step (Bytes bytes ∷ []) after ∙ leads, has))))
+
 -- ---- the journal
 
 module _ (names : Names) (journal : List ℕ) (wanted : RunReport) (desk first rest : DeskChange) (p : Plan) (planned : IsPlanned (plan_files names) first p)
     (read : AreReadResults desk.contents (plan_files names) planned.results) (is_rest : IsRestOf desk rest planned.results) where
-  files : List NamedFile
-  files = plan_files names ++ (Journal, journal) ∷ []
-
-  without_journal : AreReadResults desk.contents files planned.results
-  unfolding files
-  without_journal = read_less desk.contents (plan_files names) ((Journal, journal) ∷ []) planned.results read
-
-  with_journal : (g : ReadResult) → Agrees (desk.contents journal) (limit_of Journal) g → AreReadResults desk.contents files (planned.results ++ g ∷ [])
-  unfolding files
-  with_journal g agrees = read_on desk.contents (plan_files names) ((Journal, journal) ∷ []) planned.results (g ∷ []) read planned.all (agrees, tt)
-
-  has_read : (bytes : List ℕ) → Gave rest journal (limit_of Journal) bytes → HasRead files desk (planned.results ++ Bytes bytes ∷ [])
-  has_read bytes given = read_one_more files desk rest planned.results is_rest journal (limit_of Journal) bytes given
-      (with_journal (Bytes bytes) (whole_earlier files desk rest planned.results is_rest journal (limit_of Journal) bytes given))
-
-  -- where the file of the journal was not read
-  unread : (status : Status) → Refuses Journal journal rest status → Prevented (Replay names journal wanted) desk status
-  unfolding files
-  unread OutOfMemory r = (planned.results, (read_no_more files desk rest planned.results is_rest without_journal r, tt))
-  unread (DeskFault role) r = (
-    planned.results,
-    (
-      read_no_more files desk rest planned.results is_rest without_journal r.1.0,
-      (
-        step_at (plan_files names) first p planned (at_journal wanted) ∙ ap Wants (sym r.0),
-        record {
-          name = journal;
-          is_named = subst (λ role. In (role, journal) (plan_files names ++ (Journal, journal) ∷ [])) (sym r.0) (inr (inr (inr (inl refl))));
-          failed = failed_earlier files desk rest planned.results is_rest journal r.1.1;
-        },
-      ),
-    ),
-  )
-  unread (OverLimit file line what most) r = (
-    planned.results ++ TooLong ∷ [],
-    (
-      read_too_long files desk rest planned.results is_rest (with_journal TooLong (longer_earlier files desk rest planned.results is_rest journal (limit_of Journal) r.1.1)) r.1.0,
-      planned.step (TooLong ∷ []) (at_journal wanted) ∙ ap Answers (sym r.0),
-    ),
-  )
-  unread Done r = absurd r
-  unread (BadWords fault) r = absurd r
-  unread (BadInput file line reason) r = absurd r
-  unread (SinkFault target) r = absurd r
-  unread (BadJournal i) r = absurd r
-  unread (Unfinished e) r = absurd r
-  unread (BadFrames at reason) r = absurd r
-
   -- where the journal was not read
   pub journal_stops : (status : Status) → HasNoJournal rest journal status → Prevented (Replay names journal wanted) desk status
-  unfolding files
-  journal_stops status (inl r) = unread status r
-  journal_stops status (inr r) = subst (Prevented (Replay names journal wanted) desk) (sym r.0) (planned.results ++ Bytes r.1.0 ∷ [], (has_read r.1.0 r.1.1, tt))
+  journal_stops status (inl r) = last_unread names Journal journal (at_journal wanted) (λ p. refl) (λ p. refl) desk first rest p planned read is_rest status r
+  journal_stops status (inr r) = subst (Prevented (Replay names journal wanted) desk) (sym r.0)
+      (last_no_memory names Journal journal (at_journal wanted) (λ p. refl) (λ p. refl) desk first rest p planned read is_rest r.1.0 r.1.1)
 
   module _ (events_read : ReadJournal) (has : HasJournal rest journal p events_read) where
-    -- where the journal leads
-    at_read : next_step (Replay names journal wanted) (planned.results ++ Bytes has.0 ∷ []) ≡ replay_step p wanted events_read
-    at_read = planned.step (Bytes has.0 ∷ []) (at_journal wanted) ∙ ap (replay_step p wanted) has.1.1
-
     pub replay_prepared : (events : List Event) (output : RunOutput) → replay_step p wanted events_read ≡ Does (ReplayJob p events wanted) → HasOutput (ReplayJob p events wanted) output → Prepared (Replay names journal wanted) desk output
-    unfolding files
-    replay_prepared events output leads is = (planned.results ++ Bytes has.0 ∷ [], (has_read has.0 has.1.0, (ReplayJob p events wanted, (at_read ∙ leads, is))))
+    replay_prepared events output leads is =
+        last_prepared names Journal journal (at_journal wanted) (λ p. refl) (λ p. refl) desk first rest p planned read is_rest has.0 (ReplayJob p events wanted) output has.1.0 (ap (replay_step p wanted) has.1.1 ∙ leads) is
 
     -- why it is not replayed to its end
     pub replay_refused : (status : Status) → IsJobRefusal (replay_step p wanted events_read) status → Prevented (Replay names journal wanted) desk status
-    unfolding files
-    replay_refused OutOfMemory r = (planned.results ++ Bytes has.0 ∷ [], (has_read has.0 has.1.0, tt))
-    replay_refused (BadJournal i) r = (planned.results ++ Bytes has.0 ∷ [], (has_read has.0 has.1.0, at_read ∙ r))
+    replay_refused OutOfMemory r = last_no_memory names Journal journal (at_journal wanted) (λ p. refl) (λ p. refl) desk first rest p planned read is_rest has.0 has.1.0
+    replay_refused (BadJournal i) r = (
+      planned.results ++ Bytes has.0 ∷ [],
+      (
+        last_read names Journal journal (at_journal wanted) (λ p. refl) (λ p. refl) desk first rest p planned read is_rest has.0 has.1.0,
+        planned.step (Bytes has.0 ∷ []) (at_journal wanted) ∙ ap (replay_step p wanted) has.1.1 ∙ r,
+      ),
+    )
     replay_refused (OverLimit file line what most) r = absurd r
     replay_refused (DeskFault role) r = absurd r
     replay_refused (BadInput file line reason) r = absurd r
@@ -157,6 +167,23 @@ module _ (names : Names) (journal : List ℕ) (wanted : RunReport) (desk first r
     replay_refused (SinkFault target) r = absurd r
     replay_refused (Unfinished e) r = absurd r
     replay_refused (BadFrames at reason) r = absurd r
+
+-- ---- the numbers of the ranks
+
+module _ (names : Names) (seed : ℕ) (wanted : AskedSums) (desk first rest : DeskChange) (p : Plan) (planned : IsPlanned (plan_files names) first p)
+    (read : AreReadResults desk.contents (plan_files names) planned.results) (is_rest : IsRestOf desk rest planned.results) where
+  -- where they were not read, or have an error
+  pub values_stop : (status : Status) → StopsAt (values_of p) Values wanted.values rest status → Prevented (Sums names seed wanted) desk status
+  values_stop status r =
+      last_refused names Values wanted.values (at_values seed wanted) (λ p. refl) (λ p. refl) desk first rest p planned read is_rest (values_of p) (λ bytes e is. ap (by_values p seed wanted) is) status r
+
+  module _ (v : Numbers) (has : Tells rest wanted.values (limit_of Values) (values_of p) v) where
+    pub sums_prepared : (output : RunOutput) → HasOutput (SumsJob p v seed wanted.fold wanted.form) output → Prepared (Sums names seed wanted) desk output
+    sums_prepared output is =
+        last_prepared names Values wanted.values (at_values seed wanted) (λ p. refl) (λ p. refl) desk first rest p planned read is_rest has.0 (SumsJob p v seed wanted.fold wanted.form) output has.1.0 (ap (by_values p seed wanted) has.1.1) is
+
+    pub sums_no_memory : Prevented (Sums names seed wanted) desk OutOfMemory
+    sums_no_memory = last_no_memory names Values wanted.values (at_values seed wanted) (λ p. refl) (λ p. refl) desk first rest p planned read is_rest has.0 has.1.0
 
 -- ---- the capture
 

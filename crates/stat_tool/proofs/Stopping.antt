@@ -93,16 +93,19 @@ error_prevents files desk next role (Bad line reason) is = is
 error_prevents files desk next role (Over line what most) is = is
 error_prevents files desk next role NoMemory is = tt
 
+-- what the files gave is why the call stops, by each of these ways from what was read to a step
+abbrev pub IsStoppedBy : {I : Type 0} → (I → List ReadResult → Step) → List NamedFile → DeskChange → Status → Type 0
+IsStoppedBy {I} step files desk status = (results : List ReadResult) × (HasRead files desk results × ((after : I) → Prevents files desk (step after results) status))
+
 -- the call stops at a file whose text was not read, where all files before it were read
-module _ {A : Type 0} (files : List NamedFile) (desk rest : DeskChange) (role : FileRole) (name : List ℕ) (read : List ℕ → Result A TextError) (before : List ReadResult)
+module _ {I : Type 0} (step : I → List ReadResult → Step) (files : List NamedFile) (desk rest : DeskChange) (role : FileRole) (name : List ℕ) (before : List ReadResult)
     (is_rest : IsRestOf desk rest before)
-    (wants : (after : AfterPlan) → plan_step before after ≡ Wants role)
-    (long : (after : AfterPlan) → plan_step (before ++ TooLong ∷ []) after ≡ Answers (too_long role))
-    (bad : (bytes : List ℕ) (e : TextError) → read bytes ≡ Err e → (after : AfterPlan) → plan_step (before ++ Bytes bytes ∷ []) after ≡ Answers (refusal_of role e))
+    (wants : (after : I) → step after before ≡ Wants role)
+    (long : (after : I) → step after (before ++ TooLong ∷ []) ≡ Answers (too_long role))
     (listed : In (role, name) files)
     (earlier : AreReadResults desk.contents files before)
     (more : (g : ReadResult) → Agrees (desk.contents name) (limit_of role) g → AreReadResults desk.contents files (before ++ g ∷ [])) where
-  unread : (status : Status) → Refuses role name rest status → IsStopped files desk status
+  pub unread : (status : Status) → Refuses role name rest status → IsStoppedBy step files desk status
   unread OutOfMemory r = (before, (read_no_more files desk rest before is_rest earlier r, λ after. tt))
   unread (DeskFault at) r = (
     before,
@@ -129,17 +132,23 @@ module _ {A : Type 0} (files : List NamedFile) (desk rest : DeskChange) (role : 
   unread (Unfinished e) r = absurd r
   unread (BadFrames at reason) r = absurd r
 
-  one_more : (bytes : List ℕ) → Gave rest name (limit_of role) bytes → HasRead files desk (before ++ Bytes bytes ∷ [])
+  pub one_more : (bytes : List ℕ) → Gave rest name (limit_of role) bytes → HasRead files desk (before ++ Bytes bytes ∷ [])
   one_more bytes given = read_one_more files desk rest before is_rest name (limit_of role) bytes given (more (Bytes bytes) (whole_earlier files desk rest before is_rest name (limit_of role) bytes given))
 
-  refused : (status : Status) (bytes : List ℕ) → Gave rest name (limit_of role) bytes → IsBadText read role bytes status → IsStopped files desk status
-  refused status bytes given (inl is) = subst (IsStopped files desk) (sym is) (before ++ Bytes bytes ∷ [], (one_more bytes given, λ after. tt))
-  refused status bytes given (inr e) = subst (IsStopped files desk) e.1.1
-      (before ++ Bytes bytes ∷ [], (one_more bytes given, λ after. error_prevents files desk (plan_step (before ++ Bytes bytes ∷ []) after) role e.0 (bad bytes e.0 e.1.0 after)))
+  module _ {A : Type 0} (read : List ℕ → Result A TextError)
+      (bad : (bytes : List ℕ) (e : TextError) → read bytes ≡ Err e → (after : I) → step after (before ++ Bytes bytes ∷ []) ≡ Answers (refusal_of role e)) where
+    refused : (status : Status) (bytes : List ℕ) → Gave rest name (limit_of role) bytes → IsBadText read role bytes status → IsStoppedBy step files desk status
+    refused status bytes given (inl is) = subst (IsStoppedBy step files desk) (sym is) (before ++ Bytes bytes ∷ [], (one_more bytes given, λ after. tt))
+    refused status bytes given (inr e) = subst (IsStoppedBy step files desk) e.1.1
+        (before ++ Bytes bytes ∷ [], (one_more bytes given, λ after. error_prevents files desk (step after (before ++ Bytes bytes ∷ [])) role e.0 (bad bytes e.0 e.1.0 after)))
 
-  pub stops : (status : Status) → StopsAt read role name rest status → IsStopped files desk status
-  stops status (inl r) = unread status r
-  stops status (inr r) = refused status r.0 r.1.0 r.1.1
+    pub stops : (status : Status) → StopsAt read role name rest status → IsStoppedBy step files desk status
+    stops status (inl r) = unread status r
+    stops status (inr r) = refused status r.0 r.1.0 r.1.1
+
+-- the ways to go on behind the files of a plan
+abbrev by_plan : AfterPlan → List ReadResult → Step
+by_plan after results = plan_step results after
 
 -- ---- the three files
 
@@ -163,7 +172,8 @@ gave_three old one two new a b c first second third =
 -- where the topology was not read
 pub stops_topology : (names : Names) (desk : DeskChange) (status : Status) → StopsAt topology_of Topology names.topology desk status → IsStopped (plan_files names) desk status
 stops_topology names desk status r =
-    stops (plan_files names) desk desk Topology names.topology topology_of [] (whole_change desk) (λ after. refl) (λ after. refl) (λ bytes e is after. ap (λ o. by_topology o [] after) is) (inl refl) tt (λ g agrees. (agrees, tt)) status r
+    stops by_plan (plan_files names) desk desk Topology names.topology [] (whole_change desk) (λ after. refl) (λ after. refl) (inl refl) tt (λ g agrees. (agrees, tt))
+    topology_of (λ bytes e is after. ap (λ o. by_topology o [] after) is) status r
 
 module _ (names : Names) (desk : DeskChange) (t : Nodes) (topology : HasText (desk.contents names.topology) (limit_of Topology) topology_of t) where
   -- the steps from the samples on
@@ -173,8 +183,8 @@ module _ (names : Names) (desk : DeskChange) (t : Nodes) (topology : HasText (de
   -- where the samples were not read
   pub stops_samples : (rest : DeskChange) → IsRestOf desk rest (Bytes topology.0 ∷ []) → (status : Status) → StopsAt (samples_of_text t) Samples names.samples rest status → IsStopped (plan_files names) desk status
   stops_samples rest is_rest status r =
-      stops (plan_files names) desk rest Samples names.samples (samples_of_text t) (Bytes topology.0 ∷ []) is_rest (with_nodes []) (with_nodes (TooLong ∷ []))
-      (λ bytes e is after. with_nodes (Bytes bytes ∷ []) after ∙ ap (λ o. by_samples t o [] after) is) (inr (inl refl)) (topology.1.0, tt) (λ g agrees. (topology.1.0, (agrees, tt))) status r
+      stops by_plan (plan_files names) desk rest Samples names.samples (Bytes topology.0 ∷ []) is_rest (with_nodes []) (with_nodes (TooLong ∷ [])) (inr (inl refl)) (topology.1.0, tt) (λ g agrees. (topology.1.0, (agrees, tt)))
+      (samples_of_text t) (λ bytes e is after. with_nodes (Bytes bytes ∷ []) after ∙ ap (λ o. by_samples t o [] after) is) status r
 
   module _ (s : Sampled) (samples : HasText (desk.contents names.samples) (limit_of Samples) (samples_of_text t) s) where
     -- the steps from the script on
@@ -184,8 +194,8 @@ module _ (names : Names) (desk : DeskChange) (t : Nodes) (topology : HasText (de
     -- where the script was not read
     pub stops_script : (rest : DeskChange) → IsRestOf desk rest (Bytes topology.0 ∷ Bytes samples.0 ∷ []) → (status : Status) → StopsAt (script_of t) Script names.script rest status → IsStopped (plan_files names) desk status
     stops_script rest is_rest status r =
-        stops (plan_files names) desk rest Script names.script (script_of t) (Bytes topology.0 ∷ Bytes samples.0 ∷ []) is_rest (with_samples []) (with_samples (TooLong ∷ []))
-        (λ bytes e is after. with_samples (Bytes bytes ∷ []) after ∙ ap (λ o. by_script t s o [] after) is) (inr (inr (inl refl))) (topology.1.0, (samples.1.0, tt)) (λ g agrees. (topology.1.0, (samples.1.0, (agrees, tt)))) status r
+        stops by_plan (plan_files names) desk rest Script names.script (Bytes topology.0 ∷ Bytes samples.0 ∷ []) is_rest (with_samples []) (with_samples (TooLong ∷ [])) (inr (inr (inl refl))) (topology.1.0, (samples.1.0, tt)) (λ g agrees. (topology.1.0, (samples.1.0, (agrees, tt))))
+        (script_of t) (λ bytes e is after. with_samples (Bytes bytes ∷ []) after ∙ ap (λ o. by_script t s o [] after) is) status r
 
     module _ (c : Scripted) (script : HasText (desk.contents names.script) (limit_of Script) (script_of t) c) (gave : desk.gave_now ≡ desk.gave_before ++ topology.0 ∷ samples.0 ∷ script.0 ∷ []) where
       -- what the three files gave

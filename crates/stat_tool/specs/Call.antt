@@ -15,7 +15,7 @@ use Rattle.journal_text.specs.Reading.{ReadJournal, journal_of}
 use Rattle.stat_words.specs.Words.{Asked, Run, Sim, Cast, asked}
 use Rattle.stat_words.specs.declared.words.WordFault.{WordFault}
 use Rattle.stat_tool.specs.Files.{NamedFile, files_of, limit_of}
-use Rattle.stat_tool.specs.Jobs.{Job, RunJob, SimJob, ReplayJob, DirectJob, GenJob, CastJob, ViewJob, CaptureJob, RunOutput}
+use Rattle.stat_tool.specs.Jobs.{Job, RunJob, SimJob, ReplayJob, DirectJob, GenJob, CastJob, SumsJob, ViewJob, CaptureJob, RunOutput}
 use Rattle.stat_tool.specs.NextStep.{AfterPlan, Answers, Bytes, Does, AreReadResults, ReadResult, Step, TooLong, Wants, bytes_of, next_step, plan_step, too_long}
 use Rattle.stat_tool.specs.Outputs.{HasOutput}
 use Rattle.stat_tool.specs.Status.{refusal_of}
@@ -184,6 +184,7 @@ answer_of_job (ReplayJob p events wanted) = end_of (slice_get (enabled_events p 
 answer_of_job (DirectJob p form) = Done
 answer_of_job (GenJob size seed) = Done
 answer_of_job (CastJob p seed commands) = Done
+answer_of_job (SumsJob p v seed f form) = Done
 answer_of_job (ViewJob p seed wanted) = Done
 answer_of_job (CaptureJob bytes) = Done
 

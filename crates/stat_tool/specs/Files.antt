@@ -1,9 +1,9 @@
 -- The files that a call reads.
 use Rattle.std.specs.Prelude.{ℕ, List, [], ◌∷◌, ◌++◌, map}
 use Rattle.stat_words.specs.Words.{Asked, Names}
-use Rattle.stat_words.specs.Words.{Run, Sim, Replay, Direct, Gen, Cast, View, Frames}
+use Rattle.stat_words.specs.Words.{Run, Sim, Replay, Direct, Gen, Cast, Sums, View, Frames}
 use Rattle.stat_tool.specs.declared.status.FileRole.{FileRole}
-use Rattle.stat_tool.specs.declared.status.FileRole.TheVariants.{Topology, Samples, Script, Journal, Capture}
+use Rattle.stat_tool.specs.declared.status.FileRole.TheVariants.{Topology, Samples, Script, Journal, Capture, Values}
 
 -- what a file says, and its name
 abbrev pub NamedFile : Type 0
@@ -21,6 +21,7 @@ files_of (Replay names journal wanted) = plan_files names ++ (Journal, journal) 
 files_of (Direct names form) = plan_files names
 files_of (Gen size seed) = []
 files_of (Cast names seed commands) = plan_files names
+files_of (Sums names seed wanted) = plan_files names ++ (Values, wanted.values) ∷ []
 files_of (View names seed wanted) = plan_files names
 files_of (Frames capture) = (Capture, capture) ∷ []
 
@@ -35,3 +36,4 @@ limit_of Samples = 33554432
 limit_of Script = 33554432
 limit_of Journal = 1073741824
 limit_of Capture = 1073741824
+limit_of Values = 33554432

@@ -2,13 +2,16 @@
 use Rattle.std.specs.Prelude.{ℕ, List, Option}
 use Rattle.stat_plan.specs.Plans.{Plan}
 use Rattle.overlay_event.specs.declared.event.Event.{Event}
+use Rattle.value_text.specs.Numbers.{Numbers}
+use Rattle.rank_sums.specs.declared.fold.Fold.{Fold}
 use Rattle.stat_words.specs.Words.{AskedView}
 use Rattle.stat_words.specs.declared.words.ReportForm.{ReportForm}
 use Rattle.stat_words.specs.declared.words.RunReport.{RunReport}
 
 -- A job, with all that its files and words say: a run of a plan, one whose events a seed picks, one by a given journal, the
 -- direct merge of each wave, a generated job of a size and a seed, a number of commands to the nodes of a plan, whose events a
--- seed picks, a view of each release of a run whose events a seed picks, and the printing of a capture's bytes.
+-- seed picks, the fold of the ranks' numbers and a view, at each release of a run whose events a seed picks, and the printing of
+-- a capture's bytes.
 pub data Job : Type 0 where
   RunJob : Plan → RunReport → Job
   SimJob : Plan → ℕ → RunReport → Job
@@ -16,6 +19,7 @@ pub data Job : Type 0 where
   DirectJob : Plan → ReportForm → Job
   GenJob : ℕ → ℕ → Job
   CastJob : Plan → ℕ → ℕ → Job
+  SumsJob : Plan → Numbers → ℕ → Fold → ReportForm → Job
   ViewJob : Plan → ℕ → AskedView → Job
   CaptureJob : List ℕ → Job
 

@@ -16,14 +16,17 @@ use Rattle.journal_text.specs.Reading.{ReadJournal, journal_of}
 use Rattle.packet_frame.specs.Fields.{Refusal}
 use Rattle.packet_frame.specs.Frame.{Message}
 use Rattle.capture_text.specs.Captures.{capture_of}
-use Rattle.stat_words.specs.Words.{Asked}
-use Rattle.stat_words.specs.Words.{Run, Sim, Replay, Direct, Gen, Cast, View, Frames}
+use Rattle.value_text.specs.Numbers.{Numbers}
+use Rattle.value_text.specs.Steps.{values_of_text}
+use Rattle.stat_plan.specs.Samples.{all_ranks}
+use Rattle.stat_words.specs.Words.{Asked, AskedSums}
+use Rattle.stat_words.specs.Words.{Run, Sim, Replay, Direct, Gen, Cast, Sums, View, Frames}
 use Rattle.stat_words.specs.declared.words.RunReport.{RunReport}
 use Rattle.stat_tool.specs.Files.{NamedFile, limit_of}
-use Rattle.stat_tool.specs.Jobs.{Job, RunJob, SimJob, ReplayJob, DirectJob, GenJob, CastJob, ViewJob, CaptureJob}
+use Rattle.stat_tool.specs.Jobs.{Job, RunJob, SimJob, ReplayJob, DirectJob, GenJob, CastJob, SumsJob, ViewJob, CaptureJob}
 use Rattle.stat_tool.specs.Status.{refusal_of}
 use Rattle.stat_tool.specs.declared.status.FileRole.{FileRole}
-use Rattle.stat_tool.specs.declared.status.FileRole.TheVariants.{Topology, Samples, Script, Journal, Capture}
+use Rattle.stat_tool.specs.declared.status.FileRole.TheVariants.{Topology, Samples, Script, Journal, Capture, Values}
 use Rattle.stat_tool.specs.declared.status.Status.{Status}
 use Rattle.stat_tool.specs.declared.status.Status.TheVariants.{OverLimit, BadJournal, BadFrames}
 
@@ -114,6 +117,22 @@ at_journal wanted p [] = Wants Journal
 at_journal wanted p (TooLong ∷ rest) = Answers (too_long Journal)
 at_journal wanted p (Bytes journal ∷ rest) = replay_step p wanted (journal_of p journal)
 
+-- ---- the numbers of the ranks
+
+-- what a values text says of the ranks of a plan, or its first error
+abbrev pub values_of : Plan → List ℕ → Result Numbers TextError
+values_of p text = values_of_text (all_ranks p.placed) text
+
+-- by what the numbers were read as
+abbrev pub by_values : Plan → ℕ → AskedSums → Result Numbers TextError → Step
+by_values p seed wanted (Err e) = Answers (refusal_of Values e)
+by_values p seed wanted (Ok v) = Does (SumsJob p v seed wanted.fold wanted.form)
+
+abbrev pub at_values : ℕ → AskedSums → AfterPlan
+at_values seed wanted p [] = Wants Values
+at_values seed wanted p (TooLong ∷ rest) = Answers (too_long Values)
+at_values seed wanted p (Bytes text ∷ rest) = by_values p seed wanted (values_of p text)
+
 -- ---- the capture
 
 -- the bytes are printed, where they are frames to the last byte
@@ -136,6 +155,7 @@ next_step (Replay names journal wanted) results = plan_step results (at_journal 
 next_step (Direct names form) results = plan_step results (λ p rest. Does (DirectJob p form))
 next_step (Gen size seed) results = Does (GenJob size seed)
 next_step (Cast names seed commands) results = plan_step results (λ p rest. Does (CastJob p seed commands))
+next_step (Sums names seed wanted) results = plan_step results (at_values seed wanted)
 next_step (View names seed wanted) results = plan_step results (λ p rest. Does (ViewJob p seed wanted))
 next_step (Frames capture) results = at_capture results
 

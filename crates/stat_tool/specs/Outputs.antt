@@ -19,12 +19,14 @@ use Rattle.control_cast.specs.Picked as cast_pick
 use Rattle.cast_text.specs.CastText as cast_text
 use Rattle.generated_job.specs.Job.{job_plan}
 use Rattle.generated_job.specs.Summary.{summary_of}
+use Rattle.value_text.specs.Numbers.{Numbers}
+use Rattle.rank_sums.specs.declared.fold.Fold.{Fold}
 use Rattle.stat_words.specs.Words.{AskedView}
 use Rattle.stat_words.specs.declared.words.ReportForm.{ReportForm}
 use Rattle.stat_words.specs.declared.words.RunReport.{RunReport}
-use Rattle.stat_tool.specs.Jobs.{Job, RunJob, SimJob, ReplayJob, DirectJob, GenJob, CastJob, ViewJob, CaptureJob, RunOutput}
+use Rattle.stat_tool.specs.Jobs.{Job, RunJob, SimJob, ReplayJob, DirectJob, GenJob, CastJob, SumsJob, ViewJob, CaptureJob, RunOutput}
 use Rattle.stat_tool.specs.NextStep.{Does, replay_step}
-use Rattle.stat_tool.specs.Reports.{EndsWaves, IsDirectIn, IsReportIn, IsViewOf, IsWrittenOf}
+use Rattle.stat_tool.specs.Reports.{EndsWaves, IsDirectIn, IsReportIn, IsSumsOf, IsViewOf, IsWrittenOf}
 
 -- A given journal, done event by event: what is wanted of it, and the first event that may still come. No journal is written.
 -- Where nothing may come, each wave has ended.
@@ -88,6 +90,16 @@ pub record HasCast (p : Plan) (seed commands : ℕ) (output : RunOutput) : Type 
   pub finished : output.unfinished ≡ None
   pub journal : output.journal ≡ []
 
+-- The fold of the ranks' numbers at each release of a run whose events a seed picks. Each wave has ended; the journal is returned
+-- and not written.
+pub record HasSums (p : Plan) (v : Numbers) (seed : ℕ) (f : Fold) (form : ReportForm) (output : RunOutput) : Type 0 where
+  pub plan : IsPlan p
+  pub journal : output.journal ≡ picked p seed
+  pub report : IsSumsOf p v f form output.journal output.report
+  pub ended : EndsWaves p output.journal
+  pub finished : output.unfinished ≡ None
+  pub unwritten : output.journal_text ≡ []
+
 -- A view of each release of a run whose events a seed picks. Each wave has ended; the journal is returned and not written.
 pub record HasView (p : Plan) (seed : ℕ) (wanted : AskedView) (output : RunOutput) : Type 0 where
   pub plan : IsPlan p
@@ -114,6 +126,7 @@ HasOutput (ReplayJob p events wanted) output = IsReplay p events wanted output
 HasOutput (DirectJob p form) output = HasDirect p form output
 HasOutput (GenJob size seed) output = HasSummary size seed output
 HasOutput (CastJob p seed commands) output = HasCast p seed commands output
+HasOutput (SumsJob p v seed f form) output = HasSums p v seed f form output
 HasOutput (ViewJob p seed wanted) output = HasView p seed wanted output
 HasOutput (CaptureJob bytes) output = HasCapture bytes output
 

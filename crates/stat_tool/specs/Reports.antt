@@ -1,6 +1,7 @@
 -- What a report says: the releases of a journal, and how each wave ends.
-use Rattle.std.specs.Prelude.{◌≡◌, ◌≢◌, ⊤, ℕ, List, [], ◌∷◌, ◌++◌, Some}
+use Rattle.std.specs.Prelude.{◌≡◌, ◌≢◌, ⊤, ℕ, List, [], ◌∷◌, ◌++◌, Option, Some}
 use Rattle.std.specs.List.{AllByRecursion}
+use Rattle.std.proofs.Math.IntN.{ℤ}
 use Rattle.rank_set.specs.Ranks.{Ranks, none, IsSubset}
 use Rattle.overlay_setup.specs.NodeSets.{In}
 use Rattle.overlay_setup.specs.declared.script.Fault.{Fault}
@@ -17,11 +18,16 @@ use Rattle.overlay_core.specs.Runs.{IsLegal, IsWhole, after}
 use Rattle.overlay_core.specs.TreeReleases.{AreNumberedInOrder, TreeRelease, bare_releases}
 use Rattle.overlay_core.specs.Whole.{EndsFinally, HasOneRelease, LosesNoDaemon}
 use Rattle.call_path.specs.Pairs.{Pairs}
+use Rattle.value_text.specs.Numbers.{Numbers}
+use Rattle.rank_sums.specs.Folds.{fold_of}
+use Rattle.rank_sums.specs.declared.fold.Fold.{Fold}
 use Rattle.tree_view.specs.Reading.{view_of}
 use Rattle.tree_view.specs.Views.{TreeView}
 use Rattle.front_end.specs.JsonReport.{IsJsonReport}
+use Rattle.front_end.specs.JsonSumsReport.{IsJsonSumsReport}
 use Rattle.front_end.specs.JsonViewReport.{IsJsonViewReport}
 use Rattle.front_end.specs.Report.{IsDirect, IsReport, direct_releases}
+use Rattle.front_end.specs.SumsReport.{IsSumsReport}
 use Rattle.front_end.specs.ViewReport.{IsViewReport, wave_samples}
 use Rattle.frame_log.specs.FrameLog.{frame_log}
 use Rattle.stat_words.specs.Words.{AskedView}
@@ -57,18 +63,22 @@ abbrev pub IsReportIn : ReportForm → Plan → List Fault → List TreeRelease 
 IsReportIn Text = IsReport
 IsReportIn Json = IsJsonReport
 
--- These are the releases after a journal.
-pub record AreReleased (p : Plan) (journal : List Event) (releases : List TreeRelease) : Type 0 where
+-- These are the releases after a journal, whatever their trees are.
+pub record AreAfter (p : Plan) (journal : List Event) (releases : List TreeRelease) : Type 0 where
   -- they are those of the machine after this journal, with their numbers within their waves: 1, 2, 3 and so on
   pub legal : IsLegal p journal
   pub reached : bare_releases releases ≡ (after p journal).releases
   pub numbered : AreNumberedInOrder [] releases
   -- each is of a wave of the plan, and covers all ranks of some daemons of its stream and no others
   pub sound : (r : Release) → In r (bare_releases releases) → ReleaseIsSound p r
-  -- each tree and its classes are the direct merge of the wave's samples over exactly the ranks that it covers
-  pub direct : AllByRecursion (IsDirect p) releases
   -- the coverages of a wave grow, and a partial release covers more than the one before, or something if it is the first
   pub grow : (s w : ℕ) → CoveragesGrow none (of_wave s w (bare_releases releases))
+
+-- These are the releases after a journal, each with the tree of what its ranks were seen in.
+pub record AreReleased (p : Plan) (journal : List Event) (releases : List TreeRelease) : Type 0 where
+  pub bare : AreAfter p journal releases
+  -- each tree and its classes are the direct merge of the wave's samples over exactly the ranks that it covers
+  pub direct : AllByRecursion (IsDirect p) releases
 
 -- The text, in this form, is the report of a journal: of exactly the releases after it, and of what came of each fault.
 pub record IsReportOf (p : Plan) (form : ReportForm) (journal : List Event) (report : List ℕ) : Type 0 where
@@ -96,6 +106,18 @@ pub record IsViewOf (p : Plan) (wanted : AskedView) (journal : List Event) (repo
   pub releases : List TreeRelease
   pub released : AreReleased p journal releases
   pub text : IsViewReportIn wanted.form view wanted.argument (wave_samples p) releases report
+
+-- the text, in this form, is the report of sums of exactly these releases, where each has this value
+abbrev pub IsSumsReportIn : ReportForm → Fold → (TreeRelease → Option ℤ) → List TreeRelease → List ℕ → Type 0
+IsSumsReportIn Text = IsSumsReport
+IsSumsReportIn Json = IsJsonSumsReport
+
+-- The text, in this form, is the report of sums after a journal: of exactly the releases after it, and the value of each is the
+-- fold of the numbers of exactly those ranks that it covers and that have one.
+pub record IsSumsOf (p : Plan) (v : Numbers) (f : Fold) (form : ReportForm) (journal : List Event) (report : List ℕ) : Type 0 where
+  pub releases : List TreeRelease
+  pub released : AreAfter p journal releases
+  pub text : IsSumsReportIn form f (λ r. fold_of f v r.tree.coverage) releases report
 
 -- The frames that the events of a journal receive, one after another.
 pub record IsLogOf (p : Plan) (journal : List Event) (log : List ℕ) : Type 0 where

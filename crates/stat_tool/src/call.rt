@@ -9,7 +9,7 @@ ghost use Rattle.stat_tool.specs.Views.{output_view};
 
 use crate::modes::{
     prepare_cast, prepare_direct, prepare_frames, prepare_gen, prepare_replay, prepare_run,
-    prepare_sim, prepare_view,
+    prepare_sim, prepare_sums, prepare_view,
 };
 use crate::output::Output;
 use crate::status::{Outcome, Status, Target};
@@ -26,8 +26,8 @@ use std::thread::Threads;
 /// overlay keeps its trees. A run's events are done by as many threads of `rt` as its words say, and each passes the
 /// gate; no other mode makes a thread or passes the gate.
 ///
-/// The files are read each once, in the order topology, samples, script, journal, and each is tested before the next is
-/// read; a capture is read alone. The report and the journal's text are built whole before their first byte is written.
+/// The files are read each once, in the order topology, samples, script, journal or values, and each is tested before the
+/// next is read; a capture is read alone. The report and the journal's text are built whole before their first byte is written.
 /// What else was made for them stays allocated, for the system to take back when the program ends.
 ///
 /// `answered` has the headline: where the status is Done, the files lead to a job, and the journal and the report are
@@ -153,6 +153,11 @@ fn prepare<R: Threads + Wait + Sync, T: PrefixTree, D: Desk, G: Gate>(
             seed,
             commands,
         } => prepare_cast::<D>(alloc, files, seed, commands, desk),
+        Command::Sums {
+            files,
+            seed,
+            report,
+        } => prepare_sums::<T, D>(alloc, files, seed, report, desk),
         Command::View {
             files,
             seed,

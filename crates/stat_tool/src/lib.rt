@@ -9,6 +9,7 @@ mod output;
 mod program;
 mod read;
 mod status;
+mod sums;
 mod view;
 
 pub use call::stat;

@@ -4,7 +4,7 @@ ghost use Rattle.tree_view.specs.Reading.{view_of};
 ghost use Rattle.tree_view.specs.Views.{TreeView};
 ghost use Rattle.journal_text.specs.Reading.{read_view};
 ghost use Rattle.stat_words.specs.Words.{names_of};
-ghost use Rattle.stat_words.specs.Words.{Cast, Direct, Frames, Gen, Replay, Run, Sim, View, view_asked};
+ghost use Rattle.stat_words.specs.Words.{Cast, Direct, Frames, Gen, Replay, Run, Sim, Sums, View, sums_asked, view_asked};
 ghost use Rattle.stat_tool.specs.Call.{AreAllRead, AreReadInOrder, HasJournal, HasNoJournal, Prepared, Prevented};
 ghost use Rattle.stat_tool.specs.Call.{desk_change};
 ghost use Rattle.stat_tool.specs.Files.{files_of, names_in};
@@ -15,8 +15,9 @@ use crate::generated::gen_job;
 use crate::output::{
     Output, capture_output, direct_plan, leave, replay_plan, run_output, sim_plan,
 };
-use crate::read::{read_file, read_plan};
+use crate::read::{read_file, read_plan, read_values};
 use crate::status::{FileRole, Status};
+use crate::sums::sums_plan;
 use crate::view::view_plan;
 use journal_text::{JournalRead, read_journal};
 use overlay_event::Gate;
@@ -24,7 +25,7 @@ use overlay_run::run_workers;
 use prefix_tree::PrefixTree;
 use stat_desk::Desk;
 use stat_plan::Plan;
-use stat_words::{Files, ReportForm, RunReport, ViewReport};
+use stat_words::{Files, ReportForm, RunReport, SumsReport, ViewReport};
 use std::alloc::Global;
 use std::sync::Wait;
 use std::thread::Threads;
@@ -227,6 +228,41 @@ pub fn prepare_cast<D: Desk>(
     match cast_plan(alloc, &plan, seed, commands) {
         Ok(output) => {
             leave(plan);
+            Ok(output)
+        }
+        Err(_) => Err(Status::OutOfMemory),
+    }
+}
+
+/// The fold of the ranks' numbers at each release of a run of a plan with the events that a seed picks.
+pub fn prepare_sums<T: PrefixTree, D: Desk>(
+    alloc: Global,
+    files: Files<'_>,
+    seed: u64,
+    sums: SumsReport<'_>,
+    desk: &mut D,
+) -> Result<Output, Status>
+    ensures ok { IfOk result (λ output. Prepared (Sums (names_of files.entry) seed (sums_asked sums.entry))
+        (desk_change D.faults D.last_fault D.gave D.contents desk.old desk.new) (output_view output)) }
+    ensures err { IfErr result (Prevented (Sums (names_of files.entry) seed (sums_asked sums.entry))
+        (desk_change D.faults D.last_fault D.gave D.contents desk.old desk.new)) }
+    ensures reads { AreReadInOrder (D.reads desk.old) (D.reads desk.new)
+        (names_in (files_of (Sums (names_of files.entry) seed (sums_asked sums.entry)))) }
+    ensures all_read { OnOk result (AreAllRead (D.reads desk.old) (D.reads desk.new)
+        (names_in (files_of (Sums (names_of files.entry) seed (sums_asked sums.entry))))) }
+    ensures unwritten { IfOk result (λ output. output.journal_text.items ≡ []) }
+{
+    let plan = match read_plan(alloc, files, desk) {
+        Ok(plan) => plan,
+        Err(status) => return Err(status),
+    };
+    let values = match read_values(alloc, desk, sums.values, &plan) {
+        Ok(values) => values,
+        Err(status) => return Err(status),
+    };
+    match sums_plan::<T>(alloc, plan, &values, seed, sums) {
+        Ok(output) => {
+            leave(values);
             Ok(output)
         }
         Err(_) => Err(Status::OutOfMemory),

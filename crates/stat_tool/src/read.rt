@@ -11,7 +11,7 @@ ghost use Rattle.stat_words.specs.Words.{names_of};
 ghost use Rattle.stat_tool.specs.Call.{AreReadInOrder, FeedsFile, Gave, IsPlanned, IsPlanRefusal, IsStopped};
 ghost use Rattle.stat_tool.specs.Call.{Refuses, StopsAt, Tells, desk_change};
 ghost use Rattle.stat_tool.specs.Files.{limit_of, names_in, plan_files};
-ghost use Rattle.stat_tool.specs.NextStep.{AfterPlan, ReadResult, with_plan};
+ghost use Rattle.stat_tool.specs.NextStep.{AfterPlan, ReadResult, values_of, with_plan};
 ghost use Rattle.stat_tool.specs.Status.{refusal_of};
 
 use crate::status::{FileRole, Status};
@@ -23,13 +23,14 @@ use stat_plan::{Plan, PlanError, Samples};
 use stat_words::Files;
 use std::alloc::Global;
 use text_lines::{Quantity, TextError};
+use value_text::Values;
 
 /// The most bytes of a file.
 fn limit_of(role: FileRole) -> u64
     ensures { result ≡ limit_of role }
 {
     match role {
-        FileRole::Topology | FileRole::Samples | FileRole::Script => 33_554_432,
+        FileRole::Topology | FileRole::Samples | FileRole::Script | FileRole::Values => 33_554_432,
         FileRole::Journal | FileRole::Capture => 1_073_741_824,
     }
 }
@@ -186,6 +187,30 @@ fn read_script<D: Desk>(
     match script_text::read(alloc, bytes.as_slice(), topology) {
         Ok(script) => Ok(script),
         Err(error) => Err(refusal(FileRole::Script, error)),
+    }
+}
+
+/// The numbers of a plan's ranks, from the file of the values.
+pub fn read_values<D: Desk>(
+    alloc: Global,
+    desk: &mut D,
+    name: &str,
+    plan: &Plan,
+) -> Result<Values, Status>
+    ensures ok { IfOk result (λ v. Tells (desk_change D.faults D.last_fault D.gave D.contents desk.old desk.new)
+        name.now (limit_of FileRole.Values) (values_of plan.now) v) }
+    ensures err { IfErr result (StopsAt (values_of plan.now) FileRole.Values name.now
+        (desk_change D.faults D.last_fault D.gave D.contents desk.old desk.new)) }
+    ensures read { OnOk result (D.reads desk.new ≡ D.reads desk.old ++ name.now ∷ []) }
+    ensures reads { AreReadInOrder (D.reads desk.old) (D.reads desk.new) (name.now ∷ []) }
+{
+    let bytes = match read_file(desk, name, FileRole::Values) {
+        Ok(bytes) => bytes,
+        Err(status) => return Err(status),
+    };
+    match value_text::read_values(alloc, bytes.as_slice(), plan) {
+        Ok(values) => Ok(values),
+        Err(error) => Err(refusal(FileRole::Values, error)),
     }
 }
 

@@ -21,6 +21,8 @@ pub enum FileRole {
     Journal,
     /// Frames, one after another.
     Capture,
+    /// Which numbers the ranks have.
+    Values,
 }
 
 /// What is written.
@@ -99,6 +101,7 @@ impl fmt::Display for FileRole {
             FileRole::Script => "script",
             FileRole::Journal => "journal",
             FileRole::Capture => "capture",
+            FileRole::Values => "values",
         })
     }
 }

@@ -3,7 +3,7 @@ use Rattle.std.proofs.Common.{◌≡◌, true, refl}
 use Rattle.clap.specs.Words.{is_simple, is_simple_and_free}
 use Rattle.stat_words.specs.Modes.{command_of}
 use Rattle.stat_words.specs.declared.modes.Mode.{Mode}
-use Rattle.stat_words.specs.declared.modes.Mode.TheVariants.{Run, Sim, Replay, Direct, Gen, Cast, View, Frames}
+use Rattle.stat_words.specs.declared.modes.Mode.TheVariants.{Run, Sim, Replay, Direct, Gen, Cast, Sums, View, Frames}
 
 pub all_are_simple : (mode : Mode) → is_simple (command_of mode) ≡ true
 all_are_simple Run = refl
@@ -12,6 +12,7 @@ all_are_simple Replay = refl
 all_are_simple Direct = refl
 all_are_simple Gen = refl
 all_are_simple Cast = refl
+all_are_simple Sums = refl
 all_are_simple View = refl
 all_are_simple Frames = refl
 
@@ -22,5 +23,6 @@ all_are_free Replay = refl
 all_are_free Direct = refl
 all_are_free Gen = refl
 all_are_free Cast = refl
+all_are_free Sums = refl
 all_are_free View = refl
 all_are_free Frames = refl

@@ -7,11 +7,11 @@ use Rattle.clap.specs.Walk.{is_empty}
 use Rattle.clap.specs.declared.parser.matches.ArgMatches.{ArgMatches}
 use Rattle.clap.specs.declared.builder.action.ArgAction.TheVariants.{Set}
 use Rattle.stat_words.specs.declared.words.Opt.{Opt}
-use Rattle.stat_words.specs.declared.words.Opt.TheVariants.{Topology, Samples, Script, JournalIn, Capture, Workers, Seed, Size, Report, Commands, By, Arg}
+use Rattle.stat_words.specs.declared.words.Opt.TheVariants.{Topology, Samples, Script, JournalIn, Capture, Workers, Seed, Size, Report, Commands, Values, Fold, By, Arg}
 use Rattle.stat_words.specs.declared.words.WordFault.{WordFault}
 use Rattle.stat_words.specs.declared.words.WordFault.TheVariants.{Options}
 use Rattle.stat_words.specs.declared.modes.Mode.{Mode}
-use Rattle.stat_words.specs.declared.modes.Mode.TheVariants.{Run, Sim, Replay, Direct, Gen, Cast, View, Frames}
+use Rattle.stat_words.specs.declared.modes.Mode.TheVariants.{Run, Sim, Replay, Direct, Gen, Cast, Sums, View, Frames}
 
 -- the word of an option, without its two dashes
 abbrev pub word_of : Opt → Text
@@ -25,6 +25,8 @@ word_of Seed = codes "seed"
 word_of Size = codes "size"
 word_of Report = codes "report"
 word_of Commands = codes "commands"
+word_of Values = codes "values"
+word_of Fold = codes "fold"
 word_of By = codes "by"
 word_of Arg = codes "arg"
 
@@ -36,11 +38,12 @@ mode_word Replay = codes "replay"
 mode_word Direct = codes "direct"
 mode_word Gen = codes "gen"
 mode_word Cast = codes "cast"
+mode_word Sums = codes "sums"
 mode_word View = codes "view"
 mode_word Frames = codes "frames"
 
 abbrev pub modes : List Mode
-modes = Run ∷ Sim ∷ Replay ∷ Direct ∷ Gen ∷ Cast ∷ View ∷ Frames ∷ []
+modes = Run ∷ Sim ∷ Replay ∷ Direct ∷ Gen ∷ Cast ∷ Sums ∷ View ∷ Frames ∷ []
 
 -- the mode of a word
 abbrev pub mode_of : Text → Option Mode
@@ -57,15 +60,20 @@ optional option = (option, false)
 abbrev pub file_options : List (Opt × Bool)
 file_options = required Topology ∷ required Samples ∷ required Script ∷ []
 
+-- those, and the options of a run whose events a seed picks
+abbrev pub seed_options : List (Opt × Bool)
+seed_options = file_options ++ optional Seed ∷ optional Report ∷ []
+
 -- the table of the modes: the options of each
 abbrev pub options_of : Mode → List (Opt × Bool)
 options_of Run = file_options ++ optional Workers ∷ optional Report ∷ []
-options_of Sim = file_options ++ optional Seed ∷ optional Report ∷ []
+options_of Sim = seed_options
 options_of Replay = file_options ++ required JournalIn ∷ optional Report ∷ []
 options_of Direct = file_options ++ optional Report ∷ []
 options_of Gen = optional Seed ∷ required Size ∷ []
 options_of Cast = file_options ++ optional Seed ∷ required Commands ∷ []
-options_of View = file_options ++ optional Seed ∷ optional Report ∷ required By ∷ required Arg ∷ []
+options_of Sums = seed_options ++ required Values ∷ required Fold ∷ []
+options_of View = seed_options ++ required By ∷ required Arg ∷ []
 options_of Frames = required Capture ∷ []
 
 -- an option as clap is told of it: `--word`, with one value

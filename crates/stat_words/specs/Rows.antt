@@ -4,11 +4,12 @@ use Rattle.clap.specs.Walk.{bundle_met, walked}
 use Rattle.clap.specs.Faults.{defaults_fault, flags_fault, walk_fault}
 use Rattle.call_path.specs.Reading.{first_error, frames, frame_error}
 use Rattle.stat_words.specs.Values.{file_name, number_of, number_between, report_form, run_report}
-use Rattle.stat_words.specs.Words.{Names, Run, Sim, Replay, Direct, Gen, Cast, View, Frames, asked, form_in, run_report_in, seed_in, workers_in}
+use Rattle.stat_words.specs.Words.{Names, Run, Sim, Replay, Direct, Gen, Cast, Sums, View, Frames, asked, form_in, run_report_in, seed_in, workers_in}
+use Rattle.rank_sums.specs.declared.fold.Fold.TheVariants as fold
 use Rattle.tree_view.specs.declared.reading.ViewBy.TheVariants as by
-use Rattle.stat_words.specs.declared.words.ReportForm.TheVariants.{Text}
+use Rattle.stat_words.specs.declared.words.ReportForm.TheVariants.{Text, Json}
 use Rattle.stat_words.specs.declared.words.RunReport.TheVariants as report
-use Rattle.stat_words.specs.declared.words.Opt.TheVariants.{Capture, Seed, Size, Report, Commands, By, Arg}
+use Rattle.stat_words.specs.declared.words.Opt.TheVariants.{Capture, Seed, Size, Report, Commands, Values, Fold as FoldOption, By, Arg}
 use Rattle.stat_words.specs.declared.words.WordFault.TheVariants.{NoMode, UnknownMode, Options, Value}
 
 -- the defaults, where an option isn't given
@@ -195,6 +196,35 @@ how_many_commands = refl
 seed_before_commands : asked (codes "cast" ∷ codes "--commands=0" ∷ codes "--seed=x" ∷ three_files) ≡ Err (Value Seed)
 unfolding asked walked walk_fault bundle_met flags_fault defaults_fault
 seed_before_commands = refl
+
+-- sums: with a file of numbers and a fold; the name of the file is tested before the fold, and both after the form
+sums : asked (codes "sums" ∷ codes "--fold=min" ∷ codes "--values" ∷ codes "v" ∷ three_files) ≡ Ok (Sums names 0 (record { form = Text; values = codes "v"; fold = fold.Min }))
+unfolding asked walked walk_fault bundle_met flags_fault defaults_fault
+sums = refl
+
+counts : asked (codes "sums" ∷ codes "--fold=count" ∷ codes "--values=v" ∷ codes "--seed=7" ∷ codes "--report=json" ∷ three_files) ≡ Ok (Sums names 7 (record { form = Json; values = codes "v"; fold = fold.Count }))
+unfolding asked walked walk_fault bundle_met flags_fault defaults_fault
+counts = refl
+
+no_such_fold : asked (codes "sums" ∷ codes "--fold=mean" ∷ codes "--values=v" ∷ three_files) ≡ Err (Value FoldOption)
+unfolding asked walked walk_fault bundle_met flags_fault defaults_fault
+no_such_fold = refl
+
+no_name_of_values : asked (codes "sums" ∷ codes "--fold=mean" ∷ codes "--values=" ∷ three_files) ≡ Err (Value Values)
+unfolding asked walked walk_fault bundle_met flags_fault defaults_fault
+no_name_of_values = refl
+
+no_values : asked (codes "sums" ∷ codes "--fold=sum" ∷ three_files) ≡ Err Options
+unfolding asked walked walk_fault bundle_met flags_fault defaults_fault
+no_values = refl
+
+form_before_values : asked (codes "sums" ∷ codes "--fold=sum" ∷ codes "--values=" ∷ codes "--report=frames" ∷ three_files) ≡ Err (Value Report)
+unfolding asked walked walk_fault bundle_met flags_fault defaults_fault
+form_before_values = refl
+
+sums_have_no_workers : asked (codes "sums" ∷ codes "--fold=sum" ∷ codes "--values=v" ∷ codes "--workers=2" ∷ three_files) ≡ Err Options
+unfolding asked walked walk_fault bundle_met flags_fault defaults_fault
+sums_have_no_workers = refl
 
 -- views: each kind with its argument, then the first bad value; the argument is tested last
 view_of_a_frame : asked (codes "view" ∷ codes "--by=frame" ∷ codes "--arg" ∷ codes "MPI_Recv" ∷ three_files) ≡ Ok (View names 0 (record { form = Text; by = by.Frame; argument = codes "MPI_Recv" }))

@@ -7,14 +7,17 @@ use Rattle.stat_words.specs.Values.{file_name, number_between, report_form, run_
 use Rattle.stat_words.specs.declared.words.Command.{Command}
 use Rattle.stat_words.specs.declared.words.Command.TheVariants as command
 use Rattle.stat_words.specs.declared.words.Files.{Files}
-use Rattle.stat_words.specs.declared.words.Opt.TheVariants.{Topology, Samples, Script, JournalIn, Capture, Workers, Seed, Size, Report, Commands, By, Arg}
+use Rattle.stat_words.specs.declared.words.Opt.TheVariants.{Topology, Samples, Script, JournalIn, Capture, Workers, Seed, Size, Report, Commands, Values, Fold as FoldOption, By, Arg}
 use Rattle.stat_words.specs.declared.words.ReportForm.{ReportForm}
 use Rattle.stat_words.specs.declared.words.ReportForm.TheVariants as form
 use Rattle.stat_words.specs.declared.words.RunReport.{RunReport}
 use Rattle.stat_words.specs.declared.words.RunReport.TheVariants as report
+use Rattle.rank_sums.specs.Words.{fold_named}
+use Rattle.rank_sums.specs.declared.fold.Fold.{Fold}
 use Rattle.tree_view.specs.Reading.{view_by, view_of}
 use Rattle.tree_view.specs.Views.{TreeView}
 use Rattle.tree_view.specs.declared.reading.ViewBy.{ViewBy}
+use Rattle.stat_words.specs.declared.words.SumsReport.{SumsReport}
 use Rattle.stat_words.specs.declared.words.ViewReport.{ViewReport}
 use Rattle.stat_words.specs.declared.words.WordFault.{WordFault}
 use Rattle.stat_words.specs.declared.words.WordFault.TheVariants.{NoMode, UnknownMode, Value}
@@ -34,9 +37,15 @@ pub record AskedView : Type 0 where
   pub by : ViewBy
   pub argument : List ℕ
 
+-- what is written of sums: the form of the report, the name of the file of the ranks' numbers, and what is made of them
+pub record AskedSums : Type 0 where
+  pub form : ReportForm
+  pub values : List ℕ
+  pub fold : Fold
+
 -- What the words ask for: a mode, and the values of its options. A run has a number of workers, a simulation a seed, a
--- replay the name of a journal, a generated job its size and a seed, what sends commands a seed and their number, a view
--- a seed and what is written of it, and what prints frames the name of a capture.
+-- replay the name of a journal, a generated job its size and a seed, what sends commands a seed and their number, sums and a
+-- view a seed and what is written of them, and what prints frames the name of a capture.
 pub data Asked : Type 0 where
   Run : Names → ℕ → RunReport → Asked
   Sim : Names → ℕ → RunReport → Asked
@@ -44,6 +53,7 @@ pub data Asked : Type 0 where
   Direct : Names → ReportForm → Asked
   Gen : ℕ → ℕ → Asked
   Cast : Names → ℕ → ℕ → Asked
+  Sums : Names → ℕ → AskedSums → Asked
   View : Names → ℕ → AskedView → Asked
   Frames : List ℕ → Asked
 
@@ -75,6 +85,12 @@ size_in = value_of Size (number_between 1 256)
 abbrev pub commands_in : List Row → Result ℕ WordFault
 commands_in = value_of Commands (number_between 1 1000)
 
+abbrev pub values_in : List Row → Result Text WordFault
+values_in = value_of Values file_name
+
+abbrev pub fold_in : List Row → Result Fold WordFault
+fold_in = value_of FoldOption fold_named
+
 abbrev pub by_in : List Row → Result ViewBy WordFault
 by_in = value_of By view_by
 
@@ -87,6 +103,11 @@ form_in = value_or form.Text Report report_form
 
 abbrev pub run_report_in : List Row → Result RunReport WordFault
 run_report_in = value_or (report.Releases form.Text) Report run_report
+
+abbrev pub sums_report_in : List Row → Result AskedSums WordFault
+sums_report_in rows =
+    and_then (form_in rows) (λ form. and_then (values_in rows) (λ values. and_then (fold_in rows) (λ fold.
+    Ok (record { form = form; values = values; fold = fold }))))
 
 abbrev pub view_report_in : List Row → Result AskedView WordFault
 view_report_in rows =
@@ -116,6 +137,9 @@ asked_in mode.Gen rows =
 asked_in mode.Cast rows =
     and_then (names_in rows) (λ names. and_then (seed_in rows) (λ seed. and_then (commands_in rows) (λ commands.
     Ok (Cast names seed commands))))
+asked_in mode.Sums rows =
+    and_then (names_in rows) (λ names. and_then (seed_in rows) (λ seed. and_then (sums_report_in rows) (λ report.
+    Ok (Sums names seed report))))
 asked_in mode.View rows =
     and_then (names_in rows) (λ names. and_then (seed_in rows) (λ seed. and_then (view_report_in rows) (λ report.
     Ok (View names seed report))))
@@ -146,6 +170,10 @@ asked (word ∷ words) = asked_after (mode_of word) words
 abbrev pub names_of : Files → Names
 names_of files = record { topology = files.topology.now; samples = files.samples.now; script = files.script.now }
 
+-- what is written of sums, without where the file lies
+abbrev pub sums_asked : SumsReport → AskedSums
+sums_asked report = record { form = report.form; values = report.values.now; fold = report.fold }
+
 -- what is written of a view, without where its argument lies
 abbrev pub view_asked : ViewReport → AskedView
 view_asked report = record { form = report.form; by = report.by; argument = report.argument.now }
@@ -158,6 +186,7 @@ asked_of (command.Replay files journal report) = Replay (names_of files) journal
 asked_of (command.Direct files form) = Direct (names_of files) form
 asked_of (command.Gen size seed) = Gen size seed
 asked_of (command.Cast files seed commands) = Cast (names_of files) seed commands
+asked_of (command.Sums files seed report) = Sums (names_of files) seed (sums_asked report)
 asked_of (command.View files seed report) = View (names_of files) seed (view_asked report)
 asked_of (command.Frames capture) = Frames capture.now
 

@@ -8,4 +8,6 @@ mod values;
 mod words;
 
 pub use read::read_words;
-pub use words::{Command, Files, Opt, ReportForm, RunReport, ViewReport, WordFault, WordsError};
+pub use words::{
+    Command, Files, Opt, ReportForm, RunReport, SumsReport, ViewReport, WordFault, WordsError,
+};

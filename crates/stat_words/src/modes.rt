@@ -1,7 +1,7 @@
 //! The modes, and the options that `clap` reads for each.
 ghost use Rattle.std.specs.Prelude.{◌≡◌, IfOk, true, map, string_bytes};
 ghost use Rattle.clap.specs.Words.{app_of, is_simple, is_simple_and_free, with_rule};
-ghost use Rattle.stat_words.specs.Modes.{bare_command as bare_app, command_of as app_of_mode, file_options, given as given_by, has_dashes as has_dashes_in, mode_of as mode_of_word, rows_in, rule_for, taken, with_rules};
+ghost use Rattle.stat_words.specs.Modes.{bare_command as bare_app, command_of as app_of_mode, file_options, given as given_by, has_dashes as has_dashes_in, mode_of as mode_of_word, rows_in, rule_for, seed_options, taken, with_rules};
 ghost use Rattle.stat_words.specs.Outcomes.{IsReadOrOutOfMemory};
 
 use crate::words::{Opt, WordFault, WordsError};
@@ -24,6 +24,8 @@ pub(crate) enum Mode {
     Gen,
     /// Commands down to the daemons.
     Cast,
+    /// What the numbers of the ranks come to, at each release of a run.
+    Sums,
     /// A view of each release of a run.
     View,
     /// The frames of a capture.
@@ -41,6 +43,7 @@ pub(crate) fn mode_of(word: &str) -> Option<Mode>
         "direct" => Some(Mode::Direct),
         "gen" => Some(Mode::Gen),
         "cast" => Some(Mode::Cast),
+        "sums" => Some(Mode::Sums),
         "view" => Some(Mode::View),
         "frames" => Some(Mode::Frames),
         _ => None,
@@ -83,6 +86,15 @@ fn with_files<'a>(alloc: Global) -> Result<Command<'a>, AllocError>
     with_option(alloc, command, Opt::Script, true)
 }
 
+// The command with the options of a run whose events a seed picks.
+fn with_seed<'a>(alloc: Global) -> Result<Command<'a>, AllocError>
+    ensures { IfOk result (λ command. app_of command ≡ with_rules bare_app seed_options) }
+{
+    let command = with_files(alloc)?;
+    let command = with_option(alloc, command, Opt::Seed, false)?;
+    with_option(alloc, command, Opt::Report, false)
+}
+
 // The command of a mode's options.
 fn command_of<'a>(alloc: Global, mode: Mode) -> Result<Command<'a>, AllocError>
     ensures { IfOk result (λ command. app_of command ≡ app_of_mode mode) }
@@ -93,11 +105,7 @@ fn command_of<'a>(alloc: Global, mode: Mode) -> Result<Command<'a>, AllocError>
             let command = with_option(alloc, command, Opt::Workers, false)?;
             with_option(alloc, command, Opt::Report, false)
         }
-        Mode::Sim => {
-            let command = with_files(alloc)?;
-            let command = with_option(alloc, command, Opt::Seed, false)?;
-            with_option(alloc, command, Opt::Report, false)
-        }
+        Mode::Sim => with_seed(alloc),
         Mode::Replay => {
             let command = with_files(alloc)?;
             let command = with_option(alloc, command, Opt::JournalIn, true)?;
@@ -116,10 +124,13 @@ fn command_of<'a>(alloc: Global, mode: Mode) -> Result<Command<'a>, AllocError>
             let command = with_option(alloc, command, Opt::Seed, false)?;
             with_option(alloc, command, Opt::Commands, true)
         }
+        Mode::Sums => {
+            let command = with_seed(alloc)?;
+            let command = with_option(alloc, command, Opt::Values, true)?;
+            with_option(alloc, command, Opt::Fold, true)
+        }
         Mode::View => {
-            let command = with_files(alloc)?;
-            let command = with_option(alloc, command, Opt::Seed, false)?;
-            let command = with_option(alloc, command, Opt::Report, false)?;
+            let command = with_seed(alloc)?;
             let command = with_option(alloc, command, Opt::By, true)?;
             with_option(alloc, command, Opt::Arg, true)
         }

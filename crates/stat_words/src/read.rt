@@ -5,7 +5,9 @@ ghost use Rattle.stat_words.specs.Outcomes.{IsReadAs, IsReadOrOutOfMemory};
 ghost use Rattle.stat_words.specs.Words.{HasGoodArgument, IsInRanges, Reads, asked, asked_in, asked_of, with_good_argument};
 
 use crate::modes::{Mode, given, mode_of};
-use crate::values::{commands, file, files, form, report, seed, size, view_report, workers};
+use crate::values::{
+    commands, file, files, form, report, seed, size, sums_report, view_report, workers,
+};
 use crate::words::{Command, Opt, WordFault, WordsError};
 use clap::ArgMatches;
 use std::alloc::Global;
@@ -46,6 +48,11 @@ fn command_in<'a>(mode: Mode, matches: &ArgMatches<'a>) -> Result<Command<'a>, W
             seed: seed(matches)?,
             commands: commands(matches)?,
         }),
+        Mode::Sums => Ok(Command::Sums {
+            files: files(matches)?,
+            seed: seed(matches)?,
+            report: sums_report(matches)?,
+        }),
         Mode::View => Ok(Command::View {
             files: files(matches)?,
             seed: seed(matches)?,
@@ -83,12 +90,12 @@ fn tested<'a>(alloc: Global, command: Command<'a>) -> Result<Command<'a>, WordsE
 ///
 /// - `NoMode`: there are no words.
 /// - `UnknownMode`: the first word is not `run`, `sim`, `replay`, `direct`, `gen`, `cast`,
-///   `view` or `frames`.
+///   `sums`, `view` or `frames`.
 /// - `Options`: a word `--`, an option that is unknown, repeated, abbreviated or missing, a missing value, or a stray
 ///   word.
 /// - `Value`: a file's name that is empty or begins with `-`, a number that isn't 1 to 20 digits or is out of its
-///   range, a report that is neither `text` nor `json`, nor, of a run, `frames`, a view by something else, or an argument
-///   that is none of such a view.
+///   range, a report that is neither `text` nor `json`, nor, of a run, `frames`, a fold or a view by something else, or
+///   an argument that is none of such a view.
 /// - `OutOfMemory`.
 #[tactic(auto, unfolding(crate::specs::Words::asked))]
 pub fn read_words<'a>(alloc: Global, words: &'a [String]) -> Result<Command<'a>, WordsError>

@@ -6,10 +6,11 @@ ghost use Rattle.clap.specs.Words.{first_of};
 ghost use Rattle.stat_words.specs.Modes.{rows_in, word_of};
 ghost use Rattle.stat_words.specs.Outcomes.{IsReadAs};
 ghost use Rattle.stat_words.specs.Values.{file_name as file_name_of, is_number as is_number_in, number_between as number_between_of, report_form as report_form_of, run_report as run_report_of, value_of};
-ghost use Rattle.stat_words.specs.Words.{argument_in, by_in, commands_in, form_in, names_in, names_of, run_report_in, seed_in, size_in, view_asked, view_report_in, workers_in};
+ghost use Rattle.stat_words.specs.Words.{argument_in, by_in, commands_in, fold_in, form_in, names_in, names_of, run_report_in, seed_in, size_in, sums_asked, sums_report_in, view_asked, view_report_in, workers_in};
 
-use crate::words::{Files, Opt, ReportForm, RunReport, ViewReport, WordFault};
+use crate::words::{Files, Opt, ReportForm, RunReport, SumsReport, ViewReport, WordFault};
 use clap::ArgMatches;
+use rank_sums::Fold;
 use tree_view::ViewBy;
 
 /// How many digits a number has at most.
@@ -182,6 +183,27 @@ pub(crate) fn report<'a>(matches: &ArgMatches<'a>) -> Result<RunReport, WordFaul
         Some(word) => run_report(word).ok_or(WordFault::Value(Opt::Report)),
         None => Ok(RunReport::Releases(ReportForm::Text)),
     }
+}
+
+// What is made of the ranks' numbers.
+fn fold<'a>(matches: &ArgMatches<'a>) -> Result<Fold, WordFault>
+    ensures { result ≡ fold_in (rows_in matches.now) }
+{
+    let Some(word) = value(matches, Opt::Fold) else {
+        return Err(WordFault::Options);
+    };
+    Fold::read(word).ok_or(WordFault::Value(Opt::Fold))
+}
+
+/// What is written of sums.
+pub(crate) fn sums_report<'a>(matches: &ArgMatches<'a>) -> Result<SumsReport<'a>, WordFault>
+    ensures { IsReadAs sums_asked (sums_report_in (rows_in matches.now)) result }
+{
+    Ok(SumsReport {
+        form: form(matches)?,
+        values: file(matches, Opt::Values)?,
+        fold: fold(matches)?,
+    })
 }
 
 // By what a tree is viewed.

@@ -2,6 +2,7 @@
 ghost use Rattle.std.specs.Prelude.{◌≡◌};
 ghost use Rattle.stat_words.specs.Modes.{word_of};
 
+use rank_sums::Fold;
 use std::fmt;
 use thiserror::Error;
 use tree_view::ViewBy;
@@ -29,6 +30,10 @@ pub enum Opt {
     Report,
     /// `--commands`, how many commands are sent down to the daemons, 1 to 1,000.
     Commands,
+    /// `--values`, the file of the ranks' numbers.
+    Values,
+    /// `--fold`, what is made of the numbers: `sum`, `min`, `max` or `count`.
+    Fold,
     /// `--by`, by what a tree is viewed: `ranks`, `frame`, `fold` or `reps`.
     By,
     /// `--arg`, the argument of a view: ranks, a frame, or how many representatives, 1 to 1,000.
@@ -51,6 +56,8 @@ impl Opt {
             Opt::Size => "size",
             Opt::Report => "report",
             Opt::Commands => "commands",
+            Opt::Values => "values",
+            Opt::Fold => "fold",
             Opt::By => "by",
             Opt::Arg => "arg",
         }
@@ -96,6 +103,17 @@ pub enum RunReport {
     Releases(ReportForm),
     /// The frames that its nodes received.
     Frames,
+}
+
+/// What is written of sums.
+#[derive(Clone, Copy, Debug, PartialEq, Eq)]
+pub struct SumsReport<'a> {
+    /// How the report is written.
+    pub form: ReportForm,
+    /// The file of the ranks' numbers. Its name is not empty and does not begin with `-`.
+    pub values: &'a str,
+    /// What is made of the numbers.
+    pub fold: Fold,
 }
 
 /// What is written of a view.
@@ -156,6 +174,12 @@ pub enum Command<'a> {
         files: Files<'a>,
         seed: u64,
         commands: u32,
+    },
+    /// What the numbers of the ranks come to, at each release of a run in an order that is drawn from a seed.
+    Sums {
+        files: Files<'a>,
+        seed: u64,
+        report: SumsReport<'a>,
     },
     /// A view of each release of a run in an order that is drawn from a seed.
     View {

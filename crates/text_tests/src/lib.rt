@@ -20,3 +20,5 @@ mod stat_words_tests;
 mod text_lines_tests;
 #[cfg(test)]
 mod topology_text_tests;
+#[cfg(test)]
+mod value_text_tests;

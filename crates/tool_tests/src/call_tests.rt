@@ -191,7 +191,7 @@ fn ends_with<R: Threads + Wait + Sync>(
     match file {
         FileRole::Topology => ends(rt, alloc, text, samples, script),
         FileRole::Samples => ends(rt, alloc, topology, text, script),
-        FileRole::Script | FileRole::Journal | FileRole::Capture => {
+        FileRole::Script | FileRole::Journal | FileRole::Capture | FileRole::Values => {
             ends(rt, alloc, topology, samples, text)
         }
     }

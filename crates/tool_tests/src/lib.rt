@@ -17,3 +17,5 @@ mod mode_tests;
 mod net_tests;
 #[cfg(test)]
 mod shy_tree;
+#[cfg(test)]
+mod sums_tests;

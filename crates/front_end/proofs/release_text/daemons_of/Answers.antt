@@ -1,7 +1,8 @@
 use Rattle.std.proofs.Common.{◌∙◌, ◌<◌, sym, subst}
 use Rattle.std.specs.List.{AllByRecursion}
 use Rattle.stat_plan.specs.Plans.{nodes}
-use Rattle.front_end.proofs.Daemons.{daemons_are_nodes, daemons_at, no_daemons}
+use Rattle.stat_plan.proofs.LookupLemmas.{daemons_at}
+use Rattle.front_end.proofs.Daemons.{daemons_are_nodes, no_daemons}
 use Rattle.front_end.proofs.release_text.daemons_of.Goals as goal
 
 pub returns-in-Some-clause-value : goal.returns-in-Some-clause-value

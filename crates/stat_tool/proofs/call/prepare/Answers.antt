@@ -19,3 +19,7 @@ returns-in-Cast-clause-reads g c =
 pub returns-in-View-clause-reads : goal.returns-in-View-clause-reads
 returns-in-View-clause-reads g c =
     subst (λ command. AreReadInOrder (g.D.Desk.reads c.args.desk.now) (g.D.Desk.reads c.prepare_view.new.desk) (names_in (files_of (asked_of command)))) (sym c.in-View.is) c.prepare_view.ensures.reads
+
+pub returns-in-Sums-clause-reads : goal.returns-in-Sums-clause-reads
+returns-in-Sums-clause-reads g c =
+    subst (λ command. AreReadInOrder (g.D.Desk.reads c.args.desk.now) (g.D.Desk.reads c.prepare_sums.new.desk) (names_in (files_of (asked_of command)))) (sym c.in-Sums.is) c.prepare_sums.ensures.reads

@@ -3,15 +3,17 @@ use Rattle.journal_text.specs.Reading.{read_view}
 use Rattle.stat_words.specs.Words.{names_of}
 use Rattle.stat_tool.specs.Call.{desk_change}
 use Rattle.stat_tool.specs.Files.{names_in, plan_files}
+use Rattle.stat_tool.specs.NextStep.{at_journal}
 use Rattle.stat_tool.specs.Views.{output_view}
-use Rattle.stat_tool.proofs.Prepared.{journal_stops, replay_prepared, replay_refused, replay_stops}
+use Rattle.stat_tool.proofs.Prepared.{journal_stops, last_stops, replay_prepared, replay_refused}
 use Rattle.stat_tool.proofs.Stopping.{IsRestOf, if_err, if_ok, reads_all, reads_fewer}
+use Rattle.stat_tool.specs.declared.status.FileRole.TheVariants.{Journal}
 use Rattle.stat_tool.proofs.modes.prepare_replay.Goals as goal
 
 pub returns-in-Err-clause-err : goal.returns-in-Err-clause-err
 returns-in-Err-clause-err g c =
     let desk = desk_change g.D.Desk.faults g.D.Desk.last_fault g.D.Desk.gave g.D.Desk.contents c.args.desk.now c.read_plan.new.desk in
-    replay_stops (names_of c.args.files) c.args.journal.now c.args.wanted desk c.in-Err.status c.in-Err.ensures.err
+    last_stops (names_of c.args.files) Journal c.args.journal.now (at_journal c.args.wanted) desk c.in-Err.status c.in-Err.ensures.err
 
 pub returns-in-Err-clause-reads : goal.returns-in-Err-clause-reads
 returns-in-Err-clause-reads g c =
