@@ -5,6 +5,8 @@
 #[cfg(test)]
 mod calls;
 #[cfg(test)]
+mod cast_tests;
+#[cfg(test)]
 mod loss_tests;
 #[cfg(test)]
 mod random_tests;

@@ -53,12 +53,12 @@ lose c3:0 after 2 keep 1
 // The daemons that may be lost, and the first of their two ranks.
 const DAEMONS: [(&str, u32); 3] = [("d0:0", 0), ("d3:0", 6), ("d7:0", 14)];
 
-fn has(ranks: u32, rank: u32) -> bool {
+pub fn has(ranks: u32, rank: u32) -> bool {
     (ranks >> (rank & 31)) & 1 == 1
 }
 
 // The ranks from 0 to 15 that are bits of a number, as a report has them.
-fn set_text(alloc: Global, ranks: u32) -> Result<String, AllocError> {
+pub fn set_text(alloc: Global, ranks: u32) -> Result<String, AllocError> {
     let mut text = format!(in alloc; "{}:[", ranks.count_ones())?;
     let mut first = 0;
     let mut mark = "";
@@ -196,7 +196,7 @@ fn final_text(alloc: Global, set: u32) -> Result<String, AllocError> {
 }
 
 // The desk of the job that loses these daemons.
-fn hasty_desk(alloc: Global, set: u32) -> Result<MemDesk, AllocError> {
+pub fn hasty_desk(alloc: Global, set: u32) -> Result<MemDesk, AllocError> {
     let mut script = String::from_str(alloc, HASTY_SCR)?;
     for (number, (name, _)) in (0u32..).zip(DAEMONS.as_slice()) {
         if has(set, number) {
