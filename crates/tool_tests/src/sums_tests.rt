@@ -1,20 +1,13 @@
 //! Sums over ranks: worked jobs through whole calls, and values that are refused.
 use crate::calls::{Called, call};
-use journal_text::read_journal;
-use overlay_core::Kind;
-use overlay_net::Net;
-use prefix_tree::OwnedTree;
-use rank_sums::{Fold, part_plan, value_of};
-use stat_plan::Plan;
 use stat_tool::{FileRole, Status};
 use stat_words::{Opt, WordFault};
 use std::alloc::{AllocError, Global};
 use std::sync::Wait;
 use std::thread::Threads;
 use text_lines::{Quantity, Reason};
-use value_text::read_values;
 use worked_jobs::desks::{desk_of, put};
-use worked_jobs::jobs::{ALL_SCR, FOUR_SMP, INNER_TOP, LOST_JOURNAL, LOST_SCR, TWO_TOP};
+use worked_jobs::jobs::{ALL_SCR, FOUR_SMP, INNER_TOP, LOST_SCR, TWO_TOP};
 
 const VALUES: &str = "value 0 5\nvalue 1-2 -3\n";
 
@@ -228,28 +221,4 @@ fn refuses_calls(rt: HostRuntime) {
     )
     .expect(&rt, "memory");
     assert_eq!(rt; run.status, Status::BadWords(WordFault::Value(Opt::Fold)));
-}
-
-// A given journal, in which both daemons send their parts again: one final release, with each part once.
-#[test]
-fn folds_what_a_journal_releases(rt: HostRuntime) {
-    let alloc = rt.alloc();
-    let topology = topology_text::read(alloc, INNER_TOP.as_bytes()).expect(&rt, "topology");
-    let samples = sample_text::read(alloc, FOUR_SMP.as_bytes(), &topology).expect(&rt, "samples");
-    let script = script_text::read(alloc, LOST_SCR.as_bytes(), &topology).expect(&rt, "script");
-    let plan = Plan::build(alloc, topology, samples, script).expect(&rt, "plan");
-    let values = read_values(alloc, VALUES.as_bytes(), &plan).expect(&rt, "values");
-    let parts = part_plan(alloc, plan, &values, Fold::Sum).expect(&rt, "memory");
-    let mut net: Net<'_, OwnedTree> = Net::new(alloc, &parts).expect(&rt, "memory");
-    let read = read_journal(alloc, &parts, LOST_JOURNAL.as_bytes()).expect(&rt, "journal");
-    for number in 0..read.events.len() {
-        net.apply(read.events.at(number)).expect(&rt, "enabled");
-    }
-    let releases = net.releases();
-    assert_eq!(rt; releases.len(), 1);
-    assert_eq!(rt; releases[0].kind, Kind::Final);
-    assert_eq!(rt;
-        value_of(alloc, Fold::Sum, &releases[0].tree).expect(&rt, "memory"),
-        Some(-1)
-    );
 }
