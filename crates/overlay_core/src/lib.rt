@@ -146,5 +146,6 @@ pub fn samples_change_no_run()
         → enabled_events (with_lines p lines) st ≡ enabled_events p st }
     ensures legal { (p : Plan) (lines : List SampleLine) (journal : List Event)
         → IsLegal (with_lines p lines) journal ↔ IsLegal p journal }
-    ensures picked { (p : Plan) (lines : List SampleLine) (seed : ℕ) → picked (with_lines p lines) seed ≡ picked p seed }
+    ensures picked { (p : Plan) (lines : List SampleLine) (seed : ℕ)
+        → picked (with_lines p lines) seed ≡ picked p seed }
 {}

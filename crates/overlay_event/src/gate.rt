@@ -8,6 +8,10 @@ use crate::Event;
 pub trait Gate: Sync {
     /// Lets the event pass.
     fn pass(&self, event: &Event);
+
+    /// Whether `pass` may wait for other events. A run at such a gate starts all of its workers before the first event
+    /// passes; at any other it starts a worker only where there is enough to do for one.
+    fn may_wait(&self) -> bool;
 }
 
 /// A gate at which nobody waits.
@@ -16,4 +20,8 @@ pub struct OpenGate;
 
 impl Gate for OpenGate {
     fn pass(&self, _event: &Event) {}
+
+    fn may_wait(&self) -> bool {
+        false
+    }
 }

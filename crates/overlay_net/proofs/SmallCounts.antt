@@ -19,7 +19,7 @@ use Rattle.overlay_core.specs.Nodes.{Node, Outcome, Packet, handled}
 use Rattle.overlay_core.specs.Machine.{State, commit, is_enabled, lose, receive, start, step, with_link}
 use Rattle.overlay_core.specs.Runs.{IsLegal, after, run}
 use Rattle.stat_plan.proofs.PlanFacts.{plan_facts}
-use Rattle.stat_plan.proofs.Ascending.{ascending_within_limit}
+use Rattle.stat_plan.proofs.FewWaves.{waves_of_plan}
 use Rattle.overlay_core.proofs.Journals.{legal_has_room}
 
 -- ---- a journal's events, node by node
@@ -73,35 +73,6 @@ journal_counts p journal n = let a = run_raises p (start p) journal n in let b =
 
 -- ---- the bound of a plan
 
--- the numbers of streams are below 8
-numbers_below : (xs : List Stream) → AllByRecursion IsStream xs → (n : ℕ) → In n (map (λ (x : Stream). x.number) xs) → n < 8
-numbers_below [] all n i = absurd i
-numbers_below (x ∷ xs) all n (inl e) = subst (λ k. k < 8) (sym e) all.0.number
-numbers_below (x ∷ xs) all n (inr i) = numbers_below xs all.1 n i
-
--- there are at most 8 streams
-pub streams_within_limit : (xs : List Stream) → AllByRecursion IsStream xs → IsStrictlyIncreasing (map (λ (x : Stream). x.number) xs) → length xs ≤ 8
-streams_within_limit xs all increasing =
-    let some : 0 ≤ 8 = omega arith in
-    let a : 0 + length (map (λ (x : Stream). x.number) xs) ≤ 8 = ascending_within_limit (map (λ (x : Stream). x.number) xs) 0 8 some increasing (λ n i. (omega arith, numbers_below xs all n i)) in
-    let b : length (map (λ (x : Stream). x.number) xs) ≡ length xs = length-map xs (λ (x : Stream). x.number) in
-    omega arith
-
--- the waves of one stream
-abbrev own_waves : Stream → List (ℕ × ℕ)
-own_waves x = map (λ w. (x.number, w)) (up_to x.waves)
-
--- a stream has at most 16 waves
-pub waves_within_limit : (xs : List Stream) → AllByRecursion IsStream xs → length (waves_of xs) ≤ 16 * length xs
-waves_within_limit [] all = omega arith
-waves_within_limit (x ∷ xs) all =
-    let a : length (waves_of (x ∷ xs)) ≡ length (own_waves x) + length (waves_of xs) = length-append (own_waves x) (waves_of xs) in
-    let b : length (own_waves x) ≡ length (up_to x.waves) = length-map (up_to x.waves) (λ w. (x.number, w)) in
-    let c : length (up_to x.waves) ≡ x.waves = length-up_to x.waves in
-    let d : x.waves ≤ 16 = all.0.waves_within_limit in
-    let rest : length (waves_of xs) ≤ 16 * length xs = waves_within_limit xs all.1 in
-    omega arith
-
 -- a timer runs at most 1,000 ticks
 ticks_within_limit : (m : Mode) → IsMode m → ticks m ≤ 1000
 ticks_within_limit WaitForAll h = omega arith
@@ -134,9 +105,7 @@ small_bound_of n m t hn hm ht =
 pub small_bound : (p : Plan) → IsPlan p → bound p < 2 ^ 62
 small_bound p plan =
     let a : nodes p ≤ NODE_LIMIT = plan.topology.within_limit in
-    let b : length (waves_of p.streams) ≤ 16 * length p.streams = waves_within_limit p.streams plan.script.streams in
-    let c : length p.streams ≤ 8 = streams_within_limit p.streams plan.script.streams plan.script.streams_increase in
-    let m : length (waves_of p.streams) ≤ 128 = omega arith in
+    let m : length (waves_of p.streams) ≤ 128 = waves_of_plan p plan in
     let d = small_bound_of (nodes p) (length (waves_of p.streams)) (longest p.streams) a m (longest_within_limit p.streams plan.script.streams) in
     let g = greatest_bound in
     omega (arith, d, g)
@@ -149,17 +118,10 @@ small_count p journal e n plan legal may =
     let c : bound p < 2 ^ 62 = small_bound p plan in
     omega arith
 
--- the waves of a plan are few
-pub waves_of_plan : (p : Plan) → IsPlan p → length (waves_of p.streams) ≤ 128
-waves_of_plan p plan =
-    let b : length (waves_of p.streams) ≤ 16 * length p.streams = waves_within_limit p.streams plan.script.streams in
-    let c : length p.streams ≤ 8 = streams_within_limit p.streams plan.script.streams plan.script.streams_increase in
-    omega (arith, b, c)
-
 -- the waves of one stream, and of those behind it
 pub waves_from : (xs : List Stream) (k : ℕ) (x : Stream) → k < length xs → x ≡ get_or xs k x → length (waves_of (drop k xs)) ≡ x.waves + length (waves_of (drop (k + 1) xs))
 waves_from xs k x lt is =
     ap (λ (ys : List Stream). length (waves_of ys)) (drop_more xs k x lt)
     ∙ ap (λ (y : Stream). length (waves_of (y ∷ drop (k + 1) xs))) (sym is)
-    ∙ length-append (own_waves x) (waves_of (drop (k + 1) xs))
+    ∙ length-append (map (λ w. (x.number, w)) (up_to x.waves)) (waves_of (drop (k + 1) xs))
     ∙ ap (λ n. n + length (waves_of (drop (k + 1) xs))) (length-map (up_to x.waves) (λ w. (x.number, w)) ∙ length-up_to x.waves)

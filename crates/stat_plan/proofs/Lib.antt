@@ -20,6 +20,7 @@ pub mod Rooted
 pub mod KinLemmas
 pub mod FaultLemmas
 pub mod Ascending
+pub mod FewWaves
 pub mod Totals
 pub mod Relatives
 pub mod PlanFacts

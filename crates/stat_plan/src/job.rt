@@ -113,8 +113,8 @@ impl Job {
     /// A node's samples of a wave, in the order of their paths.
     pub fn own_lines(&self, n: u32, times: WaveTimes) -> Result<WaveLines<'_>, AllocError>
         requires { n < length self.now.placed }
-        ensures samples { IfOk result (λ own. AreWaveLines times.samples times.wave (slice_index_or self.now.placed n none) self.now.lines
-            (wave_lines_view own)) }
+        ensures samples { IfOk result (λ own. AreWaveLines times.samples times.wave
+            (slice_index_or self.now.placed n none) self.now.lines (wave_lines_view own)) }
         ensures numbered { IfOk result AreNumbered }
     {
         self.samples.own_lines(n, times)
@@ -125,8 +125,8 @@ impl Job {
         requires times { 0 < wanted.times.samples }
         requires daemons { (d : ℕ) → In d wanted.daemons.now → d < length self.now.placed }
         requires ranks { wanted.ranks.now ≡ ranks_on self.now wanted.daemons.now }
-        ensures samples { IfOk result (λ all. AreWaveLines wanted.entry.times.samples wanted.entry.times.wave wanted.entry.ranks.now
-            self.now.lines (wave_lines_view all)) }
+        ensures samples { IfOk result (λ all. AreWaveLines wanted.entry.times.samples wanted.entry.times.wave
+            wanted.entry.ranks.now self.now.lines (wave_lines_view all)) }
         ensures numbered { IfOk result AreNumbered }
     {
         self.samples.wave_lines(alloc, wanted)

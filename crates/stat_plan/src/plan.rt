@@ -324,8 +324,8 @@ impl Plan {
         requires times { 0 < wanted.times.samples }
         requires daemons { (d : ℕ) → In d wanted.daemons.now → d < nodes self.now }
         requires ranks { wanted.ranks.now ≡ ranks_on self.now wanted.daemons.now }
-        ensures samples { IfOk result (λ all. AreWaveLines wanted.entry.times.samples wanted.entry.times.wave wanted.entry.ranks.now
-            self.now.lines (wave_lines_view all)) }
+        ensures samples { IfOk result (λ all. AreWaveLines wanted.entry.times.samples wanted.entry.times.wave
+            wanted.entry.ranks.now self.now.lines (wave_lines_view all)) }
         ensures numbered { IfOk result AreNumbered }
     {
         self.job.invariant();

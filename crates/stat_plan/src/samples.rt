@@ -267,8 +267,8 @@ impl Samples {
     /// A node's samples of a wave, in the order of their paths.
     pub fn own_lines(&self, n: u32, times: WaveTimes) -> Result<WaveLines<'_>, AllocError>
         requires { n < length self.now.placed }
-        ensures samples { IfOk result (λ own. AreWaveLines times.samples times.wave (slice_index_or self.now.placed n none)
-            self.now.lines (wave_lines_view own)) }
+        ensures samples { IfOk result (λ own. AreWaveLines times.samples times.wave
+            (slice_index_or self.now.placed n none) self.now.lines (wave_lines_view own)) }
         ensures numbered { IfOk result AreNumbered }
     {
         let own = &self.placed[n as usize];
@@ -285,8 +285,8 @@ impl Samples {
         requires times { 0 < wanted.times.samples }
         requires daemons { (d : ℕ) → In d wanted.daemons.now → d < length self.now.placed }
         requires ranks { (r : ℕ) → Has r wanted.ranks.now → HasRankOn self.now.placed wanted.daemons.now r }
-        ensures samples { IfOk result (λ all. AreWaveLines wanted.entry.times.samples wanted.entry.times.wave wanted.entry.ranks.now
-            self.now.lines (wave_lines_view all)) }
+        ensures samples { IfOk result (λ all. AreWaveLines wanted.entry.times.samples wanted.entry.times.wave
+            wanted.entry.ranks.now self.now.lines (wave_lines_view all)) }
         ensures numbered { IfOk result AreNumbered }
     {
         let count = self.paths.len();

@@ -2,7 +2,7 @@ use Rattle.std.proofs.Common.{◌≡◌, ◌<◌, ◌≤◌, List, length, arith
 use Rattle.overlay_setup.specs.NodeSets.{In}
 use Rattle.overlay_setup.specs.Scripts.{Stream}
 use Rattle.overlay_net.proofs.Offers.{in_read}
-use Rattle.overlay_net.proofs.SmallCounts.{streams_within_limit}
+use Rattle.stat_plan.proofs.FewWaves.{streams_within_limit}
 use Rattle.overlay_net.proofs.counting.sample_count.Goals as goal
 
 pub next_wave-requires-clause-stream : goal.next_wave-requires-clause-stream

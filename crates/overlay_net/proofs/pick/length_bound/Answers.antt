@@ -2,7 +2,8 @@ use Rattle.std.proofs.Common.{◌≤◌, List, length, sym, subst, arith}
 use Rattle.overlay_setup.specs.Scripts.{Stream}
 use Rattle.stat_plan.specs.Plans.{waves_of}
 use Rattle.overlay_core.specs.Bound.{longest}
-use Rattle.overlay_net.proofs.SmallCounts.{longest_within_limit, waves_of_plan}
+use Rattle.stat_plan.proofs.FewWaves.{waves_of_plan}
+use Rattle.overlay_net.proofs.SmallCounts.{longest_within_limit}
 use Rattle.overlay_net.proofs.pick.length_bound.Goals as goal
 
 pub wave_count-requires : goal.wave_count-requires
