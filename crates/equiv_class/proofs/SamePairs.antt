@@ -4,7 +4,7 @@ use Rattle.std.specs.List.{list_any, filter}
 use Rattle.std.specs.Cmp.{both_ways}
 use Rattle.std.specs.Ordering.{nat_cmp, eq_by_cmp}
 use Rattle.std.proofs.lemmas.Bool.{or_right, false_from_ne_true}
-use Rattle.rank_set.specs.Ranks.{Ranks, has, those, in_order, has-in_order, has-those, same_ranks}
+use Rattle.rank_set.specs.Ranks.{Ranks, IsSubset, has, those, in_order, has-in_order, has-those, same_ranks}
 use Rattle.rank_set.proofs.Ordered.{filter_on, map_on}
 use Rattle.call_path.specs.Path.{Path}
 use Rattle.call_path.specs.Pairs.{HasNoEmptyPath, Pairs, is_pair}
@@ -57,3 +57,7 @@ own_pairs P C t some is r (f ∷ p) hr = is_pair-pairs_of t r (f ∷ p) ∙ (IsT
 -- so it has the classes of those pairs
 pub classes_of_tree : (P : Pairs) (C : Ranks) (t : Tree) → HasNoEmptyPath P → t ≡ tree_of P C → classes_of (pairs_of t) t.coverage ≡ classes_of P C
 classes_of_tree P C t some is = ap (classes_of (pairs_of t)) (ap (λ (u : Tree). u.coverage) is ∙ coverage-tree_of P C) ∙ classes-same_pairs (pairs_of t) P C (own_pairs P C t some is)
+
+-- and the same of some of its covered ranks
+pub classes_of_part : (P : Pairs) (C A : Ranks) → HasNoEmptyPath P → IsSubset A C → classes_of (pairs_of (tree_of P C)) A ≡ classes_of P A
+classes_of_part P C A some part = classes-same_pairs (pairs_of (tree_of P C)) P A (λ r p hr. own_pairs P C (tree_of P C) some refl r p (part r hr))

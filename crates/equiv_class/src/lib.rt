@@ -3,14 +3,14 @@
 #![tactic(auto)]
 
 ghost use Rattle.std.specs.Prelude.{◌≡◌, ◌++◌, ◌<◌, ℕ, true, false, List, [], IfOk, OnOk, length, map};
-ghost use Rattle.rank_set.specs.Ranks.{Ranks, has};
+ghost use Rattle.rank_set.specs.Ranks.{IsSubset, Ranks, has};
 ghost use Rattle.std.specs.List.{AllByRecursion, list_any};
 ghost use Rattle.std.specs.List.Sorted.{IsStrictlySortedBy};
 ghost use Rattle.call_path.specs.Path.{Path, is_path, path_cmp};
 ghost use Rattle.call_path.specs.Pairs.{HasNoEmptyPath, Pairs, is_pair};
-ghost use Rattle.prefix_tree.specs.Tree.{tree_of, pairs_of};
+ghost use Rattle.prefix_tree.specs.Tree.{Tree, tree_of, pairs_of};
 ghost use Rattle.equiv_class.specs.Classes.{HaveOwnPaths, equivalent, classes_of, classes_with, paths_of};
-ghost use Rattle.equiv_class.specs.ClassList.{HaveIndices, class_views, classes_view, path_of};
+ghost use Rattle.equiv_class.specs.ClassList.{AreSeenIn, HaveIndices, class_views, classes_over, classes_view, path_of};
 ghost use Rattle.equiv_class.specs.SeenPaths.{entries_view, seen_in};
 ghost use Rattle.equiv_class.specs.Origins.{origin_of, path_at, paths_before};
 ghost use Rattle.equiv_class.specs.StateBlocks.{HasStates, blocks_view};
@@ -85,23 +85,19 @@ pub fn classes<'a, T: PrefixTree>(alloc: Global, tree: &'a T) -> Result<TreeClas
     ensures seen { IfOk result (λ found. entries_view found.seen.items ≡ seen_in (T.tree tree.now)) }
     ensures indices { IfOk result (λ found. HaveIndices (length found.seen.items) found.all.items) }
 {
-    let mut frames = PathBuilder::new(alloc);
-    let seen = seen_paths(alloc, tree, &mut frames)?;
-    let count = count_paths(&seen)?;
-    let blocks = find_blocks(alloc, &seen, count, tree.row(0).label)?;
-    let all = take_classes(alloc, count, blocks)?;
+    let seen = seen_paths(alloc, tree)?;
+    let all = classes_of_seen(alloc, &seen, tree.row(0).label)?;
     Ok(TreeClasses { seen, all })
 }
 
-// The paths in which ranks were seen, in order, found with an empty path.
-fn seen_paths<'a, T: PrefixTree>(
+/// The paths of a tree in which ranks were seen, in order.
+pub fn seen_paths<'a, T: PrefixTree>(
     alloc: Global,
     tree: &'a T,
-    frames: &mut PathBuilder,
 ) -> Result<Vec<SeenPath<'a>>, AllocError>
-    requires { frames.old ≡ [] }
     ensures { IfOk result (λ seen. entries_view seen.items ≡ seen_in (T.tree tree.now)) }
 {
+    let mut frames = PathBuilder::new(alloc);
     let mut seen = Vec::new(alloc);
     let mut at = tree.cursor(alloc)?;
     while let Some(row) = tree.next_row(&mut at) {
@@ -116,6 +112,28 @@ fn seen_paths<'a, T: PrefixTree>(
         }
     }
     Ok(seen)
+}
+
+/// The classes of covered ranks, all or some, by the paths of their tree in which ranks were seen. It reads no tree:
+/// another thread may do it while this one writes the tree.
+///
+/// `own` says it of the pairs that the tree's rows give, and `pairs` of any pairs that the tree is of.
+pub fn classes_of_seen(
+    alloc: Global,
+    seen: &[SeenPath<'_>],
+    covered: &RankSet,
+) -> Result<Vec<Class>, AllocError>
+    ensures own { IfOk result
+        (λ all. (t : Tree) → entries_view seen.now ≡ seen_in t
+        → classes_over seen.now all.items ≡ classes_of (pairs_of t) covered.now) }
+    ensures pairs { IfOk result
+        (λ all. (P : Pairs) (C : Ranks) → AreSeenIn P C seen.now → IsSubset covered.now C
+        → classes_over seen.now all.items ≡ classes_of P covered.now) }
+    ensures indices { IfOk result (λ all. HaveIndices (length seen.now) all.items) }
+{
+    let count = count_paths(seen)?;
+    let blocks = find_blocks(alloc, seen, count, covered)?;
+    take_classes(alloc, count, blocks)
 }
 
 // The classes of the blocks, in their order, where so many paths were seen.

@@ -3,7 +3,7 @@ use Rattle.std.proofs.Common.{◌≡◌, ℕ, ◌<◌, inl, inr, Bool, true, fal
 use Rattle.std.specs.Prelude.{find, IsSome}
 use Rattle.std.specs.List.{AllByRecursion}
 use Rattle.std.proofs.lemmas.Bool.{true≢false, or_left, or_right}
-use Rattle.rank_set.specs.Ranks.{Ranks}
+use Rattle.rank_set.specs.Ranks.{Has, IsSubset, Ranks}
 use Rattle.stat_plan.specs.Invariants.{IsPlan}
 use Rattle.overlay_setup.specs.Scripts.{IsDaemon, IsStream, Stream}
 use Rattle.overlay_setup.specs.NodeSets.{In, member, up_to}
@@ -11,7 +11,9 @@ use Rattle.stat_plan.specs.Plans.{Plan, ancestors, daemons, expected, front, gra
 use Rattle.overlay_setup.specs.declared.script.Grain.{Grain}
 use Rattle.overlay_setup.specs.declared.script.Grain.TheVariants.{Line}
 use Rattle.stat_plan.proofs.FirstOver.{all_in, found_in}
+use Rattle.stat_plan.proofs.Indexing.{rank_on}
 use Rattle.stat_plan.proofs.InLists.{in_append, in_from_map, in_member}
+use Rattle.stat_plan.proofs.LookupLemmas.{daemon_lies}
 use Rattle.stat_plan.proofs.Rooted.{rooted, under_front}
 use Rattle.merge_filter.specs.Contributions.{HasWave}
 
@@ -58,6 +60,13 @@ daemon_is_node p s d plan there = by (find (λ x. x.number == s) p.streams) refl
 pub all_daemons : (p : Plan) (s : ℕ) → ranks_on p (daemons p s) ≡ stream_ranks p s
 unfolding stream_ranks
 all_daemons p s = refl
+
+-- the ranks of some of them are ranks of the stream
+pub daemons_lie : (p : Plan) (s : ℕ) (some : List ℕ) (own : Ranks) → ((d : ℕ) → In d some → In d (daemons p s)) → own ≡ ranks_on p some → IsSubset own (stream_ranks p s)
+unfolding ranks
+daemons_lie p s some own within is r there =
+    let on = rank_on p some r (subst (Has r) is there) in
+    daemon_lies p s on.node (within on.node on.there) r on.rank
 
 -- each daemon of a stream is the front end or below it
 within_front : (p : Plan) (s d : ℕ) → IsPlan p → In d (daemons p s) → is_within p d (front p) ≡ true

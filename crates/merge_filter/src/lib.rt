@@ -5,14 +5,14 @@
 //! number of times: the result is a partial merge that covers the ranks of all.
 #![tactic(auto)]
 
-ghost use Rattle.std.specs.Prelude.{◌≡◌, ◌≤◌, [], IfOk, IsSome, OnOk, OnErr};
+ghost use Rattle.std.specs.Prelude.{◌≡◌, ◌≤◌, ◌<◌, ℕ, [], IfOk, IsSome, OnOk, OnErr};
 ghost use Rattle.rank_set.specs.Ranks.{Ranks, none, union};
 ghost use Rattle.call_path.specs.Pairs.{Pairs};
 ghost use Rattle.prefix_tree.specs.Pairs.{IsWithin};
 ghost use Rattle.prefix_tree.specs.Tree.{count_below, tree_of};
 ghost use Rattle.stat_plan.specs.Samples.{prefix_count};
 ghost use Rattle.overlay_setup.specs.NodeSets.{In};
-ghost use Rattle.stat_plan.specs.Plans.{Plan, daemons, grain, ranks, sample_count, stream_of, stream_ranks};
+ghost use Rattle.stat_plan.specs.Plans.{Plan, daemons, grain, nodes, ranks, ranks_on, sample_count, stream_of, stream_ranks};
 ghost use Rattle.merge_filter.specs.Contributions.{HasWave, IsPartialMerge, contrib, coverage_of};
 
 mod own_tree;
@@ -51,6 +51,41 @@ fn daemons_of(plan: &Plan, s: u8) -> &[u32]
     ensures { result.now ≡ daemons plan.now s }
 {
     plan.known_stream(s).daemons()
+}
+
+// The ranks of some daemons.
+fn ranks_of(alloc: Global, plan: &Plan, some: &[u32]) -> Result<RankSet, AllocError>
+    requires { (d : ℕ) → In d some.now → d < nodes plan.now }
+    ensures { IfOk result (λ own. own ≡ ranks_on plan.now some.now) }
+{
+    let mut own = RankSet::new(alloc);
+    for d in some {
+        own.union_into(plan.ranks(*d))?;
+    }
+    Ok(own)
+}
+
+// The wanted samples of a stream.
+fn of_wanted<T: PrefixTree>(
+    alloc: Global,
+    plan: &Plan,
+    s: u8,
+    wanted: Wanted<'_>,
+) -> Result<Contribution<T>, AllocError>
+    requires wave { HasWave plan.now s wanted.times.wave }
+    requires times { wanted.times.samples ≡ sample_count plan.now s }
+    requires daemons { (d : ℕ) → In d wanted.daemons.now → In d (daemons plan.now s) }
+    requires ranks { wanted.ranks.now ≡ ranks_on plan.now wanted.daemons.now }
+    ensures stream { IfOk result (λ c. c.stream ≡ s) }
+    ensures wave { IfOk result (λ c. c.wave ≡ wanted.entry.times.wave) }
+    ensures coverage { IfOk result (λ c. coverage_of c ≡ wanted.entry.ranks.now) }
+    ensures partial_merge { IfOk result (IsPartialMerge plan.now) }
+{
+    plan.invariant();
+    let seen = plan.wave_lines(alloc, wanted)?;
+    let paths = seen.paths_by(grain_of(plan, s));
+    let tree = own_tree(alloc, seen.lines(), paths, wanted.times, wanted.ranks)?;
+    Ok(Contribution::of_tree(s, wanted.times.wave, tree))
 }
 
 /// The law of the limit: a tree has at most as many rows below the root as its pairs have distinct prefixes, and
@@ -110,6 +145,32 @@ impl<T: PrefixTree> Contribution<T> {
         let paths = own.paths_by(grain_of(plan, s));
         let tree = own_tree(alloc, own.lines(), paths, times, plan.ranks(d))?;
         Ok(Contribution::of_tree(s, w, tree))
+    }
+
+    /// The part of some daemons of a stream: their samples of the wave. For each path the ranks of all of them are united
+    /// first: so the paths are added once, and no daemon's own part is made.
+    pub fn of_daemons(
+        alloc: Global,
+        plan: &Plan,
+        some: &[u32],
+        s: u8,
+        w: u8,
+    ) -> Result<Contribution<T>, AllocError>
+        requires daemons { (d : ℕ) → In d some.now → In d (daemons plan.now s) }
+        requires wave { HasWave plan.now s w }
+        ensures stream { IfOk result (λ c. c.stream ≡ s) }
+        ensures wave { IfOk result (λ c. c.wave ≡ w) }
+        ensures coverage { IfOk result (λ c. coverage_of c ≡ ranks_on plan.now some.now) }
+        ensures partial_merge { IfOk result (IsPartialMerge plan.now) }
+    {
+        plan.invariant();
+        let own = ranks_of(alloc, plan, some)?;
+        let wanted = Wanted {
+            daemons: some,
+            ranks: &own,
+            times: times_of(plan, s, w),
+        };
+        of_wanted(alloc, plan, s, wanted)
     }
 
     /// The contribution of a tree. It allocates nothing.
@@ -217,8 +278,7 @@ impl<T: PrefixTree> Contribution<T> {
     }
 }
 
-/// All samples of a wave. For each path the ranks of all daemons are united first: so the paths are added once, and no
-/// daemon's own part is made.
+/// All samples of a wave, made as by `of_daemons`.
 pub fn direct<T: PrefixTree>(
     alloc: Global,
     plan: &Plan,
@@ -237,8 +297,5 @@ pub fn direct<T: PrefixTree>(
         ranks: plan.expected(plan.front(), s),
         times: times_of(plan, s, w),
     };
-    let seen = plan.wave_lines(alloc, wanted)?;
-    let paths = seen.paths_by(grain_of(plan, s));
-    let tree = own_tree(alloc, seen.lines(), paths, wanted.times, wanted.ranks)?;
-    Ok(Contribution::of_tree(s, w, tree))
+    of_wanted(alloc, plan, s, wanted)
 }
