@@ -16,3 +16,5 @@ mod plain_decoder;
 mod sync_filter_tests;
 #[cfg(test)]
 mod wave_resend_tests;
+#[cfg(test)]
+mod wide_merge_tests;

@@ -1,0 +1,3 @@
+pub mod Parts
+pub mod ClassLists
+pub mod Joining
