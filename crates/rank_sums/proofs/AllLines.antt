@@ -1,8 +1,8 @@
 -- The lines that are made are those of the plan of parts.
-use Rattle.std.proofs.Common.{◌≡◌, inl, inr, ℕ, zero, suc, ◌<◌, ◌+◌, ◌*◌, List, [], ◌∷◌, ◌++◌, map, ap, refl, sym, ◌∙◌, subst, Option, Some, None, arith, length, append_assoc, get_or}
+use Rattle.std.proofs.Common.{◌≡◌, inl, inr, ℕ, ◌<◌, ◌*◌, List, [], ◌∷◌, ◌++◌, map, ap, refl, sym, ◌∙◌, subst, Option, Some, None, length, get_or}
 use Rattle.std.proofs.Math.IntN.{ℤ}
-use Rattle.std.specs.Prelude.{find, slice_get, slice_index_or, ◌==◌}
-use Rattle.std.specs.List.{AllByRecursion, flat_map}
+use Rattle.std.specs.Prelude.{slice_index_or}
+use Rattle.std.specs.List.{flat_map}
 use Rattle.std.proofs.lemmas.List.{length-map}
 use Rattle.std.proofs.lemmas.Grind.{flat_map-append}
 use Rattle.std.proofs.lemmas.Option.{slice_get-get_or}
@@ -11,7 +11,6 @@ use Rattle.call_path.specs.Path.{Path}
 use Rattle.overlay_setup.specs.NodeSets.{In, up_to}
 use Rattle.overlay_setup.specs.Scripts.{Stream}
 use Rattle.stat_plan.specs.Plans.{Plan, nodes, daemons, sample_count, stream_of, waves_of}
-use Rattle.stat_plan.specs.Samples.{SampleLine}
 use Rattle.stat_plan.specs.Invariants.{IsJob, IsPlan}
 use Rattle.stat_plan.specs.StackLines.{lines_of}
 use Rattle.stat_plan.specs.declared.samples.StackLine.{StackLine}

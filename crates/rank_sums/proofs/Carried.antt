@@ -1,18 +1,17 @@
 -- What a tree that carries parts counts for.
-use Rattle.std.proofs.Common.{◌≡◌, ◌⊎◌, inl, inr, ℕ, zero, ◌<◌, ◌^◌, Bool, true, false, ◌&&◌, ◌||◌, ◌==◌, cond, List, [], ◌∷◌, ap, refl, sym, ◌∙◌, Option, Some, None, subst, arith, eq-eqb, eqb-true}
+use Rattle.std.proofs.Common.{◌≡◌, inl, inr, ℕ, ◌<◌, ◌^◌, Bool, true, false, ◌&&◌, ◌==◌, List, [], ◌∷◌, ap, refl, sym, ◌∙◌, Option, Some, None, subst, eq-eqb, eqb-true}
 use Rattle.std.proofs.Math.IntN.{ℤ}
 use lib.Signed.{mag}
 use Rattle.std.specs.Prelude.{slice_get}
-use Rattle.std.specs.List.{list_any}
 use Rattle.std.specs.FinMap as finmap
 use Rattle.std.specs.Fmt.{signed_decimal}
 use Rattle.std.proofs.lemmas.Bool.{true≢false, and_parts, and_from, cases_Bool}
-use Rattle.rank_set.specs.Ranks.{Ranks, has, Has, IsSubset, in_order, is_subset, from_T, is_strictly_increasing, subset_has, subset_from}
-use Rattle.call_path.specs.Path.{Path, path_cmp, is_path, is_prefix}
+use Rattle.rank_set.specs.Ranks.{Ranks, has, Has, IsSubset, in_order, is_subset, subset_has, subset_from}
+use Rattle.call_path.specs.Path.{Path, is_path, is_prefix}
 use Rattle.call_path.specs.Pairs.{Pairs, is_pair, is_below, passes}
 use Rattle.call_path.proofs.PathLemmas.{is_path-exact, is_path-itself}
-use Rattle.prefix_tree.specs.Tree.{Marks, Tree, tree_of}
-use Rattle.prefix_tree.specs.Joined.{in_rows, ended, AreRowsOf}
+use Rattle.prefix_tree.specs.Tree.{Marks, tree_of}
+use Rattle.prefix_tree.specs.Joined.{ended, AreRowsOf}
 use Rattle.prefix_tree.proofs.TreeLemmas.{rows_of_tree, IsTreeOf-tree_of}
 use Rattle.prefix_tree.proofs.PairLemmas.{pair_from_passes}
 use Rattle.std.specs.Ordering.{nat_cmp, eq_by_cmp}
@@ -26,9 +25,9 @@ use Rattle.stat_plan.proofs.InLists.{in_filter, in_from_filter, any_from_in, in_
 use Rattle.overlay_core.specs.LinkInvariant.{IsUnion}
 use Rattle.rank_sums.specs.declared.fold.Fold.{Fold}
 use Rattle.value_text.specs.Numbers.{Numbers, number_of}
-use Rattle.rank_sums.specs.Folds.{joined, total, part_of, counted_at}
+use Rattle.rank_sums.specs.Folds.{total, part_of, counted_at}
 use Rattle.rank_sums.specs.Parts.{PartsFit, covered_daemons, part_at}
-use Rattle.rank_sums.specs.PartTrees.{leader, number_path, number_at, row_total, tree_total, IsNumberRow, IsPartOf, SaysPart, CarriesParts}
+use Rattle.rank_sums.specs.PartTrees.{leader, number_path, number_at, row_total, tree_total, IsNumberRow, SaysPart, CarriesParts}
 use Rattle.rank_sums.proofs.Totals.{IsOnce, where_so, total-same, total-none, total-one, total-exchange}
 use Rattle.rank_sums.proofs.Wholes.{has_in, in_has, ranks_once, covered_once, sole, whole_parts}
 use Rattle.rank_sums.proofs.NumberTexts.{text_value}
@@ -36,7 +35,7 @@ use Rattle.rank_sums.proofs.NumberTexts.{text_value}
 pub none_some : {X : Type 0} {x : X} → None ≡ Some x → ⊥
 none_some e = absurd (cc)
 
-some_same : {X : Type 0} {x y : X} → Some x ≡ Some y → x ≡ y
+pub some_same : {X : Type 0} {x y : X} → Some x ≡ Some y → x ≡ y
 some_same e = cc
 
 -- the first of a list is in it

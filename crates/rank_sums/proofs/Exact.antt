@@ -1,6 +1,5 @@
 -- The releases of a plan of parts have the folds over the ranks that they cover.
 use Rattle.std.proofs.Common.{◌≡◌, ℕ, ◌≤◌, List, ap, sym, ◌∙◌, subst}
-use Rattle.std.specs.List.{AllByRecursion}
 use Rattle.std.specs.FinMap as finmap
 use Rattle.rank_set.specs.Ranks.{size}
 use Rattle.rank_set.specs.declared.TheConstants.{RANK_LIMIT}
@@ -26,7 +25,7 @@ use Rattle.rank_sums.specs.Folds.{fold_of, result_of}
 use Rattle.rank_sums.specs.Parts.{PartsFit}
 use Rattle.rank_sums.specs.PartTrees.{SaysNumbers, tree_total}
 use Rattle.rank_sums.specs.PartPlans.{part_lines, part_plan}
-use Rattle.rank_sums.specs.Sums.{AreSums, IsMerged, IsPartPlan}
+use Rattle.rank_sums.specs.Sums.{AreMergedReleases, AreSums, IsMerged, IsPartPlan}
 use Rattle.rank_sums.proofs.Carried.{part_rows, tree_is_fold}
 use Rattle.rank_sums.proofs.Small.{fold_small}
 use Rattle.rank_sums.proofs.PartSamples.{samples_carry}
@@ -46,16 +45,15 @@ tree_numbers p v f n s w t plan values fit covers merge whole =
     }
 
 -- releases of a plan of parts that are partial merges
-pub release_sums : (p parts : Plan) (v : Numbers) (f : Fold) (journal : List Event) (rs : List TreeRelease) → IsPartPlan p v f parts → IsLegal parts journal → bare_releases rs ≡ (after parts journal).releases
-    → AllByRecursion (IsMerged parts) rs → AreSums p v f journal rs
-release_sums p parts v f journal rs of may are fit =
-    let legal : IsLegal p journal = legal_same p (part_lines p v f) journal (subst (λ x. IsLegal x journal) of.equal may) in
-    let released : bare_releases rs ≡ (after p journal).releases = are ∙ ap (λ x. (after x journal).releases) of.equal ∙ ap (λ (x : State). x.releases) (after_same p (part_lines p v f) journal) in
+pub release_sums : (p parts : Plan) (v : Numbers) (f : Fold) (journal : List Event) (rs : List TreeRelease) → IsPartPlan p v f parts → AreMergedReleases parts journal rs → AreSums p v f journal rs
+release_sums p parts v f journal rs of rel =
+    let legal : IsLegal p journal = legal_same p (part_lines p v f) journal (subst (λ x. IsLegal x journal) of.equal rel.legal) in
+    let released : bare_releases rs ≡ (after p journal).releases = rel.released ∙ ap (λ x. (after x journal).releases) of.equal ∙ ap (λ (x : State). x.releases) (after_same p (part_lines p v f) journal) in
     let sound : ReleasesAreSound p (after p journal) = legal_log p journal (plan_facts p of.plan) legal in
     let whole : (r : TreeRelease) → In r rs → IsUnion p r.stream (front p) r.tree.coverage =
     λ r i. (sound (bare_release r) (subst (In (bare_release r)) released (in_map bare_release r rs i))).whole in
     let merges : (r : TreeRelease) → In r rs → IsMerged (part_plan p v f) r =
-    λ r i. subst (λ x. IsMerged x r) of.equal (all_in (IsMerged parts) rs r fit i) in
+    λ r i. subst (λ x. IsMerged x r) of.equal (all_in (IsMerged parts) rs r rel.merged i) in
     record {
       legal = legal;
       released = released;

@@ -3,7 +3,6 @@ pub mod Wholes
 pub mod NumberTexts
 pub mod Carried
 pub mod PartSamples
-pub mod FewWaves
 pub mod PartPlan
 pub mod Small
 pub mod Times

@@ -1,5 +1,5 @@
 -- How the lines of the plan of parts are made.
-use Rattle.std.proofs.Common.{◌≡◌, ℕ, Bool, true, false, List, [], ◌∷◌, ◌++◌, map, ap, refl, sym, ◌∙◌, subst, Option, Some, None}
+use Rattle.std.proofs.Common.{◌≡◌, ℕ, true, List, [], ◌∷◌, ◌++◌, ap, refl, sym, ◌∙◌, Option, Some, None}
 use Rattle.std.proofs.Math.IntN.{ℤ}
 use Rattle.std.specs.Prelude.{slice_index_or, is_some}
 use Rattle.std.proofs.lemmas.Bool.{true≢false}
@@ -12,8 +12,7 @@ use Rattle.stat_plan.specs.Samples.{SampleLine}
 use Rattle.stat_plan.specs.LineLists.{stack_line}
 use Rattle.stat_plan.specs.StackLines.{line_of, lines_of}
 use Rattle.stat_plan.specs.declared.samples.StackLine.{StackLine}
-use Rattle.rank_sums.specs.PartTrees.{number_path}
-use Rattle.rank_sums.specs.PartPlans.{line_if, number_line, path_or_zero}
+use Rattle.rank_sums.specs.PartPlans.{line_if, path_or_zero}
 
 line_is : (paths : List Path) (time leader d : ℕ) (part : Option ℤ) (ranks : Ranks) → is_some part ≡ true → ranks ≡ union none (ranks_between leader leader) → slice_index_or paths d [] ≡ path_or_zero part
     → ◌≡◌ {A = List SampleLine} (record { time = time; ranks = ranks; path = slice_index_or paths d [] } ∷ []) (line_if time (Some leader) part)

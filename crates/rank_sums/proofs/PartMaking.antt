@@ -1,10 +1,10 @@
 -- How a part is made: what the ranks below a number count for, one rank after another.
-use Rattle.std.proofs.Common.{◌≡◌, inl, inr, ℕ, suc, zero, ◌<◌, ◌≤◌, ◌+◌, ◌^◌, Bool, true, false, ◌&&◌, ◌==◌, List, ap, refl, sym, subst, ◌∙◌, Option, Some, None, arith, eq-eqb, eqb-true, lt-ltb, le-ltb}
+use Rattle.std.proofs.Common.{◌≡◌, inl, inr, ℕ, suc, zero, ◌<◌, ◌≤◌, ◌+◌, ◌*◌, ◌^◌, Bool, true, false, ◌&&◌, ◌==◌, ap, refl, sym, subst, ◌∙◌, Option, Some, None, arith, eq-eqb, eqb-true, lt-ltb, le-ltb, mul-le-mul}
 use Rattle.std.proofs.Math.IntN.{ℤ}
 use lib.Signed.{mag}
 use Rattle.std.specs.Prelude.{nat_lt}
 use Rattle.std.proofs.lemmas.Bool.{cases_Bool, cases_lt, ltb-true, ltb-false, ne_eqb, and_parts}
-use Rattle.rank_set.specs.Ranks.{Ranks, none, has, Has, in_order, size, those, has-those, same_ranks}
+use Rattle.rank_set.specs.Ranks.{Ranks, none, has, in_order, size, those, has-those, same_ranks}
 use Rattle.rank_set.specs.declared.TheConstants.{RANK_LIMIT}
 use Rattle.rank_set.proofs.Ordered.{in_order-those}
 use Rattle.stat_plan.proofs.Totals.{length_filter_le}
@@ -13,11 +13,12 @@ use Rattle.stat_plan.specs.Invariants.{IsPlan}
 use Rattle.stat_plan.specs.Plans.{Plan, nodes, ranks}
 use Rattle.value_text.specs.Numbers.{AreSmall, Numbers, number_of}
 use Rattle.rank_sums.specs.declared.fold.Fold.{Fold}
-use Rattle.rank_sums.specs.Folds.{IsWithin, counted_at, joined, part_of, total}
-use Rattle.rank_sums.specs.Parts.{PartsFit, below, part_at, part_below}
-use Rattle.rank_sums.proofs.Totals.{joined-comm, joined-none, total-filter, total-joined, total-none, total-one, total-same, where_so}
-use Rattle.rank_sums.proofs.Carried.{none_some}
-use Rattle.rank_sums.proofs.Small.{at_within, fold_small, fold_within, small_number, to_order, within_more}
+use Rattle.rank_sums.specs.Folds.{IsWithin, counted, counted_at, joined, part_of, times, total}
+use Rattle.rank_sums.specs.Parts.{PartsFit, below, counted_times, part_at, part_below}
+use Rattle.rank_sums.proofs.Totals.{joined-assoc, joined-comm, joined-none, total-filter, total-joined, total-none, total-one, total-same, where_so}
+use Rattle.rank_sums.proofs.Carried.{none_some, some_same}
+use Rattle.rank_sums.proofs.Small.{IsAtMost, Within, at_within, fold_within, joined_within, to_order, within_more}
+use Rattle.rank_sums.proofs.Times.{times_step}
 use Rattle.rank_sums.proofs.Wholes.{has_in, ranks_once}
 
 -- what passes a test counts, each rank of the set alone
@@ -57,6 +58,43 @@ rank_more f v C r there =
     ∙ total-joined f (λ y. where_so (nat_lt y r) (h y)) (λ y. where_so (y == r) (h y)) (in_order C)
     ∙ ap (joined f (total f (λ y. where_so (nat_lt y r) (h y)) (in_order C))) (total-one f (λ y. y == r) h (in_order C) r (ranks_once C) (has_in C r there) (eq-eqb r r refl) (λ y i k. eqb-true y r k))
     ∙ ap (λ a. joined f a (h r)) (sym (by_test f h (λ y. nat_lt y r) C))
+
+-- ranks of one number more
+no_ranks : (f : Fold) (o a : Option ℤ) → joined f a (counted_times f o 0) ≡ a
+no_ranks f None a = joined-none f a
+no_ranks f (Some z) a = joined-none f a
+
+one_more : (f : Fold) (o : Option ℤ) (n : ℕ) → joined f (counted_times f o n) (counted_at f o) ≡ counted_times f o (suc n)
+one_more f None n = refl
+one_more f (Some z) n = joined-comm f (times f (counted f z) n) (Some (counted f z)) ∙ times_step f (counted f z) n
+
+pub run_more : (f : Fold) (v : Numbers) (C : Ranks) (r n : ℕ) (o : Option ℤ) → ((q : ℕ) → r ≤ q → q < r + n → has C q ≡ true) → ((q : ℕ) → r ≤ q → q < r + n → number_of v q ≡ o)
+    → part_below f v C (r + n) ≡ joined f (part_below f v C r) (counted_times f o n)
+run_more f v C r zero o there same = let e : r + 0 ≡ r = omega arith in ap (part_below f v C) e ∙ sym (no_ranks f o (part_below f v C r))
+run_more f v C r (suc n) o there same =
+    let e : r + suc n ≡ suc (r + n) = omega arith in
+    ap (part_below f v C) e
+    ∙ rank_more f v C (r + n) (there (r + n) (omega arith) (omega arith))
+    ∙ ap (λ k. joined f (part_below f v C (r + n)) (counted_at f k)) (same (r + n) (omega arith) (omega arith))
+    ∙ ap (λ a. joined f a (counted_at f o)) (run_more f v C r n o (λ q from lt. there q from (omega (arith, lt))) (λ q from lt. same q from (omega (arith, lt))))
+    ∙ joined-assoc f (part_below f v C r) (counted_times f o n) (counted_at f o)
+    ∙ ap (joined f (part_below f v C r)) (one_more f o n)
+
+-- what they count for is bounded
+times_within : (f : Fold) (z : ℤ) (n m : ℕ) → Within m z → IsAtMost (n * m) (times f z n)
+times_within f z zero m h x e = absurd (cc)
+times_within f z (suc n) m h x e =
+    let k = joined_within f (Some z) (times f z n) m (n * m) (λ y same. subst (Within m) (some_same same) h) (times_within f z n m h) x (times_step f z n ∙ e) in
+    (omega (arith, k.0), omega (arith, k.1))
+
+pub run_within : (f : Fold) (o : Option ℤ) (n : ℕ) → IsAtMost 1000000000000 o → n < 2 ^ 32 → IsWithin (2 ^ 120) (counted_times f o n)
+run_within f None n small lt = λ z e. absurd (cc)
+run_within f (Some y) n small lt =
+    let one : 1000000000000 ≤ 1000000000000 = omega arith in
+    let le : n ≤ 2 ^ 32 = omega (arith, lt) in
+    let m : n * 1000000000000 ≤ 2 ^ 32 * 1000000000000 = mul-le-mul le one in
+    within_more (n * 1000000000000) (2 ^ 120) (counted_times f (Some y) n) (omega (arith, m))
+    (to_order (n * 1000000000000) (counted_times f (Some y) n) (times_within f (counted f y) n 1000000000000 (at_within f (Some y) small (counted f y) refl)))
 
 -- where no rank is passed, nothing is added
 both : (a b c : Bool) → (a ≡ true → b ≡ c) → (a && b) ≡ (a && c)

@@ -1,17 +1,16 @@
 -- The plan of parts is a plan.
-use Rattle.std.proofs.Common.{◌≡◌, ◌≢◌, ◌⊎◌, inl, inr, ℕ, zero, suc, ◌<◌, ◌≤◌, ◌*◌, ◌+◌, ◌-◌, ◌^◌, Bool, true, false, ◌&&◌, ◌||◌, ◌==◌, cond, List, [], ◌∷◌, ◌++◌, map, ap, refl, sym, ◌∙◌, Option, Some, None, subst, arith, le-leb, lt-ltb, length, get_or, length-append, mul-le-mul, eq-eqb}
+use Rattle.std.proofs.Common.{◌≡◌, ◌≢◌, ◌⊎◌, inl, inr, ℕ, zero, suc, ◌<◌, ◌≤◌, ◌*◌, ◌+◌, ◌^◌, true, ◌&&◌, ◌||◌, ◌==◌, List, [], ◌∷◌, map, ap, refl, sym, ◌∙◌, Option, Some, None, subst, arith, le-leb, lt-ltb, length, length-append, mul-le-mul, eq-eqb}
 use Rattle.std.proofs.Math.IntN.{ℤ, pos, negsuc}
 use lib.Signed.{mag}
-use Rattle.std.specs.Prelude.{nat_le, nat_lt, nat_eq, not, find, IsTrue, All}
+use Rattle.std.specs.Prelude.{nat_le, nat_lt, nat_eq, not, find, IsTrue}
 use Rattle.std.specs.List.{list_any, list_all, flat_map, AllByRecursion}
 use Rattle.std.specs.Fmt.{decimal, signed_decimal}
 use Rattle.std.specs.Str.Parse.{AllDigits}
 use Rattle.std.proofs.lemmas.Fmt.{decimal_is_IsNumeral, length_signed_le}
-use Rattle.std.proofs.lemmas.Str.Parse.{digit_at, digit_from_value}
+use Rattle.std.proofs.lemmas.Str.Parse.{digit_from_value}
 use Rattle.std.proofs.lemmas.Bool.{true≢false, and_parts, and_from, ne_eqb, or_right}
 use Rattle.std.specs.Set.{distinct_count}
 use Rattle.std.proofs.lemmas.Map.Made.{distinct_count-le}
-use Rattle.std.specs.FinMap as finmap
 use Rattle.std.proofs.lemmas.List.Elements.{All-cons, All-nil}
 use Rattle.std.specs.Prelude.{slice_index_or}
 use Rattle.rank_set.specs.Ranks.{Ranks, none, has, Has, IsSubset, in_order, set_of, union, has-none, has-union}
@@ -20,24 +19,24 @@ use Rattle.call_path.proofs.PathLemmas.{is_path-exact, is_path-itself}
 use Rattle.stat_plan.proofs.FirstOver.{all_in, found_in}
 use Rattle.stat_plan.proofs.WavePrefixes.{count_same, in_flat_map, in_from_flat_map}
 use Rattle.stat_plan.proofs.Sharing.{both_ways}
-use Rattle.call_path.specs.Path.{Path, is_path, is_prefix}
-use Rattle.call_path.specs.Good.{is_plain, is_good_frame, AreGoodFrames, IsGoodPath}
+use Rattle.call_path.specs.Path.{Path, is_path}
+use Rattle.call_path.specs.Good.{is_plain, is_good_frame, IsGoodPath}
 use Rattle.overlay_setup.specs.NodeSets.{In, up_to}
 use Rattle.overlay_setup.specs.Scripts.{Stream, IsStream}
 use Rattle.overlay_setup.specs.declared.topology.TheConstants.{NODE_LIMIT}
 use Rattle.stat_plan.specs.Plans.{Plan, nodes, daemons, ranks, sample_count, samples, stream_of, waves_of}
-use Rattle.stat_plan.specs.Samples.{SampleLine, prefix_count, IsWithinLimit, all_ranks, ranks_with}
-use Rattle.stat_plan.specs.Invariants.{IsPlan, IsSampleLine, AreSamples}
+use Rattle.stat_plan.specs.Samples.{SampleLine, prefix_count, all_ranks, ranks_with}
+use Rattle.stat_plan.specs.Invariants.{IsPlan, IsSampleLine}
 use Rattle.stat_plan.specs.declared.samples.TheConstants.{LINE_LIMIT}
 use Rattle.stat_plan.proofs.InLists.{in_append, in_from_map, up_to_below, any_from_in, in_from_any}
-use Rattle.stat_plan.proofs.PlanFacts.{HasPlanFacts, plan_facts}
+use Rattle.stat_plan.proofs.PlanFacts.{plan_facts}
 use Rattle.rank_sums.specs.declared.fold.Fold.{Fold}
 use Rattle.value_text.specs.Numbers.{Numbers, number_of}
 use Rattle.rank_sums.specs.Folds.{counted_at}
 use Rattle.rank_sums.specs.Parts.{PartsFit, part_at}
 use Rattle.rank_sums.specs.PartTrees.{leader, number_path, CarriesParts}
-use Rattle.rank_sums.specs.PartPlans.{number_line, line_if, part_line, wave_parts, part_lines, part_plan}
-use Rattle.rank_sums.proofs.FewWaves.{waves_of_plan}
+use Rattle.rank_sums.specs.PartPlans.{line_if, part_line, wave_parts, part_lines, part_plan}
+use Rattle.stat_plan.proofs.FewWaves.{waves_of_plan}
 use Rattle.rank_sums.proofs.Carried.{leads_has, no_leader, none_some}
 use Rattle.rank_sums.proofs.PartSamples.{IsPartLine, part_line_of, member_of_one, one_member, samples_carry}
 

@@ -1,9 +1,9 @@
 -- The samples of the plan of parts are the parts.
-use Rattle.std.proofs.Common.{◌≡◌, ◌⊎◌, inl, inr, ℕ, zero, suc, ◌<◌, ◌≤◌, ◌*◌, ◌+◌, ◌^◌, Bool, true, false, ◌&&◌, ◌||◌, ◌==◌, cond, List, [], ◌∷◌, ◌++◌, map, ap, refl, sym, ◌∙◌, Option, Some, None, subst, arith, eq-eqb, eqb-true, le-leb, lt-ltb, length, get_or, filter}
+use Rattle.std.proofs.Common.{◌≡◌, ◌⊎◌, inl, inr, ℕ, zero, suc, ◌<◌, ◌≤◌, ◌*◌, ◌+◌, ◌^◌, true, ◌&&◌, ◌==◌, List, [], ◌∷◌, map, ap, refl, sym, ◌∙◌, Option, Some, None, subst, arith, le-leb, lt-ltb}
 use Rattle.std.proofs.Math.IntN.{ℤ, pos, negsuc}
 use lib.Signed.{mag}
-use Rattle.std.specs.Prelude.{slice_get, nat_le, nat_lt, nat_eq, find}
-use Rattle.std.specs.List.{list_any, flat_map, AllByRecursion}
+use Rattle.std.specs.Prelude.{nat_le, nat_lt, nat_eq, find}
+use Rattle.std.specs.List.{list_any}
 use Rattle.std.specs.Fmt.{signed_decimal}
 use Rattle.std.proofs.lemmas.Fmt.{decimal_is_IsNumeral}
 use Rattle.std.specs.Fmt.{decimal}
@@ -12,22 +12,21 @@ use Rattle.std.proofs.lemmas.Str.Parse.{digit_at}
 use Rattle.std.proofs.lemmas.Bool.{true≢false, and_parts, and_from, or_cases}
 use Rattle.rank_set.specs.Ranks.{Ranks, none, has, Has, in_order, set_of, those, union, has-those, has-none, has-union, has-set_of}
 use Rattle.call_path.specs.Path.{Path, is_path}
-use Rattle.call_path.specs.Pairs.{Pairs, pairs_at, is_pair}
+use Rattle.call_path.specs.Pairs.{pairs_at, is_pair}
 use Rattle.call_path.proofs.PathLemmas.{is_path-exact, is_path-itself}
-use Rattle.call_path.specs.Functions.{func}
 use Rattle.call_path.proofs.Functions.{HasNoMark, unmarked_path}
 use Rattle.prefix_tree.proofs.PairLemmas.{any-flat_map, any-pairs_of_set}
 use Rattle.overlay_setup.specs.NodeSets.{In}
 use Rattle.overlay_setup.specs.declared.script.Grain.{Grain}
 use Rattle.overlay_setup.specs.declared.script.Grain.TheVariants.{Line, Function}
 use Rattle.overlay_setup.specs.Scripts.{Stream, IsStream}
-use Rattle.stat_plan.specs.Plans.{Plan, daemons, ranks, ranks_on, grain, sample_count, samples, stream_of, stream_ranks, waves_of, seen_lines, with_lines}
-use Rattle.stat_plan.specs.Samples.{SampleLine, samples_of, seen_by, wave_lines, is_in_wave, path_by, all_ranks, ranks_with}
+use Rattle.stat_plan.specs.Plans.{Plan, daemons, ranks, grain, sample_count, samples, stream_of, stream_ranks, waves_of, seen_lines}
+use Rattle.stat_plan.specs.Samples.{SampleLine, samples_of, seen_by, wave_lines, is_in_wave, path_by, ranks_with}
 use Rattle.stat_plan.specs.Invariants.{IsPlan}
 use Rattle.stat_plan.proofs.FirstOver.{all_in, found_in}
 use Rattle.stat_plan.proofs.WavePrefixes.{in_flat_map, in_from_flat_map}
 use Rattle.stat_plan.proofs.LookupLemmas.{daemon_lies}
-use Rattle.stat_plan.proofs.InLists.{any_in, in_any, in_filter, in_from_filter, any_from_in, in_from_any, in_map, in_from_map, in_append, append_left, append_right}
+use Rattle.stat_plan.proofs.InLists.{any_in, in_any, in_filter, in_from_filter, any_from_in, in_from_any, in_map, in_from_map}
 use Rattle.rank_sums.specs.declared.fold.Fold.{Fold}
 use Rattle.value_text.specs.Numbers.{Numbers}
 use Rattle.rank_sums.specs.Parts.{PartsFit, part_at}

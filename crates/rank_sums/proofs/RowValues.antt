@@ -1,22 +1,20 @@
 -- What the rows of a tree count for, one after another.
-use Rattle.std.proofs.Common.{◌≡◌, ◌⊎◌, inl, inr, ℕ, zero, suc, ◌<◌, ◌≤◌, ◌*◌, ◌+◌, ◌-◌, ◌^◌, List, [], ◌∷◌, ap, refl, sym, ◌∙◌, subst, Option, Some, None, arith, length, drop, mul-le-mul}
+use Rattle.std.proofs.Common.{◌≡◌, inl, inr, ℕ, zero, suc, ◌<◌, ◌≤◌, ◌*◌, ◌+◌, ◌-◌, ◌^◌, List, [], ◌∷◌, ap, refl, sym, ◌∙◌, subst, Option, Some, arith, length, drop, mul-le-mul}
 use Rattle.std.proofs.Math.IntN.{ℤ, pos, neg_ℤ}
 use lib.Signed.{mag}
-use borrow.Author.Differences.{up, down}
-use Rattle.std.specs.Prelude.{slice_get, IfSome, ◌≤ℤ◌}
+use Rattle.std.specs.Prelude.{slice_get, IfSome}
 use Rattle.std.specs.Fmt.{signed_decimal}
 use Rattle.std.specs.FinMap as finmap
-use Rattle.std.proofs.lemmas.Int.{ints}
 use Rattle.std.proofs.lemmas.List.{drop_all}
-use Rattle.rank_set.specs.Ranks.{Ranks, size, in_order}
+use Rattle.rank_set.specs.Ranks.{size, in_order}
 use Rattle.call_path.specs.Path.{Path}
 use Rattle.prefix_tree.specs.declared.Row.{Row}
 use Rattle.prefix_tree.specs.Shown.{Shows}
-use Rattle.prefix_tree.specs.Tree.{Marks, Tree, rows_of, frame_of, IsLawful}
+use Rattle.prefix_tree.specs.Tree.{Marks, Tree, rows_of, frame_of}
 use Rattle.overlay_setup.specs.NodeSets.{In}
 use Rattle.rank_sums.specs.declared.fold.Fold.{Fold}
-use Rattle.rank_sums.specs.Folds.{IsWithin, joined, total}
-use Rattle.rank_sums.specs.PartTrees.{number_path, number_at, row_total, tree_total, times, IsNumberRow, IsNumberText, SaysNumbers}
+use Rattle.rank_sums.specs.Folds.{IsWithin, joined, total, times}
+use Rattle.rank_sums.specs.PartTrees.{number_at, row_total, tree_total, IsNumberRow, IsNumberText, SaysNumbers}
 use Rattle.rank_sums.proofs.Totals.{joined-assoc, joined-none}
 use Rattle.rank_sums.proofs.Times.{times_is}
 use Rattle.rank_sums.proofs.NumberTexts.{text_value}

@@ -1,7 +1,7 @@
 -- Totals: the order of what is counted doesn't matter.
-use Rattle.std.proofs.Common.{◌≡◌, ◌⊎◌, inl, inr, ℕ, suc, zero, Bool, true, false, cond, List, [], ◌∷◌, ◌++◌, ap, refl, sym, ◌∙◌, Option, Some, None, filter, arith, subst}
+use Rattle.std.proofs.Common.{◌≡◌, inl, inr, Bool, true, false, cond, List, [], ◌∷◌, ap, refl, sym, ◌∙◌, Option, Some, None, filter, arith, subst}
 use Rattle.std.proofs.Math.IntN.{ℤ}
-use Rattle.std.specs.Prelude.{⊤, pos, ◌+ℤ◌}
+use Rattle.std.specs.Prelude.{⊤, ◌+ℤ◌}
 use Rattle.std.specs.Int.{int_min, int_max}
 use Rattle.std.proofs.lemmas.Int.{ints, clamps}
 use Rattle.overlay_setup.specs.NodeSets.{In}

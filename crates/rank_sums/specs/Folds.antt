@@ -1,5 +1,5 @@
 -- What is made of the numbers of some ranks.
-use Rattle.std.specs.Prelude.{◌≡◌, ℕ, ℤ, List, [], ◌∷◌, Option, Some, None, pos, neg_ℤ, ◌+ℤ◌, ◌≤ℤ◌}
+use Rattle.std.specs.Prelude.{◌≡◌, ℕ, ℤ, zero, suc, List, [], ◌∷◌, Option, Some, None, pos, neg_ℤ, ◌+ℤ◌, ◌*ℤ◌, ◌≤ℤ◌}
 use Rattle.std.specs.Int.{int_min, int_max}
 use Rattle.rank_set.specs.Ranks.{Ranks, in_order}
 use Rattle.value_text.specs.Numbers.{Numbers, number_of}
@@ -39,6 +39,14 @@ counted_at f (Some z) = Some (counted f z)
 -- what the numbers of some ranks count for; none where no rank has a number
 abbrev pub part_of : Fold → Numbers → Ranks → Option ℤ
 part_of f v set = total f (λ r. counted_at f (number_of v r)) (in_order set)
+
+-- a number as often as this: none where it is not there
+abbrev pub times : Fold → ℤ → ℕ → Option ℤ
+times f z zero = None
+times Sum z (suc n) = Some (z *ℤ pos (suc n))
+times Min z (suc n) = Some z
+times Max z (suc n) = Some z
+times Count z (suc n) = Some (z *ℤ pos (suc n))
 
 -- the fold of no numbers
 abbrev pub of_none : Fold → Option ℤ

@@ -1,10 +1,10 @@
 -- Trees that carry parts: the least rank of each daemon was seen in one path, whose only frame is the daemon's part.
-use Rattle.std.specs.Prelude.{◌≤◌, ℕ, ℤ, zero, suc, pos, ◌*ℤ◌, ◌≡◌, ◌<◌, ◌^◌, true, List, [], ◌∷◌, Option, Some, None, slice_get}
+use Rattle.std.specs.Prelude.{◌≤◌, ℕ, ℤ, ◌≡◌, ◌<◌, ◌^◌, true, List, [], ◌∷◌, Option, Some, None, slice_get}
 use lib.Signed.{mag}
 use Rattle.std.specs.FinMap as finmap
 use Rattle.std.specs.Fmt.{signed_decimal}
 use Rattle.std.specs.Str.Parse.{signed_digits_value}
-use Rattle.rank_set.specs.Ranks.{Ranks, in_order, size}
+use Rattle.rank_set.specs.Ranks.{in_order, size}
 use Rattle.rank_set.specs.declared.TheConstants.{RANK_LIMIT}
 use Rattle.call_path.specs.Path.{Path}
 use Rattle.call_path.specs.Pairs.{Pairs, is_pair}
@@ -13,7 +13,6 @@ use Rattle.overlay_setup.specs.NodeSets.{In}
 use Rattle.stat_plan.specs.Plans.{Plan, daemons, ranks}
 use Rattle.value_text.specs.Numbers.{Numbers}
 use Rattle.rank_sums.specs.declared.fold.Fold.{Fold}
-use Rattle.rank_sums.specs.declared.fold.Fold.TheVariants.{Sum, Min, Max, Count}
 use Rattle.rank_sums.specs.Folds.{total}
 use Rattle.rank_sums.specs.Parts.{part_at}
 
@@ -34,14 +33,6 @@ number_at (f ∷ g ∷ p) = None
 -- what a row counts for: its number, once for each rank whose path ends there
 abbrev pub row_total : Fold → Path × Marks → Option ℤ
 row_total f e = total f (λ r. number_at e.0) (in_order e.1.1)
-
--- a number as often as this: none where it is not there
-abbrev pub times : Fold → ℤ → ℕ → Option ℤ
-times f z zero = None
-times Sum z (suc n) = Some (z *ℤ pos (suc n))
-times Min z (suc n) = Some z
-times Max z (suc n) = Some z
-times Count z (suc n) = Some (z *ℤ pos (suc n))
 
 -- what a tree counts for
 abbrev pub tree_total : Fold → Tree → Option ℤ

@@ -1,5 +1,6 @@
 -- Sums over ranks: what a run of the plan of parts releases.
-use Rattle.std.specs.Prelude.{◌≡◌, ℕ, List}
+use Rattle.std.specs.Prelude.{◌≡◌, List}
+use Rattle.std.specs.List.{AllByRecursion}
 use Rattle.overlay_setup.specs.NodeSets.{In}
 use Rattle.stat_plan.specs.Plans.{Plan}
 use Rattle.stat_plan.specs.Invariants.{IsPlan}
@@ -24,6 +25,13 @@ pub record IsPartPlan (p : Plan) (v : Numbers) (f : Fold) (parts : Plan) : Type 
 -- a release has the direct merge of its wave's samples over the ranks that it covers
 abbrev pub IsMerged : Plan → TreeRelease → Type 0
 IsMerged p r = IsPartialMerge p (contrib r.stream r.wave r.tree)
+
+-- Releases after a journal of a plan: the journal is legal, the releases are those of the state to which it leads, and each has the
+-- direct merge of its wave's samples over the ranks that it covers.
+pub record AreMergedReleases (p : Plan) (journal : List Event) (rs : List TreeRelease) : Type 0 where
+  pub legal : IsLegal p journal
+  pub released : bare_releases rs ≡ (after p journal).releases
+  pub merged : AllByRecursion (IsMerged p) rs
 
 -- the tree of a release counts for the fold over exactly the ranks that it covers
 abbrev pub HasValue : Numbers → Fold → TreeRelease → Type 0

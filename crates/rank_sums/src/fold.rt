@@ -2,7 +2,7 @@
 
 ghost use Rattle.std.specs.Prelude.{◌≡◌, ◌<◌, ◌^◌, ◌≤ℤ◌, ◌+ℤ◌, ℤ, Some, pos, neg_ℤ};
 ghost use lib.Signed.{mag};
-ghost use Rattle.rank_sums.specs.Folds.{IsWithin, join, joined, of_none};
+ghost use Rattle.rank_sums.specs.Folds.{IsWithin, join, joined, of_none, times};
 ghost use Rattle.rank_sums.specs.Words.{fold_named, fold_word};
 
 /// What is made of the numbers of some ranks.
@@ -77,6 +77,19 @@ pub fn joined(fold: Fold, a: Option<i128>, b: Option<i128>) -> Option<i128>
         (None, b) => b,
         (Some(a), None) => Some(a),
         (Some(a), Some(b)) => Some(join(fold, a, b)),
+    }
+}
+
+/// A number as often as there are ranks.
+pub fn times(fold: Fold, number: i64, count: u32) -> Option<i128>
+    ensures { result ≡ times fold number count }
+{
+    if count == 0 {
+        return None;
+    }
+    match fold {
+        Fold::Sum | Fold::Count => Some(i128::from(number) * i128::from(count)),
+        Fold::Min | Fold::Max => Some(i128::from(number)),
     }
 }
 

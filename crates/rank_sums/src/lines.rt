@@ -132,8 +132,8 @@ fn lines_with(alloc: Global, plan: &Plan, parts: &[Option<i64>]) -> Result<LineL
     Ok(lines)
 }
 
-/// The plan with the parts of its daemons in place of its samples: in each wave of a stream, the least rank of each daemon
-/// whose ranks have a number was seen in the path whose only frame is the decimal text of the fold over them.
+/// The plan with the parts of its daemons in place of its samples: in each wave of a stream, the least rank of each
+/// daemon whose ranks have a number was seen in the path whose only frame is the decimal text of the fold over them.
 pub fn part_plan(alloc: Global, plan: Plan, values: &Values, fold: Fold) -> Result<Plan, AllocError>
     ensures { IfOk result (IsPartPlan plan values.now fold) }
 {

@@ -3,24 +3,24 @@
 ghost use Rattle.std.specs.Prelude.{◌≡◌, ◌<◌, ◌≤◌, ◌+◌, ◌^◌, ℕ, ℤ, true, Some, IfOk};
 ghost use lib.Signed.{mag};
 ghost use Rattle.rank_set.specs.Ranks.{has, size};
-ghost use Rattle.rank_sums.specs.Folds.{counted_at, part_of};
-ghost use Rattle.rank_sums.specs.Parts.{PartsFit, part_below};
+ghost use Rattle.rank_sums.specs.Folds.{part_of};
+ghost use Rattle.rank_sums.specs.Parts.{PartsFit, counted_times, part_below};
 ghost use Rattle.rank_sums.specs.PartPlans.{all_parts};
 
-use crate::fold::{Fold, joined, narrowed};
+use crate::fold::{Fold, joined, narrowed, times};
 use rank_set::{RANK_LIMIT, RankSet, Run};
 use stat_plan::Plan;
 use std::alloc::{AllocError, Global};
 use value_text::Values;
 
-// What a rank counts for.
-fn counted_at(fold: Fold, number: Option<i64>) -> Option<i128>
-    ensures { result ≡ counted_at fold number }
+// What some ranks of the same number count for, or of none.
+fn counted_times(fold: Fold, number: Option<i64>, count: u32) -> Option<i128>
+    ensures { result ≡ counted_times fold number count }
 {
     let number = number?;
     match fold {
-        Fold::Count => Some(1),
-        Fold::Sum | Fold::Min | Fold::Max => Some(i128::from(number)),
+        Fold::Count => times(fold, 1, count),
+        Fold::Sum | Fold::Min | Fold::Max => times(fold, number, count),
     }
 }
 
@@ -39,9 +39,13 @@ fn with_run(
     ensures { result ≡ part_below fold values.now ranks.now (run.last + 1) }
 {
     values.invariant();
+    let end = run.last + 1;
     let mut part = part;
-    for r in run.first..run.last + 1 {
-        part = joined(fold, part, counted_at(fold, values.number(r)));
+    let mut from = run.first;
+    while from < end {
+        let own = values.run_at(from, end);
+        part = joined(fold, part, counted_times(fold, own.number, own.end - from));
+        from = own.end;
     }
     part
 }

@@ -3,25 +3,12 @@
 ghost use Rattle.std.specs.Prelude.{◌≡◌, ◌^◌, ◌<◌, ℤ, IfOk};
 ghost use Rattle.std.specs.Fmt.{signed_decimal};
 ghost use lib.Signed.{mag};
-ghost use Rattle.rank_sums.specs.Folds.{result_of};
-ghost use Rattle.rank_sums.specs.PartTrees.{SaysNumbers, SaysNumbersWithin, times, tree_total, IsNumberText};
+ghost use Rattle.rank_sums.specs.Folds.{result_of, times};
+ghost use Rattle.rank_sums.specs.PartTrees.{SaysNumbers, SaysNumbersWithin, tree_total, IsNumberText};
 
-use crate::fold::{Fold, joined, narrowed, of_none};
+use crate::fold::{Fold, joined, narrowed, of_none, times};
 use prefix_tree::PrefixTree;
 use std::alloc::{AllocError, Global};
-
-// A number as often as there are ranks.
-fn times(fold: Fold, number: i64, count: u32) -> Option<i128>
-    ensures { result ≡ times fold number count }
-{
-    if count == 0 {
-        return None;
-    }
-    match fold {
-        Fold::Sum | Fold::Count => Some(i128::from(number) * i128::from(count)),
-        Fold::Min | Fold::Max => Some(i128::from(number)),
-    }
-}
 
 // What the number of a frame counts for, as often as there are ranks.
 fn row_value(fold: Fold, frame: &str, count: u32) -> Option<i128>
@@ -52,8 +39,8 @@ fn rows_value<T: PrefixTree>(
     Ok(value)
 }
 
-/// The fold that a tree of parts says: over its rows, the number of each, once for each rank that ends there. The trees of
-/// a plan of parts say numbers: [`sums_are_exact`](crate::sums_are_exact), `readable`.
+/// The fold that a tree of parts says: over its rows, the number of each, once for each rank that ends there. The
+/// trees of a plan of parts say numbers: [`sums_are_exact`](crate::sums_are_exact), `readable`.
 pub fn value_of<T: PrefixTree>(
     alloc: Global,
     fold: Fold,

@@ -6,3 +6,5 @@ pub mod WholeLines
 pub mod LineViews
 pub mod Grammar
 pub mod Acceptance
+pub mod UsualLines
+pub mod OneRanks

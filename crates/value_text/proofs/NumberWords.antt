@@ -1,12 +1,12 @@
 -- Words that write a number.
 use Rattle.std.proofs.Common.{◌≡◌, ◌∙◌, ℕ, ◌≤◌, Bool, true, false, cond, nat_eq, nat_le, List, [], ◌∷◌, length, None, Some, refl, sym, ap, subst, arith, w64, to_z, of_z, FitsSigned}
 use Rattle.std.proofs.Math.IntN.{ℤ, pos, negsuc, neg_ℤ}
-use Rattle.std.specs.Prelude.{◌≤ℤ◌}
 use Rattle.std.specs.Option.{option_map, unwrap_or}
 use Rattle.std.proofs.lemmas.Bool.{and_parts}
 use Rattle.std.proofs.lemmas.Bool.Decides.{nat_tests}
 use Rattle.std.proofs.lemmas.Int.{ints, to_z-of_z}
 use Rattle.rank_set.specs.Digits.{value_after}
+use Rattle.value_text.specs.Numbers.{IsSmall}
 use Rattle.value_text.specs.Words.{is_size, size_in, number_text}
 
 pub number_none : (word : List ℕ) → length word ≡ 0 → None ≡ number_text word
@@ -32,9 +32,6 @@ size_is_small digits e = at_most (value_after 0 digits) (and_parts _ (nat_le (va
   where
     at_most : (n : ℕ) → nat_le n 1000000000000 ≡ true → n ≤ 1000000000000
     at_most n e = grind (arith, nat_tests)
-
-abbrev pub IsSmall : ℤ → Type 0
-IsSmall z = (neg_ℤ (pos 1000000000000) ≤ℤ z) × (z ≤ℤ pos 1000000000000)
 
 plain_small : (n : ℕ) → n ≤ 1000000000000 → IsSmall (pos n)
 plain_small n le = (omega (arith, ints, le), omega (arith, ints, le))

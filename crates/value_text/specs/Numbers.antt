@@ -9,10 +9,13 @@ Numbers = List (Option ℤ)
 abbrev pub number_of : Numbers → ℕ → Option ℤ
 number_of v r = slice_index_or v r None
 
--- each number is one from -1,000,000,000,000 to 1,000,000,000,000
+-- a number from -1,000,000,000,000 to 1,000,000,000,000
+abbrev pub IsSmall : ℤ → Type 0
+IsSmall z = (neg_ℤ (pos 1000000000000) ≤ℤ z) × (z ≤ℤ pos 1000000000000)
+
+-- each number is such a one
 abbrev pub AreSmall : Numbers → Type 0
-AreSmall v = (r : ℕ) (z : ℤ) → number_of v r ≡ Some z →
-    (neg_ℤ (pos 1000000000000) ≤ℤ z) × (z ≤ℤ pos 1000000000000)
+AreSmall v = (r : ℕ) (z : ℤ) → number_of v r ≡ Some z → IsSmall z
 
 -- the list ends with a number, or is empty
 abbrev pub EndsWithNumber : Numbers → Type 0

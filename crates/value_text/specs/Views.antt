@@ -1,7 +1,11 @@
 -- What the code's values and its parser mean.
 use Rattle.std.specs.Prelude.{◌≡◌, ◌≤◌, ◌<◌, ◌≤ℤ◌, ℕ, zero, suc, ℤ, pos, neg_ℤ, List, [], ◌∷◌, length, map, slice_index_or, slice_get, Option, None, Some}
 use Rattle.rank_set.specs.Ranks.{Ranks, Has}
+use Rattle.rank_set.specs.declared.Run.{Run}
+use Rattle.text_lines.specs.Parsing.{TakesBy, RefusesBy}
+use Rattle.text_lines.specs.declared.text_error.TextError.{TextError}
 use Rattle.value_text.specs.Numbers.{Numbers}
+use Rattle.value_text.specs.Steps.{with_line}
 use Rattle.value_text.specs.declared.parser.Parser.{Parser}
 
 -- the number that an entry stands for: 0 for none, and k + 1 for the k-th of the numbers
@@ -36,9 +40,22 @@ parser_view parser = numbers_view parser.entries parser.numbers.items
 
 -- the ranks that are on a daemon
 abbrev pub parser_placed : Parser → Ranks
-parser_placed parser = parser.placed
+parser_placed parser = parser.placed.now
 
--- each rank that is on a daemon has an entry
+-- each rank of a run is one of these
+abbrev pub HasRun : Ranks → Run → Type 0
+HasRun ranks run = (r : ℕ) → run.first ≤ r → r ≤ run.last → Has r ranks
+
+-- each rank that is on a daemon has an entry, and a run of these ranks is known
 pub record IsConsistent (parser : Parser) : Type 0 where
-  pub room : (r : ℕ) → Has r parser.placed → r < length parser.entries
+  pub room : (r : ℕ) → Has r parser.placed.now → r < length parser.entries
+  pub run : HasRun parser.placed.now parser.first_run
   pub entries : AreEntries parser.entries parser.numbers.items
+
+-- the parser takes a line
+abbrev pub takes_line : Parser → ℕ → List ℕ → Parser → Type 0
+takes_line = TakesBy parser_placed parser_view with_line
+
+-- the parser refuses a line because of an error
+abbrev pub refuses_line : Parser → ℕ → List ℕ → TextError → Type 0
+refuses_line = RefusesBy parser_placed parser_view with_line

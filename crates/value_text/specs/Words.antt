@@ -1,5 +1,5 @@
 -- The words of a line `value RANKS NUMBER`, and the number that NUMBER writes.
-use Rattle.std.specs.Prelude.{ℕ, ℤ, pos, neg_ℤ, Bool, ◌&&◌, nat_le, nat_eq, cond, List, [], ◌∷◌, length, Option, None, Some, codes}
+use Rattle.std.specs.Prelude.{ℕ, ℤ, pos, neg_ℤ, Bool, ◌&&◌, nat_le, nat_eq, cond, List, [], ◌∷◌, length, min, Option, None, Some, codes}
 use Rattle.std.specs.Char.{is_ascii_digit}
 use Rattle.std.specs.List.{list_all}
 use Rattle.std.specs.Option.{option_map}
@@ -19,6 +19,10 @@ abbrev pub is_size : List ℕ → Bool
 is_size digits =
     nat_le 1 (length digits) && nat_le (length digits) 13 && list_all is_ascii_digit digits
     && nat_le (value_after 0 digits) 1000000000000
+
+-- the number that digits write, or the limit where it is more; none where one of the bytes is no digit
+abbrev pub capped_value : ℕ → List ℕ → Option ℕ
+capped_value limit digits = cond (list_all is_ascii_digit digits) (Some (min limit (value_after 0 digits))) None
 
 -- the size that digits write, none where they write none
 abbrev pub size_in : List ℕ → Option ℕ

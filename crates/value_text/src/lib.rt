@@ -11,4 +11,4 @@ mod values;
 mod words;
 
 pub use read::read_values;
-pub use values::Values;
+pub use values::{ValueRun, Values};

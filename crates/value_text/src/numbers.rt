@@ -1,10 +1,8 @@
 //! The number that a word writes.
 
-ghost use Rattle.std.specs.Prelude.{◌≡◌, ◌<◌, ◌≤◌, ◌^◌, min, pos, neg_ℤ, if◌then◌else◌, IfSome};
-ghost use Rattle.rank_set.specs.Digits.{value_after};
-ghost use Rattle.value_text.specs.Words.{size_in, number_text};
-
-use text_lines::are_digits;
+ghost use Rattle.std.specs.Prelude.{◌≡◌, ◌<◌, ◌≤◌, ◌+◌, ◌^◌, length, pos, neg_ℤ, if◌then◌else◌, IfSome};
+ghost use Rattle.value_text.specs.UsualLines.{BeginsWithNumber, EndsLine};
+ghost use Rattle.value_text.specs.Words.{capped_value, size_in, number_text};
 
 /// The largest number that a rank may have; the least has a `-` before it.
 pub const NUMBER_LIMIT: u64 = 1_000_000_000_000;
@@ -12,16 +10,19 @@ pub const NUMBER_LIMIT: u64 = 1_000_000_000_000;
 // How many digits a number may have.
 const DIGIT_LIMIT: usize = 13;
 
-// The number that digits write, or the limit where it is more.
-fn capped_value(digits: &[u8], limit: u64) -> u64
+// The number that digits write, or the limit where it is more. None where one of the bytes is no digit.
+fn capped_value(digits: &[u8], limit: u64) -> Option<u64>
     requires { limit < 2 ^ 60 }
-    ensures { result ≡ min limit (value_after 0 digits.now) }
+    ensures { result ≡ capped_value limit digits.now }
 {
     let mut number = 0;
     for digit in digits {
-        number = limit.min(10 * number + u64::from(digit.saturating_sub(b'0')));
+        if !digit.is_ascii_digit() {
+            return None;
+        }
+        number = limit.min(10 * number + u64::from(*digit - b'0'));
     }
-    number
+    Some(number)
 }
 
 // The size that digits write, if they write one.
@@ -32,10 +33,7 @@ fn size_in(digits: &[u8]) -> Option<u64>
     if digits.is_empty() || digits.len() > DIGIT_LIMIT {
         return None;
     }
-    if !are_digits(digits) {
-        return None;
-    }
-    let size = capped_value(digits, NUMBER_LIMIT + 1);
+    let size = capped_value(digits, NUMBER_LIMIT + 1)?;
     if size > NUMBER_LIMIT {
         return None;
     }
@@ -68,4 +66,44 @@ pub fn number_text(word: &[u8]) -> Option<i64>
         Some(size) => Some(signed(size, false)),
         None => None,
     }
+}
+
+// The size that a text begins with, with a line feed behind it, and what is left behind that. None where the text
+// begins otherwise.
+#[inline(always)]
+fn cut_size(text: &[u8]) -> Option<(u64, &[u8])>
+    ensures number { IfSome result (λ cut. BeginsWithNumber text.now cut.0 10 cut.1.now) }
+    ensures few { IfSome result (λ cut. length text.now ≤ length cut.1.now + 14) }
+    ensures within_limit { IfSome result (λ cut. cut.0 ≤ NUMBER_LIMIT) }
+{
+    let mut size = 0;
+    for (i, b) in text.iter().enumerate() {
+        if !b.is_ascii_digit() {
+            if *b != b'\n' || i == 0 || i > DIGIT_LIMIT || size > NUMBER_LIMIT {
+                return None;
+            }
+            let (_, rest) = text.split_at(i + 1);
+            return Some((size, rest));
+        }
+        if size > NUMBER_LIMIT {
+            return None;
+        }
+        size = 10 * size + u64::from(*b - b'0');
+    }
+    None
+}
+
+/// The number that a text begins with, with a line feed behind it, and what is left behind that. None where the text
+/// begins otherwise.
+#[inline(always)]
+pub fn cut_number(text: &[u8]) -> Option<(i64, &[u8])>
+    ensures { IfSome result (λ cut. EndsLine text.now cut.0 cut.1.now) }
+{
+    let (sign, digits) = text.split_first()?;
+    if *sign == b'-' {
+        let (size, rest) = cut_size(digits)?;
+        return Some((signed(size, true), rest));
+    }
+    let (size, rest) = cut_size(text)?;
+    Some((signed(size, false), rest))
 }

@@ -1,10 +1,16 @@
 //! The words of a line `value RANKS NUMBER`. They are checked here, before the ranks and the number.
 
-ghost use Rattle.std.specs.Prelude.{◌≡◌, MatchOption, None, Some};
+ghost use Rattle.std.specs.Prelude.{◌≡◌, ◌<◌, length, MatchOption, IfSome, None, Some};
 ghost use Rattle.text_lines.specs.Lines.{words};
+ghost use Rattle.value_text.specs.UsualLines.{BeginsWithNumber, BeginsWithValue, GivesOneRank, IsWindow};
 ghost use Rattle.value_text.specs.Words.{value_words};
 
+use crate::numbers::{cut_number, number_text};
+use rank_set::RANK_LIMIT;
 use text_lines::{is_word, next_word};
+
+// A rank and the space behind it have at most so many bytes, unless zeros stand in front.
+const WINDOW: usize = 8;
 
 /// RANKS and NUMBER, where the words of a line are `value RANKS NUMBER`.
 pub fn value_words(line: &[u8]) -> Option<(&[u8], &[u8])>
@@ -19,4 +25,106 @@ pub fn value_words(line: &[u8]) -> Option<(&[u8], &[u8])>
         return None;
     }
     Some((ranks, number))
+}
+
+/// A rank and the number that a line gives it.
+#[derive(Debug, Clone, Copy)]
+pub struct OneValue {
+    pub rank: u32,
+    pub number: i64,
+}
+
+// The rank that a text begins with, and what is left behind the space that follows it. None where the text begins
+// otherwise.
+fn cut_short(text: &[u8]) -> Option<(u32, &[u8])>
+    ensures number { IfSome result (λ cut. BeginsWithNumber text.now cut.0 32 cut.1.now) }
+    ensures below_limit { IfSome result (λ cut. cut.0 < RANK_LIMIT) }
+{
+    let mut rank = 0;
+    for (i, b) in text.iter().enumerate() {
+        if !b.is_ascii_digit() {
+            if *b != b' ' || i == 0 {
+                return None;
+            }
+            let (_, rest) = text.split_at(i + 1);
+            return Some((rank, rest));
+        }
+        rank = 10 * rank + u32::from(*b - b'0');
+        if rank >= RANK_LIMIT {
+            return None;
+        }
+    }
+    None
+}
+
+// The same of a text that begins with this window. Its length is known when this is compiled, so the loop becomes
+// straight code.
+#[inline(always)]
+fn cut_in<'t>(window: &[u8; WINDOW], text: &'t [u8]) -> Option<(u32, &'t [u8])>
+    requires { IsWindow window.now text.now }
+    ensures number { IfSome result (λ cut. BeginsWithNumber text.now cut.0 32 cut.1.now) }
+    ensures below_limit { IfSome result (λ cut. cut.0 < RANK_LIMIT) }
+{
+    let mut rank = 0;
+    for (i, b) in window.iter().enumerate() {
+        if !b.is_ascii_digit() {
+            if *b != b' ' || i == 0 || rank >= RANK_LIMIT {
+                return None;
+            }
+            let (_, rest) = text.split_at(i + 1);
+            return Some((rank, rest));
+        }
+        // for the proof: so few digits write less
+        if rank >= 100_000_000 {
+            return None;
+        }
+        rank = 10 * rank + u32::from(*b - b'0');
+    }
+    None
+}
+
+// The same of any text.
+#[inline(always)]
+fn cut_rank(text: &[u8]) -> Option<(u32, &[u8])>
+    ensures number { IfSome result (λ cut. BeginsWithNumber text.now cut.0 32 cut.1.now) }
+    ensures below_limit { IfSome result (λ cut. cut.0 < RANK_LIMIT) }
+{
+    match text.split_first_chunk::<WINDOW>() {
+        Some((window, _)) => cut_in(window, text),
+        None => cut_short(text),
+    }
+}
+
+/// What a line gives one rank, where it has the usual form, read in one go: `value`, the rank and NUMBER with one
+/// space between. None where the line has another form.
+#[inline(always)]
+pub fn one_value(line: &[u8]) -> Option<OneValue>
+    ensures gives { IfSome result (λ one. GivesOneRank line.now one.rank one.number) }
+    ensures below_limit { IfSome result (λ one. one.rank < RANK_LIMIT) }
+{
+    let (word, rest) = line.split_first_chunk::<6>()?;
+    if *word != *b"value " {
+        return None;
+    }
+    let (rank, rest) = cut_rank(rest)?;
+    let number = number_text(rest)?;
+    Some(OneValue { rank, number })
+}
+
+/// What the first line of a text gives one rank, where it has the usual form and ends with a line feed alone, and
+/// what is left behind it. It is read in one go, without a search for the line's end. None where the line has another
+/// form.
+#[inline(always)]
+pub fn first_value(text: &[u8]) -> Option<(OneValue, &[u8])>
+    ensures value { IfSome result (λ cut. BeginsWithValue text.now cut.0.rank cut.0.number cut.1.now) }
+    ensures below_limit { IfSome result (λ cut. cut.0.rank < RANK_LIMIT) }
+    ensures shorter { IfSome result (λ cut. length cut.1.now < length text.now) }
+{
+    let (word, rest) = text.split_first_chunk::<6>()?;
+    if *word != *b"value " {
+        return None;
+    }
+    let (rank, rest) = cut_rank(rest)?;
+    let (number, rest) = cut_number(rest)?;
+    Some((OneValue { rank, number }, rest))
 }

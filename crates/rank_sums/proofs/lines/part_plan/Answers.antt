@@ -5,7 +5,7 @@ use Rattle.stat_plan.specs.Invariants.{IsPlan}
 use Rattle.stat_plan.specs.Plans.{Plan, with_lines}
 use Rattle.stat_plan.specs.Samples.{SampleLine}
 use Rattle.stat_plan.specs.StackLines.{PathIndicesInRange, lines_of}
-use Rattle.rank_sums.specs.PartPlans.{all_parts, part_lines, paths_of}
+use Rattle.rank_sums.specs.PartPlans.{part_lines, paths_of}
 use Rattle.rank_sums.specs.Sums.{IsPartPlan}
 use Rattle.rank_sums.proofs.AllLines.{made_are_part_lines, parts_paired}
 use Rattle.rank_sums.proofs.PartPlan.{part_plan_is_plan}

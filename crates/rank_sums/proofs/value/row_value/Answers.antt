@@ -1,10 +1,7 @@
-use Rattle.std.proofs.Common.{◌≡◌, ℕ, ◌^◌, ◌<◌, List, ap, sym, ◌∙◌, Ok, Err, w64, FitsSigned, Result, to_z, of_z}
-use Rattle.std.proofs.Math.IntN.{ℤ}
-use Rattle.std.specs.Fmt.{signed_decimal}
+use Rattle.std.proofs.Common.{◌≡◌, ap, sym, ◌∙◌, Ok, w64, Result, to_z, of_z}
 use Rattle.std.proofs.lemmas.Fmt.{parse-signed_decimal}
 use Rattle.std.proofs.lemmas.Int.{to_z-of_z}
-use lib.Signed.{mag}
-use Rattle.rank_sums.specs.PartTrees.{times}
+use Rattle.rank_sums.specs.Folds.{times}
 use Rattle.rank_sums.proofs.value.row_value.Goals as goal
 
 ok_same : {A E : Type 0} {a b : A} → ◌≡◌ {A = Result A E} (Ok a) (Ok b) → a ≡ b

@@ -1,4 +1,4 @@
-use Rattle.std.proofs.Common.{◌≡◌, ◌≤◌, ◌<◌, ℕ, ◌+◌, ◌-◌, ◌*◌, ◌^◌, List, Option, None, arith, length, refl, sym, ap, drop, subst, ◌∙◌, mul-le-mul, suc}
+use Rattle.std.proofs.Common.{◌≡◌, ◌≤◌, ◌<◌, ℕ, ◌+◌, ◌-◌, ◌*◌, ◌^◌, arith, length, refl, ap, drop, subst, mul-le-mul, suc}
 use Rattle.std.specs.FinMap as finmap
 use Rattle.prefix_tree.specs.Tree.{Tree, rows_of, count_below}
 use Rattle.rank_sums.specs.Folds.{joined, total}

@@ -5,7 +5,8 @@ use Rattle.text_lines.proofs.Errors.{handed_on}
 use Rattle.value_text.specs.Steps.{with_value}
 use Rattle.value_text.specs.Views.{parser_view, parser_placed}
 use Rattle.value_text.proofs.Entries.{zero_empty, some_valued, entries_given, entries_kept}
-use Rattle.value_text.proofs.NumberWords.{IsSmall, number_small, stays}
+use Rattle.value_text.proofs.NumberWords.{number_small, stays}
+use Rattle.value_text.specs.Numbers.{IsSmall}
 use Rattle.value_text.proofs.WholeLines.{value_bad_ranks, value_unplaced, value_twice, value_bad_number, value_good}
 use Rattle.value_text.proofs.parser.Parser.value.Goals as goal
 
@@ -23,7 +24,7 @@ returns-then-not-is_subset-clause-err c = λ _.
     ∙ ap Err (sym c.bad.ensures)
 
 pub has_entry-requires : goal.has_entry-requires
-has_entry-requires c r here = c.requires.room r (subset_has c.in_ok-ranks.ranks c.args.self.now.placed (sym c.is_subset.ensures ∙ c.if-not-is_subset.false) r here)
+has_entry-requires c r here = c.requires.room r (subset_has c.in_ok-ranks.ranks c.args.self.now.placed.now (sym c.is_subset.ensures ∙ c.if-not-is_subset.false) r here)
 
 pub returns-then-has_entry-clause-err : goal.returns-then-has_entry-clause-err
 returns-then-has_entry-clause-err c = λ _.
@@ -43,7 +44,7 @@ returns-in_default-clause-err c = λ _.
     ∙ ap Err (sym c.bad-in_default.ensures)
 
 pub set_entries-requires : goal.set_entries-requires
-set_entries-requires c r here = c.requires.room r (subset_has c.in_ok-ranks.ranks c.args.self.now.placed (sym c.is_subset.ensures ∙ c.if-not-is_subset.false) r here)
+set_entries-requires c r here = c.requires.room r (subset_has c.in_ok-ranks.ranks c.args.self.now.placed.now (sym c.is_subset.ensures ∙ c.if-not-is_subset.false) r here)
 
 pub returns-clause-ok : goal.returns-clause-ok
 returns-clause-ok c =
@@ -67,5 +68,6 @@ returns-clause-consistent c =
     let pushed : new.items ≡ old.numbers.items ++ c.in-Some.number ∷ [] = c.in_ok-push.ensures.items ∙ ap (λ z. old.numbers.items ++ z ∷ []) (stays c.in-Some.number small) in
     record {
       room = λ r here. (let lt = c.requires.room r here in omega (arith, lt, c.set_entries.ensures.length));
+      run = c.requires.run;
       entries = entries_kept old.entries c.set_entries.new.entries old.numbers.items new.items c.requires.entries c.in-Some.number pushed c.in_ok-ranks.ranks c.in-Ok.entry last c.in_ok-set_entries.ensures.ranks c.set_entries.ensures.others small;
     }
