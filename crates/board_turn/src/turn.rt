@@ -15,6 +15,7 @@ use std::marker::{Brand, PhantomData};
 use std::mem;
 use std::snapshot::Snapshot;
 use std::sync::Wait;
+use std::time::Duration;
 
 /// A board that its seats take one after another. Threads share it by reference, each with a seat of its own.
 #[derive(Drop)]
@@ -364,6 +365,25 @@ impl<B: Board> Turn<B> {
         let mut table_seat = mem::replace(&mut seat.badge, Badge::blank()).into_seat();
         self.put(&mut table_seat, board);
         seat.badge = table_seat.into_badge();
+    }
+
+    /// Sleeps while `count` events were committed, for at most ten milliseconds. It may also return sooner for no reason,
+    /// and says nothing of the board.
+    pub fn wait_for_commit<R: Wait>(&self, rt: &R, count: u64) {
+        let low_half = (count % (1 << 32)) as u32;
+        self.table
+            .shared
+            .park_timeout(rt, 1, low_half, Duration::from_millis(10));
+    }
+
+    /// Wakes a thread that sleeps in [`wait_for_commit`](Turn::wait_for_commit), if there is one.
+    pub fn wake_one(&self) {
+        self.table.shared.wake_one(1);
+    }
+
+    /// Wakes each thread that sleeps in [`wait_for_commit`](Turn::wait_for_commit).
+    pub fn wake_all(&self) {
+        self.table.shared.wake_all(1);
     }
 
     /// Ends the turn, and returns the held board. Seats that were not joined can do nothing more.

@@ -30,7 +30,7 @@ board_send κ T g s =
     (recorded_send (inside.the_field κ T g).row _ _ (inside.the_type κ T g).to_one
     (struct_send (shape (inside.the_type κ T g)) (
       search (sendable, plan_sync) depth 20,
-      (net_send κ T g s, (journal.the_send, (search (sendable, crosses, holding.the_send) depth 20, (search sendable depth 20, (search sendable depth 20, tt))))),
+      (net_send κ T g s, (journal.the_send, (search (sendable, crosses, holding.the_send) depth 20, (search sendable depth 20, (search sendable depth 20, (search sendable depth 20, (search sendable depth 20, tt))))))),
     )))
 
 -- as the turn's calls ask it, whichever lifetime the plan has

@@ -12,5 +12,5 @@ use Rattle.overlay_run.specs.declared.worker.Next.TheVariants.{Claims, Waits, En
 -- the seat has a claim that isn't worked on yet; or it is idle, and where the run ends, the board that was given back is stopped or done
 abbrev pub IsNext : {X : Type 0} → Turn BoardView Plan → TurnSeat → Next X → Type 0
 IsNext t s (Claims c) = (c.left ≡ None) × IsAway t s c
-IsNext t s Waits = IsIdle t s
+IsNext t s (Waits count) = IsIdle t s
 IsNext t s (Ends given) = HasEnded (given_board given) × IsIdle t s

@@ -5,7 +5,8 @@ use Rattle.overlay_event.specs.declared.event.Event.{Event}
 use Rattle.board_turn.specs.declared.holding.Holding.{Holding}
 use Rattle.board_turn.specs.declared.turn.Turn.{Turn}
 use Rattle.board_turn.specs.declared.turn.TurnSeat.{TurnSeat}
-use Rattle.board_turn.specs.Seats.{IsSeatOf, has_turn, seat_number, seat_out, seat_journal, turn_base}
+use Rattle.board_turn.specs.declared.turn.Held.{Held}
+use Rattle.board_turn.specs.Seats.{HasTaken, IsSeatOf, MatchesSnapshot, has_turn, seat_number, seat_out, seat_journal, turn_base}
 use Rattle.overlay_core.specs.Runs.{after}
 use Rattle.overlay_net.specs.Claims.{ClaimView, IsMovedOut, MayBeWorked}
 use Rattle.overlay_run.specs.Boards.{BoardView}
@@ -42,3 +43,9 @@ pub record IsIdle (t : Turn BoardView Plan) (s : TurnSeat) : Type 0 where
 pub record IsAway (t : Turn BoardView Plan) (s : TurnSeat) (c : ClaimView) : Type 0 where
   pub at_rest : IsAtRest t s
   pub has_claim : HasClaim (plan_of t) (seat_number s) (seat_journal s) (seat_out s) c
+
+-- the seat is one of the turn's, and has the turn with this board, of which neither the journal nor a holder was changed since
+pub record HoldsBoard (t : Turn BoardView Plan) (s : TurnSeat) (h : Held BoardView) : Type 0 where
+  pub seat_of_turn : IsSeatOf t s
+  pub taken : HasTaken (λ b. b.journal) (λ b. b.holders) (λ b. b.plan) t s h
+  pub snapshot : MatchesSnapshot (λ b. b.journal) (λ b. b.holders) h

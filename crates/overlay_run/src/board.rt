@@ -26,6 +26,9 @@ pub struct NetBoard<'p, T: PrefixTree> {
     holders: Vec<Option<Holding>>,
     // How many nodes are out.
     nodes_out: u32,
+    // How many workers wait for an event, and whether one of them was woken and is not back yet.
+    waiting: u32,
+    is_woken: bool,
     stopped: bool,
 }
 
@@ -91,6 +94,8 @@ impl<'p, T: PrefixTree> NetBoard<'p, T> {
             journal: Journal::new(alloc),
             holders,
             nodes_out: 0,
+            waiting: 0,
+            is_woken: false,
             stopped: false,
         })
     }
@@ -152,6 +157,38 @@ impl<'p, T: PrefixTree> NetBoard<'p, T> {
         self.holders[event.node() as usize] = None;
         self.nodes_out -= 1;
         Ok(())
+    }
+
+    /// Notes that a worker begins to wait for an event.
+    pub fn begin_wait(&mut self)
+        ensures { self.new ≡ self.old }
+    {
+        self.waiting = self.waiting.saturating_add(1);
+    }
+
+    /// Notes that a worker waits no longer.
+    pub fn end_wait(&mut self)
+        ensures { self.new ≡ self.old }
+    {
+        self.waiting = self.waiting.saturating_sub(1);
+        self.is_woken = false;
+    }
+
+    /// Whether a worker that waits is to be woken: an event may be claimed, and no other worker was woken for it. It is
+    /// noted as woken.
+    pub fn wakes_one(&mut self) -> bool
+        ensures { self.new ≡ self.old }
+    {
+        if self.waiting == 0 || self.is_woken {
+            return false;
+        }
+        self.is_woken = self.net.claimable(0).is_some();
+        self.is_woken
+    }
+
+    /// Whether a worker waits.
+    pub fn has_waiting(&self) -> bool {
+        self.waiting != 0
     }
 
     /// Stops the run.

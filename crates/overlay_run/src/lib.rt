@@ -4,7 +4,9 @@
 mod board;
 mod given;
 mod run;
+mod size;
 mod worker;
 
 pub use board::{NetBoard, Ran};
 pub use run::run_workers;
+pub use size::workers_for;

@@ -3,4 +3,5 @@
 #![tactic(auto)]
 
 pub mod desks;
+pub mod gates;
 pub mod jobs;

@@ -17,9 +17,3 @@ take-held-requires-send-B g c κs within = turn_may_send _ (record { mir = named
 
 pub commit-requires-in-Ok-send-B : goal.commit-requires-in-Ok-send-B
 commit-requires-in-Ok-send-B g c κs within = turn_may_send _ (record { mir = named 0; lft = _ }) _ g.T.PrefixTree c.type_bounds.send-T
-
-pub give-requires-send-B : goal.give-requires-send-B
-give-requires-send-B g c κs within = turn_may_send _ (record { mir = named 0; lft = _ }) _ g.T.PrefixTree c.type_bounds.send-T
-
-pub give-requires-in-Err-send-B : goal.give-requires-in-Err-send-B
-give-requires-in-Err-send-B g c κs within = turn_may_send _ (record { mir = named 0; lft = _ }) _ g.T.PrefixTree c.type_bounds.send-T

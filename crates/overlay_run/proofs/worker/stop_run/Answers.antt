@@ -4,6 +4,3 @@ use Rattle.overlay_run.proofs.worker.stop_run.Goals as goal
 
 pub take-held-requires-send-B : goal.take-held-requires-send-B
 take-held-requires-send-B g c κs within = turn_may_send _ (record { mir = named 0; lft = _ }) _ g.T.PrefixTree c.type_bounds.send-T
-
-pub give-requires-send-B : goal.give-requires-send-B
-give-requires-send-B g c κs within = turn_may_send _ (record { mir = named 0; lft = _ }) _ g.T.PrefixTree c.type_bounds.send-T
