@@ -140,7 +140,7 @@ step_stays : (asked : Asked) (results all : List ReadResult) → BeginsAs result
 step_stays (Run names workers wanted) results all front settled = plan_stays (λ p rest. Does (RunJob p wanted)) (λ p rest all front settled. refl) results all front settled
 step_stays (Sim names seed wanted) results all front settled = plan_stays (λ p rest. Does (SimJob p seed wanted)) (λ p rest all front settled. refl) results all front settled
 step_stays (Replay names journal wanted) results all front settled = plan_stays (at_journal wanted) (journal_stays wanted) results all front settled
-step_stays (Direct names form) results all front settled = plan_stays (λ p rest. Does (DirectJob p form)) (λ p rest all front settled. refl) results all front settled
+step_stays (Direct names workers form) results all front settled = plan_stays (λ p rest. Does (DirectJob p form)) (λ p rest all front settled. refl) results all front settled
 step_stays (Gen size seed) results all front settled = refl
 step_stays (Cast names seed commands) results all front settled = plan_stays (λ p rest. Does (CastJob p seed commands)) (λ p rest all front settled. refl) results all front settled
 step_stays (Sums names seed wanted) results all front settled = plan_stays (at_values seed wanted) (values_stay seed wanted) results all front settled

@@ -29,7 +29,7 @@ use Rattle.stat_plan.proofs.Elements.{all_from}
 use Rattle.value_text.specs.Numbers.{Numbers}
 use Rattle.rank_sums.specs.Folds.{fold_of}
 use Rattle.rank_sums.specs.PartTrees.{SaysNumbersWithin}
-use Rattle.rank_sums.specs.Sums.{AreSums, IsMerged, IsPartPlan}
+use Rattle.rank_sums.specs.Sums.{AreMergedReleases, AreSums, IsMerged, IsPartPlan}
 use Rattle.rank_sums.specs.declared.fold.Fold.{Fold}
 use Rattle.front_end.specs.SumsReport.{SayNumbers, tree_value}
 use Rattle.stat_words.specs.Words.{AskedView}
@@ -245,13 +245,14 @@ has_sums v p parts n f form seed releases output plan of_net same picks reached 
 
 -- the releases of a net of parts are sums
 pub net_sums : (v : NetView) (p parts : Plan) (n : Numbers) (f : Fold) (journal : List Event) (releases : List TreeRelease) → IsPartPlan p n f parts → v.plan ≡ parts → IsReachedBy v journal → releases ≡ v.releases
-    → ((p parts : Plan) (n : Numbers) (f : Fold) (journal : List Event) (rs : List TreeRelease) → IsPartPlan p n f parts → IsLegal parts journal → bare_releases rs ≡ (after parts journal).releases → AllByRecursion (IsMerged parts) rs → AreSums p n f journal rs)
+    → ((p parts : Plan) (n : Numbers) (f : Fold) (journal : List Event) (rs : List TreeRelease) → IsPartPlan p n f parts → AreMergedReleases parts journal rs → AreSums p n f journal rs)
     → AreSums p n f journal releases
 net_sums v p parts n f journal releases of of_net reached given exact =
-    exact p parts n f journal releases of
-    (subst (λ (p : Plan). IsLegal p journal) of_net reached.legal)
-    (ap bare_releases given ∙ ap (λ (st : State). st.releases) reached.state ∙ ap (λ (p : Plan). (after p journal).releases) of_net)
-    (subst (AllByRecursion (IsMerged parts)) (sym given) (subst (λ (p : Plan). AllByRecursion (IsMerged p) v.releases) of_net reached.trees))
+    exact p parts n f journal releases of record {
+      legal = subst (λ (p : Plan). IsLegal p journal) of_net reached.legal;
+      released = ap bare_releases given ∙ ap (λ (st : State). st.releases) reached.state ∙ ap (λ (p : Plan). (after p journal).releases) of_net;
+      merged = subst (AllByRecursion (IsMerged parts)) (sym given) (subst (λ (p : Plan). AllByRecursion (IsMerged p) v.releases) of_net reached.trees);
+    }
 
 -- so their trees say numbers
 pub sums_read : (p : Plan) (n : Numbers) (f : Fold) (journal : List Event) (releases : List TreeRelease) → AreSums p n f journal releases → SayNumbers f releases

@@ -18,7 +18,7 @@ abbrev pub files_of : Asked → List NamedFile
 files_of (Run names workers wanted) = plan_files names
 files_of (Sim names seed wanted) = plan_files names
 files_of (Replay names journal wanted) = plan_files names ++ (Journal, journal) ∷ []
-files_of (Direct names form) = plan_files names
+files_of (Direct names workers form) = plan_files names
 files_of (Gen size seed) = []
 files_of (Cast names seed commands) = plan_files names
 files_of (Sums names seed wanted) = plan_files names ++ (Values, wanted.values) ∷ []

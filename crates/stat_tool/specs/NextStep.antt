@@ -152,7 +152,7 @@ abbrev pub next_step : Asked → List ReadResult → Step
 next_step (Run names workers wanted) results = plan_step results (λ p rest. Does (RunJob p wanted))
 next_step (Sim names seed wanted) results = plan_step results (λ p rest. Does (SimJob p seed wanted))
 next_step (Replay names journal wanted) results = plan_step results (at_journal wanted)
-next_step (Direct names form) results = plan_step results (λ p rest. Does (DirectJob p form))
+next_step (Direct names workers form) results = plan_step results (λ p rest. Does (DirectJob p form))
 next_step (Gen size seed) results = Does (GenJob size seed)
 next_step (Cast names seed commands) results = plan_step results (λ p rest. Does (CastJob p seed commands))
 next_step (Sums names seed wanted) results = plan_step results (at_values seed wanted)

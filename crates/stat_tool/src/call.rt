@@ -11,7 +11,7 @@ use crate::modes::{
     prepare_cast, prepare_direct, prepare_frames, prepare_gen, prepare_replay, prepare_run,
     prepare_sim, prepare_sums, prepare_view,
 };
-use crate::output::Output;
+use crate::output::{MergeWorkers, Output};
 use crate::status::{Outcome, Status, Target};
 use overlay_event::{Gate, Journal};
 use prefix_tree::PrefixTree;
@@ -24,7 +24,8 @@ use std::thread::Threads;
 /// Does what the words ask for: reads the files that they name, runs the overlay on their samples, and writes the
 /// report, or the frames that went over the overlay's links, to `out` and the journal to `journal`. `T` is how the
 /// overlay keeps its trees. A run's events are done by as many threads of `rt` as its words say, and each passes the
-/// gate; no other mode makes a thread or passes the gate.
+/// gate. A direct merge by more than one worker is made by as many threads of `rt`, and its parts pass the gate. No other
+/// call makes a thread or passes the gate.
 ///
 /// The files are read each once, in the order topology, samples, script, journal or values, and each is tested before the
 /// next is read; a capture is read alone. The report and the journal's text are built whole before their first byte is written.
@@ -146,7 +147,18 @@ fn prepare<R: Threads + Wait + Sync, T: PrefixTree, D: Desk, G: Gate>(
             journal,
             report,
         } => prepare_replay::<T, D>(alloc, files, journal, report, desk),
-        Command::Direct { files, form } => prepare_direct::<T, D>(alloc, files, form, desk),
+        Command::Direct {
+            files,
+            workers,
+            form,
+        } => {
+            let workers = MergeWorkers {
+                rt,
+                gate,
+                number: workers,
+            };
+            prepare_direct::<R, T, D, G>(&workers, alloc, files, form, desk)
+        }
         Command::Gen { size, seed } => prepare_gen::<T, D>(alloc, size, seed, desk),
         Command::Cast {
             files,

@@ -13,7 +13,7 @@ ghost use Rattle.stat_tool.specs.Views.{output_view};
 use crate::cast::cast_plan;
 use crate::generated::gen_job;
 use crate::output::{
-    Output, capture_output, direct_plan, leave, replay_plan, run_output, sim_plan,
+    MergeWorkers, Output, capture_output, direct_plan, leave, replay_plan, run_output, sim_plan,
 };
 use crate::read::{read_file, read_plan, read_values};
 use crate::status::{FileRole, Status};
@@ -152,28 +152,30 @@ fn read_events<D: Desk>(
     }
 }
 
-/// The direct merge of each wave of a plan.
-pub fn prepare_direct<T: PrefixTree, D: Desk>(
+/// The direct merge of each wave of a plan, by so many workers.
+pub fn prepare_direct<R: Threads + Sync, T: PrefixTree, D: Desk, G: Gate>(
+    workers: &MergeWorkers<'_, R, G>,
     alloc: Global,
     files: Files<'_>,
     form: ReportForm,
     desk: &mut D,
 ) -> Result<Output, Status>
-    ensures ok { IfOk result (λ output. Prepared (Direct (names_of files.entry) form)
+    requires workers { (1 ≤ workers.now.number) × (workers.now.number ≤ 32) }
+    ensures ok { IfOk result (λ output. Prepared (Direct (names_of files.entry) workers.now.number form)
         (desk_change D.faults D.last_fault D.gave D.contents desk.old desk.new) (output_view output)) }
-    ensures err { IfErr result (Prevented (Direct (names_of files.entry) form)
+    ensures err { IfErr result (Prevented (Direct (names_of files.entry) workers.now.number form)
         (desk_change D.faults D.last_fault D.gave D.contents desk.old desk.new)) }
     ensures reads { AreReadInOrder (D.reads desk.old) (D.reads desk.new)
-        (names_in (files_of (Direct (names_of files.entry) form))) }
+        (names_in (files_of (Direct (names_of files.entry) workers.now.number form))) }
     ensures all_read { OnOk result (AreAllRead (D.reads desk.old) (D.reads desk.new)
-        (names_in (files_of (Direct (names_of files.entry) form)))) }
+        (names_in (files_of (Direct (names_of files.entry) workers.now.number form)))) }
     ensures unwritten { IfOk result (λ output. output.journal_text.items ≡ []) }
 {
     let plan = match read_plan(alloc, files, desk) {
         Ok(plan) => plan,
         Err(status) => return Err(status),
     };
-    match direct_plan::<T>(alloc, &plan, form) {
+    match direct_plan::<R, T, G>(workers, alloc, &plan, form) {
         Ok(output) => {
             leave(plan);
             Ok(output)

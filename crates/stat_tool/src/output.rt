@@ -1,16 +1,17 @@
 //! The outputs of the jobs: a journal, a report, and what is written of the journal.
-ghost use Rattle.std.specs.Prelude.{◌≡◌, ◌<◌, ◌++◌, ℕ, [], None, false, IfErr, IfOk, OnOk, map};
+ghost use Rattle.std.specs.Prelude.{◌≡◌, ◌≤◌, ◌<◌, ◌++◌, ℕ, [], None, false, IfErr, IfOk, OnOk, map};
 ghost use Rattle.front_end.specs.Report.{AreDistinct, direct_release, direct_releases};
 ghost use Rattle.journal_text.specs.Reading.{read_view};
 ghost use Rattle.capture_text.specs.Captures.{capture_of};
 ghost use Rattle.overlay_core.specs.Machine.{start};
 ghost use Rattle.overlay_core.specs.Runs.{IsLegal};
 ghost use Rattle.overlay_core.specs.TreeReleases.{AreNumberedInOrder, release_view, releases_view};
-ghost use Rattle.merge_filter.specs.Contributions.{HasWave};
+ghost use Rattle.merge_filter.specs.Contributions.{HasWave, IsPartialMerge, coverage_of};
 ghost use Rattle.overlay_net.specs.Nets.{AllHome, IsReachedBy};
 ghost use Rattle.overlay_run.specs.Boards.{IsWholeRun};
 ghost use Rattle.stat_plan.specs.Invariants.{IsPlan};
 ghost use Rattle.stat_plan.specs.Limits.{stream_waves};
+ghost use Rattle.stat_plan.specs.Plans.{stream_ranks};
 ghost use Rattle.stat_tool.specs.Call.{IsCaptureRefusal, IsEventRefusal, IsJobRefusal};
 ghost use Rattle.stat_tool.specs.Jobs.{CaptureJob, DirectJob, ReplayJob, RunJob, SimJob};
 ghost use Rattle.stat_tool.specs.NextStep.{Does, by_capture, first_refused, replay_step};
@@ -28,9 +29,9 @@ use front_end::{
 use journal_text::{JournalRead, write_journal};
 use merge_filter::{Contribution, direct};
 use overlay_core::{Kind, Release};
-use overlay_event::{Event, Journal};
+use overlay_event::{Event, Gate, Journal};
 use overlay_net::{Net, NetError};
-use overlay_run::Ran;
+use overlay_run::{Ran, workers_for};
 use overlay_setup::StreamDef;
 use packet_frame::FrameError;
 use prefix_tree::PrefixTree;
@@ -38,6 +39,8 @@ use stat_plan::Plan;
 use stat_words::{ReportForm, RunReport};
 use std::alloc::{AllocError, Global};
 use std::mem;
+use std::thread::Threads;
+use wide_merge::{WideMerge, wide_tree};
 
 /// What a job has made.
 #[derive(Drop)]
@@ -170,16 +173,29 @@ fn replayed<T: PrefixTree>(
     })
 }
 
+/// By whom waves are merged.
+#[derive(Drop)]
+pub struct MergeWorkers<'a, R: Threads + Sync, G: Gate> {
+    /// What starts threads.
+    pub rt: &'a R,
+    /// The gate that merges pass where there is more than one worker.
+    pub gate: &'a G,
+    /// How many workers there are, 1 to 32.
+    pub number: u8,
+}
+
 /// The direct merge of each wave: no event, and no line of a fault.
-pub fn direct_plan<T: PrefixTree>(
+pub fn direct_plan<R: Threads + Sync, T: PrefixTree, G: Gate>(
+    workers: &MergeWorkers<'_, R, G>,
     alloc: Global,
     plan: &Plan,
     form: ReportForm,
 ) -> Result<Output, AllocError>
+    requires workers { (1 ≤ workers.now.number) × (workers.now.number ≤ 32) }
     ensures { IfOk result (λ output. HasOutput (DirectJob plan.now form) (output_view output)) }
 {
     plan.invariant();
-    let releases = direct_releases::<T>(alloc, plan)?;
+    let releases = direct_releases::<R, T, G>(workers, alloc, plan)?;
     let report = direct_report(alloc, plan, &releases, form)?;
     leave(releases);
     Ok(Output {
@@ -208,44 +224,53 @@ fn direct_report<T: PrefixTree>(
 }
 
 // One final release for each wave, with all ranks of its stream.
-fn direct_releases<T: PrefixTree>(alloc: Global, plan: &Plan) -> Result<Vec<Release<T>>, AllocError>
+fn direct_releases<R: Threads + Sync, T: PrefixTree, G: Gate>(
+    workers: &MergeWorkers<'_, R, G>,
+    alloc: Global,
+    plan: &Plan,
+) -> Result<Vec<Release<T>>, AllocError>
+    requires workers { (1 ≤ workers.now.number) × (workers.now.number ≤ 32) }
     ensures { IfOk result (λ releases. releases_view T.tree releases.items ≡ direct_releases plan.now) }
 {
     let mut releases = Vec::new(alloc);
     for stream in plan.streams() {
-        push_waves(alloc, plan, stream, &mut releases)?;
+        push_waves(workers, alloc, plan, stream, &mut releases)?;
     }
     Ok(releases)
 }
 
 // Adds the direct release of each wave of a stream.
-fn push_waves<T: PrefixTree>(
+fn push_waves<R: Threads + Sync, T: PrefixTree, G: Gate>(
+    workers: &MergeWorkers<'_, R, G>,
     alloc: Global,
     plan: &Plan,
     stream: &StreamDef,
     releases: &mut Vec<Release<T>>,
 ) -> Result<(), AllocError>
-    requires { (w : ℕ) → w < stream.now.waves → HasWave plan.now stream.now.number w }
+    requires workers { (1 ≤ workers.now.number) × (workers.now.number ≤ 32) }
+    requires waves { (w : ℕ) → w < stream.now.waves → HasWave plan.now stream.now.number w }
     ensures { OnOk result (releases_view T.tree releases.new.items ≡ releases_view T.tree releases.old.items
         ++ map (direct_release plan.now) (stream_waves stream.now)) }
 {
     for wave in 0..stream.waves() {
-        releases.push(direct_release(alloc, plan, stream.number(), wave)?)?;
+        releases.push(direct_release(workers, alloc, plan, stream.number(), wave)?)?;
     }
     Ok(())
 }
 
 // The direct release of a wave.
-fn direct_release<T: PrefixTree>(
+fn direct_release<R: Threads + Sync, T: PrefixTree, G: Gate>(
+    workers: &MergeWorkers<'_, R, G>,
     alloc: Global,
     plan: &Plan,
     stream: u8,
     wave: u8,
 ) -> Result<Release<T>, AllocError>
-    requires { HasWave plan.now stream wave }
+    requires workers { (1 ≤ workers.now.number) × (workers.now.number ≤ 32) }
+    requires wave { HasWave plan.now stream wave }
     ensures { IfOk result (λ release. release_view T.tree release ≡ direct_release plan.now (stream, wave)) }
 {
-    let merged: Contribution<T> = direct(alloc, plan, stream, wave)?;
+    let merged = merged_wave::<R, T, G>(workers, alloc, plan, stream, wave)?;
     Ok(Release {
         stream,
         wave,
@@ -254,6 +279,35 @@ fn direct_release<T: PrefixTree>(
         tree: merged.into_tree(),
         lost: Vec::new(alloc),
     })
+}
+
+// All samples of a wave, merged by as many workers as that is worth.
+fn merged_wave<R: Threads + Sync, T: PrefixTree, G: Gate>(
+    workers: &MergeWorkers<'_, R, G>,
+    alloc: Global,
+    plan: &Plan,
+    stream: u8,
+    wave: u8,
+) -> Result<Contribution<T>, AllocError>
+    requires workers { (1 ≤ workers.now.number) × (workers.now.number ≤ 32) }
+    requires wave { HasWave plan.now stream wave }
+    ensures stream { IfOk result (λ c. c.stream ≡ stream) }
+    ensures wave { IfOk result (λ c. c.wave ≡ wave) }
+    ensures coverage { IfOk result (λ c. coverage_of c ≡ stream_ranks plan.now stream) }
+    ensures partial_merge { IfOk result (IsPartialMerge plan.now) }
+{
+    let number = workers_for(workers.rt, plan, u32::from(workers.number), workers.gate);
+    if number == 1 {
+        return direct(alloc, plan, stream, wave);
+    }
+    let merge = WideMerge {
+        alloc,
+        plan,
+        gate: workers.gate,
+        stream,
+        wave,
+    };
+    wide_tree::<R, T, G>(workers.rt, &merge, number)
 }
 
 // The nodes that the events of a journal lose, in order.

@@ -60,16 +60,20 @@ optional option = (option, false)
 abbrev pub file_options : List (Opt × Bool)
 file_options = required Topology ∷ required Samples ∷ required Script ∷ []
 
--- those, and the options of a run whose events a seed picks
+-- those, and the options of what workers do
+abbrev pub worker_options : List (Opt × Bool)
+worker_options = file_options ++ optional Workers ∷ optional Report ∷ []
+
+-- the files, and the options of a run whose events a seed picks
 abbrev pub seed_options : List (Opt × Bool)
 seed_options = file_options ++ optional Seed ∷ optional Report ∷ []
 
 -- the table of the modes: the options of each
 abbrev pub options_of : Mode → List (Opt × Bool)
-options_of Run = file_options ++ optional Workers ∷ optional Report ∷ []
+options_of Run = worker_options
 options_of Sim = seed_options
 options_of Replay = file_options ++ required JournalIn ∷ optional Report ∷ []
-options_of Direct = file_options ++ optional Report ∷ []
+options_of Direct = worker_options
 options_of Gen = optional Seed ∷ required Size ∷ []
 options_of Cast = file_options ++ optional Seed ∷ required Commands ∷ []
 options_of Sums = seed_options ++ required Values ∷ required Fold ∷ []

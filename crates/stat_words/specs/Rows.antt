@@ -9,12 +9,12 @@ use Rattle.rank_sums.specs.declared.fold.Fold.TheVariants as fold
 use Rattle.tree_view.specs.declared.reading.ViewBy.TheVariants as by
 use Rattle.stat_words.specs.declared.words.ReportForm.TheVariants.{Text, Json}
 use Rattle.stat_words.specs.declared.words.RunReport.TheVariants as report
-use Rattle.stat_words.specs.declared.words.Opt.TheVariants.{Capture, Seed, Size, Report, Commands, Values, Fold as FoldOption, By, Arg}
+use Rattle.stat_words.specs.declared.words.Opt.TheVariants.{Capture, Workers, Seed, Size, Report, Commands, Values, Fold as FoldOption, By, Arg}
 use Rattle.stat_words.specs.declared.words.WordFault.TheVariants.{NoMode, UnknownMode, Options, Value}
 
 -- the defaults, where an option isn't given
-four_workers : workers_in [] ≡ Ok 4
-four_workers = refl
+four_workers_of_a_run : workers_in 4 [] ≡ Ok 4
+four_workers_of_a_run = refl
 
 seed_zero : seed_in [] ≡ Ok 0
 seed_zero = refl
@@ -90,7 +90,7 @@ replay : asked (codes "replay" ∷ codes "--journal-in=j" ∷ three_files) ≡ O
 unfolding asked walked walk_fault bundle_met flags_fault defaults_fault
 replay = refl
 
-direct : asked (codes "direct" ∷ three_files) ≡ Ok (Direct names Text)
+direct : asked (codes "direct" ∷ three_files) ≡ Ok (Direct names 1 Text)
 unfolding asked walked walk_fault bundle_met flags_fault defaults_fault
 direct = refl
 
@@ -143,9 +143,22 @@ direct_has_no_seed : asked (codes "direct" ∷ codes "--seed=1" ∷ three_files)
 unfolding asked walked walk_fault bundle_met flags_fault defaults_fault
 direct_has_no_seed = refl
 
-direct_has_no_workers : asked (codes "direct" ∷ codes "--workers=1" ∷ three_files) ≡ Err Options
+-- a direct merge has workers: one where the words don't say, 1 to 32, tested before the form of its report
+direct_by_eight : asked (codes "direct" ∷ codes "--workers=8" ∷ codes "--report=json" ∷ three_files) ≡ Ok (Direct names 8 Json)
 unfolding asked walked walk_fault bundle_met flags_fault defaults_fault
-direct_has_no_workers = refl
+direct_by_eight = refl
+
+direct_by_none : asked (codes "direct" ∷ codes "--workers=0" ∷ codes "--report=xml" ∷ three_files) ≡ Err (Value Workers)
+unfolding asked walked walk_fault bundle_met flags_fault defaults_fault
+direct_by_none = refl
+
+direct_by_33 : asked (codes "direct" ∷ codes "--workers=33" ∷ three_files) ≡ Err (Value Workers)
+unfolding asked walked walk_fault bundle_met flags_fault defaults_fault
+direct_by_33 = refl
+
+direct_by_one_word : asked (codes "direct" ∷ codes "--workers" ∷ three_files) ≡ Err Options
+unfolding asked walked walk_fault bundle_met flags_fault defaults_fault
+direct_by_one_word = refl
 
 missing : asked (codes "replay" ∷ three_files) ≡ Err Options
 unfolding asked walked walk_fault bundle_met flags_fault defaults_fault

@@ -43,14 +43,14 @@ pub record AskedSums : Type 0 where
   pub values : List ℕ
   pub fold : Fold
 
--- What the words ask for: a mode, and the values of its options. A run has a number of workers, a simulation a seed, a
--- replay the name of a journal, a generated job its size and a seed, what sends commands a seed and their number, sums and a
--- view a seed and what is written of them, and what prints frames the name of a capture.
+-- What the words ask for: a mode, and the values of its options. A run and a direct merge have a number of workers, a
+-- simulation a seed, a replay the name of a journal, a generated job its size and a seed, what sends commands a seed and their
+-- number, sums and a view a seed and what is written of them, and what prints frames the name of a capture.
 pub data Asked : Type 0 where
   Run : Names → ℕ → RunReport → Asked
   Sim : Names → ℕ → RunReport → Asked
   Replay : Names → List ℕ → RunReport → Asked
-  Direct : Names → ReportForm → Asked
+  Direct : Names → ℕ → ReportForm → Asked
   Gen : ℕ → ℕ → Asked
   Cast : Names → ℕ → ℕ → Asked
   Sums : Names → ℕ → AskedSums → Asked
@@ -73,8 +73,9 @@ names_in rows =
 abbrev pub journal_in : List Row → Result Text WordFault
 journal_in = value_of JournalIn file_name
 
-abbrev pub workers_in : List Row → Result ℕ WordFault
-workers_in = value_or 4 Workers (number_between 1 32)
+-- the number of workers, with the default of a mode
+abbrev pub workers_in : ℕ → List Row → Result ℕ WordFault
+workers_in default = value_or default Workers (number_between 1 32)
 
 abbrev pub seed_in : List Row → Result ℕ WordFault
 seed_in = value_or 0 Seed (number_between 0 (2 ^ 64 - 1))
@@ -120,7 +121,7 @@ capture_in = value_of Capture file_name
 -- what a mode makes of its options; their values are tested in the order of `Opt`, the argument of a view behind all others
 abbrev pub asked_in : Mode → List Row → Result Asked WordFault
 asked_in mode.Run rows =
-    and_then (names_in rows) (λ names. and_then (workers_in rows) (λ workers. and_then (run_report_in rows) (λ report.
+    and_then (names_in rows) (λ names. and_then (workers_in 4 rows) (λ workers. and_then (run_report_in rows) (λ report.
     Ok (Run names workers report))))
 asked_in mode.Sim rows =
     and_then (names_in rows) (λ names. and_then (seed_in rows) (λ seed. and_then (run_report_in rows) (λ report.
@@ -129,8 +130,8 @@ asked_in mode.Replay rows =
     and_then (names_in rows) (λ names. and_then (journal_in rows) (λ journal. and_then (run_report_in rows) (λ report.
     Ok (Replay names journal report))))
 asked_in mode.Direct rows =
-    and_then (names_in rows) (λ names. and_then (form_in rows) (λ form.
-    Ok (Direct names form)))
+    and_then (names_in rows) (λ names. and_then (workers_in 1 rows) (λ workers. and_then (form_in rows) (λ form.
+    Ok (Direct names workers form))))
 asked_in mode.Gen rows =
     and_then (seed_in rows) (λ seed. and_then (size_in rows) (λ size.
     Ok (Gen size seed)))
@@ -183,7 +184,7 @@ abbrev pub asked_of : Command → Asked
 asked_of (command.Run files workers report) = Run (names_of files) workers report
 asked_of (command.Sim files seed report) = Sim (names_of files) seed report
 asked_of (command.Replay files journal report) = Replay (names_of files) journal.now report
-asked_of (command.Direct files form) = Direct (names_of files) form
+asked_of (command.Direct files workers form) = Direct (names_of files) workers form
 asked_of (command.Gen size seed) = Gen size seed
 asked_of (command.Cast files seed commands) = Cast (names_of files) seed commands
 asked_of (command.Sums files seed report) = Sums (names_of files) seed (sums_asked report)
@@ -197,6 +198,7 @@ Reads = IsReadOrOutOfMemory asked_of
 -- the numbers of a command are in their ranges
 abbrev pub IsInRanges : Command → Type 0
 IsInRanges (command.Run files workers report) = (1 ≤ workers) × (workers ≤ 32)
+IsInRanges (command.Direct files workers form) = (1 ≤ workers) × (workers ≤ 32)
 IsInRanges (command.Gen size seed) = (1 ≤ size) × (size ≤ 256)
 IsInRanges (command.Cast files seed commands) = (1 ≤ commands) × (commands ≤ 1000)
 IsInRanges _ = Unit {0}

@@ -1,7 +1,7 @@
 //! The modes, and the options that `clap` reads for each.
 ghost use Rattle.std.specs.Prelude.{◌≡◌, IfOk, true, map, string_bytes};
 ghost use Rattle.clap.specs.Words.{app_of, is_simple, is_simple_and_free, with_rule};
-ghost use Rattle.stat_words.specs.Modes.{bare_command as bare_app, command_of as app_of_mode, file_options, given as given_by, has_dashes as has_dashes_in, mode_of as mode_of_word, rows_in, rule_for, seed_options, taken, with_rules};
+ghost use Rattle.stat_words.specs.Modes.{bare_command as bare_app, command_of as app_of_mode, file_options, given as given_by, has_dashes as has_dashes_in, mode_of as mode_of_word, rows_in, rule_for, seed_options, taken, with_rules, worker_options};
 ghost use Rattle.stat_words.specs.Outcomes.{IsReadOrOutOfMemory};
 
 use crate::words::{Opt, WordFault, WordsError};
@@ -86,6 +86,15 @@ fn with_files<'a>(alloc: Global) -> Result<Command<'a>, AllocError>
     with_option(alloc, command, Opt::Script, true)
 }
 
+// The command with the options of what workers do.
+fn with_workers<'a>(alloc: Global) -> Result<Command<'a>, AllocError>
+    ensures { IfOk result (λ command. app_of command ≡ with_rules bare_app worker_options) }
+{
+    let command = with_files(alloc)?;
+    let command = with_option(alloc, command, Opt::Workers, false)?;
+    with_option(alloc, command, Opt::Report, false)
+}
+
 // The command with the options of a run whose events a seed picks.
 fn with_seed<'a>(alloc: Global) -> Result<Command<'a>, AllocError>
     ensures { IfOk result (λ command. app_of command ≡ with_rules bare_app seed_options) }
@@ -100,19 +109,11 @@ fn command_of<'a>(alloc: Global, mode: Mode) -> Result<Command<'a>, AllocError>
     ensures { IfOk result (λ command. app_of command ≡ app_of_mode mode) }
 {
     match mode {
-        Mode::Run => {
-            let command = with_files(alloc)?;
-            let command = with_option(alloc, command, Opt::Workers, false)?;
-            with_option(alloc, command, Opt::Report, false)
-        }
+        Mode::Run | Mode::Direct => with_workers(alloc),
         Mode::Sim => with_seed(alloc),
         Mode::Replay => {
             let command = with_files(alloc)?;
             let command = with_option(alloc, command, Opt::JournalIn, true)?;
-            with_option(alloc, command, Opt::Report, false)
-        }
-        Mode::Direct => {
-            let command = with_files(alloc)?;
             with_option(alloc, command, Opt::Report, false)
         }
         Mode::Gen => {

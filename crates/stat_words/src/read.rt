@@ -21,7 +21,7 @@ fn command_in<'a>(mode: Mode, matches: &ArgMatches<'a>) -> Result<Command<'a>, W
     match mode {
         Mode::Run => Ok(Command::Run {
             files: files(matches)?,
-            workers: workers(matches)?,
+            workers: workers(matches, 4)?,
             report: report(matches)?,
         }),
         Mode::Sim => Ok(Command::Sim {
@@ -36,6 +36,7 @@ fn command_in<'a>(mode: Mode, matches: &ArgMatches<'a>) -> Result<Command<'a>, W
         }),
         Mode::Direct => Ok(Command::Direct {
             files: files(matches)?,
+            workers: workers(matches, 1)?,
             form: form(matches)?,
         }),
         Mode::Gen => {

@@ -113,13 +113,14 @@ pub(crate) fn files<'a>(matches: &ArgMatches<'a>) -> Result<Files<'a>, WordFault
     })
 }
 
-/// The number of workers, 1 to 32.
-pub(crate) fn workers<'a>(matches: &ArgMatches<'a>) -> Result<u8, WordFault>
-    ensures value { result ≡ workers_in (rows_in matches.now) }
+/// The number of workers, 1 to 32, and `default` where none is given.
+pub(crate) fn workers<'a>(matches: &ArgMatches<'a>, default: u8) -> Result<u8, WordFault>
+    requires default { (1 ≤ default) × (default ≤ 32) }
+    ensures value { result ≡ workers_in default (rows_in matches.now) }
     ensures range { IfOk result (λ n. (1 ≤ n) × (n ≤ 32)) }
 {
     let Some(word) = value(matches, Opt::Workers) else {
-        return Ok(4);
+        return Ok(default);
     };
     let Some(workers) = number_between(word, 1, 32) else {
         return Err(WordFault::Value(Opt::Workers));

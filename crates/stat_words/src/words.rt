@@ -159,9 +159,10 @@ pub enum Command<'a> {
         journal: &'a str,
         report: RunReport,
     },
-    /// The report computed from the samples at once, with no overlay.
+    /// The report computed from the samples at once, with no overlay; `workers` is 1 to 32.
     Direct {
         files: Files<'a>,
+        workers: u8,
         form: ReportForm,
     },
     /// A generated job; `size` is 1 to 256.

@@ -1,6 +1,6 @@
 //! Calls over a desk in memory, with sinks in memory.
 
-use overlay_event::{Journal, OpenGate};
+use overlay_event::Journal;
 use prefix_tree::OwnedTree;
 use stat_desk::{MemDesk, MemSink};
 use stat_tool::{Status, stat};
@@ -8,6 +8,7 @@ use std::alloc::{AllocError, Global};
 use std::sync::Wait;
 use std::thread::Threads;
 use worked_jobs::desks::{REPLAY_WORDS, WORDS, put, words_of};
+use worked_jobs::gates::BusyGate;
 
 /// What a call leaves: its status and its events, and what it wrote to the sinks of the report and of the journal.
 #[derive(Drop)]
@@ -48,7 +49,7 @@ pub fn call_into<R: Threads + Wait + Sync>(
         desk,
         &mut report,
         &mut journal,
-        &OpenGate,
+        &BusyGate,
     );
     Ok(Called {
         status: outcome.status,
@@ -76,6 +77,25 @@ pub fn simulate<R: Threads + Wait + Sync>(
     call(rt, alloc, desk, words.as_slice())
 }
 
+// A call in this mode with so many workers.
+pub fn call_with<R: Threads + Wait + Sync>(
+    rt: &R,
+    alloc: Global,
+    desk: &mut MemDesk,
+    mode: &str,
+    workers: u32,
+) -> Result<Called, AllocError> {
+    let option = format!(in alloc; "--workers={workers}")?;
+    let words = [
+        mode,
+        "--topology=t",
+        "--samples=s",
+        "--script=c",
+        option.as_str(),
+    ];
+    call(rt, alloc, desk, words.as_slice())
+}
+
 // A run on so many workers.
 pub fn run_with<R: Threads + Wait + Sync>(
     rt: &R,
@@ -83,15 +103,7 @@ pub fn run_with<R: Threads + Wait + Sync>(
     desk: &mut MemDesk,
     workers: u32,
 ) -> Result<Called, AllocError> {
-    let option = format!(in alloc; "--workers={workers}")?;
-    let words = [
-        "run",
-        "--topology=t",
-        "--samples=s",
-        "--script=c",
-        option.as_str(),
-    ];
-    call(rt, alloc, desk, words.as_slice())
+    call_with(rt, alloc, desk, "run", workers)
 }
 
 // Whether a call is done, and one thread that replays its journal writes the same report.

@@ -211,9 +211,15 @@ fn has_releases(report: &[u8], releases: &[u8]) -> bool {
     }
 }
 
-const DIRECT_WORDS: [&str; 4] = ["direct", "--topology=t", "--samples=s", "--script=c"];
+const DIRECT_WORDS: [&str; 5] = [
+    "direct",
+    "--topology=t",
+    "--samples=s",
+    "--script=c",
+    "--workers=3",
+];
 
-// Whether a simulation and a run have exactly the releases of the direct merge.
+// Whether a simulation and a run have exactly the releases of the direct merge, by three workers.
 fn are_direct<R: Threads + Wait + Sync>(
     rt: &R,
     alloc: Global,

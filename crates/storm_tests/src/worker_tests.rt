@@ -1,6 +1,6 @@
-//! Runs on several workers.
-use crate::calls::{call_into, is_replayed, run_with};
-use overlay_event::{Event, Gate, Journal};
+//! Runs and direct merges on several workers.
+use crate::calls::{Called, call_into, call_with, is_replayed, run_with};
+use overlay_event::{Event, Gate};
 use prefix_tree::OwnedTree;
 use stat_desk::{MemDesk, MemSink};
 use stat_tool::{Status, Target, stat};
@@ -53,6 +53,65 @@ fn each_number_of_workers_writes_the_report(rt: HostRuntime) -> Result<(), Alloc
     Ok(())
 }
 
+// Jobs, and what a direct merge writes of them: all ranks, also those of a daemon that the script loses.
+const MERGED_JOBS: [(&str, &str, &str, &str); 3] = [
+    (TWO_TOP, FOUR_SMP, ALL_SCR, FOUR_REPORT),
+    (TWO_INNER_TOP, SOLVER_SMP, ALL_SCR, SOLVER_REPORT),
+    (
+        TWO_TOP,
+        FOUR_SMP,
+        "stream 0 wait-for-all waves 1 samples 1 on all\nlose b:0 after 0 keep 0\n",
+        FOUR_REPORT,
+    ),
+];
+
+#[test]
+fn any_number_of_workers_merges_directly(rt: HostRuntime) {
+    let alloc = rt.alloc();
+    for (topology, samples, script, report) in MERGED_JOBS.as_slice() {
+        for workers in [1, 2, 8] {
+            let mut desk = desk_of(alloc, topology, samples, script).expect(&rt, "memory");
+            let called = call_with(&rt, alloc, &mut desk, "direct", workers).expect(&rt, "memory");
+            assert_eq!(rt; called.status, Status::Done);
+            assert_eq!(rt; called.report.bytes(), report.as_bytes());
+        }
+    }
+}
+
+// Two streams, one of two waves, whose samples differ.
+const STREAMS_SMP: &str = "daemon d0:0 0-1
+daemon d1:0 2-3
+daemon d2:0 4-5
+daemon d3:0 6-7
+daemon d4:0 8-9
+daemon d5:0 10-11
+daemon d6:0 12-13
+daemon d7:0 14-15
+stack 0 0-15 main
+stack 1 3,9 main;recv
+stack 2 0-7,15 main;send
+stack 3 8-14 main;send;poll
+";
+
+const STREAMS_SCR: &str = "stream 0 wait-for-all waves 2 samples 2 on all
+stream 3 time-out 2 waves 1 samples 3 on d1:0 d6:0 d7:0
+";
+
+// Workers write what one writes, wave by wave.
+#[test]
+fn any_number_of_workers_merges_each_wave(rt: HostRuntime) {
+    let alloc = rt.alloc();
+    let mut desk = desk_of(alloc, STORM_TOP, STREAMS_SMP, STREAMS_SCR).expect(&rt, "memory");
+    let alone = call_with(&rt, alloc, &mut desk, "direct", 1).expect(&rt, "memory");
+    assert_eq!(rt; alone.status, Status::Done);
+    for workers in [2, 3, 5, 8, 32] {
+        let mut desk = desk_of(alloc, STORM_TOP, STREAMS_SMP, STREAMS_SCR).expect(&rt, "memory");
+        let called = call_with(&rt, alloc, &mut desk, "direct", workers).expect(&rt, "memory");
+        assert_eq!(rt; called.status, Status::Done);
+        assert_eq!(rt; called.report.bytes(), alone.report.bytes());
+    }
+}
+
 // ---- the gate
 
 // A gate that holds events until so many have come, or for so many turns.
@@ -100,6 +159,10 @@ impl Gate for HoldingGate {
             yield_now();
         }
         self.gave_up.store(true, Ordering::SeqCst);
+    }
+
+    fn may_wait(&self) -> bool {
+        true
     }
 }
 
@@ -150,27 +213,32 @@ const HOLDING: [Holding; 4] = [
     },
 ];
 
-// The status and the journal of a call whose events pass a gate.
+// A call whose events pass a gate.
 fn call_through<R: Threads + Wait + Sync>(
     rt: &R,
     alloc: Global,
     desk: &mut MemDesk,
     texts: &[&str],
     gate: &HoldingGate,
-) -> Result<(Status, Journal), AllocError> {
+) -> Result<Called, AllocError> {
     let words = words_of(alloc, texts)?;
-    let mut out = MemSink::new(alloc, 16, 20_000)?;
+    let mut report = MemSink::new(alloc, 16, 20_000)?;
     let mut journal = MemSink::new(alloc, 16, 20_000)?;
     let outcome = stat::<R, OwnedTree, _, _, _, _>(
         rt,
         alloc,
         words.as_slice(),
         desk,
-        &mut out,
+        &mut report,
         &mut journal,
         gate,
     );
-    Ok((outcome.status, outcome.journal))
+    Ok(Called {
+        status: outcome.status,
+        events: outcome.journal,
+        report,
+        journal,
+    })
 }
 
 // While workers are held with an event each, another one does events: what is held isn't the next of the journal. A run on
@@ -188,20 +256,43 @@ fn one_worker_goes_on_while_others_are_held(rt: HostRuntime) {
             job.workers,
         ];
         let gate = gate_of(job.held, job.until);
-        let (status, events) = call_through(&rt, alloc, &mut desk, texts.as_slice(), &gate).expect(
+        let called = call_through(&rt, alloc, &mut desk, texts.as_slice(), &gate).expect(
             &rt, "memory",
         );
-        assert_eq!(rt; status, Status::Done);
+        assert_eq!(rt; called.status, Status::Done);
         assert!(rt; !gate.gave_up.load(Ordering::SeqCst));
-        assert_eq!(rt; gate.passes.load(Ordering::SeqCst), events.len());
-        assert!(rt; job.held.0 < events.len());
-        let next = u64::from(events.at(job.held.0).node());
+        assert_eq!(rt; gate.passes.load(Ordering::SeqCst), called.events.len());
+        assert!(rt; job.held.0 < called.events.len());
+        let next = u64::from(called.events.at(job.held.0).node());
         assert!(rt; next != gate.node.load(Ordering::SeqCst));
     }
 }
 
-// The words of each mode that has no workers.
-const OTHER_MODES: [&[&str]; 5] = [
+const MERGE_WORDS: [&str; 5] = [
+    "direct",
+    "--topology=t",
+    "--samples=s",
+    "--script=c",
+    "--workers=2",
+];
+
+// The first part of a direct merge is held until the second one has come. One worker would wait for itself.
+#[test]
+fn two_workers_merge_at_once(rt: HostRuntime) {
+    let alloc = rt.alloc();
+    let mut desk = desk_of(alloc, TWO_TOP, FOUR_SMP, ALL_SCR).expect(&rt, "memory");
+    let gate = gate_of((0, 1), 2);
+    let called = call_through(&rt, alloc, &mut desk, MERGE_WORDS.as_slice(), &gate).expect(
+        &rt, "memory",
+    );
+    assert_eq!(rt; called.status, Status::Done);
+    assert_eq!(rt; called.report.bytes(), FOUR_REPORT.as_bytes());
+    assert!(rt; !gate.gave_up.load(Ordering::SeqCst));
+    assert!(rt; gate.passes.load(Ordering::SeqCst) == 2);
+}
+
+// The words of calls by one worker in which no event passes the gate.
+const OTHER_MODES: [&[&str]; 6] = [
     &["sim", "--topology=t", "--samples=s", "--script=c"],
     &[
         "replay",
@@ -211,6 +302,13 @@ const OTHER_MODES: [&[&str]; 5] = [
         "--journal-in=j",
     ],
     &["direct", "--topology=t", "--samples=s", "--script=c"],
+    &[
+        "direct",
+        "--topology=t",
+        "--samples=s",
+        "--script=c",
+        "--workers=1",
+    ],
     &["gen", "--size=1"],
     &["frames", "--capture=f"],
 ];
@@ -224,8 +322,8 @@ fn no_event_of_another_mode_passes_the_gate(rt: HostRuntime) {
     put(alloc, &mut desk, "f", b"").expect(&rt, "memory");
     for texts in OTHER_MODES.as_slice() {
         let gate = gate_of((0, 0), 0);
-        let (status, _) = call_through(&rt, alloc, &mut desk, texts, &gate).expect(&rt, "memory");
-        assert_eq!(rt; status, Status::Done);
+        let called = call_through(&rt, alloc, &mut desk, texts, &gate).expect(&rt, "memory");
+        assert_eq!(rt; called.status, Status::Done);
         assert!(rt; gate.passes.load(Ordering::SeqCst) == 0);
     }
 }

@@ -17,7 +17,7 @@ const TEXT: RunReport = RunReport::Releases(ReportForm::Text);
 const JSON: RunReport = RunReport::Releases(ReportForm::Json);
 
 /// Words, and the command that they ask for.
-const READ: [(&str, Command<'static>); 22] = [
+const READ: [(&str, Command<'static>); 20] = [
     (
         "run --topology t --samples s --script c",
         Command::Run {
@@ -80,20 +80,6 @@ const READ: [(&str, Command<'static>); 22] = [
             files: FILES,
             journal: "j",
             report: JSON,
-        },
-    ),
-    (
-        "direct --topology t --samples s --script c",
-        Command::Direct {
-            files: FILES,
-            form: ReportForm::Text,
-        },
-    ),
-    (
-        "direct --topology t --samples s --script c --report=json",
-        Command::Direct {
-            files: FILES,
-            form: ReportForm::Json,
         },
     ),
     ("gen --size 256", Command::Gen { size: 256, seed: 0 }),
@@ -160,6 +146,34 @@ const READ: [(&str, Command<'static>); 22] = [
     ("frames --capture=c", Command::Frames { capture: "c" }),
 ];
 
+/// Words of direct merges, and what they ask for.
+const DIRECT: [(&str, Command<'static>); 3] = [
+    (
+        "direct --topology t --samples s --script c",
+        Command::Direct {
+            files: FILES,
+            workers: 1,
+            form: ReportForm::Text,
+        },
+    ),
+    (
+        "direct --topology t --samples s --script c --report=json",
+        Command::Direct {
+            files: FILES,
+            workers: 1,
+            form: ReportForm::Json,
+        },
+    ),
+    (
+        "direct --workers=0032 --topology t --samples s --script c",
+        Command::Direct {
+            files: FILES,
+            workers: 32,
+            form: ReportForm::Text,
+        },
+    ),
+];
+
 /// Words that have no mode, or not the options of their mode.
 const NOT_OF_THE_TABLE: [(&str, WordFault); 31] = [
     ("", WordFault::NoMode),
@@ -208,7 +222,7 @@ const NOT_OF_THE_TABLE: [(&str, WordFault); 31] = [
 ];
 
 /// Words whose options are those of the mode, but not each value.
-const BAD_VALUES: [(&str, Opt); 39] = [
+const BAD_VALUES: [(&str, Opt); 42] = [
     ("run --topology= --samples s --script c", Opt::Topology),
     ("run --topology=-x --samples s --script c", Opt::Topology),
     ("run --topology - --samples s --script c", Opt::Topology),
@@ -237,6 +251,18 @@ const BAD_VALUES: [(&str, Opt); 39] = [
     (
         "run --topology t --samples s --script c --workers 4294967297",
         Opt::Workers,
+    ),
+    (
+        "direct --topology t --samples s --script c --workers 0 --report frames",
+        Opt::Workers,
+    ),
+    (
+        "direct --topology t --samples s --script c --workers 33",
+        Opt::Workers,
+    ),
+    (
+        "direct --topology t --samples s --script=-c --workers 0",
+        Opt::Script,
     ),
     (
         "sim --topology t --samples s --script c --seed 18446744073709551616",
@@ -346,6 +372,13 @@ fn assert_read(rt: &impl Abort, alloc: Global, text: &str, want: Result<Command<
 #[test]
 fn reads_commands(rt: HostRuntime) {
     for (text, command) in &READ {
+        assert_read(&rt, rt.alloc(), text, Ok(*command));
+    }
+}
+
+#[test]
+fn reads_direct_merges(rt: HostRuntime) {
+    for (text, command) in &DIRECT {
         assert_read(&rt, rt.alloc(), text, Ok(*command));
     }
 }

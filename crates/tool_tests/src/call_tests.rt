@@ -470,7 +470,7 @@ fn takes_files_of_33554432_bytes_and_no_longer_ones(rt: HostRuntime) {
 }
 
 // Words with which nothing is read or written, and their faults.
-const OTHER_WORDS: [(&[&str], WordFault); 8] = [
+const OTHER_WORDS: [(&[&str], WordFault); 10] = [
     (&[], WordFault::NoMode),
     (&["trace"], WordFault::UnknownMode),
     (&["run", "--topology", "t"], WordFault::Options),
@@ -483,6 +483,26 @@ const OTHER_WORDS: [(&[&str], WordFault); 8] = [
             "--script=c",
             "--workers",
             "0",
+        ],
+        WordFault::Value(Opt::Workers),
+    ),
+    (
+        &[
+            "direct",
+            "--topology=t",
+            "--samples=s",
+            "--script=c",
+            "--workers=0",
+        ],
+        WordFault::Value(Opt::Workers),
+    ),
+    (
+        &[
+            "direct",
+            "--workers=33",
+            "--topology=t",
+            "--samples=s",
+            "--script=c",
         ],
         WordFault::Value(Opt::Workers),
     ),

@@ -1,13 +1,15 @@
 //! Calls over a desk in memory, with sinks in memory.
 
-use overlay_event::{Journal, OpenGate};
+use overlay_event::Journal;
 use prefix_tree::{OwnedTree, PrefixTree};
 use stat_desk::{MemDesk, MemSink};
+use stat_plan::Plan;
 use stat_tool::{Status, stat};
 use std::alloc::{AllocError, Global};
 use std::sync::Wait;
 use std::thread::Threads;
 use worked_jobs::desks::{WORDS, words_of};
+use worked_jobs::gates::BusyGate;
 
 /// What a call leaves: its status and its events, and what it wrote to the sinks of the report and of the journal.
 #[derive(Drop)]
@@ -60,7 +62,7 @@ pub fn call_over<R: Threads + Wait + Sync, T: PrefixTree>(
         desk,
         &mut report,
         &mut journal,
-        &OpenGate,
+        &BusyGate,
     );
     Ok(Called {
         status: outcome.status,
@@ -68,6 +70,20 @@ pub fn call_over<R: Threads + Wait + Sync, T: PrefixTree>(
         report,
         journal,
     })
+}
+
+// The plan of the texts of a job.
+pub fn plan_of(alloc: Global, topology: &str, samples: &str, script: &str) -> Option<Plan> {
+    let Ok(topology) = topology_text::read(alloc, topology.as_bytes()) else {
+        return None;
+    };
+    let Ok(samples) = sample_text::read(alloc, samples.as_bytes(), &topology) else {
+        return None;
+    };
+    let Ok(script) = script_text::read(alloc, script.as_bytes(), &topology) else {
+        return None;
+    };
+    Plan::build(alloc, topology, samples, script).ok()
 }
 
 // The status of a run on a desk, and its report.

@@ -1,29 +1,16 @@
 //! The bound of a net's journals, and in what order a plan's lines are gone through.
+use crate::calls::plan_of;
 use overlay_net::Net;
 use prefix_tree::OwnedTree;
-use stat_plan::{Plan, WaveTimes};
-use std::alloc::Global;
+use stat_plan::WaveTimes;
 use worked_jobs::jobs::{FOUR_SMP, TWO_TOP};
 
 const SCRIPT: &str = "stream 0 time-out 1 waves 1 samples 1 on all\n";
 
-fn plan_of(alloc: Global, samples: &str) -> Option<Plan> {
-    let Ok(topology) = topology_text::read(alloc, TWO_TOP.as_bytes()) else {
-        return None;
-    };
-    let Ok(samples) = sample_text::read(alloc, samples.as_bytes(), &topology) else {
-        return None;
-    };
-    let Ok(script) = script_text::read(alloc, SCRIPT.as_bytes(), &topology) else {
-        return None;
-    };
-    Plan::build(alloc, topology, samples, script).ok()
-}
-
 #[test]
 fn journals_are_bounded(rt: HostRuntime) {
     let alloc = rt.alloc();
-    let plan = plan_of(alloc, FOUR_SMP).expect(&rt, "a plan");
+    let plan = plan_of(alloc, TWO_TOP, FOUR_SMP, SCRIPT).expect(&rt, "a plan");
     let net: Net<'_, OwnedTree> = Net::new(alloc, &plan).expect(&rt, "a net");
     // 3 nodes, 1 wave, 1 tick: 3 * 3 + 9 * 3 + 3 * 3 * 1 * (3 + 9) * (1 + 1)
     assert_eq!(rt; net.length_bound(), 252);
@@ -41,7 +28,7 @@ stack 0 1 main;b
 
 #[test]
 fn goes_through_lines_in_the_order_of_their_paths(rt: HostRuntime) {
-    let plan = plan_of(rt.alloc(), UNORDERED_SMP).expect(&rt, "a plan");
+    let plan = plan_of(rt.alloc(), TWO_TOP, UNORDERED_SMP, SCRIPT).expect(&rt, "a plan");
     assert!(rt; plan.nodes() > 1);
     let times = WaveTimes {
         samples: 1,

@@ -1,13 +1,24 @@
 //! Sums over ranks: worked jobs through whole calls, and values that are refused.
-use crate::calls::{Called, call};
+ghost use Rattle.std.specs.Prelude.{◌≡◌, [], false, OnOk};
+ghost use Rattle.overlay_net.specs.Nets.{AllHome, IsReachedBy};
+
+use crate::calls::{Called, call, plan_of};
+use front_end::{numbered_releases_are_distinct, sums_text};
+use journal_text::read_journal;
+use overlay_event::Journal;
+use overlay_net::{Net, NetError};
+use prefix_tree::{OwnedTree, PrefixTree};
+use rank_sums::{Fold, part_plan, sums_are_exact};
+use stat_plan::Plan;
 use stat_tool::{FileRole, Status};
 use stat_words::{Opt, WordFault};
 use std::alloc::{AllocError, Global};
 use std::sync::Wait;
 use std::thread::Threads;
 use text_lines::{Quantity, Reason};
+use value_text::{Values, read_values};
 use worked_jobs::desks::{desk_of, put};
-use worked_jobs::jobs::{ALL_SCR, FOUR_SMP, INNER_TOP, LOST_SCR, TWO_TOP};
+use worked_jobs::jobs::{ALL_SCR, FOUR_SMP, INNER_TOP, LOST_JOURNAL, LOST_SCR, TWO_TOP};
 
 const VALUES: &str = "value 0 5\nvalue 1-2 -3\n";
 
@@ -221,4 +232,57 @@ fn refuses_calls(rt: HostRuntime) {
     )
     .expect(&rt, "memory");
     assert_eq!(rt; run.status, Status::BadWords(WordFault::Value(Opt::Fold)));
+}
+
+// ---- a given journal
+
+// Does the events of a journal, where each may come.
+fn redo<T: PrefixTree>(net: &mut Net<'_, T>, journal: &Journal) -> Result<(), NetError>
+    requires usable { net.old.failed ≡ false }
+    requires home { AllHome net.old }
+    requires start { IsReachedBy net.old [] }
+    ensures plan { net.new.plan ≡ net.old.plan }
+    ensures usable { OnOk result (net.new.failed ≡ false) }
+    ensures reached { OnOk result (IsReachedBy net.new journal.now) }
+{
+    for number in 0..journal.len() {
+        match net.apply(journal.at(number)) {
+            Ok(()) => {}
+            Err(error) => return Err(error),
+        }
+    }
+    Ok(())
+}
+
+// The sums of what a journal releases, where the parts of a plan's daemons are sampled; none where an event of it may not
+// come.
+fn sums_after<T: PrefixTree>(
+    alloc: Global,
+    plan: Plan,
+    values: &Values,
+    journal: &str,
+) -> Result<Option<Vec<u8>>, AllocError> {
+    numbered_releases_are_distinct();
+    sums_are_exact();
+    let parts = part_plan(alloc, plan, values, Fold::Sum)?;
+    let mut net: Net<'_, T> = Net::new(alloc, &parts)?;
+    let read = read_journal(alloc, &parts, journal.as_bytes())?;
+    match redo(&mut net, &read.events) {
+        Ok(()) => {}
+        Err(_) => return Ok(None),
+    }
+    let text = sums_text(alloc, net.releases(), Fold::Sum)?;
+    Ok(Some(text))
+}
+
+// In the journal both daemons send their parts again: one final release, with each part once.
+#[test]
+fn folds_what_a_journal_releases(rt: HostRuntime) {
+    let alloc = rt.alloc();
+    let plan = plan_of(alloc, INNER_TOP, FOUR_SMP, LOST_SCR).expect(&rt, "a plan");
+    let values = read_values(alloc, VALUES.as_bytes(), &plan).expect(&rt, "values");
+    let text = sums_after::<OwnedTree>(alloc, plan, &values, LOST_JOURNAL).expect(&rt, "memory");
+    let text = text.expect(&rt, "events that may come");
+    let report = "stream 0 wave 0 release 1 final covered 4:[0-3] sum -1\nend\n";
+    assert_eq!(rt; text.as_slice(), report.as_bytes());
 }

@@ -6,8 +6,8 @@ use Rattle.overlay_setup.specs.Scripts.{Stream}
 use Rattle.stat_tool.proofs.DirectReleases.{one_stream_more, waves_listed}
 use Rattle.stat_tool.proofs.output.direct_releases.Goals as goal
 
-pub push_waves-requires-after_bounds : goal.push_waves-requires-after_bounds
-push_waves-requires-after_bounds g c κs within = λ w lt.
+pub push_waves-requires-clause-waves : goal.push_waves-requires-clause-waves
+push_waves-requires-clause-waves g c κs within = λ w lt.
     let items = c.streams-stream-items.result.now in
     let item = c.stream-item.result in
     let there : In item items = subst (λ (x : Stream). In x items) (sym c.stream-item.is) (in_at items c.loop-stream.stream-index item c.loop-stream-test.true) in

@@ -4,9 +4,9 @@ use Rattle.merge_filter.specs.Contributions.{HasWave}
 use Rattle.stat_tool.proofs.DirectReleases.{one_more}
 use Rattle.stat_tool.proofs.output.push_waves.Goals as goal
 
-pub direct_release-requires-after_bounds : goal.direct_release-requires-after_bounds
-direct_release-requires-after_bounds g c κs within =
-    subst (λ s. HasWave c.args.plan.now s c.loop-wave.wave) (sym c.number.ensures) (c.requires c.loop-wave.wave (omega (arith, c.loop-wave-test.true, c.waves-wave-end.ensures)))
+pub direct_release-requires-clause-wave : goal.direct_release-requires-clause-wave
+direct_release-requires-clause-wave g c κs within =
+    subst (λ s. HasWave c.args.plan.now s c.loop-wave.wave) (sym c.number.ensures) (c.requires.waves c.loop-wave.wave (omega (arith, c.loop-wave-test.true, c.waves-wave-end.ensures)))
 
 pub loop-wave-preserved : goal.loop-wave-preserved
 loop-wave-preserved g c =
