@@ -147,8 +147,8 @@ impl<T: PrefixTree> Contribution<T> {
         Ok(Contribution::of_tree(s, w, tree))
     }
 
-    /// The part of some daemons of a stream: their samples of the wave. For each path the ranks of all of them are united
-    /// first: so the paths are added once, and no daemon's own part is made.
+    /// The part of some daemons of a stream: their samples of the wave. For each path the ranks of all of them are
+    /// united first: so the paths are added once, and no daemon's own part is made.
     pub fn of_daemons(
         alloc: Global,
         plan: &Plan,

@@ -25,7 +25,6 @@ pub mod ReadPlaces
 pub mod Refits
 pub mod Refitted
 pub mod Seen
-pub mod PlanSharing
 pub mod Sending
 pub mod SmallCounts
 pub mod States

@@ -10,7 +10,7 @@ use Rattle.node_inbox.proofs.inbox.Inbox.TheSendSync as inbox
 use Rattle.overlay_core.proofs.release.Release.TheSendSync as release
 use Rattle.overlay_node.proofs.node.Node.TheSendSync as node
 use Rattle.packet_frame.proofs.frame.Frame.TheSendSync as frame
-use Rattle.overlay_net.proofs.PlanSharing.{plan_sync}
+use Rattle.stat_plan.proofs.PlanSharing.{plan_sync}
 use Rattle.overlay_net.proofs.claimed.Work.TheSendSync as work
 use Rattle.overlay_net.specs.contracts.claimed.Claimed as Claimed
 use Rattle.overlay_net.specs.contracts.net.Net as Net

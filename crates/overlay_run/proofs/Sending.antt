@@ -18,7 +18,7 @@ use Rattle.board_turn.proofs.holding.Holding.TheSendSync as holding
 use Rattle.overlay_net.proofs.Sending.{net_send}
 use Rattle.prefix_tree.specs.declared.PrefixTree.{Ghosts}
 use Rattle.overlay_event.proofs.journal.Journal.TheSendSync as journal
-use Rattle.overlay_net.proofs.PlanSharing.{plan_sync}
+use Rattle.stat_plan.proofs.PlanSharing.{plan_sync}
 use Rattle.overlay_run.specs.contracts.board.NetBoard as NetBoard
 use Rattle.overlay_run.specs.contracts.board.NetBoardBoard.TheImpl as board
 use Rattle.stat_plan.specs.contracts.plan.Plan as Plan

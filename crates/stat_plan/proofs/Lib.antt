@@ -29,3 +29,4 @@ pub mod LossInvariant
 pub mod Weights
 pub mod Journals
 pub mod Filters
+pub mod PlanSharing

@@ -5,5 +5,4 @@ pub mod Blocks
 pub mod Indices
 pub mod Sorts
 pub mod Cutting
-pub mod PlanSharing
 pub mod Sending

@@ -10,7 +10,7 @@ use Rattle.std.proofs.Common.{ℕ, List, [], ◌∷◌}
 use Rattle.core.specs.contracts.marker.ClosureMark as ClosureMark
 use Rattle.std.proofs.Crossing.{crosses}
 use Rattle.wide_merge.specs.contracts.parts.WideMerge as WideMerge
-use Rattle.wide_merge.proofs.PlanSharing.{plan_sync}
+use Rattle.stat_plan.proofs.PlanSharing.{plan_sync}
 
 pub merge_sync : (κ : NamedLft) (G : RattleType) → IsSync G → IsSync (WideMerge.the_row κ G)
 merge_sync κ G gate = search (sendable, crosses, plan_sync) depth 20

@@ -2,7 +2,7 @@ use mir.Syntax.{named}
 use denote.Exit.{no}
 use denote.Param.{layout}
 use denote.Param.Send.{arg_send, arg_sync, param_send, param_sync, sendable, shr_sync}
-use Rattle.overlay_net.proofs.PlanSharing.{plan_sync}
+use Rattle.stat_plan.proofs.PlanSharing.{plan_sync}
 use Rattle.std.proofs.Common.{◌∙◌, sym, subst}
 use Rattle.std.proofs.lemmas.List.Elements.{All-get_or}
 use Rattle.overlay_run.specs.Seats.{IsIdle}
