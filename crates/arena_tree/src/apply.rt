@@ -1,16 +1,12 @@
-//! What a change does to the nodes of an arena. Only `unite` allocates, so nothing else here can fail.
+//! What the steps of a change do to the nodes of an arena. Nothing here allocates, so nothing can fail.
 
-ghost use Rattle.std.specs.Prelude.{◌≡◌, ◌≤◌, ◌<◌, ◌+◌, OnOk, Some, slice_get, length};
-ghost use Rattle.arena_tree.specs.NodeViews.{NodeView, view_of};
+ghost use Rattle.std.specs.Prelude.{◌≡◌, ◌≤◌, ◌+◌};
 ghost use Rattle.arena_tree.specs.Links.{with_change, with_first, with_next, relink, first_after, linked};
-ghost use Rattle.arena_tree.specs.NewChains.{new_marks};
-ghost use Rattle.arena_tree.specs.Steps.{with_more_marks, with_united, with_frames, apply_step, apply_steps, nodes_added, nodes_added_by};
+ghost use Rattle.arena_tree.specs.Steps.{with_more_marks, with_frames, apply_step, apply_steps, nodes_added, nodes_added_by};
 
-use crate::node::{ChangeStep, Link, NO_PLACE, NewMarks, Node, Upper};
-use call_path::CallPath;
+use crate::node::{ChangeStep, Link, Node, Upper};
 use node_arena::{Arena, Place};
 use rank_set::RankSet;
-use std::alloc::AllocError;
 use std::collections::VecDeque;
 
 // Gives the node at a place more marks, if there is one.
@@ -23,20 +19,6 @@ fn mark(nodes: &mut Arena<Node>, at: Place, label: RankSet, ends: RankSet)
     }
 }
 
-/// Unites ranks into the marks of the node at a place. Where it fails, a part of them may be there.
-pub(crate) fn unite(
-    nodes: &mut Arena<Node>,
-    at: Place,
-    marks: NewMarks<'_>,
-) -> Result<(), AllocError>
-    requires { at < length nodes.old.items }
-    ensures { (c : NodeView) → slice_get nodes.old.items at ≡ Some c
-        → OnOk result (nodes.new.items ≡ with_change at (with_united (new_marks marks.entry) c) nodes.old.items) }
-{
-    nodes.get_mut(at).unite(marks)?;
-    Ok(())
-}
-
 // Leaves the node at a place its first frame and so many more, if there is one, above the node at another.
 fn cut(nodes: &mut Arena<Node>, at: Place, upper: Upper)
     ensures items { nodes.new.items
@@ -46,19 +28,6 @@ fn cut(nodes: &mut Arena<Node>, at: Place, upper: Upper)
     if at < nodes.len() {
         nodes.get_mut(at).keep_frames(upper);
     }
-}
-
-/// Splits the node at a place, and returns the node for its last frames.
-pub(crate) fn split(nodes: &mut Arena<Node>, at: Place, upper: Upper, frames: CallPath) -> Node
-    requires at { at < length nodes.old.items }
-    requires some { 0 < length frames }
-    ensures items { nodes.new.items
-        ≡ with_change at (with_frames upper.more upper.label upper.ends upper.below) nodes.old.items }
-    ensures spare { nodes.new.spare ≡ nodes.old.spare }
-    ensures lower { (c : NodeView) → slice_get nodes.old.items at ≡ Some c
-        → result ≡ view_of frames (c.label, c.ends) c.first NO_PLACE }
-{
-    nodes.get_mut(at).split(upper, frames)
 }
 
 fn set_first(nodes: &mut Arena<Node>, at: Place, to: Place)

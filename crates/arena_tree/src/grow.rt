@@ -15,7 +15,7 @@ ghost use Rattle.arena_tree.specs.NewChains.{new_marks, new_frames};
 ghost use Rattle.arena_tree.specs.Growth.{growth_view, all_at, led_by, below_shared, DoesStep, CanGrow, grown, rows_grown, EntersChain, GrowsByChain};
 ghost use Rattle.arena_tree.specs.Trail.{AreHints, AreOwnHints, HasSiblings, below_first, LeadsToOrdered};
 
-use crate::apply::{relink, split, unite};
+use crate::apply::relink;
 use crate::merge::{NewChain, Source, ends_at};
 use crate::node::{Link, NO_PLACE, NewMarks, Node, Upper};
 use crate::shared::common_behind;
@@ -100,7 +100,7 @@ impl Growth {
             ends,
             below,
         };
-        let lower = split(&mut self.nodes, into.node, upper, frames);
+        let lower = self.nodes.get_mut(into.node).split(upper, frames);
         self.nodes.put(lower);
         Ok(below)
     }
@@ -128,7 +128,7 @@ impl Growth {
         let len = node.frames().len();
         if into.skip + shared == len {
             let first = node.first();
-            unite(&mut self.nodes, into.node, marks)?;
+            self.nodes.get_mut(into.node).unite(marks)?;
             return Ok(MergeTarget {
                 link: Link::FirstOf(into.place),
                 node: first,

@@ -40,22 +40,11 @@ mod walk;
 
 pub use tree::ArenaTree;
 
-/// A law: a node that is cut in two shows the same rows.
-pub fn cut_shows_the_same_rows()
-    ensures { CutShowsSameRows }
-{}
-
-/// A law: the rows of two merged forests of chains are the united rows of both.
-pub fn merged_chains_show_united_rows()
-    ensures { MergeUnitesRows }
-{}
-
-/// A law: the steps of a merge make the merged forest.
-pub(crate) fn steps_make_the_merged_forest()
-    ensures { StepsMakeMerge }
-{}
-
-/// A law: how rows are read one after another.
-pub(crate) fn rows_are_read_in_order()
-    ensures { ReadsInOrder }
+/// Laws of forests of chains: a node that is cut in two shows the same rows, the rows of two merged forests are the
+/// united rows of both, the steps of a merge make the merged forest, and how rows are read one after another.
+pub fn chain_laws()
+    ensures cut { CutShowsSameRows }
+    ensures united { MergeUnitesRows }
+    ensures made { StepsMakeMerge }
+    ensures read { ReadsInOrder }
 {}

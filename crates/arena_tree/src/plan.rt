@@ -10,7 +10,7 @@ use crate::node::{ChangeStep, Link, NO_PLACE, NewMarks, Node};
 use crate::target::MergeTarget;
 use node_arena::Place;
 use rank_set::RankSet;
-use std::alloc::{AllocError, Global};
+use std::alloc::AllocError;
 use std::marker::Model;
 
 /// Steps, with the number of nodes before them, the place of the next new node, and the number of new rows.
@@ -50,23 +50,6 @@ impl ChangePlan {
             next: base,
             rows: 0,
         }
-    }
-
-    /// No steps, and room for so many, for a tree of `base` nodes.
-    pub(crate) fn with_capacity(
-        alloc: Global,
-        base: u32,
-        steps: u32,
-    ) -> Result<ChangePlan, AllocError>
-        ensures base { IfOk result (λ plan. plan.base ≡ base) }
-        ensures steps { IfOk result (λ plan. plan.steps ≡ []) }
-    {
-        Ok(ChangePlan {
-            steps: Vec::with_capacity(alloc, steps as usize)?,
-            base,
-            next: base,
-            rows: 0,
-        })
     }
 
     /// How many nodes the steps add.

@@ -130,7 +130,8 @@ impl PrefixTree for ArenaTree {
     }
 
     fn merge(&mut self, other: &ArenaTree) -> Result<(), TreeError> {
-        let mut plan = ChangePlan::with_capacity(self.alloc, self.nodes.len(), other.nodes.len())?;
+        let steps = Vec::with_capacity(self.alloc, other.nodes.len() as usize)?;
+        let mut plan = ChangePlan::in_room(steps, self.nodes.len());
         let into = MergeTarget {
             link: Link::Top,
             node: self.first,

@@ -31,7 +31,7 @@ use Rattle.packet_frame.specs.declared.packet.Packet.{Packet}
 use Rattle.packet_frame.specs.Fields.{read}
 use Rattle.packet_frame.specs.Frame.{row_of, frame_form}
 use Rattle.packet_frame.specs.Sent.{sent_from, as_packet}
-use Rattle.packet_frame.specs.Spelling.{set_bytes, run_bytes, coverage_bytes, row_bytes, sent_bytes}
+use Rattle.packet_frame.specs.Spelling.{set_bytes, run_bytes, runs_bytes, coverage_bytes, row_bytes, sent_bytes}
 use Rattle.packet_frame.specs.Sending.{MayBePacket, spelling_of}
 use Rattle.packet_frame.specs.Writing.{name_bytes, no_ends, below_bytes, seen_bytes, chain_bytes, entry_bytes, rows_bytes, AreText}
 use Rattle.packet_frame.proofs.SpelledRows.{is_spelled_out}
@@ -47,13 +47,13 @@ few_runs s runs n small is len =
     let same : length (map pair_of runs) ≡ length runs = length-map runs pair_of in
     omega (arith, len, same, ap length is, runs_of_count s small)
 
-pub cover_written : (s : Ranks) (runs : List Run) (old a b : List ℕ) (n : ℕ) → map pair_of runs ≡ runs_of (in_order s) → n ≡ length runs → a ≡ old ++ to_be_bytes w32 n → b ≡ a ++ flat_map (λ run. run_bytes (pair_of run)) runs → b ≡ old ++ coverage_bytes 2 s
-cover_written s runs old a b n is len first then =
-    let count : n ≡ length (runs_of (in_order s)) = len ∙ sym (length-map runs pair_of) ∙ ap length is in
-    then
-    ∙ ap (λ ys. a ++ ys) (sym (flat_map-map run_bytes pair_of runs) ∙ ap (flat_map run_bytes) is)
-    ∙ ap (λ ys. ys ++ flat_map run_bytes (runs_of (in_order s))) (first ∙ ap (λ k. old ++ to_be_bytes w32 k) count)
-    ∙ append_assoc old (to_be_bytes w32 (length (runs_of (in_order s)))) (flat_map run_bytes (runs_of (in_order s)))
+pub cover_written : (s : Ranks) (runs : List Run) (old new : List ℕ) → map pair_of runs ≡ runs_of (in_order s)
+    → new ≡ old ++ (to_be_bytes w32 (length runs) ++ flat_map (λ run. run_bytes (pair_of run)) runs) → new ≡ old ++ coverage_bytes 2 s
+cover_written s runs old new is written =
+    written
+    ∙ ap (λ ys. old ++ (to_be_bytes w32 (length runs) ++ ys)) (sym (flat_map-map run_bytes pair_of runs))
+    ∙ ap (λ n. old ++ (to_be_bytes w32 n ++ flat_map run_bytes (map pair_of runs))) (sym (length-map runs pair_of))
+    ∙ ap (λ rs. old ++ runs_bytes rs) is
 
 -- ---- rows
 

@@ -9,9 +9,9 @@ ghost use Rattle.prefix_tree.specs.Chains.{IsGoodChain};
 ghost use Rattle.packet_frame.specs.Fields.{read};
 ghost use Rattle.packet_frame.specs.Frame.{frame_form};
 ghost use Rattle.packet_frame.specs.Sent.{sent_from, packet_map, as_packet};
-ghost use Rattle.packet_frame.specs.Spelling.{set_bytes, run_bytes, coverage_bytes, sent_bytes, spelling};
+ghost use Rattle.packet_frame.specs.Spelling.{set_bytes, coverage_bytes, sent_bytes, spelling};
 ghost use Rattle.packet_frame.specs.Writing.{name_bytes, no_ends, below_bytes, chain_bytes, rows_bytes, AreText};
-ghost use Rattle.packet_frame.specs.Sending.{HasText, MayBeTree, MayBePacket, MayBeEncoded, spelling_of};
+ghost use Rattle.packet_frame.specs.Sending.{HasText, MayBeTree, MayBeEncoded, spelling_of};
 ghost use Rattle.packet_frame.specs.declared.packet.Packet.TheVariants.{Up};
 
 use crate::frame::Frame;
@@ -19,7 +19,7 @@ use crate::packet::{ATTACH, DONE, DOWN, Packet, UP};
 use call_path::{FRAME_BYTES, FRAME_LIMIT};
 use prefix_tree::{Chain, PrefixTree};
 use rank_places::CoverPlaces;
-use rank_set::{RANK_LIMIT, RankSet, Run, WORD_LIMIT};
+use rank_set::{RANK_LIMIT, RankSet, WORD_LIMIT};
 use std::alloc::{AllocError, Global};
 
 /// The version that is written.
@@ -41,9 +41,15 @@ pub fn encode<T: PrefixTree>(alloc: Global, packet: &Packet<T>) -> Result<Frame,
         (λ frame. (more : List ℕ)
         → as_packet (read frame_form (frame ++ more) 0) ≡ Ok (packet_map T.tree packet.now, length frame)) }
 {
-    let mut out = Vec::new(alloc);
-    put_packet(packet, &mut out)?;
-    Ok(Frame { bytes: out })
+    let bytes = match packet {
+        Packet::Up { stream, wave, tree } => return encode_up(alloc, *stream, *wave, tree),
+        Packet::Done { stream, wave } => {
+            Vec::from_slice(alloc, &[VERSION, DONE, *stream, *wave])?
+        }
+        Packet::Attach => Vec::from_slice(alloc, &[VERSION, ATTACH])?,
+        Packet::Down => Vec::from_slice(alloc, &[VERSION, DOWN])?,
+    };
+    Ok(Frame { bytes })
 }
 
 /// The frame that `encode` gives for an `Up` packet with this tree, without making the packet. Fails only if memory
@@ -61,40 +67,10 @@ pub fn encode_up<T: PrefixTree>(
         → as_packet (read frame_form (frame ++ more) 0) ≡ Ok (Up stream wave (T.tree tree.now), length frame)) }
 {
     let mut out = Vec::new(alloc);
-    put_up(stream, wave, tree, &mut out)?;
-    Ok(Frame { bytes: out })
-}
-
-// Appends the frame of an `Up` packet.
-fn put_up<T: PrefixTree>(
-    stream: u8,
-    wave: u8,
-    tree: &T,
-    out: &mut Vec<u8>,
-) -> Result<(), AllocError>
-    requires { MayBeEncoded (Up stream wave (T.tree tree.now)) }
-    ensures spelling { OnOk result
-        (out.new.items ≡ out.old.items ++ spelling_of 2 (Up stream wave (T.tree tree.now))) }
-    ensures may { OnOk result (MayBePacket 2 (Up stream wave (T.tree tree.now))) }
-{
     out.reserve(BYTES_BESIDES + BYTES_A_ROW * tree.rows())?;
     out.extend_from_slice(&[VERSION, UP, stream, wave])?;
-    put_tree(tree, out)
-}
-
-// Appends the frame of a packet.
-fn put_packet<T: PrefixTree>(packet: &Packet<T>, out: &mut Vec<u8>) -> Result<(), AllocError>
-    requires { MayBeEncoded (packet_map T.tree packet.now) }
-    ensures spelling { OnOk result
-        (out.new.items ≡ out.old.items ++ spelling 2 (packet_map sent_from (packet_map T.tree packet.now))) }
-    ensures may { OnOk result (MayBePacket 2 (packet_map T.tree packet.now)) }
-{
-    match packet {
-        Packet::Up { stream, wave, tree } => put_up(*stream, *wave, tree, out),
-        Packet::Done { stream, wave } => out.extend_from_slice(&[VERSION, DONE, *stream, *wave]),
-        Packet::Attach => out.extend_from_slice(&[VERSION, ATTACH]),
-        Packet::Down => out.extend_from_slice(&[VERSION, DOWN]),
-    }
+    put_tree(tree, &mut out)?;
+    Ok(Frame { bytes: out })
 }
 
 // Appends a tree: its coverage, how many rows it has besides the root, and these.
@@ -192,26 +168,20 @@ fn put_set(numbers: &RankSet, out: &mut Vec<u8>) -> Result<(), AllocError>
     ensures { OnOk result (out.new.items ≡ out.old.items ++ set_bytes numbers.now) }
 {
     if let Some(words) = numbers.held_words() {
-        return put_words_at(numbers.word_offset(), words, out);
+        return put_words(numbers.word_offset(), words, out);
     }
     let words = numbers.words(*out.allocator())?;
-    put_words_at(numbers.word_offset(), &words, out)
+    put_words(numbers.word_offset(), &words, out)
 }
 
 // Appends the index of the first of some words, how many there are, and these.
-fn put_words_at(offset: u32, words: &[u64], out: &mut Vec<u8>) -> Result<(), AllocError>
+fn put_words(offset: u32, words: &[u64], out: &mut Vec<u8>) -> Result<(), AllocError>
     requires { offset + length words.now ≤ WORD_LIMIT }
     ensures { OnOk result (out.new.items ≡ out.old.items
         ++ (to_be_bytes w16 offset ++ (to_be_bytes w16 (length words.now) ++ flat_map (to_be_bytes w64) words.now))) }
 {
     out.extend_from_slice(&(offset as u16).to_be_bytes())?;
     out.extend_from_slice(&(words.len() as u16).to_be_bytes())?;
-    put_words(words, out)
-}
-
-fn put_words(words: &[u64], out: &mut Vec<u8>) -> Result<(), AllocError>
-    ensures { OnOk result (out.new.items ≡ out.old.items ++ flat_map (to_be_bytes w64) words.now) }
-{
     for word in words {
         out.extend_from_slice(&word.to_be_bytes())?;
     }
@@ -227,14 +197,7 @@ fn put_cover(cover: &RankSet, out: &mut Vec<u8>) -> Result<(), AllocError>
     cover.invariant();
     let runs = cover.runs(*out.allocator())?;
     out.extend_from_slice(&(runs.len() as u32).to_be_bytes())?;
-    put_runs(&runs, out)
-}
-
-fn put_runs(runs: &[Run], out: &mut Vec<u8>) -> Result<(), AllocError>
-    ensures { OnOk result
-        (out.new.items ≡ out.old.items ++ flat_map (λ run. run_bytes (run.first, run.last)) runs.now) }
-{
-    for run in runs {
+    for run in &runs {
         out.extend_from_slice(&run.first.to_be_bytes())?;
         out.extend_from_slice(&run.last.to_be_bytes())?;
     }

@@ -11,8 +11,10 @@ ghost use Rattle.packet_frame.specs.Sent.{sent_from, tree_from};
 ghost use Rattle.packet_frame.specs.Streams.{StreamLaws};
 
 /// A frame that is settled stays with more bytes behind, and a spelling is read again; no spelling begins another.
+/// Frames one after another are the same however they are cut into pieces.
 pub fn frame_laws()
-    ensures { HasLaws frame_form }
+    ensures form { HasLaws frame_form }
+    ensures streams { StreamLaws }
 {}
 
 /// Captures of versions 1 and 2, and what is read of them.
@@ -21,29 +23,21 @@ pub fn captures_are_read()
     ensures second { AreReadSecond }
 {}
 
-/// Frames one after another are the same however they are cut into pieces.
-pub fn frames_stay()
-    ensures { StreamLaws }
-{}
-
-/// What may be sent is read again from its spelling in either version.
+/// What may be sent is read again from its spelling in either version. What bytes spell may be sent, and they are its
+/// one spelling in their version.
 pub fn spellings()
     ensures first { IsSpelledOut 1 }
     ensures second { IsSpelledOut 2 }
+    ensures messages { (bytes : List ℕ) (m : Message)
+        → AreBytes bytes → Spells frame_form bytes m → IsOneSpelling bytes m }
 {}
 
-/// A tree that may be sent is given again by its rows, and by what is read of its spelling.
+/// A tree that may be sent is given again by its rows, and by what is read of its spelling. Rows that may be sent are
+/// those of their tree, which may be sent, too. So a packet with a tree has at most one spelling in each version.
 pub fn trees_are_sent()
     ensures back { (t : Tree) → IsTree t → tree_from (sent_from t) ≡ t }
     ensures first { AreTreesSent 1 }
     ensures second { AreTreesSent 2 }
-{}
-
-/// What bytes spell may be sent, and they are its one spelling in their version. Rows that may be sent are those of
-/// their tree, which may be sent, too. So a packet with a tree has at most one spelling in each version.
-pub fn one_spelling()
-    ensures messages { (bytes : List ℕ) (m : Message)
-        → AreBytes bytes → Spells frame_form bytes m → IsOneSpelling bytes m }
     ensures rows { (version : ℕ) (s : Sent) → MayBeSent version s → sent_from (tree_from s) ≡ s }
     ensures trees { (version : ℕ) (s : Sent) → MayBeSent version s → MayBeTree version (tree_from s) }
     ensures packets { IsOnlySpelling }

@@ -42,7 +42,5 @@ pub use encoding::{encode, encode_up};
 pub use error::{FrameError, FrameReason};
 pub use feeder::Feeder;
 pub use frame::Frame;
-pub use laws::{
-    captures_are_read, frame_laws, frames_stay, one_spelling, spellings, trees_are_sent,
-};
+pub use laws::{captures_are_read, frame_laws, spellings, trees_are_sent};
 pub use packet::Packet;

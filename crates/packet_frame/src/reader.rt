@@ -3,7 +3,7 @@
 ghost use Rattle.std.specs.Prelude.{◌≡◌, ◌+◌, ◌<◌, ◌≤◌, [], true, false, OnOk, IfErr, Ok};
 ghost use Rattle.packet_frame.specs.declared.scan.Field.TheVariants as fields;
 ghost use Rattle.packet_frame.specs.Scanning.{field_width};
-ghost use Rattle.packet_frame.specs.Reading.{IsOn, IsWhole, Waits, Fails, refusal_at};
+ghost use Rattle.packet_frame.specs.Reading.{IsOn, IsWhole, Waits, Fails};
 
 use crate::error::{FieldError, FrameError, FrameReason};
 use crate::scan::{Field, Scan};
@@ -38,19 +38,6 @@ impl<T: PrefixTree> Reader<T> {
         self.scan.field = Field::Version;
     }
 
-    // The refusal of the next field.
-    fn refused(&self, error: FieldError) -> FrameError
-        ensures { result ≡ refusal_at self.now.at error }
-    {
-        match error {
-            FieldError::Broken(reason) => FrameError::Refused {
-                at: self.at as u64,
-                reason,
-            },
-            FieldError::OutOfMemory => FrameError::OutOfMemory,
-        }
-    }
-
     // Reads the next field. Returns false if the input ends before the field does.
     fn read(&mut self, alloc: Global, bytes: &[u8]) -> Result<bool, FrameError>
         requires { IsOn self.old bytes.now }
@@ -66,11 +53,17 @@ impl<T: PrefixTree> Reader<T> {
             return Ok(false);
         }
         let (front, _) = rest.split_at(width);
-        if let Err(error) = self.scan.take(alloc, field, front) {
-            return Err(self.refused(error));
+        match self.scan.take(alloc, field, front) {
+            Ok(()) => {
+                self.at += width;
+                Ok(true)
+            }
+            Err(FieldError::Broken(reason)) => Err(FrameError::Refused {
+                at: self.at as u64,
+                reason,
+            }),
+            Err(FieldError::OutOfMemory) => Err(FrameError::OutOfMemory),
         }
-        self.at += width;
-        Ok(true)
     }
 
     // Reads rows in one go, up to the ends of the first that has some, or to the first that the fields are read of.

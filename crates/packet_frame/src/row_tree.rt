@@ -1,11 +1,11 @@
 //! The tree that the rows of a frame make.
 
-ghost use Rattle.std.specs.Prelude.{◌≡◌, ◌≢◌, ◌<◌, ◌≤◌, [], length, OnOk, IsTrue};
+ghost use Rattle.std.specs.Prelude.{◌≡◌, ◌<◌, ◌≤◌, [], length, OnOk, IsTrue};
 ghost use Rattle.rank_set.specs.Ranks.{none, is_subset};
-ghost use Rattle.prefix_tree.specs.Tree.{tree_of, added, count_below};
+ghost use Rattle.prefix_tree.specs.Tree.{tree_of, count_below};
 ghost use Rattle.packet_frame.specs.FrameRows.{grown};
 
-use call_path::{CallPath, PathBuilder};
+use call_path::PathBuilder;
 use prefix_tree::{PREFIX_LIMIT, PrefixTree, TreeError};
 use rank_set::RankSet;
 use std::alloc::{AllocError, Global};
@@ -65,19 +65,9 @@ impl<T: PrefixTree> RowTree<T> {
             return Ok(());
         }
         let path = mem::replace(frames, PathBuilder::new(alloc)).into_path();
-        let added = self.add(ends, &path);
+        let added = self.tree.add_or_clear(ends, &path);
         *frames = path.into_builder();
-        added
-    }
-
-    // Adds a path that each of some ranks was seen in.
-    fn add(&mut self, ends: &RankSet, path: &CallPath) -> Result<(), AllocError>
-        requires some { ends.now ≢ none }
-        requires covered { IsTrue (is_subset ends.now self.old.coverage) }
-        requires room { count_below (added self.old ends.now path.now) ≤ PREFIX_LIMIT }
-        ensures { OnOk result (self.new ≡ added self.old ends.now path.now) }
-    {
-        match self.tree.add_or_clear(ends, path) {
+        match added {
             Ok(()) => Ok(()),
             Err(TreeError::OutOfMemory) => Err(AllocError),
             Err(TreeError::TooManyPrefixes) => unreachable!(),

@@ -151,16 +151,12 @@ impl<T: PrefixTree> Scan<T> {
     }
 }
 
-fn is_plain(b: u8) -> bool
-    ensures { result ≡ is_plain b }
-{
-    (0x20 <= b) & (b != 0x7F) & (b != b';')
-}
-
 fn are_plain(field: &[u8]) -> bool
     ensures { result ≡ list_all is_plain field.now }
 {
-    field.iter().all(|b| is_plain(*b))
+    field
+        .iter()
+        .all(|b| (0x20 <= *b) & (*b != 0x7F) & (*b != b';'))
 }
 
 // Whether all bytes are plain ASCII. It tests each of them, since a loop that goes to its end tests 16 bytes at once.

@@ -19,26 +19,26 @@ plan_merge-requires-clause-other c = leads_first c.other.inside.coverage c.other
 
 pub plan_merge-requires-clause-room : goal.plan_merge-requires-clause-room
 plan_merge-requires-clause-room c =
-    room_first c.self.inside.nodes.items c.len.result c.in_ok-plan.plan c.in_ok-plan.ensures.base c.in_ok-plan.ensures.steps c.len.ensures c.self.inside.coverage c.self.inside.first c.self.invariant.tree _ c.other.invariant.tree.within_limit
+    room_first c.self.inside.nodes.items c.len-2.result c.in_room-plan.result c.in_room-plan.ensures.base c.in_room-plan.ensures.steps c.len-2.ensures c.self.inside.coverage c.self.inside.first c.self.invariant.tree _ c.other.invariant.tree.within_limit
 
 pub returns-in-Err-clause-full : goal.returns-in-Err-clause-full
 returns-in-Err-clause-full c e =
     let all = merge_counted c.self.inside.coverage c.other.inside.coverage c.self.inside.nodes.items c.other.inside.nodes.items c.self.inside.first c.other.inside.first c.args.self.now.tree c.args.other.now.tree (tree_is c.self.view_is) (tree_is c.other.view_is) c.self.invariant.tree c.other.invariant.tree
-    c.len.result c.self.inside.rows c.in_ok-plan.plan c.plan_merge.new.plan c.in_ok-plan.ensures.base c.in_ok-plan.ensures.steps c.len.ensures c.self.invariant.rows c.in_ok-plan_merge.ensures.steps in
+    c.len-2.result c.self.inside.rows c.in_room-plan.result c.plan_merge.new.plan c.in_room-plan.ensures.base c.in_room-plan.ensures.steps c.len-2.ensures c.self.invariant.rows c.in_ok-plan_merge.ensures.steps in
     let over = c.in-Err.ensures.full e in
     omega (arith, all, over)
 
 makes : (c : After-drop-room) → Makes c.union_into.new.self c.apply-room.new.nodes.items c.apply-room.new.first (merged c.args.self.now.tree c.args.other.now.tree)
 makes c =
     merge_made c.self.inside.coverage c.other.inside.coverage c.self.inside.nodes.items c.other.inside.nodes.items c.self.inside.first c.other.inside.first c.args.self.now.tree c.args.other.now.tree (tree_is c.self.view_is) (tree_is c.other.view_is) c.self.invariant.tree c.other.invariant.tree
-    c.len.result c.self.inside.rows c.in_ok-plan.plan c.plan_merge.new.plan c.in_ok-plan.ensures.base c.in_ok-plan.ensures.steps c.len.ensures c.self.invariant.rows c.in_ok-plan_merge.ensures.steps
+    c.len-2.result c.self.inside.rows c.in_room-plan.result c.plan_merge.new.plan c.in_room-plan.ensures.base c.in_room-plan.ensures.steps c.len-2.ensures c.self.invariant.rows c.in_ok-plan_merge.ensures.steps
     c.union_into.new.self c.make_room.new.nodes.items c.into_steps.result.items (linked c.apply-room.new.first c.apply-room.new.nodes.items) c.apply-room.ensures c.in_default.ensures.items c.into_steps.ensures c.in_default.ensures.fits c.in_ok-union_into.ensures.ok
 
 pub invariant_of-self-2 : goal.invariant_of-self-2
 invariant_of-self-2 c = record {
   tree = (makes c).tree;
   rows = merge_has_rows c.self.inside.coverage c.other.inside.coverage c.self.inside.nodes.items c.other.inside.nodes.items c.self.inside.first c.other.inside.first c.args.self.now.tree c.args.other.now.tree (tree_is c.self.view_is) (tree_is c.other.view_is) c.self.invariant.tree c.other.invariant.tree
-      c.len.result c.self.inside.rows c.in_ok-plan.plan c.plan_merge.new.plan c.in_ok-plan.ensures.base c.in_ok-plan.ensures.steps c.len.ensures c.self.invariant.rows c.in_ok-plan_merge.ensures.steps
+      c.len-2.result c.self.inside.rows c.in_room-plan.result c.plan_merge.new.plan c.in_room-plan.ensures.base c.in_room-plan.ensures.steps c.len-2.ensures c.self.invariant.rows c.in_ok-plan_merge.ensures.steps
       c.union_into.new.self c.apply-room.new.nodes.items c.apply-room.new.first c.rows.result (makes c) c.rows.ensures;
   no_ranks = c.self.invariant.no_ranks;
   hints = subst (AreHints (forest_at c.apply-room.new.nodes.items c.apply-room.new.first)) (sym c.clear.ensures.items) (All-nil (λ h. IsLaterSibling (forest_at c.apply-room.new.nodes.items c.apply-room.new.first) h.first h.later));
@@ -53,5 +53,5 @@ returns-clause-pairs c = subst (Unites c.args.self.now.tree c.args.other.now.tre
 pub returns-clause-fits : goal.returns-clause-fits
 returns-clause-fits c =
     let all = merge_counted c.self.inside.coverage c.other.inside.coverage c.self.inside.nodes.items c.other.inside.nodes.items c.self.inside.first c.other.inside.first c.args.self.now.tree c.args.other.now.tree (tree_is c.self.view_is) (tree_is c.other.view_is) c.self.invariant.tree c.other.invariant.tree
-    c.len.result c.self.inside.rows c.in_ok-plan.plan c.plan_merge.new.plan c.in_ok-plan.ensures.base c.in_ok-plan.ensures.steps c.len.ensures c.self.invariant.rows c.in_ok-plan_merge.ensures.steps in
+    c.len-2.result c.self.inside.rows c.in_room-plan.result c.plan_merge.new.plan c.in_room-plan.ensures.base c.in_room-plan.ensures.steps c.len-2.ensures c.self.invariant.rows c.in_ok-plan_merge.ensures.steps in
     omega (arith, all, c.in_default.ensures.fits)

@@ -1,9 +1,0 @@
-use Rattle.arena_tree.specs.ChainForest.{no_chains, chain_node, rows_of_chains}
-use Rattle.std.proofs.Common.{◌∷◌, ◌++◌}
-use Rattle.rank_set.specs.Ranks.{none}
-use Rattle.arena_tree.proofs.BareForests.{rows_alike}
-use Rattle.arena_tree.proofs.MergingChains.{cut_shows_the_same_rows as shows}
-use Rattle.arena_tree.proofs.cut_shows_the_same_rows.Goals as goal
-
-pub returns : goal.returns
-returns c = λ a n f g fs gs m b s. rows_alike (rows_of_chains (chain_node a f (fs ++ g ∷ gs) m b s)) (rows_of_chains (chain_node a f fs (m.0, none) (chain_node n g gs m b no_chains) s)) (shows a n f g fs gs m b s)
