@@ -7,4 +7,4 @@ pub mod LineViews
 pub mod Grammar
 pub mod Acceptance
 pub mod UsualLines
-pub mod OneRanks
+pub mod RunRanks

@@ -1,26 +1,26 @@
--- A line in its usual form gives one rank a number.
-use Rattle.std.proofs.Common.{rules, ◌≡◌, ◌∙◌, ℕ, zero, suc, ◌+◌, ◌-◌, ◌*◌, ◌<◌, ◌≤◌, Bool, true, false, not, ◌&&◌, cond, nat_eq, nat_le, nat_lt, List, [], ◌∷◌, ◌++◌, length, map, take, drop, drop-cons, get_or, None, Some, Ok, Err, refl, sym, ap, subst, arith, codes, eqb-true, length-append, ne_eqb, of_z, to_z, w64}
+-- A line in its usual form gives a run of ranks a number.
+use Rattle.std.proofs.Common.{rules, ◌≡◌, ◌∙◌, ℕ, zero, suc, ◌+◌, ◌-◌, ◌*◌, ◌<◌, ◌≤◌, Bool, true, false, not, ◌&&◌, ◌||◌, cond, nat_eq, nat_le, nat_lt, List, [], ◌∷◌, ◌++◌, length, map, take, drop, drop-cons, get_or, None, Some, Ok, Err, refl, sym, ap, subst, arith, codes, eqb-true, length-append, ne_eqb, of_z, to_z, w64, inl, inr}
 use Rattle.std.proofs.Math.IntN.{ℤ, pos, neg_ℤ}
 use Rattle.std.specs.Char.{is_ascii_digit}
 use Rattle.std.specs.List.{list_all}
 use Rattle.std.specs.Option.{option_map}
 use Rattle.std.specs.Str.{IsUtf8, IsAscii}
-use Rattle.std.proofs.lemmas.Bool.{and_parts, le-leb, ltb-true}
+use Rattle.std.proofs.Math.Seq.{drop-append_seam, take-append_seam}
+use Rattle.std.proofs.lemmas.Bool.{and_parts, le-leb, ltb-true, or_cases}
 use Rattle.std.proofs.lemmas.Bool.Decides.{nat_tests}
 use Rattle.std.proofs.lemmas.List.{append_assoc, drop-append-le, drop_all, length-take-le, take-append-drop, take_all}
 use Rattle.std.proofs.lemmas.List.Folds.{list_all-append}
 use Rattle.std.proofs.lemmas.Str.{IsUtf8-from_ascii}
 use Rattle.rank_set.specs.Digits.{digits_len, value_after}
-use Rattle.rank_set.specs.RanksText.{number_at, ranks_text}
+use Rattle.rank_set.specs.RanksText.{number_at, ranks_text, second_at}
 use Rattle.rank_set.specs.declared.TheConstants.{RANK_LIMIT}
 use Rattle.rank_set.specs.declared.read.RanksError.TheVariants.{BadNumber, OverLimit}
-use Rattle.rank_set.proofs.Reading.{item_alone}
+use Rattle.rank_set.proofs.Reading.{item_alone, item_run, second_ends}
 use Rattle.rank_set.proofs.OneItem.{item_is_text}
-use Rattle.stat_plan.specs.LineLists.{one_rank}
 use Rattle.text_lines.specs.Lines.{before_first, is_blank, is_comment, lines, pieces, without_return, words}
 use Rattle.text_lines.proofs.Cuts.{first_piece}
 use Rattle.value_text.specs.Words.{is_size, size_in, number_text}
-use Rattle.value_text.specs.UsualLines.{BeginsWithNumber, BeginsWithValue, EndsLine, GivesOneRank, IsWindow}
+use Rattle.value_text.specs.UsualLines.{BeginsWithNumber, BeginsWithRun, BeginsWithValue, EndsLine, GivesRun, IsWindow, is_run_byte, run_ranks}
 use Rattle.value_text.proofs.NumberWords.{minus_read, plain_read}
 
 -- a byte of a word
@@ -71,19 +71,19 @@ module _ (text : List ℕ) (i : ℕ) (lt : i < length text) where
         value = value;
       }
 
--- a text whose first bytes are a window, of which the first are digits with a space behind them
-pub window_front : (text window rest : List ℕ) (i n : ℕ) → IsWindow window text → i < length window → 0 < i → get_or window i 0 ≡ 32 → list_all is_ascii_digit (take i window) ≡ true → n ≡ value_after 0 (take i window) → rest ≡ drop (i + 1) text → BeginsWithNumber text n 32 rest
-window_front text window rest i n is lt some space digits value behind =
+-- a text whose first bytes are a window, of which the first are digits with a byte behind them
+pub window_front : (size : ℕ) (text window rest : List ℕ) (i n byte : ℕ) → IsWindow size window text → i < length window → 0 < i → get_or window i 0 ≡ byte → list_all is_ascii_digit (take i window) ≡ true → n ≡ value_after 0 (take i window) → rest ≡ drop (i + 1) text → BeginsWithNumber text n byte rest
+window_front size text window rest i n byte is lt some here digits value behind =
     let word = take i window in
-    let more = drop 8 text in
+    let more = drop size text in
     let long : length word ≡ i = length-take-le i window (omega (arith, lt)) in
     let next : suc i ≡ i + 1 = omega arith in
-    let all : text ≡ window ++ more = sym (take-append-drop 8 text) ∙ ap (λ t. t ++ more) (sym is.front) in
-    let cut : window ≡ word ++ 32 ∷ drop (i + 1) window = sym (take-append-drop i window) ∙ ap (λ t. word ++ t) (drop-cons window i 0 lt ∙ (λ j. space j ∷ drop (next j) window)) in
+    let all : text ≡ window ++ more = sym (take-append-drop size text) ∙ ap (λ t. t ++ more) (sym is.front) in
+    let cut : window ≡ word ++ byte ∷ drop (i + 1) window = sym (take-append-drop i window) ∙ ap (λ t. word ++ t) (drop-cons window i 0 lt ∙ (λ j. here j ∷ drop (next j) window)) in
     let later : drop (i + 1) window ++ more ≡ rest = sym (drop-append-le (i + 1) window more (omega (arith, lt))) ∙ ap (drop (i + 1)) (sym all) ∙ sym behind in
     record {
       word = word;
-      whole = all ∙ ap (λ t. t ++ more) cut ∙ append_assoc word (32 ∷ drop (i + 1) window) more ∙ ap (λ t. word ++ 32 ∷ t) later;
+      whole = all ∙ ap (λ t. t ++ more) cut ∙ append_assoc word (byte ∷ drop (i + 1) window) more ∙ ap (λ t. word ++ byte ∷ t) later;
       some = omega (arith, long, some);
       digits = digits;
       value = value;
@@ -185,7 +185,7 @@ module _ (text rest : List ℕ) (size : ℕ) (z : ℤ) (begins : BeginsWithNumbe
     number = sym (minus_number begins.word size begins.some few_digits begins.digits begins.value low z signed);
   }
 
--- ---- the rank
+-- ---- the run
 
 -- where all are digits, so many does the word begin with
 digits_all : (word : List ℕ) → list_all is_ascii_digit word ≡ true → digits_len word ≡ length word
@@ -194,20 +194,81 @@ digits_all (b ∷ rest) e =
     let parts = and_parts (is_ascii_digit b) (list_all is_ascii_digit rest) e in
     rw parts.0 (rw (digits_all rest parts.1) (omega arith))
 
+-- and before a `-`
+digits_before : (word more : List ℕ) → list_all is_ascii_digit word ≡ true → digits_len (word ++ 45 ∷ more) ≡ length word
+digits_before [] more e = refl
+digits_before (b ∷ rest) more e =
+    let parts = and_parts (is_ascii_digit b) (list_all is_ascii_digit rest) e in
+    rw parts.0 (rw (digits_before rest more parts.1) (omega arith))
+
 not_over : (n : ℕ) → n < 1048576 → nat_le 1048576 n ≡ false
 not_over n few = grind (arith, nat_tests)
 
+-- the number that an item begins with, below the limit
+number_good : (offset : ℕ) (item word : List ℕ) (n : ℕ) → digits_len item ≡ length word → take (length word) item ≡ word → 0 < length word → n ≡ value_after 0 word → n < RANK_LIMIT → number_at offset item ≡ Ok n
+number_good offset item word n len front some is below =
+    let value : value_after 0 (take (digits_len item) item) ≡ n = ap (λ k. value_after 0 (take k item)) len ∙ ap (value_after 0) front ∙ sym is in
+    ap (λ t. cond t (Err (BadNumber offset)) (cond (nat_le RANK_LIMIT (value_after 0 (take (digits_len item) item))) (Err (OverLimit offset)) (Ok (value_after 0 (take (digits_len item) item))))) (ne_eqb (digits_len item) 0 (λ e. omega (arith, e, len, some)))
+    ∙ ap (λ n. cond (nat_le RANK_LIMIT n) (Err (OverLimit offset)) (Ok n)) value
+    ∙ ap (λ t. cond t (Err (OverLimit offset)) (Ok n)) (not_over n below)
+
 -- digits that write a number below the limit are one rank
-rank_read : (word : List ℕ) (rank : ℕ) → 0 < length word → list_all is_ascii_digit word ≡ true → rank ≡ value_after 0 word → rank < RANK_LIMIT → ranks_text word ≡ Ok (one_rank rank)
+rank_read : (word : List ℕ) (rank : ℕ) → 0 < length word → list_all is_ascii_digit word ≡ true → rank ≡ value_after 0 word → rank < RANK_LIMIT → ranks_text word ≡ Ok (run_ranks rank rank)
 rank_read word rank some all is below =
     let len = digits_all word all in
-    let front : take (digits_len word) word ≡ word = take_all (digits_len word) word (omega (arith, len)) in
-    let value : value_after 0 (take (digits_len word) word) ≡ rank = ap (value_after 0) front ∙ sym is in
-    let number : number_at 0 word ≡ Ok rank =
-    ap (λ t. cond t (Err (BadNumber 0)) (cond (nat_le RANK_LIMIT (value_after 0 (take (digits_len word) word))) (Err (OverLimit 0)) (Ok (value_after 0 (take (digits_len word) word))))) (ne_eqb (digits_len word) 0 (λ e. omega (arith, e, len, some)))
-    ∙ ap (λ n. cond (nat_le RANK_LIMIT n) (Err (OverLimit 0)) (Ok n)) value
-    ∙ ap (λ t. cond t (Err (OverLimit 0)) (Ok rank)) (not_over rank below) in
-    item_is_text word rank rank some (item_alone 0 word rank number (drop_all (digits_len word) word (omega (arith, len))))
+    item_is_text word rank rank some
+    (item_alone 0 word rank (number_good 0 word word rank len (take_all (length word) word (omega arith)) some is below) (drop_all (digits_len word) word (omega (arith, len))))
+
+-- two such words with a `-` between are a run
+run_read : (word second : List ℕ) (a b : ℕ) → 0 < length word → list_all is_ascii_digit word ≡ true → a ≡ value_after 0 word → 0 < length second → list_all is_ascii_digit second ≡ true → b ≡ value_after 0 second → a ≤ b → b < RANK_LIMIT → ranks_text (word ++ 45 ∷ second) ≡ Ok (run_ranks a b)
+run_read word second a b some all is some_second all_second is_second order below =
+    let item : List ℕ = word ++ 45 ∷ second in
+    let len : digits_len item ≡ length word = digits_before word second all in
+    let len_second = digits_all second all_second in
+    let offset : ℕ = 0 + digits_len item + 1 in
+    let low : a < RANK_LIMIT = omega (arith, order, below) in
+    item_is_text item a b (let long = length-append word (45 ∷ second) in omega (arith, long, some))
+    (item_run 0 item a (number_good 0 item word a len (take-append_seam word (45 ∷ second)) some is low) 45 second (ap (λ n. drop n item) len ∙ drop-append_seam word (45 ∷ second)) refl
+    ∙ ap (second_at a offset second) (number_good offset second second b len_second (take_all (length second) second (omega arith)) some_second is_second below)
+    ∙ second_ends a b offset second order (drop_all (digits_len second) second (omega (arith, len_second))))
+
+digit_in_run : (b : ℕ) → is_ascii_digit b ≡ true → is_run_byte b ≡ true
+digit_in_run b digit = ap (λ t. t || nat_eq b 45) digit
+
+-- the bytes of a run pass a test that each digit and the `-` pass
+run_passes : (test : ℕ → Bool) → ((b : ℕ) → is_ascii_digit b ≡ true → test b ≡ true) → test 45 ≡ true → (word : List ℕ) → list_all is_run_byte word ≡ true → list_all test word ≡ true
+run_passes test digit minus [] all = refl
+run_passes test digit minus (b ∷ word) all =
+    let parts = and_parts (is_run_byte b) (list_all is_run_byte word) all in
+    (λ i. byte b parts.0 i && run_passes test digit minus word parts.1 i)
+  where
+    byte : (b : ℕ) → is_run_byte b ≡ true → test b ≡ true
+    byte b e = elim (or_cases (is_ascii_digit b) (nat_eq b 45) e) [
+      | inl here ↦ digit b here
+      | inr here ↦ ap test (eqb-true b 45 here) ∙ minus
+    ]
+
+-- a text that begins with a rank alone
+pub one_front : (text rest : List ℕ) (rank : ℕ) → BeginsWithNumber text rank 32 rest → rank < RANK_LIMIT → BeginsWithRun text rank rank rest
+one_front text rest rank begins below = record {
+  word = begins.word;
+  whole = begins.whole;
+  some = begins.some;
+  bytes = digits_pass is_run_byte digit_in_run begins.word begins.digits;
+  read = rank_read begins.word rank begins.some begins.digits begins.value below;
+}
+
+-- a text that begins with two ranks, with a `-` between
+pub two_front : (text second rest : List ℕ) (a b : ℕ) → BeginsWithNumber text a 45 second → BeginsWithNumber second b 32 rest → a ≤ b → b < RANK_LIMIT → BeginsWithRun text a b rest
+two_front text second rest a b begins later order below =
+    let long = length-append begins.word (45 ∷ later.word) in
+    record {
+      word = begins.word ++ 45 ∷ later.word;
+      whole = begins.whole ∙ ap (λ t. begins.word ++ 45 ∷ t) later.whole ∙ sym (append_assoc begins.word (45 ∷ later.word) (32 ∷ rest));
+      some = omega (arith, long);
+      bytes = list_all-append is_run_byte begins.word (45 ∷ later.word) ∙ (λ i. digits_pass is_run_byte digit_in_run begins.word begins.digits i && digits_pass is_run_byte digit_in_run later.word later.digits i);
+      read = run_read begins.word later.word a b begins.some begins.digits begins.value later.some later.digits later.value order below;
+    }
 
 -- ---- the line
 
@@ -226,7 +287,7 @@ all_ascii (b ∷ bytes) all (suc i) = all_ascii bytes (and_parts (nat_lt b 128) 
 pub value_front : (text word first : List ℕ) → word ≡ take 6 text → first ≡ drop 6 text → word ≡ codes "value " → text ≡ codes "value " ++ first
 value_front text word first front behind is = sym (take-append-drop 6 text) ∙ (λ i. (sym front ∙ is) i ++ sym behind i)
 
-module _ (line first after : List ℕ) (rank : ℕ) (z : ℤ) (whole : line ≡ codes "value " ++ first) (begins : BeginsWithNumber first rank 32 after) (number : number_text after ≡ Some z) where
+module _ (line front after : List ℕ) (first last : ℕ) (z : ℤ) (whole : line ≡ codes "value " ++ front) (begins : BeginsWithRun front first last after) (number : number_text after ≡ Some z) where
   bytes : List ℕ
   bytes = codes "value " ++ (begins.word ++ 32 ∷ after)
 
@@ -238,28 +299,28 @@ module _ (line first after : List ℕ) (rank : ℕ) (z : ℤ) (whole : line ≡ 
   unfolding bytes
   bytes_pass =
       list_all-append (λ b. nat_lt b 128) begins.word (32 ∷ after)
-      ∙ (λ i. digits_pass (λ b. nat_lt b 128) digit_ascii begins.word begins.digits i && number_passes (λ b. nat_lt b 128) digit_ascii refl after z number i)
+      ∙ (λ i. run_passes (λ b. nat_lt b 128) digit_ascii refl begins.word begins.bytes i && number_passes (λ b. nat_lt b 128) digit_ascii refl after z number i)
 
-  first_words : words first ≡ begins.word ∷ after ∷ []
-  first_words =
+  front_words : words front ≡ begins.word ∷ after ∷ []
+  front_words =
       ap words begins.whole
-      ∙ words_then begins.word after begins.some (digits_pass is_in_word digit_in_word begins.word begins.digits)
+      ∙ words_then begins.word after begins.some (run_passes is_in_word digit_in_word refl begins.word begins.bytes)
       ∙ ap (λ ws. begins.word ∷ ws) (words_alone after (number_some after z number) (number_passes is_in_word digit_in_word refl after z number))
 
-  line_words : words line ≡ codes "value" ∷ words first
+  line_words : words line ≡ codes "value" ∷ words front
   unfolding words
   line_words = ap words whole
 
-  -- a line in its usual form gives one rank its number
-  pub gives_one : rank < RANK_LIMIT → GivesOneRank line rank z
-  gives_one below = record {
+  -- a line in its usual form gives a run its number
+  pub gives_run : GivesRun line first last z
+  gives_run = record {
     utf8 = subst IsUtf8 (sym line_is) (IsUtf8-from_ascii bytes (all_ascii bytes bytes_pass));
     gives = record {
       comment = ap is_comment whole;
       ranks_word = begins.word;
       number_word = after;
-      is = line_words ∙ ap (λ ws. codes "value" ∷ ws) first_words;
-      read = rank_read begins.word rank begins.some begins.digits begins.value below;
+      is = line_words ∙ ap (λ ws. codes "value" ∷ ws) front_words;
+      read = begins.read;
       number = number;
     };
   }
@@ -305,7 +366,7 @@ line_and_feed (b ∷ c ∷ line) after all =
     ap (λ t. map without_return (cond t ([] ∷ pieces ((c ∷ line) ++ 10 ∷ after)) (before_first b (pieces ((c ∷ line) ++ 10 ∷ after))))) (not_in (nat_eq b 10) bytes.0)
     ∙ byte_before b (c ∷ line) (lines after) (omega arith) (pieces ((c ∷ line) ++ 10 ∷ after)) (line_and_feed (c ∷ line) after parts.1)
 
-module _ (text first second rest : List ℕ) (rank : ℕ) (z : ℤ) (whole : text ≡ codes "value " ++ first) (begins : BeginsWithNumber first rank 32 second) (ends : EndsLine second z rest) where
+module _ (text front second rest : List ℕ) (first last : ℕ) (z : ℤ) (whole : text ≡ codes "value " ++ front) (begins : BeginsWithRun front first last second) (ends : EndsLine second z rest) where
   -- the line
   own : List ℕ
   own = begins.word ++ 32 ∷ ends.word
@@ -321,24 +382,24 @@ module _ (text first second rest : List ℕ) (rank : ℕ) (z : ℤ) (whole : tex
   unfolding own
   in_line =
       list_all-append is_in_line begins.word (32 ∷ ends.word)
-      ∙ (λ i. digits_pass is_in_line digit_in_line begins.word begins.digits i && number_passes is_in_line digit_in_line refl ends.word z ends.number i)
+      ∙ (λ i. run_passes is_in_line digit_in_line refl begins.word begins.bytes i && number_passes is_in_line digit_in_line refl ends.word z ends.number i)
 
-  own_begins : BeginsWithNumber own rank 32 ends.word
+  own_begins : BeginsWithRun own first last ends.word
   unfolding own
   own_begins = record {
     word = begins.word;
     whole = refl;
     some = begins.some;
-    digits = begins.digits;
-    value = begins.value;
+    bytes = begins.bytes;
+    read = begins.read;
   }
 
   -- a text whose first line has its usual form
-  pub begins_with_value : rank < RANK_LIMIT → BeginsWithValue text rank z rest
-  begins_with_value below = record {
+  pub begins_with_value : BeginsWithValue text first last z rest
+  begins_with_value = record {
     line = codes "value " ++ own;
-    first = ap lines text_is ∙ line_and_feed (codes "value " ++ own) rest in_line;
-    one = gives_one (codes "value " ++ own) own ends.word rank z refl own_begins ends.number below;
+    front = ap lines text_is ∙ line_and_feed (codes "value " ++ own) rest in_line;
+    run = gives_run (codes "value " ++ own) own ends.word first last z refl own_begins ends.number;
   }
 
   pub value_shorter : length rest < length text

@@ -1,7 +1,6 @@
 -- What the code's values and its parser mean.
 use Rattle.std.specs.Prelude.{◌≡◌, ◌≤◌, ◌<◌, ◌≤ℤ◌, ℕ, zero, suc, ℤ, pos, neg_ℤ, List, [], ◌∷◌, length, map, slice_index_or, slice_get, Option, None, Some}
 use Rattle.rank_set.specs.Ranks.{Ranks, Has}
-use Rattle.rank_set.specs.declared.Run.{Run}
 use Rattle.text_lines.specs.Parsing.{TakesBy, RefusesBy}
 use Rattle.text_lines.specs.declared.text_error.TextError.{TextError}
 use Rattle.value_text.specs.Numbers.{Numbers}
@@ -43,13 +42,17 @@ abbrev pub parser_placed : Parser → Ranks
 parser_placed parser = parser.placed.now
 
 -- each rank of a run is one of these
-abbrev pub HasRun : Ranks → Run → Type 0
-HasRun ranks run = (r : ℕ) → run.first ≤ r → r ≤ run.last → Has r ranks
+abbrev pub HasRun : Ranks → ℕ → ℕ → Type 0
+HasRun ranks first last = (r : ℕ) → first ≤ r → r ≤ last → Has r ranks
+
+-- each rank of a run has this entry
+abbrev pub HasEntry : List ℕ → ℕ → ℕ → ℕ → Type 0
+HasEntry entries first last entry = (r : ℕ) → first ≤ r → r ≤ last → slice_index_or entries r 0 ≡ entry
 
 -- each rank that is on a daemon has an entry, and a run of these ranks is known
 pub record IsConsistent (parser : Parser) : Type 0 where
   pub room : (r : ℕ) → Has r parser.placed.now → r < length parser.entries
-  pub run : HasRun parser.placed.now parser.first_run
+  pub run : HasRun parser.placed.now parser.first_run.first parser.first_run.last
   pub entries : AreEntries parser.entries parser.numbers.items
 
 -- the parser takes a line

@@ -1,7 +1,7 @@
 //! The number that a word writes.
 
 ghost use Rattle.std.specs.Prelude.{◌≡◌, ◌<◌, ◌≤◌, ◌+◌, ◌^◌, length, pos, neg_ℤ, if◌then◌else◌, IfSome};
-ghost use Rattle.value_text.specs.UsualLines.{BeginsWithNumber, EndsLine};
+ghost use Rattle.value_text.specs.UsualLines.{BeginsWithNumber, EndsLine, IsWindow};
 ghost use Rattle.value_text.specs.Words.{capped_value, size_in, number_text};
 
 /// The largest number that a rank may have; the least has a `-` before it.
@@ -9,6 +9,9 @@ pub const NUMBER_LIMIT: u64 = 1_000_000_000_000;
 
 // How many digits a number may have.
 const DIGIT_LIMIT: usize = 13;
+
+// A size and the line feed behind it have at most so many bytes.
+const WINDOW: usize = 14;
 
 // The number that digits write, or the limit where it is more. None where one of the bytes is no digit.
 fn capped_value(digits: &[u8], limit: u64) -> Option<u64>
@@ -70,8 +73,7 @@ pub fn number_text(word: &[u8]) -> Option<i64>
 
 // The size that a text begins with, with a line feed behind it, and what is left behind that. None where the text
 // begins otherwise.
-#[inline(always)]
-fn cut_size(text: &[u8]) -> Option<(u64, &[u8])>
+fn cut_short(text: &[u8]) -> Option<(u64, &[u8])>
     ensures number { IfSome result (λ cut. BeginsWithNumber text.now cut.0 10 cut.1.now) }
     ensures few { IfSome result (λ cut. length text.now ≤ length cut.1.now + 14) }
     ensures within_limit { IfSome result (λ cut. cut.0 ≤ NUMBER_LIMIT) }
@@ -91,6 +93,46 @@ fn cut_size(text: &[u8]) -> Option<(u64, &[u8])>
         size = 10 * size + u64::from(*b - b'0');
     }
     None
+}
+
+// The same of a text that begins with this window. Its length is known when this is compiled, so the loop becomes
+// straight code.
+#[inline(always)]
+fn cut_in<'t>(window: &[u8; WINDOW], text: &'t [u8]) -> Option<(u64, &'t [u8])>
+    requires { IsWindow 14 window.now text.now }
+    ensures number { IfSome result (λ cut. BeginsWithNumber text.now cut.0 10 cut.1.now) }
+    ensures few { IfSome result (λ cut. length text.now ≤ length cut.1.now + 14) }
+    ensures within_limit { IfSome result (λ cut. cut.0 ≤ NUMBER_LIMIT) }
+{
+    let mut size = 0;
+    for (i, b) in window.iter().enumerate() {
+        if !b.is_ascii_digit() {
+            if *b != b'\n' || i == 0 || size > NUMBER_LIMIT {
+                return None;
+            }
+            let (_, rest) = text.split_at(i + 1);
+            return Some((size, rest));
+        }
+        // for the proof: so few digits write less
+        if size >= 1_000_000_000_000_000_000 {
+            return None;
+        }
+        size = 10 * size + u64::from(*b - b'0');
+    }
+    None
+}
+
+// The same of any text.
+#[inline(always)]
+fn cut_size(text: &[u8]) -> Option<(u64, &[u8])>
+    ensures number { IfSome result (λ cut. BeginsWithNumber text.now cut.0 10 cut.1.now) }
+    ensures few { IfSome result (λ cut. length text.now ≤ length cut.1.now + 14) }
+    ensures within_limit { IfSome result (λ cut. cut.0 ≤ NUMBER_LIMIT) }
+{
+    match text.split_first_chunk::<WINDOW>() {
+        Some((window, _)) => cut_in(window, text),
+        None => cut_short(text),
+    }
 }
 
 /// The number that a text begins with, with a line feed behind it, and what is left behind that. None where the text

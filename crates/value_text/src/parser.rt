@@ -1,14 +1,15 @@
 //! What is parsed of a values text so far.
 
-ghost use Rattle.std.specs.Prelude.{◌≡◌, ◌<◌, ◌↔◌, ℕ, false, length, get_or, IfOk, OnOk, Ok, []};
+ghost use Rattle.std.specs.Prelude.{◌≡◌, ◌≤◌, ◌<◌, ◌↔◌, ℕ, true, false, length, get_or, IfOk, OnOk, Ok, []};
 ghost use Rattle.rank_set.specs.Ranks.{has, Has};
+ghost use Rattle.rank_set.specs.Runs.{IsRunInRange};
 ghost use Rattle.text_lines.specs.Parsing.{IsErrorOf};
-ghost use Rattle.value_text.specs.Views.{HasRun};
+ghost use Rattle.value_text.specs.Views.{HasEntry, HasRun};
 
 use crate::numbers::number_text;
 use crate::values::Values;
-use crate::words::{OneValue, one_value, value_words};
-use rank_set::{RANK_LIMIT, RankSet, Run};
+use crate::words::{UsualValue, usual_value, value_words};
+use rank_set::{RankSet, Run};
 use rank_table::RankTable;
 use std::alloc::{AllocError, Global};
 use text_lines::{LineParser, Reason, TextError, ranks_on, says_nothing};
@@ -27,7 +28,7 @@ pub struct Parser<'p> {
 
 // The first run of some ranks, or one of none.
 fn first_run(ranks: &RankSet) -> Run
-    ensures { HasRun ranks.now result }
+    ensures { HasRun ranks.now result.first result.last }
 {
     match ranks.next_run(0) {
         Some(run) => run,
@@ -35,13 +36,51 @@ fn first_run(ranks: &RankSet) -> Run
     }
 }
 
-// Whether a rank is one of some ranks, of which these are a run.
+// Whether each rank of a run is one of some ranks, of which `known` are a run.
 #[inline(always)]
-fn is_in(ranks: &RankSet, run: Run, rank: u32) -> bool
-    requires { HasRun ranks.now run }
-    ensures { result ≡ has ranks.now rank }
+fn are_in(
+    alloc: Global,
+    ranks: &RankSet,
+    known: Run,
+    first: u32,
+    last: u32,
+) -> Result<bool, AllocError>
+    requires known { HasRun ranks.now known.first known.last }
+    requires in_range { IsRunInRange first last }
+    ensures { IfOk result (λ all. (all ≡ true) ↔ HasRun ranks.now first last) }
 {
-    (run.first <= rank && rank <= run.last) || ranks.contains(rank)
+    if known.first <= first && last <= known.last {
+        return Ok(true);
+    }
+    if first == last {
+        return Ok(ranks.contains(first));
+    }
+    are_within(alloc, ranks, first, last)
+}
+
+// The same of any run, by the set of its ranks.
+#[inline(never)]
+fn are_within(alloc: Global, ranks: &RankSet, first: u32, last: u32) -> Result<bool, AllocError>
+    requires in_range { IsRunInRange first last }
+    ensures { IfOk result (λ all. (all ≡ true) ↔ HasRun ranks.now first last) }
+{
+    let mut run = RankSet::new(alloc);
+    run.collect_run(first, last)?;
+    Ok(run.is_subset(ranks))
+}
+
+// Whether one of the ranks of a run has an entry other than 0.
+#[inline(always)]
+fn run_has_entry(entries: &RankTable, first: u32, last: u32) -> bool
+    requires in_range { IsRunInRange first last }
+    requires in_table { last < length entries.now }
+    ensures { (result ≡ false) ↔ HasEntry entries.now first last 0 }
+{
+    if first == last {
+        return entries.number(first) != 0;
+    }
+    let part = entries.run_at(first, last + 1);
+    part.number != 0 || part.end <= last
 }
 
 // Whether one of some ranks has an entry other than 0.
@@ -52,11 +91,7 @@ fn has_entry(entries: &RankTable, ranks: &RankSet) -> bool
     let mut from = 0;
     while let Some(run) = ranks.next_run(from) {
         from = run.last + 1;
-        let part = entries.run_at(run.first, from);
-        if part.number != 0 {
-            return true;
-        }
-        if part.end < from {
+        if run_has_entry(entries, run.first, run.last) {
             return true;
         }
     }
@@ -79,10 +114,9 @@ fn set_entries(entries: &mut RankTable, ranks: &RankSet, entry: u32) -> Result<(
 }
 
 impl<'p> Parser<'p> {
-    ghost use Rattle.stat_plan.specs.LineLists.{one_rank};
     ghost use Rattle.value_text.specs.Numbers.{IsSmall};
     ghost use Rattle.value_text.specs.Steps.{with_line, with_value};
-    ghost use Rattle.value_text.specs.UsualLines.{with_given};
+    ghost use Rattle.value_text.specs.UsualLines.{run_ranks, with_given};
     ghost use Rattle.value_text.specs.Views.{parser_view, parser_placed, IsConsistent};
 
     /// A parser before the first line, where these ranks are on a daemon.
@@ -134,34 +168,37 @@ impl<'p> Parser<'p> {
         Ok(())
     }
 
-    /// Gives a rank its number, which a line says.
+    /// Gives each rank of a run its number, which a line says.
     #[inline(always)]
-    pub fn give_one(&mut self, line_number: u64, one: OneValue) -> Result<(), TextError>
+    pub fn give_run(&mut self, line_number: u64, value: UsualValue) -> Result<(), TextError>
         requires consistent { IsConsistent self.old }
-        requires number { IsSmall one.number }
-        requires below_limit { one.rank < RANK_LIMIT }
+        requires number { IsSmall value.number }
+        requires in_range { IsRunInRange value.first value.last }
         ensures ok { OnOk result (
-            with_given (parser_placed self.old) (parser_view self.old) line_number (one_rank one.rank) one.number
+            with_given (parser_placed self.old) (parser_view self.old) line_number
+            (run_ranks value.first value.last) value.number
             ≡ Ok (parser_view self.new)
             ) }
         ensures placed { parser_placed self.new ≡ parser_placed self.old }
         ensures consistent { OnOk result (IsConsistent self.new) }
         ensures err { IsErrorOf result (
-            with_given (parser_placed self.old) (parser_view self.old) line_number (one_rank one.rank) one.number
+            with_given (parser_placed self.old) (parser_view self.old) line_number
+            (run_ranks value.first value.last) value.number
             ) }
     {
-        if !is_in(self.placed, self.first_run, one.rank) {
+        let alloc = *self.numbers.allocator();
+        if !are_in(alloc, self.placed, self.first_run, value.first, value.last)? {
             return Err(TextError::bad(line_number, Reason::Unplaced));
         }
-        if self.entries.number(one.rank) != 0 {
+        if run_has_entry(&self.entries, value.first, value.last) {
             return Err(TextError::bad(line_number, Reason::ValueTwice));
         }
-        self.numbers.push(one.number)?;
+        self.numbers.push(value.number)?;
         // more numbers than an entry can stand for are as if there were no memory for them
         let Ok(entry) = u32::try_from(self.numbers.len()) else {
             return Err(TextError::OutOfMemory);
         };
-        self.entries.set_run(one.rank, one.rank + 1, entry)?;
+        self.entries.set_run(value.first, value.last + 1, entry)?;
         Ok(())
     }
 
@@ -214,8 +251,8 @@ impl LineParser for Parser<'_> {
 
     fn take(self, line_number: u64, line: &[u8]) -> Result<Self, TextError> {
         let mut parser = self;
-        if let Some(one) = one_value(line) {
-            parser.give_one(line_number, one)?;
+        if let Some(value) = usual_value(line) {
+            parser.give_run(line_number, value)?;
             return Ok(parser);
         }
         parser.take_any(line_number, line)?;

@@ -41,8 +41,8 @@ fn take_lines<'p>(text: &[u8], parser: Parser<'p>) -> Result<Parser<'p>, TextErr
     let mut line_number = 1;
     let mut rest = text;
     while !rest.is_empty() {
-        if let Some((one, after)) = first_value(rest) {
-            parser.give_one(line_number, one)?;
+        if let Some((value, after)) = first_value(rest) {
+            parser.give_run(line_number, value)?;
             line_number += 1;
             rest = after;
             continue;

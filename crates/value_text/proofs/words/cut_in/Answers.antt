@@ -14,4 +14,4 @@ loop-i-preserved c =
 pub returns-then-not-is_ascii_digit-clause-number : goal.returns-then-not-is_ascii_digit-clause-number
 returns-then-not-is_ascii_digit-clause-number c =
     let lt : c.loop-i.i < length c.args.window.now = omega (arith, c.requires.long, c.loop-i-test.true) in
-    window_front c.args.text.now c.args.window.now c.split_at.result.1.now c.loop-i.i c.loop-i.rank c.requires lt (omega (arith, c.if-i-eq0.false)) c.if-b-ne32.false c.loop-i.invariant.digits c.loop-i.invariant.value c.split_at.ensures.back
+    window_front 8 c.args.text.now c.args.window.now c.split_at.result.1.now c.loop-i.i c.loop-i.rank c.args.end c.requires lt (omega (arith, c.if-i-eq0.false)) c.if-b-end.false c.loop-i.invariant.digits c.loop-i.invariant.value c.split_at.ensures.back

@@ -2,7 +2,7 @@ use Rattle.std.proofs.Common.{◌≡◌, ◌≤◌, true, take}
 use Rattle.std.specs.Char.{is_ascii_digit}
 use Rattle.std.specs.List.{list_all}
 use Rattle.rank_set.specs.Digits.{value_after}
-use Rattle.value_text.proofs.numbers.cut_size.Given as goal
+use Rattle.value_text.proofs.numbers.cut_short.Given as goal
 
 abbrev pub invariant-loop-i : goal.invariant-loop-i
 invariant-loop-i l = record {

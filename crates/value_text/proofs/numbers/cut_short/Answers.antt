@@ -1,6 +1,6 @@
 use Rattle.std.proofs.Common.{◌∙◌, ◌+◌, ◌*◌, sym, ap, arith}
 use Rattle.value_text.proofs.UsualLines.{value_more, digits_more}
-use Rattle.value_text.proofs.numbers.cut_size.Goals as goal
+use Rattle.value_text.proofs.numbers.cut_short.Goals as goal
 
 pub loop-i-preserved : goal.loop-i-preserved
 loop-i-preserved c =
