@@ -74,7 +74,7 @@ module _ {X : Type 0} (R : X → X → Ordering) (total : IsTotalOrder R) where
   less_from Greater not_less distinct = absurd (true≢false not_less)
 
   -- a list that does not fall and has no ties increases
-  increasing_where_distinct : (xs : List X) → IsSortedBy (λ x y. is_lt (R x y)) xs → IsDistinct (eq_by_cmp R) xs → IsStrictlySortedBy R xs
+  pub increasing_where_distinct : (xs : List X) → IsSortedBy (λ x y. is_lt (R x y)) xs → IsDistinct (eq_by_cmp R) xs → IsStrictlySortedBy R xs
   unfolding IsStrictlySortedBy
   increasing_where_distinct [] up distinct = tt
   increasing_where_distinct (x ∷ xs) up distinct = sorted_from_all_adjacent total (x ∷ xs) x (λ k lt.

@@ -2,7 +2,8 @@
 ghost use Rattle.std.specs.Prelude.{◌≡◌, ◌++◌, ◌<◌, [], map, IfOk, OnOk};
 ghost use Rattle.std.specs.List.{AllByRecursion};
 ghost use Rattle.stat_plan.specs.Plans.{nodes};
-ghost use Rattle.overlay_core.specs.TreeReleases.{releases_view};
+ghost use Rattle.serde_json.specs.Written.{compact_text};
+ghost use Rattle.overlay_core.specs.TreeReleases.{release_view, releases_view};
 ghost use Rattle.front_end.specs.Report.{AreDistinct};
 ghost use Rattle.front_end.specs.Shown.{shown_releases};
 ghost use Rattle.front_end.specs.JsonReport.{IsJsonReport, fate_state as text_of_fate, fault_data, release_data};
@@ -44,6 +45,20 @@ pub fn direct_json<T: PrefixTree>(
     ensures { IfOk result (λ text. IsJsonReport plan.now [] (releases_view T.tree releases.now) [] text.items) }
 {
     json_with_faults(alloc, plan, &[], releases, &[])
+}
+
+/// One release as it stands in the list of a report's releases, with nothing before or behind it.
+pub fn release_json<T: PrefixTree>(
+    alloc: Global,
+    plan: &Plan,
+    release: &Release<T>,
+) -> Result<Vec<u8>, AllocError>
+    ensures { IfOk result
+        (λ text. text.items ≡ compact_text (release_data plan.now (release_view T.tree release.now))) }
+{
+    let mut out = JsonText::new(alloc);
+    write_release(plan, release, &mut out)?;
+    Ok(out.into_text())
 }
 
 // The report of some releases and of these faults.

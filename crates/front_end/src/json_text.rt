@@ -51,12 +51,19 @@ impl JsonText {
         self.alloc
     }
 
+    /// The text.
+    pub fn into_text(self) -> Vec<u8>
+        ensures { result.items ≡ print self }
+    {
+        let JsonText { writer, .. } = self;
+        writer.into_inner()
+    }
+
     /// The text and a line feed.
     pub fn into_line(self) -> Result<Vec<u8>, AllocError>
         ensures { IfOk result (λ line. line.items ≡ print self ++ 10 ∷ []) }
     {
-        let JsonText { writer, .. } = self;
-        let mut line = writer.into_inner();
+        let mut line = self.into_text();
         line.push(b'\n')?;
         Ok(line)
     }

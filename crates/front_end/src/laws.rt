@@ -15,9 +15,11 @@ ghost use Rattle.front_end.specs.ReleaseText.{classes_in};
 ghost use Rattle.front_end.specs.Report.{AreDistinct, IsSortedCopy, IsReport};
 ghost use Rattle.front_end.specs.Report.{direct_releases, release_cmp};
 
-/// A law: there is one report, byte for byte, of the same releases and faults of a plan where the same nodes were lost.
+/// A law: there is one report, byte for byte, of the same releases and faults of a plan where the same nodes were lost;
+/// and one as JSON.
 pub fn reports_are_one()
-    ensures { HasOneText IsReport }
+    ensures text { HasOneText IsReport }
+    ensures json { HasOneText IsJsonReport }
 {}
 
 /// A law: no two releases that are numbered in order have the same stream, wave and number.
@@ -40,19 +42,10 @@ pub fn classes_of_a_tree()
     ensures { (P : Pairs) (C : Ranks) (t : Tree) → HasNoEmptyPath P → t ≡ tree_of P C → classes_in t ≡ classes_of P C }
 {}
 
-/// A law: there is one JSON report, byte for byte, of the same releases and faults of a plan where the same nodes were
-/// lost.
-pub fn json_reports_are_one()
-    ensures { HasOneText IsJsonReport }
-{}
-
 /// A law: where every stream waits for all its daemons and loses none of them, the report of a run shows the releases
-/// of the direct merge, whatever its journal is. Nodes between the daemons and the front end may be lost.
+/// of the direct merge, whatever its journal is; and so does its report as JSON. Nodes between the daemons and the front
+/// end may be lost.
 pub fn waiting_reports_are_direct()
-    ensures { WaitingIsDirect IsReport }
-{}
-
-/// A law: so does its report as JSON.
-pub fn waiting_json_reports_are_direct()
-    ensures { WaitingIsDirect IsJsonReport }
+    ensures text { WaitingIsDirect IsReport }
+    ensures json { WaitingIsDirect IsJsonReport }
 {}

@@ -15,14 +15,14 @@ mod report;
 mod sums_report;
 mod view_report;
 
-pub use json_report::{direct_json, report_json};
+pub use json_report::{direct_json, release_json, report_json};
 pub use json_sums::sums_json;
 pub use json_view::view_json;
 pub use laws::{
-    classes_of_a_tree, direct_releases_are_distinct, json_reports_are_one,
-    numbered_releases_are_distinct, ordered_releases_are_in_order, reports_are_one,
-    waiting_json_reports_are_direct, waiting_reports_are_direct,
+    classes_of_a_tree, direct_releases_are_distinct, numbered_releases_are_distinct,
+    ordered_releases_are_in_order, reports_are_one, waiting_reports_are_direct,
 };
+pub use release_text::write_release;
 pub use report::{direct_text, report_text};
 pub use sums_report::sums_text;
 pub use view_report::view_text;

@@ -3,11 +3,12 @@ ghost use Rattle.std.specs.Prelude.{◌≡◌, ◌++◌, ◌<◌, OnOk};
 ghost use Rattle.std.specs.List.{AllByRecursion, flat_map};
 ghost use Rattle.stat_plan.specs.Plans.{daemons, nodes};
 ghost use Rattle.overlay_core.specs.TreeReleases.{release_view};
-ghost use Rattle.front_end.specs.ReleaseText.{classes_in, heading, kind_text as text_of_kind, missing_line, missing_text as text_of_missing, ranks_line, release_text, release_words, tree_and_classes};
+ghost use Rattle.front_end.specs.ReleaseText.{classes_in, heading, missing_line, missing_text as text_of_missing, ranks_line, release_text, release_words, tree_and_classes};
 
 use crate::class_text::write_classes;
+use crate::json_release::kind_word;
 use equiv_class::classes;
-use overlay_core::{Kind, Release};
+use overlay_core::Release;
 use prefix_tree::PrefixTree;
 use rank_set::RankSet;
 use stat_plan::Plan;
@@ -74,18 +75,8 @@ pub fn write_release_words<T: PrefixTree>(
     write_numbered(b" wave ", usize::from(release.wave), out)?;
     write_numbered(b" release ", release.number as usize, out)?;
     out.push(b' ')?;
-    out.extend_from_slice(kind_text(release.kind))?;
+    out.extend_from_slice(kind_word(release.kind).as_bytes())?;
     Ok(())
-}
-
-// The word for the kind of a release.
-fn kind_text(kind: Kind) -> &'static [u8]
-    ensures { result.now ≡ text_of_kind kind }
-{
-    match kind {
-        Kind::Partial => b"partial",
-        Kind::Final => b"final",
-    }
 }
 
 // Appends a line for each daemon of the stream with missing ranks.

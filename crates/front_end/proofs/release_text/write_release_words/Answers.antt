@@ -16,4 +16,4 @@ returns g c =
     words_written out (decimal r.stream) (decimal r.wave) (decimal r.number) (kind_text r.kind) stream wave number space c.extend_from_slice.new.self.items
     (c.in_ok-write_numbered.ensures.ok ∙ ap (λ n. out ++ codes "stream " ++ decimal n) c.from.ensures)
     (c.in_ok-write_numbered-2.ensures.ok ∙ ap (λ n. stream ++ codes " wave " ++ decimal n) c.from-2.ensures)
-    c.in_ok-write_numbered-3.ensures.ok c.in_ok-push.ensures.items (c.in_ok-extend_from_slice.ensures.items ∙ ap (λ ys. space ++ ys) c.kind_text.ensures)
+    c.in_ok-write_numbered-3.ensures.ok c.in_ok-push.ensures.items (c.in_ok-extend_from_slice.ensures.items ∙ ap (λ ys. space ++ ys) (c.as_bytes.ensures.value ∙ c.kind_word.ensures))

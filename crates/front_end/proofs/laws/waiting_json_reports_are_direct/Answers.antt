@@ -1,5 +1,0 @@
-use Rattle.front_end.proofs.Direct.{direct_json_where_all_wait}
-use Rattle.front_end.proofs.laws.waiting_json_reports_are_direct.Goals as goal
-
-pub returns : goal.returns
-returns c = λ p faults journal releases lost text plan waits safe run. direct_json_where_all_wait p journal releases plan waits safe run faults lost text
