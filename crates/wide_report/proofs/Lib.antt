@@ -1,0 +1,4 @@
+pub mod Texts
+pub mod Orders
+pub mod Sending
+pub mod Waves
