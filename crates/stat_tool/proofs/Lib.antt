@@ -1,7 +1,6 @@
 pub mod Captures
 pub mod Casts
 pub mod Determined
-pub mod DirectReleases
 pub mod Forms
 pub mod Headline
 pub mod JournalTexts

@@ -11,7 +11,7 @@ use crate::modes::{
     prepare_cast, prepare_direct, prepare_frames, prepare_gen, prepare_replay, prepare_run,
     prepare_sim, prepare_sums, prepare_view,
 };
-use crate::output::{MergeWorkers, Output};
+use crate::output::{Host, Output};
 use crate::status::{Outcome, Status, Target};
 use overlay_event::{Gate, Journal};
 use prefix_tree::PrefixTree;
@@ -23,9 +23,10 @@ use std::thread::Threads;
 
 /// Does what the words ask for: reads the files that they name, runs the overlay on their samples, and writes the
 /// report, or the frames that went over the overlay's links, to `out` and the journal to `journal`. `T` is how the
-/// overlay keeps its trees. A run's events are done by as many threads of `rt` as its words say, and each passes the
-/// gate. A direct merge by more than one worker is made by as many threads of `rt`, and its parts pass the gate. No other
-/// call makes a thread or passes the gate.
+/// overlay keeps its trees. A run's events are done by at most as many threads of `rt` as its words say, and each passes
+/// the gate; a small job has one thread, where the gate never waits. A direct merge is made by at most as many threads, and
+/// its parts pass the gate where there is more than one. The same threads write the releases. No other call makes a
+/// thread or passes the gate.
 ///
 /// The files are read each once, in the order topology, samples, script, journal or values, and each is tested before the
 /// next is read; a capture is read alone. The report and the journal's text are built whole before their first byte is written.
@@ -93,7 +94,8 @@ fn run<R: Threads + Wait + Sync, T: PrefixTree, D: Desk, O: Sink, J: Sink, G: Ga
         Err(WordsError::Fault(fault)) => return stopped(alloc, Status::BadWords(fault)),
         Err(WordsError::OutOfMemory) => return stopped(alloc, Status::OutOfMemory),
     };
-    match prepare::<R, T, D, G>(rt, alloc, command, desk, gate) {
+    let host = Host { rt, alloc, gate };
+    match prepare::<R, T, D, G>(&host, command, desk) {
         Ok(output) => deliver(output, out, journal),
         Err(status) => stopped(alloc, status),
     }
@@ -112,11 +114,9 @@ fn stopped(alloc: Global, status: Status) -> Outcome
 
 // The output of what the words ask for, before anything is written.
 fn prepare<R: Threads + Wait + Sync, T: PrefixTree, D: Desk, G: Gate>(
-    rt: &R,
-    alloc: Global,
+    host: &Host<'_, R, G>,
     command: Command<'_>,
     desk: &mut D,
-    gate: &G,
 ) -> Result<Output, Status>
     requires ranges { IsInRanges command }
     requires argument { HasGoodArgument command }
@@ -131,12 +131,13 @@ fn prepare<R: Threads + Wait + Sync, T: PrefixTree, D: Desk, G: Gate>(
     ensures unwritten { IfOk result
         (λ output. WritesNoJournal (asked_of command.entry) → output.journal_text.items ≡ []) }
 {
+    let alloc = host.alloc;
     match command {
         Command::Run {
             files,
             workers,
             report,
-        } => prepare_run::<R, T, D, G>(rt, alloc, files, workers, report, desk, gate),
+        } => prepare_run::<R, T, D, G>(host, files, workers, report, desk),
         Command::Sim {
             files,
             seed,
@@ -151,14 +152,7 @@ fn prepare<R: Threads + Wait + Sync, T: PrefixTree, D: Desk, G: Gate>(
             files,
             workers,
             form,
-        } => {
-            let workers = MergeWorkers {
-                rt,
-                gate,
-                number: workers,
-            };
-            prepare_direct::<R, T, D, G>(&workers, alloc, files, form, desk)
-        }
+        } => prepare_direct::<R, T, D, G>(host, files, workers, form, desk),
         Command::Gen { size, seed } => prepare_gen::<T, D>(alloc, size, seed, desk),
         Command::Cast {
             files,

@@ -13,7 +13,7 @@ ghost use Rattle.stat_tool.specs.Views.{output_view};
 use crate::cast::cast_plan;
 use crate::generated::gen_job;
 use crate::output::{
-    MergeWorkers, Output, capture_output, direct_plan, leave, replay_plan, run_output, sim_plan,
+    Host, Output, capture_output, direct_plan, leave, replay_plan, run_output, sim_plan,
 };
 use crate::read::{read_file, read_plan, read_values};
 use crate::status::{FileRole, Status};
@@ -30,15 +30,13 @@ use std::alloc::Global;
 use std::sync::Wait;
 use std::thread::Threads;
 
-/// The run of a plan on workers, whose events pass the gate.
+/// The run of a plan by so many workers, whose events pass the gate.
 pub fn prepare_run<R: Threads + Wait + Sync, T: PrefixTree, D: Desk, G: Gate>(
-    rt: &R,
-    alloc: Global,
+    host: &Host<'_, R, G>,
     files: Files<'_>,
     workers: u8,
     wanted: RunReport,
     desk: &mut D,
-    gate: &G,
 ) -> Result<Output, Status>
     requires workers { (1 ≤ workers) × (workers ≤ 32) }
     ensures ok { IfOk result (λ output. Prepared (Run (names_of files.entry) workers wanted)
@@ -50,15 +48,16 @@ pub fn prepare_run<R: Threads + Wait + Sync, T: PrefixTree, D: Desk, G: Gate>(
     ensures all_read { OnOk result (AreAllRead (D.reads desk.old) (D.reads desk.new)
         (names_in (files_of (Run (names_of files.entry) workers wanted)))) }
 {
-    let plan = match read_plan(alloc, files, desk) {
+    let plan = match read_plan(host.alloc, files, desk) {
         Ok(plan) => plan,
         Err(status) => return Err(status),
     };
-    let ran = match run_workers::<R, T, G>(rt, alloc, &plan, u32::from(workers), gate) {
+    let number = u32::from(workers);
+    let ran = match run_workers::<R, T, G>(host.rt, host.alloc, &plan, number, host.gate) {
         Ok(ran) => ran,
         Err(_) => return Err(Status::OutOfMemory),
     };
-    match run_output(alloc, &plan, ran, wanted) {
+    match run_output(host, &plan, ran, workers, wanted) {
         Ok(output) => {
             leave(plan);
             Ok(output)
@@ -154,28 +153,28 @@ fn read_events<D: Desk>(
 
 /// The direct merge of each wave of a plan, by so many workers.
 pub fn prepare_direct<R: Threads + Sync, T: PrefixTree, D: Desk, G: Gate>(
-    workers: &MergeWorkers<'_, R, G>,
-    alloc: Global,
+    host: &Host<'_, R, G>,
     files: Files<'_>,
+    workers: u8,
     form: ReportForm,
     desk: &mut D,
 ) -> Result<Output, Status>
-    requires workers { (1 ≤ workers.now.number) × (workers.now.number ≤ 32) }
-    ensures ok { IfOk result (λ output. Prepared (Direct (names_of files.entry) workers.now.number form)
+    requires workers { (1 ≤ workers) × (workers ≤ 32) }
+    ensures ok { IfOk result (λ output. Prepared (Direct (names_of files.entry) workers form)
         (desk_change D.faults D.last_fault D.gave D.contents desk.old desk.new) (output_view output)) }
-    ensures err { IfErr result (Prevented (Direct (names_of files.entry) workers.now.number form)
+    ensures err { IfErr result (Prevented (Direct (names_of files.entry) workers form)
         (desk_change D.faults D.last_fault D.gave D.contents desk.old desk.new)) }
     ensures reads { AreReadInOrder (D.reads desk.old) (D.reads desk.new)
-        (names_in (files_of (Direct (names_of files.entry) workers.now.number form))) }
+        (names_in (files_of (Direct (names_of files.entry) workers form))) }
     ensures all_read { OnOk result (AreAllRead (D.reads desk.old) (D.reads desk.new)
-        (names_in (files_of (Direct (names_of files.entry) workers.now.number form)))) }
+        (names_in (files_of (Direct (names_of files.entry) workers form)))) }
     ensures unwritten { IfOk result (λ output. output.journal_text.items ≡ []) }
 {
-    let plan = match read_plan(alloc, files, desk) {
+    let plan = match read_plan(host.alloc, files, desk) {
         Ok(plan) => plan,
         Err(status) => return Err(status),
     };
-    match direct_plan::<R, T, G>(workers, alloc, &plan, form) {
+    match direct_plan::<R, T, G>(host, &plan, workers, form) {
         Ok(output) => {
             leave(plan);
             Ok(output)

@@ -1,17 +1,13 @@
 //! The outputs of the jobs: a journal, a report, and what is written of the journal.
-ghost use Rattle.std.specs.Prelude.{◌≡◌, ◌≤◌, ◌<◌, ◌++◌, ℕ, [], None, false, IfErr, IfOk, OnOk, map};
-ghost use Rattle.front_end.specs.Report.{AreDistinct, direct_release, direct_releases};
+ghost use Rattle.std.specs.Prelude.{◌≡◌, ◌≤◌, [], None, true, false, IfErr, IfOk, OnOk};
+ghost use Rattle.front_end.specs.Report.{AreDistinct};
 ghost use Rattle.journal_text.specs.Reading.{read_view};
 ghost use Rattle.capture_text.specs.Captures.{capture_of};
 ghost use Rattle.overlay_core.specs.Machine.{start};
 ghost use Rattle.overlay_core.specs.Runs.{IsLegal};
-ghost use Rattle.overlay_core.specs.TreeReleases.{AreNumberedInOrder, release_view, releases_view};
-ghost use Rattle.merge_filter.specs.Contributions.{HasWave, IsPartialMerge, coverage_of};
+ghost use Rattle.overlay_core.specs.TreeReleases.{AreNumberedInOrder, releases_view};
 ghost use Rattle.overlay_net.specs.Nets.{AllHome, IsReachedBy};
 ghost use Rattle.overlay_run.specs.Boards.{IsWholeRun};
-ghost use Rattle.stat_plan.specs.Invariants.{IsPlan};
-ghost use Rattle.stat_plan.specs.Limits.{stream_waves};
-ghost use Rattle.stat_plan.specs.Plans.{stream_ranks};
 ghost use Rattle.stat_tool.specs.Call.{IsCaptureRefusal, IsEventRefusal, IsJobRefusal};
 ghost use Rattle.stat_tool.specs.Jobs.{CaptureJob, DirectJob, ReplayJob, RunJob, SimJob};
 ghost use Rattle.stat_tool.specs.NextStep.{Does, by_capture, first_refused, replay_step};
@@ -19,20 +15,17 @@ ghost use Rattle.stat_tool.specs.Outputs.{HasOutput, HasRun, ReplaysAs};
 ghost use Rattle.stat_tool.specs.Reports.{IsReportIn, IsWrittenIn, losses_of};
 ghost use Rattle.stat_tool.specs.Status.{refusal_of_capture};
 ghost use Rattle.stat_tool.specs.Views.{output_view};
+ghost use Rattle.wide_report.specs.Pieces.{shown_faults, shown_losses};
 
 use crate::status::Status;
 use capture_text::{capture_text, captures_are_frames};
 use frame_log::frame_log;
-use front_end::{
-    direct_json, direct_text, numbered_releases_are_distinct, report_json, report_text,
-};
+use front_end::{numbered_releases_are_distinct, report_json, report_text};
 use journal_text::{JournalRead, write_journal};
-use merge_filter::{Contribution, direct};
-use overlay_core::{Kind, Release};
+use overlay_core::Release;
 use overlay_event::{Event, Gate, Journal};
 use overlay_net::{Net, NetError};
 use overlay_run::{Ran, workers_for};
-use overlay_setup::StreamDef;
 use packet_frame::FrameError;
 use prefix_tree::PrefixTree;
 use stat_plan::Plan;
@@ -40,7 +33,7 @@ use stat_words::{ReportForm, RunReport};
 use std::alloc::{AllocError, Global};
 use std::mem;
 use std::thread::Threads;
-use wide_merge::{WideMerge, wide_tree};
+use wide_report::{WideDirect, WideReport, wide_direct, wide_json, wide_text};
 
 /// What a job has made.
 #[derive(Drop)]
@@ -61,20 +54,92 @@ pub fn leave<X: Drop>(value: X) {
     mem::forget(value);
 }
 
-/// The output of a run on workers.
-pub fn run_output<T: PrefixTree>(
-    alloc: Global,
+/// What a call works with.
+#[derive(Drop)]
+pub struct Host<'a, R: Threads + Sync, G: Gate> {
+    /// What starts threads.
+    pub rt: &'a R,
+    /// Where everything is made.
+    pub alloc: Global,
+    /// The gate that events pass, and merges where there is more than one worker.
+    pub gate: &'a G,
+}
+
+/// The output of a run by so many workers.
+pub fn run_output<R: Threads + Sync, T: PrefixTree, G: Gate>(
+    host: &Host<'_, R, G>,
     plan: &Plan,
     ran: Ran<T>,
+    workers: u8,
     wanted: RunReport,
 ) -> Result<Output, AllocError>
+    requires workers { 1 ≤ workers }
     requires whole { IsWholeRun plan.now ran.journal (releases_view T.tree ran.releases.items) }
     ensures { IfOk result (λ output. HasOutput (RunJob plan.now wanted) (output_view output)) }
 {
+    plan.invariant();
     let Ran { journal, releases } = ran;
-    let output = finished(alloc, plan, &releases, journal, wanted)?;
-    leave(releases);
-    Ok(output)
+    let lost = losses_of(host.alloc, &journal)?;
+    let wide = WideReport {
+        alloc: host.alloc,
+        plan,
+        shows_faults: true,
+        lost: &lost,
+        workers: workers_for(host.rt, plan, u32::from(workers), host.gate),
+    };
+    let report = run_text(host.rt, &wide, releases, &journal, wanted)?;
+    let journal_text = write_journal(host.alloc, plan, &journal)?;
+    Ok(Output {
+        unfinished: None,
+        journal,
+        report,
+        journal_text,
+    })
+}
+
+// What is wanted of a run's journal with these releases: their report, or the frames that its events receive.
+fn run_text<R: Threads + Sync, T: PrefixTree>(
+    rt: &R,
+    wide: &WideReport<'_>,
+    releases: Vec<Release<T>>,
+    journal: &Journal,
+    wanted: RunReport,
+) -> Result<Vec<u8>, AllocError>
+    requires legal { IsLegal wide.now.plan.now journal.now }
+    requires numbered { AreNumberedInOrder [] (releases_view T.tree releases.items) }
+    requires shown { wide.now.shows_faults ≡ true }
+    requires lost { wide.now.lost.now ≡ losses_of journal.now }
+    ensures { IfOk result (λ text. IsWrittenIn wanted wide.now.plan.now (releases_view T.tree releases.items)
+        journal.now text.items) }
+{
+    match wanted {
+        RunReport::Releases(form) => {
+            numbered_releases_are_distinct();
+            wide_report(rt, wide, releases, form)
+        }
+        RunReport::Frames => {
+            leave(releases);
+            frame_log::<T>(wide.alloc, wide.plan, journal)
+        }
+    }
+}
+
+// The report of these releases in a form.
+fn wide_report<R: Threads + Sync, T: PrefixTree>(
+    rt: &R,
+    wide: &WideReport<'_>,
+    releases: Vec<Release<T>>,
+    form: ReportForm,
+) -> Result<Vec<u8>, AllocError>
+    requires distinct { AreDistinct (releases_view T.tree releases.items) }
+    ensures { IfOk result
+        (λ text. IsReportIn form wide.now.plan.now (shown_faults wide.now.shows_faults wide.now.plan.now)
+        (releases_view T.tree releases.items) (shown_losses wide.now.shows_faults wide.now.lost.now) text.items) }
+{
+    match form {
+        ReportForm::Text => wide_text(rt, wide, releases),
+        ReportForm::Json => wide_json(rt, wide, releases),
+    }
 }
 
 /// Runs a plan with the events that a seed picks, until none is enabled.
@@ -173,141 +238,39 @@ fn replayed<T: PrefixTree>(
     })
 }
 
-/// By whom waves are merged.
-#[derive(Drop)]
-pub struct MergeWorkers<'a, R: Threads + Sync, G: Gate> {
-    /// What starts threads.
-    pub rt: &'a R,
-    /// The gate that merges pass where there is more than one worker.
-    pub gate: &'a G,
-    /// How many workers there are, 1 to 32.
-    pub number: u8,
-}
-
-/// The direct merge of each wave: no event, and no line of a fault.
+/// The direct merge of each wave by so many workers: no event, and no line of a fault.
 pub fn direct_plan<R: Threads + Sync, T: PrefixTree, G: Gate>(
-    workers: &MergeWorkers<'_, R, G>,
-    alloc: Global,
+    host: &Host<'_, R, G>,
     plan: &Plan,
+    workers: u8,
     form: ReportForm,
 ) -> Result<Output, AllocError>
-    requires workers { (1 ≤ workers.now.number) × (workers.now.number ≤ 32) }
+    requires workers { (1 ≤ workers) × (workers ≤ 32) }
     ensures { IfOk result (λ output. HasOutput (DirectJob plan.now form) (output_view output)) }
 {
     plan.invariant();
-    let releases = direct_releases::<R, T, G>(workers, alloc, plan)?;
-    let report = direct_report(alloc, plan, &releases, form)?;
-    leave(releases);
+    let number = workers_for(host.rt, plan, u32::from(workers), host.gate);
+    let job = WideDirect {
+        alloc: host.alloc,
+        plan,
+        gate: host.gate,
+        workers: number,
+    };
+    let releases = wide_direct::<R, T, G>(host.rt, &job)?;
+    let wide = WideReport {
+        alloc: host.alloc,
+        plan,
+        shows_faults: false,
+        lost: &[],
+        workers: number,
+    };
+    let report = wide_report(host.rt, &wide, releases, form)?;
     Ok(Output {
         unfinished: None,
-        journal: Journal::new(alloc),
+        journal: Journal::new(host.alloc),
         report,
-        journal_text: Vec::new(alloc),
+        journal_text: Vec::new(host.alloc),
     })
-}
-
-// The report of these releases, without a line of a fault.
-fn direct_report<T: PrefixTree>(
-    alloc: Global,
-    plan: &Plan,
-    releases: &[Release<T>],
-    form: ReportForm,
-) -> Result<Vec<u8>, AllocError>
-    requires distinct { AreDistinct (releases_view T.tree releases.now) }
-    ensures { IfOk result
-        (λ report. IsReportIn form plan.now [] (releases_view T.tree releases.now) [] report.items) }
-{
-    match form {
-        ReportForm::Text => direct_text(alloc, plan, releases),
-        ReportForm::Json => direct_json(alloc, plan, releases),
-    }
-}
-
-// One final release for each wave, with all ranks of its stream.
-fn direct_releases<R: Threads + Sync, T: PrefixTree, G: Gate>(
-    workers: &MergeWorkers<'_, R, G>,
-    alloc: Global,
-    plan: &Plan,
-) -> Result<Vec<Release<T>>, AllocError>
-    requires workers { (1 ≤ workers.now.number) × (workers.now.number ≤ 32) }
-    ensures { IfOk result (λ releases. releases_view T.tree releases.items ≡ direct_releases plan.now) }
-{
-    let mut releases = Vec::new(alloc);
-    for stream in plan.streams() {
-        push_waves(workers, alloc, plan, stream, &mut releases)?;
-    }
-    Ok(releases)
-}
-
-// Adds the direct release of each wave of a stream.
-fn push_waves<R: Threads + Sync, T: PrefixTree, G: Gate>(
-    workers: &MergeWorkers<'_, R, G>,
-    alloc: Global,
-    plan: &Plan,
-    stream: &StreamDef,
-    releases: &mut Vec<Release<T>>,
-) -> Result<(), AllocError>
-    requires workers { (1 ≤ workers.now.number) × (workers.now.number ≤ 32) }
-    requires waves { (w : ℕ) → w < stream.now.waves → HasWave plan.now stream.now.number w }
-    ensures { OnOk result (releases_view T.tree releases.new.items ≡ releases_view T.tree releases.old.items
-        ++ map (direct_release plan.now) (stream_waves stream.now)) }
-{
-    for wave in 0..stream.waves() {
-        releases.push(direct_release(workers, alloc, plan, stream.number(), wave)?)?;
-    }
-    Ok(())
-}
-
-// The direct release of a wave.
-fn direct_release<R: Threads + Sync, T: PrefixTree, G: Gate>(
-    workers: &MergeWorkers<'_, R, G>,
-    alloc: Global,
-    plan: &Plan,
-    stream: u8,
-    wave: u8,
-) -> Result<Release<T>, AllocError>
-    requires workers { (1 ≤ workers.now.number) × (workers.now.number ≤ 32) }
-    requires wave { HasWave plan.now stream wave }
-    ensures { IfOk result (λ release. release_view T.tree release ≡ direct_release plan.now (stream, wave)) }
-{
-    let merged = merged_wave::<R, T, G>(workers, alloc, plan, stream, wave)?;
-    Ok(Release {
-        stream,
-        wave,
-        number: 1,
-        kind: Kind::Final,
-        tree: merged.into_tree(),
-        lost: Vec::new(alloc),
-    })
-}
-
-// All samples of a wave, merged by as many workers as that is worth.
-fn merged_wave<R: Threads + Sync, T: PrefixTree, G: Gate>(
-    workers: &MergeWorkers<'_, R, G>,
-    alloc: Global,
-    plan: &Plan,
-    stream: u8,
-    wave: u8,
-) -> Result<Contribution<T>, AllocError>
-    requires workers { (1 ≤ workers.now.number) × (workers.now.number ≤ 32) }
-    requires wave { HasWave plan.now stream wave }
-    ensures stream { IfOk result (λ c. c.stream ≡ stream) }
-    ensures wave { IfOk result (λ c. c.wave ≡ wave) }
-    ensures coverage { IfOk result (λ c. coverage_of c ≡ stream_ranks plan.now stream) }
-    ensures partial_merge { IfOk result (IsPartialMerge plan.now) }
-{
-    let number = workers_for(workers.rt, plan, u32::from(workers.number), workers.gate);
-    if number == 1 {
-        return direct(alloc, plan, stream, wave);
-    }
-    let merge = WideMerge {
-        alloc,
-        plan,
-        gate: workers.gate,
-        stream,
-        wave,
-    };
-    wide_tree::<R, T, G>(workers.rt, &merge, number)
 }
 
 // The nodes that the events of a journal lose, in order.

@@ -12,6 +12,10 @@ pub returns-in-Sim-clause-reads : goal.returns-in-Sim-clause-reads
 returns-in-Sim-clause-reads g c =
     subst (λ command. AreReadInOrder (g.D.Desk.reads c.args.desk.now) (g.D.Desk.reads c.prepare_sim.new.desk) (names_in (files_of (asked_of command)))) (sym c.in-Sim.is) c.prepare_sim.ensures.reads
 
+pub returns-in-Direct-clause-reads : goal.returns-in-Direct-clause-reads
+returns-in-Direct-clause-reads g c =
+    subst (λ command. AreReadInOrder (g.D.Desk.reads c.args.desk.now) (g.D.Desk.reads c.prepare_direct.new.desk) (names_in (files_of (asked_of command)))) (sym c.in-Direct.is) c.prepare_direct.ensures.reads
+
 pub returns-in-Cast-clause-reads : goal.returns-in-Cast-clause-reads
 returns-in-Cast-clause-reads g c =
     subst (λ command. AreReadInOrder (g.D.Desk.reads c.args.desk.now) (g.D.Desk.reads c.prepare_cast.new.desk) (names_in (files_of (asked_of command)))) (sym c.in-Cast.is) c.prepare_cast.ensures.reads
