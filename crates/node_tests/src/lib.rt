@@ -1,5 +1,6 @@
 //! Tests of the parts of a node, of its frames and of a node itself, and nothing else. Each module has the tests of the
-//! library with its name; `captures` and `plain_decoder` are what `packet_frame` is compared with.
+//! library with its name; `captures` and `plain_decoder` are what `packet_frame` is compared with, and `plans` has
+//! what several of them use.
 #![tactic(auto)]
 
 #[cfg(test)]
@@ -12,6 +13,8 @@ mod overlay_node_tests;
 mod packet_frame_tests;
 #[cfg(test)]
 mod plain_decoder;
+#[cfg(test)]
+mod plans;
 #[cfg(test)]
 mod sync_filter_tests;
 #[cfg(test)]

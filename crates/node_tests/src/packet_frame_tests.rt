@@ -9,9 +9,9 @@ use crate::captures::{REFUSED, WHOLE};
 use crate::plain_decoder::length_of;
 use call_path::CallPath;
 use packet_frame::{Feeder, FrameError, FrameReason, Packet, decode, encode};
-use prefix_tree::{OwnedTree, PrefixTree, TreeError};
+use prefix_tree::{OwnedTree, PrefixTree, Row};
 use rank_set::RankSet;
-use std::alloc::{AllocError, Global};
+use std::alloc::Global;
 use std::process::Abort;
 
 fn digit(c: u8) -> u8 {
@@ -23,7 +23,7 @@ fn digit(c: u8) -> u8 {
 }
 
 // The bytes of a text in hexadecimal, with spaces between them.
-fn bytes_of(alloc: Global, text: &str) -> Result<Vec<u8>, AllocError> {
+fn bytes_of(rt: &impl Abort, alloc: Global, text: &str) -> Vec<u8> {
     let mut bytes = Vec::new(alloc);
     let mut high = 0u8;
     let mut is_high = true;
@@ -34,11 +34,13 @@ fn bytes_of(alloc: Global, text: &str) -> Result<Vec<u8>, AllocError> {
         if is_high {
             high = digit(*c).wrapping_mul(16);
         } else {
-            bytes.push(high.wrapping_add(digit(*c)))?;
+            bytes
+                .push(high.wrapping_add(digit(*c)))
+                .expect(rt, "memory");
         }
         is_high = !is_high;
     }
-    Ok(bytes)
+    bytes
 }
 
 // The bytes from a place on.
@@ -70,13 +72,9 @@ fn refused(at: u64, reason: FrameReason) -> FrameError {
     FrameError::Refused { at, reason }
 }
 
-fn read(alloc: Global, bytes: &[u8]) -> Result<(Packet<OwnedTree>, usize), FrameError> {
-    decode(alloc, bytes)
-}
-
 // The length of the frame at the front, by `decode`.
 fn read_length(alloc: Global, bytes: &[u8]) -> Result<usize, FrameError> {
-    match read(alloc, bytes) {
+    match decode::<OwnedTree>(alloc, bytes) {
         Ok((_, length)) => Ok(length),
         Err(error) => Err(error),
     }
@@ -84,9 +82,9 @@ fn read_length(alloc: Global, bytes: &[u8]) -> Result<usize, FrameError> {
 
 #[test]
 fn reads_captures(rt: HostRuntime) {
-    for (text, length) in WHOLE {
-        let bytes = bytes_of(rt.alloc(), text).expect(&rt, "memory");
-        assert_eq!(rt; read_length(rt.alloc(), &bytes), Ok(length), "{text}");
+    for (text, length) in &WHOLE {
+        let bytes = bytes_of(&rt, rt.alloc(), text);
+        assert!(rt; read_length(rt.alloc(), &bytes) == Ok(*length));
     }
 }
 
@@ -115,10 +113,9 @@ fn read_all(alloc: Global, bytes: &[u8]) -> Result<usize, FrameError> {
 
 #[test]
 fn refuses_captures(rt: HostRuntime) {
-    for (text, at, reason) in REFUSED {
-        let bytes = bytes_of(rt.alloc(), text).expect(&rt, "memory");
-        let want = Err(refused(at, reason));
-        assert_eq!(rt; read_all(rt.alloc(), &bytes), want, "{text}");
+    for (text, at, reason) in &REFUSED {
+        let bytes = bytes_of(&rt, rt.alloc(), text);
+        assert!(rt; read_all(rt.alloc(), &bytes) == Err(refused(*at, *reason)));
     }
 }
 
@@ -153,65 +150,60 @@ fn check<T: PrefixTree>(rt: &impl Abort, packet: &Packet<T>)
 }
 
 // Appends the frame of a packet.
-fn put(
-    rt: &impl Abort,
-    alloc: Global,
-    packet: &Packet<OwnedTree>,
-    out: &mut Vec<u8>,
-) -> Result<(), AllocError> {
+fn put<T: PrefixTree>(rt: &impl Abort, alloc: Global, packet: &Packet<T>, out: &mut Vec<u8>) {
     check(rt, packet);
-    let frame = encode(alloc, packet)?;
-    out.extend_from_slice(frame.bytes())
+    let frame = encode(alloc, packet).expect(rt, "memory");
+    out.extend_from_slice(frame.bytes()).expect(rt, "memory");
 }
 
 // Appends the frame of the packet that was read at the front, and gives how many bytes were read.
-fn write_again(
+fn write_again<T: PrefixTree>(
     rt: &impl Abort,
     alloc: Global,
     bytes: &[u8],
     out: &mut Vec<u8>,
-) -> Result<usize, FrameError> {
-    let (packet, length) = read(alloc, bytes)?;
-    put(rt, alloc, &packet, out)?;
-    Ok(length)
+) -> usize {
+    let (packet, length) = decode::<T>(alloc, bytes).expect(rt, "a frame");
+    put(rt, alloc, &packet, out);
+    length
 }
 
 // The frames of the packets that were read at the front, one after another.
-fn written_again(rt: &impl Abort, alloc: Global, bytes: &[u8]) -> Result<Vec<u8>, FrameError> {
+fn written_again(rt: &impl Abort, alloc: Global, bytes: &[u8]) -> Vec<u8> {
     let mut out = Vec::new(alloc);
     let mut taken = 0usize;
-    for want in LENGTHS {
-        let length = write_again(rt, alloc, behind(bytes, taken), &mut out)?;
-        assert_eq!(rt; length, want);
+    for want in &LENGTHS {
+        let length = write_again::<OwnedTree>(rt, alloc, behind(bytes, taken), &mut out);
+        assert!(rt; length == *want);
         taken = taken.wrapping_add(length);
     }
-    assert_eq!(rt; taken, bytes.len());
-    Ok(out)
+    assert!(rt; taken == bytes.len());
+    out
 }
 
 #[test]
 fn writes_what_was_read(rt: HostRuntime) {
-    let want = bytes_of(rt.alloc(), SECOND).expect(&rt, "memory");
-    assert_eq!(rt; want.len(), 91);
-    for text in [FIRST, SECOND] {
-        let bytes = bytes_of(rt.alloc(), text).expect(&rt, "memory");
-        let out = written_again(&rt, rt.alloc(), &bytes).expect(&rt, "memory");
-        assert_eq!(rt; out.as_slice(), want.as_slice(), "{text}");
+    let want = bytes_of(&rt, rt.alloc(), SECOND);
+    assert!(rt; want.len() == 91);
+    for text in &[FIRST, SECOND] {
+        let bytes = bytes_of(&rt, rt.alloc(), text);
+        let out = written_again(&rt, rt.alloc(), &bytes);
+        assert!(rt; out.as_slice() == want.as_slice());
     }
 }
 
 #[test]
 fn writes_attach_and_down(rt: HostRuntime) {
     let mut out = Vec::new(rt.alloc());
-    put(&rt, rt.alloc(), &Packet::Attach, &mut out).expect(&rt, "memory");
-    put(&rt, rt.alloc(), &Packet::Down, &mut out).expect(&rt, "memory");
-    assert_eq!(rt; out.as_slice(), [2, 3, 2, 4].as_slice());
+    put::<OwnedTree>(&rt, rt.alloc(), &Packet::Attach, &mut out);
+    put::<OwnedTree>(&rt, rt.alloc(), &Packet::Down, &mut out);
+    assert!(rt; out.as_slice() == [2, 3, 2, 4].as_slice());
 }
 
 // What a piece gives: the lengths of the frames that become whole.
-fn fed(
+fn fed<T: PrefixTree>(
     alloc: Global,
-    feeder: &mut Feeder<OwnedTree>,
+    feeder: &mut Feeder<T>,
     piece: &[u8],
 ) -> Result<Vec<usize>, FrameError>
     requires { feeder.old.before + length feeder.old.rest + length piece.now < 2 ^ 64 }
@@ -226,48 +218,67 @@ fn fed(
     Ok(lengths)
 }
 
+// Puts the lengths of the frames of a piece behind others.
+fn put_fed<T: PrefixTree>(
+    rt: &impl Abort,
+    alloc: Global,
+    feeder: &mut Feeder<T>,
+    piece: &[u8],
+    lengths: &mut Vec<usize>,
+)
+    requires { feeder.old.before + length feeder.old.rest + length piece.now < 2 ^ 64 }
+    ensures { feeder.new.before + length feeder.new.rest
+        ≤ feeder.old.before + length feeder.old.rest + length piece.now }
+{
+    let more = fed(alloc, feeder, piece).expect(rt, "frames");
+    lengths.extend_from_slice(&more).expect(rt, "memory");
+}
+
 // The lengths of the frames of two pieces.
-fn fed_in_two(alloc: Global, first: &[u8], second: &[u8]) -> Result<Vec<usize>, FrameError> {
-    let mut feeder = Feeder::new(alloc);
-    let mut lengths = fed(alloc, &mut feeder, first)?;
-    let more = fed(alloc, &mut feeder, second)?;
-    lengths.extend_from_slice(&more)?;
-    feeder.finish()?;
-    Ok(lengths)
+fn fed_in_two<T: PrefixTree>(
+    rt: &impl Abort,
+    alloc: Global,
+    first: &[u8],
+    second: &[u8],
+) -> Vec<usize> {
+    let mut feeder: Feeder<T> = Feeder::new(alloc);
+    let mut lengths = Vec::new(alloc);
+    put_fed(rt, alloc, &mut feeder, first, &mut lengths);
+    put_fed(rt, alloc, &mut feeder, second, &mut lengths);
+    assert!(rt; feeder.finish().is_ok());
+    lengths
 }
 
 #[test]
 fn feeds_two_pieces(rt: HostRuntime) {
-    for text in [FIRST, SECOND] {
-        let bytes = bytes_of(rt.alloc(), text).expect(&rt, "memory");
-        assert_eq!(rt; bytes.len(), 91);
+    for text in &[FIRST, SECOND] {
+        let bytes = bytes_of(&rt, rt.alloc(), text);
+        assert!(rt; bytes.len() == 91);
         for at in 0..92usize {
-            let lengths = fed_in_two(rt.alloc(), before(&bytes, at), behind(&bytes, at)).expect(
-                &rt, "memory",
-            );
-            assert_eq!(rt; lengths.as_slice(), LENGTHS.as_slice(), "{at}");
+            let (front, rest) = (before(&bytes, at), behind(&bytes, at));
+            let lengths = fed_in_two::<OwnedTree>(&rt, rt.alloc(), front, rest);
+            assert!(rt; lengths.as_slice() == LENGTHS.as_slice());
         }
     }
 }
 
 // The lengths of the frames of 91 bytes that come one by one.
-fn fed_by_bytes(alloc: Global, bytes: &[u8]) -> Result<Vec<usize>, FrameError> {
-    let mut feeder = Feeder::new(alloc);
+fn fed_by_bytes<T: PrefixTree>(rt: &impl Abort, alloc: Global, bytes: &[u8]) -> Vec<usize> {
+    let mut feeder: Feeder<T> = Feeder::new(alloc);
     let mut lengths = Vec::new(alloc);
     for i in 0..91usize {
-        let more = fed(alloc, &mut feeder, &[byte_at(bytes, i)])?;
-        lengths.extend_from_slice(&more)?;
+        put_fed(rt, alloc, &mut feeder, &[byte_at(bytes, i)], &mut lengths);
     }
-    feeder.finish()?;
-    Ok(lengths)
+    assert!(rt; feeder.finish().is_ok());
+    lengths
 }
 
 #[test]
 fn feeds_byte_by_byte(rt: HostRuntime) {
-    for text in [FIRST, SECOND] {
-        let bytes = bytes_of(rt.alloc(), text).expect(&rt, "memory");
-        let lengths = fed_by_bytes(rt.alloc(), &bytes).expect(&rt, "memory");
-        assert_eq!(rt; lengths.as_slice(), LENGTHS.as_slice());
+    for text in &[FIRST, SECOND] {
+        let bytes = bytes_of(&rt, rt.alloc(), text);
+        let lengths = fed_by_bytes::<OwnedTree>(&rt, rt.alloc(), &bytes);
+        assert!(rt; lengths.as_slice() == LENGTHS.as_slice());
     }
 }
 
@@ -368,59 +379,62 @@ const STREAMS: [Stream; 12] = [
     },
 ];
 
-fn assert_stream(rt: &impl Abort, alloc: Global, stream: &Stream) -> Result<(), FrameError> {
-    let first = bytes_of(alloc, stream.first)?;
-    let second = bytes_of(alloc, stream.second)?;
-    let mut feeder = Feeder::new(alloc);
-    let lengths = fed(alloc, &mut feeder, &first)?;
-    assert_eq!(rt; lengths.as_slice(), stream.gives);
-    assert_second(rt, alloc, &mut feeder, &second, stream)
+// What is fed is the lengths that are wanted, or is refused where none are.
+fn is_wanted(
+    found: Result<Vec<usize>, FrameError>,
+    want: Option<&[usize]>,
+    end: Result<(), FrameError>,
+) -> bool {
+    match (found, want) {
+        (Ok(lengths), Some(want)) => lengths.as_slice() == want,
+        (Err(error), None) => end == Err(error),
+        _ => false,
+    }
 }
 
-// The second piece, and the end.
-fn assert_second(
-    rt: &impl Abort,
-    alloc: Global,
-    feeder: &mut Feeder<OwnedTree>,
-    second: &[u8],
-    stream: &Stream,
-) -> Result<(), FrameError>
-    requires { feeder.old.before + length feeder.old.rest + length second.now < 2 ^ 64 }
-{
+fn assert_stream<T: PrefixTree>(rt: &impl Abort, alloc: Global, stream: &Stream) {
     let end = match stream.end {
         Some((at, reason)) => Err(refused(at, reason)),
         None => Ok(()),
     };
-    match stream.then {
-        Some(want) => {
-            let lengths = fed(alloc, feeder, second)?;
-            assert_eq!(rt; lengths.as_slice(), want);
-        }
-        None => assert_eq!(rt; fed(alloc, feeder, second).err(), end.err()),
-    }
-    assert_eq!(rt; feeder.finish(), end);
-    Ok(())
+    let first = bytes_of(rt, alloc, stream.first);
+    let second = bytes_of(rt, alloc, stream.second);
+    let mut feeder: Feeder<T> = Feeder::new(alloc);
+    let found = fed(alloc, &mut feeder, &first);
+    assert!(rt; is_wanted(found, Some(stream.gives), Ok(())));
+    let found = fed(alloc, &mut feeder, &second);
+    assert!(rt; is_wanted(found, stream.then, end));
+    assert!(rt; feeder.finish() == end);
 }
 
 #[test]
 fn feeds_streams(rt: HostRuntime) {
     for stream in &STREAMS {
-        assert_stream(&rt, rt.alloc(), stream).expect(&rt, "memory");
+        assert_stream::<OwnedTree>(&rt, rt.alloc(), stream);
     }
+}
+
+// Whether a piece is refused as an unknown kind at place 1, and the end, too.
+fn is_refused<T: PrefixTree>(alloc: Global, feeder: &mut Feeder<T>, piece: &[u8]) -> bool
+    requires { feeder.old.before + length feeder.old.rest + length piece.now < 2 ^ 64 }
+    ensures { feeder.new.before + length feeder.new.rest
+        ≤ feeder.old.before + length feeder.old.rest + length piece.now }
+{
+    let want = refused(1, FrameReason::BadKind);
+    fed(alloc, feeder, piece).err() == Some(want) && feeder.finish() == Err(want)
+}
+
+fn assert_refused_again<T: PrefixTree>(rt: &impl Abort, alloc: Global) {
+    let mut feeder: Feeder<T> = Feeder::new(alloc);
+    assert!(rt; is_refused(alloc, &mut feeder, &[1, 9]));
+    assert!(rt; is_refused(alloc, &mut feeder, &[1, 3]));
+    assert!(rt; is_refused(alloc, &mut feeder, &[]));
 }
 
 // The refusal stays, whatever comes.
 #[test]
 fn refuses_again(rt: HostRuntime) {
-    let mut feeder = Feeder::new(rt.alloc());
-    let want = Some(refused(1, FrameReason::BadKind));
-    let bad = [1, 9];
-    assert_eq!(rt; fed(rt.alloc(), &mut feeder, &bad).err(), want);
-    assert_eq!(rt; feeder.finish().err(), want);
-    let good = [1, 3];
-    assert_eq!(rt; fed(rt.alloc(), &mut feeder, &good).err(), want);
-    assert_eq!(rt; fed(rt.alloc(), &mut feeder, &[]).err(), want);
-    assert_eq!(rt; feeder.finish().err(), want);
+    assert_refused_again::<OwnedTree>(&rt, rt.alloc());
 }
 
 fn rank(i: u32) -> u32 {
@@ -428,100 +442,94 @@ fn rank(i: u32) -> u32 {
 }
 
 // A tree with ranks of several words, with gaps, and one more.
-fn covered(rt: &impl Abort, alloc: Global, top: u32) -> Result<OwnedTree, AllocError> {
+fn covered<T: PrefixTree>(rt: &impl Abort, alloc: Global, top: u32) -> T {
     let mut ranks = RankSet::new(alloc);
     for i in 0..40u32 {
         ranks.insert(rank(i)).expect(rt, "below the limit");
     }
     ranks.insert(top).expect(rt, "below the limit");
-    let mut tree = OwnedTree::empty(alloc);
-    tree.cover(&ranks)?;
-    Ok(tree)
+    let mut tree = T::empty(alloc);
+    tree.cover(&ranks).expect(rt, "memory");
+    tree
 }
 
 // Adds a path of two ranks.
-fn add(
-    rt: &impl Abort,
-    alloc: Global,
-    tree: &mut OwnedTree,
-    pair: [u32; 2],
-    text: &str,
-) -> Result<(), TreeError> {
+fn add<T: PrefixTree>(rt: &impl Abort, alloc: Global, tree: &mut T, pair: &[u32; 2], text: &str) {
     let mut ranks = RankSet::new(alloc);
     for rank in pair {
-        ranks.insert(rank).expect(rt, "below the limit");
+        ranks.insert(*rank).expect(rt, "below the limit");
     }
     let path = CallPath::read(alloc, text).expect(rt, "good");
     assert!(rt; ranks.count() > 0);
     assert!(rt; ranks.is_subset(tree.row(0).label));
-    tree.add(&ranks, &path)
+    tree.add(&ranks, &path).expect(rt, "a path");
 }
 
-fn assert_row(rt: &impl Abort, left: &OwnedTree, right: &OwnedTree, i: usize) {
-    assert!(rt; i < left.rows() && i < right.rows());
-    let row = left.row(i);
-    let other = right.row(i);
-    assert_eq!(rt; row.depth, other.depth, "{i}");
-    assert_eq!(rt; row.frame, other.frame, "{i}");
-    assert!(rt; row.label.equals(other.label), "{i}");
-    assert!(rt; row.ends.equals(other.ends), "{i}");
+fn is_same(row: &Row<'_>, other: &Row<'_>) -> bool {
+    row.depth == other.depth
+        && row.frame == other.frame
+        && row.label.equals(other.label)
+        && row.ends.equals(other.ends)
 }
 
 // A tree's frame reads as that tree.
-fn assert_sent(rt: &impl Abort, alloc: Global, tree: OwnedTree) -> Result<(), FrameError> {
+fn assert_sent<T: PrefixTree>(rt: &impl Abort, alloc: Global, tree: T) {
     let sent = Packet::Up {
         stream: 7,
         wave: 15,
         tree,
     };
     let mut bytes = Vec::new(alloc);
-    put(rt, alloc, &sent, &mut bytes)?;
-    assert_eq!(rt; length_of(alloc, &bytes), Ok(bytes.len()));
-    let (got, length) = read(alloc, &bytes)?;
-    assert_eq!(rt; length, bytes.len());
-    assert_same(rt, &sent, &got);
-    Ok(())
+    put(rt, alloc, &sent, &mut bytes);
+    assert!(rt; length_of(alloc, &bytes) == Ok(bytes.len()));
+    assert_read(rt, alloc, &bytes, &sent);
 }
 
-fn assert_same(rt: &impl Abort, sent: &Packet<OwnedTree>, got: &Packet<OwnedTree>) {
+// Bytes are the frame of what was sent.
+fn assert_read<T: PrefixTree>(rt: &impl Abort, alloc: Global, bytes: &[u8], sent: &Packet<T>) {
+    let (got, length) = decode::<T>(alloc, bytes).expect(rt, "a frame");
+    assert!(rt; length == bytes.len());
+    assert_same(rt, sent, &got);
+}
+
+fn assert_same<T: PrefixTree>(rt: &impl Abort, sent: &Packet<T>, got: &Packet<T>) {
     let Packet::Up { tree: left, .. } = sent else {
         return;
     };
     let Packet::Up { stream, wave, tree } = got else {
         panic!(rt; "no tree");
     };
-    assert_eq!(rt; *stream, 7);
-    assert_eq!(rt; *wave, 15);
-    assert_eq!(rt; tree.rows(), left.rows());
+    assert!(rt; *stream == 7 && *wave == 15);
+    assert!(rt; tree.rows() == left.rows());
     for i in 0..left.rows() {
-        assert_row(rt, left, tree, i);
+        assert!(rt; is_same(&left.row(i), &tree.row(i)));
     }
 }
 
 // A tree of 2,048 rows.
-fn full(rt: &impl Abort, alloc: Global) -> Result<OwnedTree, TreeError> {
-    let mut tree = covered(rt, alloc, 300)?;
+fn full<T: PrefixTree>(rt: &impl Abort, alloc: Global) -> T {
+    let mut tree = covered(rt, alloc, 300);
     for i in 0..2_048u32 {
-        let text = format!(in alloc; "f{i}")?;
-        add(rt, alloc, &mut tree, [rank(i), 300], &text)?;
+        let text = format!(in alloc; "f{i}").expect(rt, "memory");
+        add(rt, alloc, &mut tree, &[rank(i), 300], &text);
     }
-    Ok(tree)
+    tree
 }
 
 #[test]
 fn sends_a_full_tree(rt: HostRuntime) {
-    let tree = full(&rt, rt.alloc()).expect(&rt, "memory");
-    assert_eq!(rt; tree.rows(), 2_049);
-    assert_sent(&rt, rt.alloc(), tree).expect(&rt, "memory");
+    let tree = full::<OwnedTree>(&rt, rt.alloc());
+    assert!(rt; tree.rows() == 2_049);
+    assert_sent(&rt, rt.alloc(), tree);
 }
 
-fn repeated(alloc: Global, part: &str, times: usize, end: &str) -> Result<String, AllocError> {
+fn repeated(rt: &impl Abort, alloc: Global, part: &str, times: usize, end: &str) -> String {
     let mut text = String::new(alloc);
     for _ in 0..times {
-        text.push_str(part)?;
+        text.push_str(part).expect(rt, "memory");
     }
-    text.push_str(end)?;
-    Ok(text)
+    text.push_str(end).expect(rt, "memory");
+    text
 }
 
 // A part, how often it stands in a path, what stands behind it, and how many rows the path has.
@@ -532,14 +540,18 @@ const LONG: [(&str, usize, &str, usize); 4] = [
     ("\u{e9}", 511, "n;x", 2),
 ];
 
+fn assert_sent_path<T: PrefixTree>(rt: &impl Abort, alloc: Global, text: &str, rows: usize) {
+    let mut tree = covered::<T>(rt, alloc, 1_048_575);
+    add(rt, alloc, &mut tree, &[38, 1_048_575], text);
+    assert!(rt; tree.rows() == rows.wrapping_add(1));
+    assert_sent(rt, alloc, tree);
+}
+
 #[test]
 fn sends_long_paths(rt: HostRuntime) {
-    for (part, times, end, rows) in LONG {
-        let text = repeated(rt.alloc(), part, times, end).expect(&rt, "memory");
-        let mut tree = covered(&rt, rt.alloc(), 1_048_575).expect(&rt, "memory");
-        add(&rt, rt.alloc(), &mut tree, [38, 1_048_575], &text).expect(&rt, "memory");
-        assert_eq!(rt; tree.rows(), rows.wrapping_add(1));
-        assert_sent(&rt, rt.alloc(), tree).expect(&rt, "memory");
+    for (part, times, end, rows) in &LONG {
+        let text = repeated(&rt, rt.alloc(), part, *times, end);
+        assert_sent_path::<OwnedTree>(&rt, rt.alloc(), &text, *rows);
     }
 }
 
@@ -548,22 +560,26 @@ const PATHS: [&str; 8] = [
     "m;a;x", "m;a", "n", "m;b;y;z", "a", "m", "m;a;w", "\u{e9};m",
 ];
 
-#[test]
-fn sends_branches(rt: HostRuntime) {
-    let mut tree = covered(&rt, rt.alloc(), 1_048_575).expect(&rt, "memory");
+fn assert_sent_branches<T: PrefixTree>(rt: &impl Abort, alloc: Global) {
+    let mut tree = covered::<T>(rt, alloc, 1_048_575);
     let mut rank = 3u32;
-    for text in PATHS {
-        add(&rt, rt.alloc(), &mut tree, [rank, 1_048_575], text).expect(&rt, "memory");
+    for text in &PATHS {
+        add(rt, alloc, &mut tree, &[rank, 1_048_575], text);
         rank = rank.wrapping_add(28);
     }
-    assert_sent(&rt, rt.alloc(), tree).expect(&rt, "memory");
+    assert_sent(rt, alloc, tree);
+}
+
+#[test]
+fn sends_branches(rt: HostRuntime) {
+    assert_sent_branches::<OwnedTree>(&rt, rt.alloc());
 }
 
 // `decode` answers as the plain reader does.
 fn assert_agree(rt: &impl Abort, alloc: Global, bytes: &[u8]) {
     let want = length_of(alloc, bytes);
     assert!(rt; want != Err(FrameError::OutOfMemory));
-    assert_eq!(rt; read_length(alloc, bytes), want, "{bytes:?}");
+    assert!(rt; read_length(alloc, bytes) == want);
 }
 
 // Frames with rows at several depths, with siblings, and with sets of several words.
@@ -596,34 +612,33 @@ fn set_byte(bytes: &mut Vec<u8>, at: usize, value: u8) {
 }
 
 // Each byte changed to each other, and cut at each place.
-fn assert_changes(rt: &impl Abort, alloc: Global, text: &str) -> Result<(), AllocError> {
-    let mut bytes = bytes_of(alloc, text)?;
+fn assert_changes(rt: &impl Abort, alloc: Global, text: &str) {
+    let mut bytes = bytes_of(rt, alloc, text);
     assert_agree(rt, alloc, &bytes);
     for at in 0..bytes.len() {
         assert_agree(rt, alloc, before(&bytes, at));
-        for change in CHANGES {
+        for change in &CHANGES {
             let old = byte_at(&bytes, at);
-            set_byte(&mut bytes, at, change);
+            set_byte(&mut bytes, at, *change);
             assert_agree(rt, alloc, &bytes);
             set_byte(&mut bytes, at, old);
         }
     }
-    Ok(())
 }
 
 #[test]
 fn agrees_on_changed_captures(rt: HostRuntime) {
-    for (text, _) in WHOLE {
-        assert_changes(&rt, rt.alloc(), text).expect(&rt, "memory");
+    for (text, _) in &WHOLE {
+        assert_changes(&rt, rt.alloc(), text);
     }
 }
 
 #[test]
 fn agrees_on_changed_branches(rt: HostRuntime) {
-    for text in BRANCHES {
-        let bytes = bytes_of(rt.alloc(), text).expect(&rt, "memory");
-        assert_eq!(rt; length_of(rt.alloc(), &bytes), Ok(bytes.len()), "{text}");
-        assert_changes(&rt, rt.alloc(), text).expect(&rt, "memory");
+    for text in &BRANCHES {
+        let bytes = bytes_of(&rt, rt.alloc(), text);
+        assert!(rt; length_of(rt.alloc(), &bytes) == Ok(bytes.len()));
+        assert_changes(&rt, rt.alloc(), text);
     }
 }
 
@@ -647,27 +662,22 @@ const HEADERS: [&str; 8] = [
 // The few bytes of which the bytes of no pattern are taken.
 const BYTES: [u8; 16] = [0, 0, 0, 0, 0, 0, 1, 1, 1, 2, 2, 3, 0x61, 0x62, 0xC3, 0x80];
 
-fn assert_picked(
-    rt: &impl Abort,
-    alloc: Global,
-    header: &str,
-    seed: u32,
-) -> Result<(), AllocError> {
-    let mut bytes = bytes_of(alloc, header)?;
+fn assert_picked(rt: &impl Abort, alloc: Global, header: &str, seed: u32) {
+    let mut bytes = bytes_of(rt, alloc, header);
     let mut seed = after(seed);
     for _ in 0..32 {
-        bytes.push(byte_at(&BYTES, (seed >> 24) as usize % 16))?;
+        let byte = byte_at(&BYTES, (seed >> 24) as usize % 16);
+        bytes.push(byte).expect(rt, "memory");
         seed = after(seed);
     }
     assert_agree(rt, alloc, &bytes);
-    Ok(())
 }
 
 #[test]
 fn agrees_on_bytes_of_no_pattern(rt: HostRuntime) {
-    for header in HEADERS {
+    for header in &HEADERS {
         for seed in 0..4_000u32 {
-            assert_picked(&rt, rt.alloc(), header, seed).expect(&rt, "memory");
+            assert_picked(&rt, rt.alloc(), header, seed);
         }
     }
 }

@@ -1,9 +1,10 @@
 //! What is due, case by case.
 
 use overlay_setup::Mode;
-use rank_set::{RankError, RankSet};
+use rank_set::RankSet;
 use stat_plan::{Act, Timer};
 use std::alloc::Global;
+use std::process::Abort;
 use sync_filter::due;
 
 // How a wave stands: of two ranks, how many have come in and how many were passed on; and what is due.
@@ -102,22 +103,22 @@ const CASES: [Case; 9] = [
 ];
 
 // The first of the ranks.
-fn first_ranks(alloc: Global, count: u32) -> Result<RankSet, RankError> {
+fn first_ranks(rt: &impl Abort, alloc: Global, count: u32) -> RankSet {
     let mut ranks = RankSet::new(alloc);
     if count > 0 {
-        ranks.insert_run(0, count - 1)?;
+        ranks.insert_run(0, count - 1).expect(rt, "memory");
     }
-    Ok(ranks)
+    ranks
 }
 
 #[test]
 fn says_what_is_due(rt: HostRuntime) {
     for case in &CASES {
-        let come = first_ranks(rt.alloc(), case.come).expect(&rt, "memory");
-        let passed = first_ranks(rt.alloc(), case.passed).expect(&rt, "memory");
+        let come = first_ranks(&rt, rt.alloc(), case.come);
+        let passed = first_ranks(&rt, rt.alloc(), case.passed);
         let elsewhere = due(case.mode, case.complete, &come, &passed, case.timer, false);
-        assert_eq!(rt; elsewhere, case.elsewhere);
+        assert!(rt; elsewhere == case.elsewhere);
         let front = due(case.mode, case.complete, &come, &passed, case.timer, true);
-        assert_eq!(rt; front, case.front);
+        assert!(rt; front == case.front);
     }
 }

@@ -1,13 +1,13 @@
 //! Each call of a book, with the states that it must lead to.
 
-ghost use Rattle.std.specs.Prelude.{◌≤◌, IfOk, OnOk};
+ghost use Rattle.std.specs.Prelude.{◌≤◌, OnOk};
 ghost use Rattle.wave_resend.specs.Books.{HasOpen, IsIn};
 
+use crate::plans::plan_of;
 use rank_set::{RankError, RankSet};
-use stat_plan::{Plan, Timer};
+use stat_plan::Timer;
 use std::alloc::{AllocError, Global};
 use std::process::Abort;
-use std::test::Fail;
 use wave_resend::{WaveBook, WaveState};
 
 const NODES: &[u8] = b"fe:0 => a:0 ;\n";
@@ -16,13 +16,6 @@ const SAMPLES: &[u8] = b"daemon a:0 0\n";
 
 const SCRIPT: &[u8] =
     b"stream 0 wait-for-all waves 2 samples 1 on all\nstream 3 wait-for-all waves 1 samples 1 on all\n";
-
-fn small_plan(alloc: Global) -> Result<Plan, Fail> {
-    let topology = topology_text::read(alloc, NODES)?;
-    let samples = sample_text::read(alloc, SAMPLES, &topology)?;
-    let script = script_text::read(alloc, SCRIPT, &topology)?;
-    Ok(Plan::build(alloc, topology, samples, script)?)
-}
 
 // That a wave is the first open one behind another.
 fn assert_next(rt: &impl Abort, book: &WaveBook, after: Option<(u8, u8)>, s: u8, w: u8)
@@ -35,18 +28,18 @@ fn assert_next(rt: &impl Abort, book: &WaveBook, after: Option<(u8, u8)>, s: u8,
 }
 
 // Waves 0 and 1 of stream 0, and wave 0 of stream 3.
-fn three_waves(rt: &impl Abort, alloc: Global) -> Result<WaveBook, Fail>
-    ensures first { IfOk result (HasOpen 0 0) }
-    ensures second { IfOk result (HasOpen 0 1) }
-    ensures third { IfOk result (HasOpen 3 0) }
+fn three_waves(rt: &impl Abort, alloc: Global) -> WaveBook
+    ensures first { HasOpen 0 0 result }
+    ensures second { HasOpen 0 1 result }
+    ensures third { HasOpen 3 0 result }
 {
-    let plan = small_plan(alloc)?;
+    let plan = plan_of(rt, alloc, NODES, SAMPLES, SCRIPT);
     assert!(rt; plan.nodes() > 1);
-    let book = WaveBook::new(alloc, &plan, 1)?;
+    let book = WaveBook::new(alloc, &plan, 1).expect(rt, "memory");
     assert_next(rt, &book, None, 0, 0);
     assert_next(rt, &book, Some((0, 0)), 0, 1);
     assert_next(rt, &book, Some((0, 1)), 3, 0);
-    Ok(book)
+    book
 }
 
 // How many ranks of a wave have come in and were passed on, and its timer; none if it has ended.
@@ -108,64 +101,59 @@ fn go_on(book: &mut WaveBook, s: u8, w: u8)
 }
 
 #[test]
-fn ranks_come_in(rt: HostRuntime) -> Result<(), Fail> {
-    let mut book = three_waves(&rt, rt.alloc())?;
-    assert_eq!(rt; book.next_empty(0), Some(0));
-    grow(rt.alloc(), &mut book, 0, 0, 1, 2)?;
-    grow(rt.alloc(), &mut book, 0, 0, 2, 64)?;
-    assert_eq!(rt; counts(&book, 0, 0), Some((64, 0, Timer::Off)));
-    assert_eq!(rt; book.next_empty(0), Some(1));
-    assert_eq!(rt; book.next_empty(1), None);
-    assert_eq!(rt; book.next_empty(3), Some(0));
-    Ok(())
+fn ranks_come_in(rt: HostRuntime) {
+    let mut book = three_waves(&rt, rt.alloc());
+    assert!(rt; book.next_empty(0) == Some(0));
+    grow(rt.alloc(), &mut book, 0, 0, 1, 2).expect(&rt, "memory");
+    grow(rt.alloc(), &mut book, 0, 0, 2, 64).expect(&rt, "memory");
+    assert!(rt; counts(&book, 0, 0) == Some((64, 0, Timer::Off)));
+    assert!(rt; book.next_empty(0) == Some(1));
+    assert!(rt; book.next_empty(1) == None);
+    assert!(rt; book.next_empty(3) == Some(0));
 }
 
 #[test]
-fn what_was_sent_is_what_has_come_in(rt: HostRuntime) -> Result<(), Fail> {
-    let mut book = three_waves(&rt, rt.alloc())?;
-    grow(rt.alloc(), &mut book, 0, 1, 1, 2)?;
+fn what_was_sent_is_what_has_come_in(rt: HostRuntime) {
+    let mut book = three_waves(&rt, rt.alloc());
+    grow(rt.alloc(), &mut book, 0, 1, 1, 2).expect(&rt, "memory");
     start_timer(&mut book, 0, 1, 5);
-    pass_on(&mut book, 0, 1)?;
-    assert_eq!(rt; counts(&book, 0, 1), Some((2, 2, Timer::Off)));
-    grow(rt.alloc(), &mut book, 0, 1, 3, 3)?;
-    assert_eq!(rt; counts(&book, 0, 1), Some((3, 2, Timer::Off)));
-    Ok(())
+    pass_on(&mut book, 0, 1).expect(&rt, "memory");
+    assert!(rt; counts(&book, 0, 1) == Some((2, 2, Timer::Off)));
+    grow(rt.alloc(), &mut book, 0, 1, 3, 3).expect(&rt, "memory");
+    assert!(rt; counts(&book, 0, 1) == Some((3, 2, Timer::Off)));
 }
 
 #[test]
-fn timers_run_out(rt: HostRuntime) -> Result<(), Fail> {
-    let mut book = three_waves(&rt, rt.alloc())?;
+fn timers_run_out(rt: HostRuntime) {
+    let mut book = three_waves(&rt, rt.alloc());
     assert!(rt; !book.has_running());
     start_timer(&mut book, 3, 0, 2);
     assert!(rt; book.has_running());
     go_on(&mut book, 3, 0);
-    assert_eq!(rt; counts(&book, 3, 0), Some((0, 0, Timer::Running(1))));
+    assert!(rt; counts(&book, 3, 0) == Some((0, 0, Timer::Running(1))));
     go_on(&mut book, 3, 0);
-    assert_eq!(rt; counts(&book, 3, 0), Some((0, 0, Timer::Fired)));
+    assert!(rt; counts(&book, 3, 0) == Some((0, 0, Timer::Fired)));
     assert!(rt; !book.has_running());
-    Ok(())
 }
 
 #[test]
-fn nothing_was_sent_to_a_new_parent(rt: HostRuntime) -> Result<(), Fail> {
-    let mut book = three_waves(&rt, rt.alloc())?;
-    grow(rt.alloc(), &mut book, 0, 0, 1, 2)?;
-    pass_on(&mut book, 0, 0)?;
+fn nothing_was_sent_to_a_new_parent(rt: HostRuntime) {
+    let mut book = three_waves(&rt, rt.alloc());
+    grow(rt.alloc(), &mut book, 0, 0, 1, 2).expect(&rt, "memory");
+    pass_on(&mut book, 0, 0).expect(&rt, "memory");
     start_timer(&mut book, 0, 0, 7);
     book.reset_for_parent();
-    assert_eq!(rt; counts(&book, 0, 0), Some((2, 0, Timer::Off)));
-    Ok(())
+    assert!(rt; counts(&book, 0, 0) == Some((2, 0, Timer::Off)));
 }
 
 #[test]
-fn open_waves_come_in_order(rt: HostRuntime) -> Result<(), Fail> {
-    let mut book = three_waves(&rt, rt.alloc())?;
-    assert_eq!(rt; book.next_open(None), Some((0, 0)));
-    assert_eq!(rt; book.next_open(Some((0, 0))), Some((0, 1)));
-    assert_eq!(rt; book.next_open(Some((1, 9))), Some((3, 0)));
-    assert_eq!(rt; book.next_open(Some((3, 0))), None);
+fn open_waves_come_in_order(rt: HostRuntime) {
+    let mut book = three_waves(&rt, rt.alloc());
+    assert!(rt; book.next_open(None) == Some((0, 0)));
+    assert!(rt; book.next_open(Some((0, 0))) == Some((0, 1)));
+    assert!(rt; book.next_open(Some((1, 9))) == Some((3, 0)));
+    assert!(rt; book.next_open(Some((3, 0))) == None);
     book.close(0, 1);
-    assert_eq!(rt; book.next_open(Some((0, 0))), Some((3, 0)));
-    assert_eq!(rt; counts(&book, 0, 1), None);
-    Ok(())
+    assert!(rt; book.next_open(Some((0, 0))) == Some((3, 0)));
+    assert!(rt; counts(&book, 0, 1) == None);
 }

@@ -3,11 +3,13 @@
 ghost use Rattle.std.specs.Prelude.{◌≤◌, ◌<◌, ℕ};
 ghost use Rattle.merge_filter.specs.Contributions.{HasWave};
 
+use crate::plans::plan_of;
 use arena_tree::ArenaTree;
 use equiv_class::{Class, classes};
 use merge_filter::{Contribution, direct};
 use overlay_event::{Event, Gate, OpenGate};
 use overlay_setup::StreamDef;
+use prefix_tree::PrefixTree;
 use rank_set::RankSet;
 use stat_plan::Plan;
 use std::alloc::Global;
@@ -30,14 +32,7 @@ const ROWS: &[u8] = b"8:[0-5,70-71] - /\n  8:[0-5,70-71] 2:[4,71] main\n\
 
 const CLASSES: &[u8] = b"4:[0,2-3,70] 1\n2:[1,5] 2\n2:[4,71] 0\n";
 
-fn small_plan(rt: &impl Abort, alloc: Global) -> Plan {
-    let topology = topology_text::read(alloc, NODES).expect(rt, "a topology");
-    let samples = sample_text::read(alloc, SAMPLES, &topology).expect(rt, "samples");
-    let script = script_text::read(alloc, SCRIPT, &topology).expect(rt, "a script");
-    Plan::build(alloc, topology, samples, script).expect(rt, "a plan")
-}
-
-fn assert_rows(rt: &impl Abort, alloc: Global, all: &Contribution<ArenaTree>) {
+fn assert_rows<T: PrefixTree>(rt: &impl Abort, alloc: Global, all: &Contribution<T>) {
     let mut text = Vec::new(alloc);
     write_tree(all.tree(), &mut text).expect(rt, "memory");
     assert!(rt; text.as_slice() == ROWS);
@@ -57,11 +52,15 @@ fn assert_classes(rt: &impl Abort, alloc: Global, all: &[Class], want: &[u8]) {
 }
 
 // A wave's tree by so many workers, and its classes.
-fn assert_wave<R: Threads + Sync + Abort>(rt: &R, merge: &WideMerge<'_, OpenGate>, workers: u32)
+fn assert_wave<R: Threads + Sync + Abort, T: PrefixTree>(
+    rt: &R,
+    merge: &WideMerge<'_, OpenGate>,
+    workers: u32,
+)
     requires wave { HasWave merge.now.plan.now merge.now.stream merge.now.wave }
     requires workers { (1 ≤ workers) × (workers ≤ 32) }
 {
-    let all: Contribution<ArenaTree> = wide_tree(rt, merge, workers).expect(rt, "memory");
+    let all: Contribution<T> = wide_tree(rt, merge, workers).expect(rt, "memory");
     assert_rows(rt, merge.alloc, &all);
     let found = wide_classes(rt, merge.alloc, all.tree(), workers).expect(rt, "memory");
     assert_classes(rt, merge.alloc, &found.all, CLASSES);
@@ -87,7 +86,7 @@ impl Gate for CountingGate {
 }
 
 // Each daemon passes the gate once: their numbers are 1 to 5.
-fn assert_passes<R: Threads + Sync + Abort>(
+fn assert_passes<R: Threads + Sync + Abort, T: PrefixTree>(
     rt: &R,
     alloc: Global,
     plan: &Plan,
@@ -107,17 +106,17 @@ fn assert_passes<R: Threads + Sync + Abort>(
         stream,
         wave,
     };
-    let all: Contribution<ArenaTree> = wide_tree(rt, &merge, 3).expect(rt, "memory");
+    let all: Contribution<T> = wide_tree(rt, &merge, 3).expect(rt, "memory");
     assert_rows(rt, alloc, &all);
     assert!(rt; gate.passes.load(Ordering::SeqCst) == 5);
     assert!(rt; gate.nodes.load(Ordering::SeqCst) == 15);
 }
 
 // The same in one go.
-fn assert_direct(rt: &impl Abort, alloc: Global, plan: &Plan, stream: u8, wave: u8)
+fn assert_direct<T: PrefixTree>(rt: &impl Abort, alloc: Global, plan: &Plan, stream: u8, wave: u8)
     requires { HasWave plan.now stream wave }
 {
-    let all: Contribution<ArenaTree> = direct(alloc, plan, stream, wave).expect(rt, "memory");
+    let all: Contribution<T> = direct(alloc, plan, stream, wave).expect(rt, "memory");
     assert_rows(rt, alloc, &all);
     let found = classes(alloc, all.tree()).expect(rt, "memory");
     assert_classes(rt, alloc, &found.all, CLASSES);
@@ -127,8 +126,8 @@ fn assert_direct(rt: &impl Abort, alloc: Global, plan: &Plan, stream: u8, wave: 
 fn assert_ways<R: Threads + Sync + Abort>(rt: &R, alloc: Global, plan: &Plan, stream: u8, wave: u8)
     requires { HasWave plan.now stream wave }
 {
-    assert_direct(rt, alloc, plan, stream, wave);
-    assert_passes(rt, alloc, plan, stream, wave);
+    assert_direct::<ArenaTree>(rt, alloc, plan, stream, wave);
+    assert_passes::<R, ArenaTree>(rt, alloc, plan, stream, wave);
     let merge = WideMerge {
         alloc,
         plan,
@@ -136,12 +135,12 @@ fn assert_ways<R: Threads + Sync + Abort>(rt: &R, alloc: Global, plan: &Plan, st
         stream,
         wave,
     };
-    assert_wave(rt, &merge, 1);
-    assert_wave(rt, &merge, 2);
-    assert_wave(rt, &merge, 3);
-    assert_wave(rt, &merge, 5);
-    assert_wave(rt, &merge, 8);
-    assert_wave(rt, &merge, 32);
+    assert_wave::<R, ArenaTree>(rt, &merge, 1);
+    assert_wave::<R, ArenaTree>(rt, &merge, 2);
+    assert_wave::<R, ArenaTree>(rt, &merge, 3);
+    assert_wave::<R, ArenaTree>(rt, &merge, 5);
+    assert_wave::<R, ArenaTree>(rt, &merge, 8);
+    assert_wave::<R, ArenaTree>(rt, &merge, 32);
 }
 
 // Each wave of a stream.
@@ -156,7 +155,7 @@ fn assert_waves<R: Threads + Sync + Abort>(rt: &R, alloc: Global, plan: &Plan, s
 #[test]
 fn trees_and_classes_of_several_workers_are_those_of_one(rt: HostRuntime) {
     let alloc = rt.alloc();
-    let plan = small_plan(&rt, alloc);
+    let plan = plan_of(&rt, alloc, NODES, SAMPLES, SCRIPT);
     for stream in plan.streams() {
         assert_waves(&rt, alloc, &plan, stream);
     }

@@ -4,7 +4,8 @@ use overlay_event::Journal;
 use prefix_tree::OwnedTree;
 use stat_desk::{MemDesk, MemSink};
 use stat_tool::{Status, stat};
-use std::alloc::{AllocError, Global};
+use std::alloc::Global;
+use std::process::Abort;
 use std::sync::Wait;
 use std::thread::Threads;
 use worked_jobs::desks::{REPLAY_WORDS, WORDS, put, words_of};
@@ -20,27 +21,27 @@ pub struct Called {
 }
 
 // A call with these words, whose sinks take sixteen bytes at a time.
-pub fn call<R: Threads + Wait + Sync>(
+pub fn call<R: Threads + Wait + Sync + Abort>(
     rt: &R,
     alloc: Global,
     desk: &mut MemDesk,
     texts: &[&str],
-) -> Result<Called, AllocError> {
-    let report = MemSink::new(alloc, 16, 20_000)?;
-    let journal = MemSink::new(alloc, 16, 100_000)?;
+) -> Called {
+    let report = MemSink::new(alloc, 16, 20_000).expect(rt, "memory");
+    let journal = MemSink::new(alloc, 16, 100_000).expect(rt, "memory");
     call_into(rt, alloc, desk, texts, report, journal)
 }
 
 // A call with these words and sinks.
-pub fn call_into<R: Threads + Wait + Sync>(
+pub fn call_into<R: Threads + Wait + Sync + Abort>(
     rt: &R,
     alloc: Global,
     desk: &mut MemDesk,
     texts: &[&str],
     report: MemSink,
     journal: MemSink,
-) -> Result<Called, AllocError> {
-    let words = words_of(alloc, texts)?;
+) -> Called {
+    let words = words_of(alloc, texts).expect(rt, "memory");
     let (mut report, mut journal) = (report, journal);
     let outcome = stat::<R, OwnedTree, _, _, _, _>(
         rt,
@@ -51,22 +52,22 @@ pub fn call_into<R: Threads + Wait + Sync>(
         &mut journal,
         &BusyGate,
     );
-    Ok(Called {
+    Called {
         status: outcome.status,
         events: outcome.journal,
         report,
         journal,
-    })
+    }
 }
 
 // A simulation with events that this seed picks.
-pub fn simulate<R: Threads + Wait + Sync>(
+pub fn simulate<R: Threads + Wait + Sync + Abort>(
     rt: &R,
     alloc: Global,
     desk: &mut MemDesk,
     seed: u32,
-) -> Result<Called, AllocError> {
-    let option = format!(in alloc; "--seed={seed}")?;
+) -> Called {
+    let option = format!(in alloc; "--seed={seed}").expect(rt, "memory");
     let words = [
         "sim",
         "--topology=t",
@@ -78,14 +79,14 @@ pub fn simulate<R: Threads + Wait + Sync>(
 }
 
 // A call in this mode with so many workers.
-pub fn call_with<R: Threads + Wait + Sync>(
+pub fn call_with<R: Threads + Wait + Sync + Abort>(
     rt: &R,
     alloc: Global,
     desk: &mut MemDesk,
     mode: &str,
     workers: u32,
-) -> Result<Called, AllocError> {
-    let option = format!(in alloc; "--workers={workers}")?;
+) -> Called {
+    let option = format!(in alloc; "--workers={workers}").expect(rt, "memory");
     let words = [
         mode,
         "--topology=t",
@@ -97,34 +98,34 @@ pub fn call_with<R: Threads + Wait + Sync>(
 }
 
 // A run on so many workers.
-pub fn run_with<R: Threads + Wait + Sync>(
+pub fn run_with<R: Threads + Wait + Sync + Abort>(
     rt: &R,
     alloc: Global,
     desk: &mut MemDesk,
     workers: u32,
-) -> Result<Called, AllocError> {
+) -> Called {
     call_with(rt, alloc, desk, "run", workers)
 }
 
 // Whether a call is done, and one thread that replays its journal writes the same report.
-pub fn is_replayed<R: Threads + Wait + Sync>(
+pub fn is_replayed<R: Threads + Wait + Sync + Abort>(
     rt: &R,
     alloc: Global,
     desk: &mut MemDesk,
     called: &Called,
-) -> Result<bool, AllocError> {
-    put(alloc, desk, "j", called.journal.bytes())?;
-    let replay = call(rt, alloc, desk, REPLAY_WORDS.as_slice())?;
+) -> bool {
+    put(alloc, desk, "j", called.journal.bytes()).expect(rt, "memory");
+    let replay = call(rt, alloc, desk, REPLAY_WORDS.as_slice());
     let done = called.status == Status::Done && replay.status == Status::Done;
-    Ok(done && called.report.bytes() == replay.report.bytes())
+    done && called.report.bytes() == replay.report.bytes()
 }
 
 // The status of a run on a desk, and its report.
-pub fn run_on<R: Threads + Wait + Sync>(
+pub fn run_on<R: Threads + Wait + Sync + Abort>(
     rt: &R,
     alloc: Global,
     desk: &mut MemDesk,
-) -> Result<(Status, MemSink), AllocError> {
-    let called = call(rt, alloc, desk, WORDS.as_slice())?;
-    Ok((called.status, called.report))
+) -> (Status, MemSink) {
+    let called = call(rt, alloc, desk, WORDS.as_slice());
+    (called.status, called.report)
 }

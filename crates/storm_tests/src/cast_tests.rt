@@ -3,20 +3,21 @@ use crate::calls::{Called, call};
 use crate::seed_tests::{has, hasty_desk, set_text};
 use stat_desk::MemDesk;
 use stat_tool::Status;
-use std::alloc::{AllocError, Global};
+use std::alloc::Global;
+use std::process::Abort;
 use std::sync::Wait;
 use std::thread::Threads;
 use worked_jobs::desks::{desk_of, lines_of};
 use worked_jobs::jobs::{ALL_SCR, STORM_SMP, STORM_TOP};
 
 // Three commands with events that this seed picks.
-fn cast<R: Threads + Wait + Sync>(
+fn cast<R: Threads + Wait + Sync + Abort>(
     rt: &R,
     alloc: Global,
     desk: &mut MemDesk,
     seed: u32,
-) -> Result<Called, AllocError> {
-    let option = format!(in alloc; "--seed={seed}")?;
+) -> Called {
+    let option = format!(in alloc; "--seed={seed}").expect(rt, "memory");
     let words = [
         "cast",
         "--topology=t",
@@ -39,7 +40,7 @@ fn is_lost(set: u32, number: u32) -> bool {
 }
 
 // What is printed of three commands, where the daemons of a set are lost before they obey one.
-fn cast_report(alloc: Global, set: u32) -> Result<String, AllocError> {
+fn cast_report(rt: &impl Abort, alloc: Global, set: u32) -> String {
     let mut ranks = 0xffff;
     let mut daemons = String::new(alloc);
     for number in 0u32..8 {
@@ -47,61 +48,67 @@ fn cast_report(alloc: Global, set: u32) -> Result<String, AllocError> {
         if is_lost(set, number) {
             ranks &= !(3 << (2 * number));
         }
-        daemons.push_str(format!(in alloc; "daemon d{number}:0 obeyed {obeyed}\n")?.as_str())?;
+        daemons
+            .push_str(
+                format!(in alloc; "daemon d{number}:0 obeyed {obeyed}\n")
+                    .expect(rt, "memory")
+                    .as_str(),
+            )
+            .expect(rt, "memory");
     }
-    let ranks = set_text(alloc, ranks)?;
+    let ranks = set_text(rt, alloc, ranks);
     format!(in alloc;
         "command 1 ranks {ranks}\ncommand 2 ranks {ranks}\ncommand 3 ranks {ranks}\n{daemons}end\n"
-    )
+    ).expect(rt, "memory")
 }
 
 // Whether calls by the seeds below a number all print this.
-fn all_print<R: Threads + Wait + Sync>(
+fn all_print<R: Threads + Wait + Sync + Abort>(
     rt: &R,
     alloc: Global,
     desk: &mut MemDesk,
     seeds: u32,
     report: &str,
-) -> Result<bool, AllocError> {
+) -> bool {
     for seed in 0..seeds {
-        let called = cast(rt, alloc, desk, seed)?;
+        let called = cast(rt, alloc, desk, seed);
         if called.status != Status::Done || called.report.bytes() != report.as_bytes() {
-            return Ok(false);
+            return false;
         }
     }
-    Ok(true)
+    true
 }
 
 // Whichever of the six inner nodes are lost, and when, all daemons obey all commands.
 #[test]
-fn commands_reach_all_in_storms_of_inner_nodes(rt: HostRuntime) -> Result<(), AllocError> {
+fn commands_reach_all_in_storms_of_inner_nodes(rt: HostRuntime) {
     let alloc = rt.alloc();
-    let report = cast_report(alloc, 0)?;
+    let report = cast_report(&rt, alloc, 0);
     for set in 0..64 {
         for (after, keep) in [(0, 0), (1, 1), (3, 2), (6, 0)] {
-            let faults = lines_of(alloc, set, after, keep)?;
-            let script = format!(in alloc; "{ALL_SCR}{faults}")?;
-            let mut desk = desk_of(alloc, STORM_TOP, STORM_SMP, script.as_str())?;
+            let faults = lines_of(alloc, set, after, keep).expect(&rt, "memory");
+            let script = format!(in alloc; "{ALL_SCR}{faults}").expect(&rt, "memory");
+            let mut desk = desk_of(alloc, STORM_TOP, STORM_SMP, script.as_str()).expect(
+                &rt, "memory",
+            );
             assert!(rt;
-                all_print(&rt, alloc, &mut desk, 4, report.as_str())?,
+                all_print(&rt, alloc, &mut desk, 4, report.as_str()),
                 "at {set}"
             );
         }
     }
-    Ok(())
 }
 
 // Two inner nodes are lost, and daemons, too, before they obey a command: all others obey all.
 #[test]
-fn commands_reach_all_that_live(rt: HostRuntime) -> Result<(), AllocError> {
+fn commands_reach_all_that_live(rt: HostRuntime) {
     let alloc = rt.alloc();
     for set in 0..8 {
-        let report = cast_report(alloc, set)?;
-        let mut desk = hasty_desk(alloc, set)?;
+        let report = cast_report(&rt, alloc, set);
+        let mut desk = hasty_desk(&rt, alloc, set);
         assert!(rt;
-            all_print(&rt, alloc, &mut desk, 32, report.as_str())?,
+            all_print(&rt, alloc, &mut desk, 32, report.as_str()),
             "at {set}"
         );
     }
-    Ok(())
 }

@@ -4,7 +4,8 @@ use overlay_event::{Event, Gate};
 use prefix_tree::OwnedTree;
 use stat_desk::{MemDesk, MemSink};
 use stat_tool::{Status, Target, stat};
-use std::alloc::{AllocError, Global};
+use std::alloc::Global;
+use std::process::Abort;
 use std::sync::Wait;
 use std::sync::atomic::{AtomicBool, AtomicU64, Ordering};
 use std::thread::{Threads, yield_now};
@@ -14,66 +15,96 @@ use worked_jobs::jobs::{
     STORM_TOP, TWO_INNER_TOP, TWO_TOP,
 };
 
-// Jobs whose report is the same in every run, and that report.
-const JOBS: [(&str, &str, &str, &str); 4] = [
-    (TWO_TOP, FOUR_SMP, ALL_SCR, FOUR_REPORT),
-    (TWO_INNER_TOP, SOLVER_SMP, ALL_SCR, SOLVER_REPORT),
-    (INNER_TOP, FOUR_SMP, ALL_SCR, FOUR_REPORT),
-    (
-        TWO_TOP,
-        FOUR_SMP,
-        "stream 0 wait-for-all waves 1 samples 1 on all\nlose b:0 after 0 keep 0\n",
-        NO_B,
-    ),
+// A job, and the report of it.
+struct Job {
+    topology: &'static str,
+    samples: &'static str,
+    script: &'static str,
+    report: &'static str,
+}
+
+const FOUR: Job = Job {
+    topology: TWO_TOP,
+    samples: FOUR_SMP,
+    script: ALL_SCR,
+    report: FOUR_REPORT,
+};
+
+const SOLVER: Job = Job {
+    topology: TWO_INNER_TOP,
+    samples: SOLVER_SMP,
+    script: ALL_SCR,
+    report: SOLVER_REPORT,
+};
+
+const LOSING_SCR: &str =
+    "stream 0 wait-for-all waves 1 samples 1 on all\nlose b:0 after 0 keep 0\n";
+
+// Jobs whose report is the same in every run.
+const JOBS: [Job; 4] = [
+    FOUR,
+    SOLVER,
+    Job {
+        topology: INNER_TOP,
+        samples: FOUR_SMP,
+        script: ALL_SCR,
+        report: FOUR_REPORT,
+    },
+    Job {
+        topology: TWO_TOP,
+        samples: FOUR_SMP,
+        script: LOSING_SCR,
+        report: NO_B,
+    },
 ];
 
-#[test]
-fn any_number_of_workers_writes_the_report(rt: HostRuntime) -> Result<(), AllocError> {
-    let alloc = rt.alloc();
-    for (topology, samples, script, report) in JOBS.as_slice() {
-        for workers in [1, 2, 8] {
-            let mut desk = desk_of(alloc, topology, samples, script)?;
-            let called = run_with(&rt, alloc, &mut desk, workers)?;
-            assert_eq!(rt; called.status, Status::Done);
-            assert_eq!(rt; called.report.bytes(), report.as_bytes());
-        }
-    }
-    Ok(())
+// A call in this mode with so many workers writes a job's report.
+fn assert_job<R: Threads + Wait + Sync + Abort>(
+    rt: &R,
+    alloc: Global,
+    job: &Job,
+    mode: &str,
+    workers: u32,
+) {
+    let mut desk = desk_of(alloc, job.topology, job.samples, job.script).expect(rt, "memory");
+    let called = call_with(rt, alloc, &mut desk, mode, workers);
+    assert!(rt; called.status == Status::Done);
+    assert!(rt; called.report.bytes() == job.report.as_bytes());
 }
 
 #[test]
-fn each_number_of_workers_writes_the_report(rt: HostRuntime) -> Result<(), AllocError> {
-    let alloc = rt.alloc();
-    for workers in 1..33 {
-        let mut desk = desk_of(alloc, TWO_TOP, FOUR_SMP, ALL_SCR)?;
-        let called = run_with(&rt, alloc, &mut desk, workers)?;
-        assert_eq!(rt; called.status, Status::Done);
-        assert_eq!(rt; called.report.bytes(), FOUR_REPORT.as_bytes());
+fn any_number_of_workers_writes_the_report(rt: HostRuntime) {
+    for job in JOBS.as_slice() {
+        for workers in [1, 2, 8] {
+            assert_job(&rt, rt.alloc(), job, "run", workers);
+        }
     }
-    Ok(())
+}
+
+#[test]
+fn each_number_of_workers_writes_the_report(rt: HostRuntime) {
+    for workers in 1..33 {
+        assert_job(&rt, rt.alloc(), &FOUR, "run", workers);
+    }
 }
 
 // Jobs, and what a direct merge writes of them: all ranks, also those of a daemon that the script loses.
-const MERGED_JOBS: [(&str, &str, &str, &str); 3] = [
-    (TWO_TOP, FOUR_SMP, ALL_SCR, FOUR_REPORT),
-    (TWO_INNER_TOP, SOLVER_SMP, ALL_SCR, SOLVER_REPORT),
-    (
-        TWO_TOP,
-        FOUR_SMP,
-        "stream 0 wait-for-all waves 1 samples 1 on all\nlose b:0 after 0 keep 0\n",
-        FOUR_REPORT,
-    ),
+const MERGED_JOBS: [Job; 3] = [
+    FOUR,
+    SOLVER,
+    Job {
+        topology: TWO_TOP,
+        samples: FOUR_SMP,
+        script: LOSING_SCR,
+        report: FOUR_REPORT,
+    },
 ];
 
 #[test]
 fn any_number_of_workers_merges_directly(rt: HostRuntime) {
-    let alloc = rt.alloc();
-    for (topology, samples, script, report) in MERGED_JOBS.as_slice() {
+    for job in MERGED_JOBS.as_slice() {
         for workers in [1, 2, 8] {
-            let mut desk = desk_of(alloc, topology, samples, script).expect(&rt, "memory");
-            let called = call_with(&rt, alloc, &mut desk, "direct", workers).expect(&rt, "memory");
-            assert_eq!(rt; called.status, Status::Done);
-            assert_eq!(rt; called.report.bytes(), report.as_bytes());
+            assert_job(&rt, rt.alloc(), job, "direct", workers);
         }
     }
 }
@@ -102,13 +133,13 @@ stream 3 time-out 2 waves 1 samples 3 on d1:0 d6:0 d7:0
 fn any_number_of_workers_merges_each_wave(rt: HostRuntime) {
     let alloc = rt.alloc();
     let mut desk = desk_of(alloc, STORM_TOP, STREAMS_SMP, STREAMS_SCR).expect(&rt, "memory");
-    let alone = call_with(&rt, alloc, &mut desk, "direct", 1).expect(&rt, "memory");
-    assert_eq!(rt; alone.status, Status::Done);
+    let alone = call_with(&rt, alloc, &mut desk, "direct", 1);
+    assert!(rt; alone.status == Status::Done);
     for workers in [2, 3, 5, 8, 32] {
         let mut desk = desk_of(alloc, STORM_TOP, STREAMS_SMP, STREAMS_SCR).expect(&rt, "memory");
-        let called = call_with(&rt, alloc, &mut desk, "direct", workers).expect(&rt, "memory");
-        assert_eq!(rt; called.status, Status::Done);
-        assert_eq!(rt; called.report.bytes(), alone.report.bytes());
+        let called = call_with(&rt, alloc, &mut desk, "direct", workers);
+        assert!(rt; called.status == Status::Done);
+        assert!(rt; called.report.bytes() == alone.report.bytes());
     }
 }
 
@@ -214,16 +245,16 @@ const HOLDING: [Holding; 4] = [
 ];
 
 // A call whose events pass a gate.
-fn call_through<R: Threads + Wait + Sync>(
+fn call_through<R: Threads + Wait + Sync + Abort>(
     rt: &R,
     alloc: Global,
     desk: &mut MemDesk,
     texts: &[&str],
     gate: &HoldingGate,
-) -> Result<Called, AllocError> {
-    let words = words_of(alloc, texts)?;
-    let mut report = MemSink::new(alloc, 16, 20_000)?;
-    let mut journal = MemSink::new(alloc, 16, 20_000)?;
+) -> Called {
+    let words = words_of(alloc, texts).expect(rt, "memory");
+    let mut report = MemSink::new(alloc, 16, 20_000).expect(rt, "memory");
+    let mut journal = MemSink::new(alloc, 16, 20_000).expect(rt, "memory");
     let outcome = stat::<R, OwnedTree, _, _, _, _>(
         rt,
         alloc,
@@ -233,38 +264,38 @@ fn call_through<R: Threads + Wait + Sync>(
         &mut journal,
         gate,
     );
-    Ok(Called {
+    Called {
         status: outcome.status,
         events: outcome.journal,
         report,
         journal,
-    })
+    }
 }
+
+// Whether a job's run goes on while workers are held, and what is held isn't the next event of the journal.
+fn goes_on<R: Threads + Wait + Sync + Abort>(rt: &R, alloc: Global, job: &Holding) -> bool {
+    let mut desk = desk_of(alloc, job.topology, job.samples, job.script).expect(rt, "memory");
+    let [mode, topology, samples, script] = RUN_WORDS;
+    let texts = [mode, topology, samples, script, job.workers];
+    let gate = gate_of(job.held, job.until);
+    let called = call_through(rt, alloc, &mut desk, texts.as_slice(), &gate);
+    if called.status != Status::Done || job.held.0 >= called.events.len() {
+        return false;
+    }
+    let next = u64::from(called.events.at(job.held.0).node());
+    !gate.gave_up.load(Ordering::SeqCst)
+        && gate.passes.load(Ordering::SeqCst) == called.events.len()
+        && gate.node.load(Ordering::SeqCst) != next
+}
+
+const RUN_WORDS: [&str; 4] = ["run", "--topology=t", "--samples=s", "--script=c"];
 
 // While workers are held with an event each, another one does events: what is held isn't the next of the journal. A run on
 // fewer threads would wait for itself.
 #[test]
 fn one_worker_goes_on_while_others_are_held(rt: HostRuntime) {
-    let alloc = rt.alloc();
     for job in HOLDING.as_slice() {
-        let mut desk = desk_of(alloc, job.topology, job.samples, job.script).expect(&rt, "memory");
-        let texts = [
-            "run",
-            "--topology=t",
-            "--samples=s",
-            "--script=c",
-            job.workers,
-        ];
-        let gate = gate_of(job.held, job.until);
-        let called = call_through(&rt, alloc, &mut desk, texts.as_slice(), &gate).expect(
-            &rt, "memory",
-        );
-        assert_eq!(rt; called.status, Status::Done);
-        assert!(rt; !gate.gave_up.load(Ordering::SeqCst));
-        assert_eq!(rt; gate.passes.load(Ordering::SeqCst), called.events.len());
-        assert!(rt; job.held.0 < called.events.len());
-        let next = u64::from(called.events.at(job.held.0).node());
-        assert!(rt; next != gate.node.load(Ordering::SeqCst));
+        assert!(rt; goes_on(&rt, rt.alloc(), job));
     }
 }
 
@@ -282,11 +313,9 @@ fn two_workers_merge_at_once(rt: HostRuntime) {
     let alloc = rt.alloc();
     let mut desk = desk_of(alloc, TWO_TOP, FOUR_SMP, ALL_SCR).expect(&rt, "memory");
     let gate = gate_of((0, 1), 2);
-    let called = call_through(&rt, alloc, &mut desk, MERGE_WORDS.as_slice(), &gate).expect(
-        &rt, "memory",
-    );
-    assert_eq!(rt; called.status, Status::Done);
-    assert_eq!(rt; called.report.bytes(), FOUR_REPORT.as_bytes());
+    let called = call_through(&rt, alloc, &mut desk, MERGE_WORDS.as_slice(), &gate);
+    assert!(rt; called.status == Status::Done);
+    assert!(rt; called.report.bytes() == FOUR_REPORT.as_bytes());
     assert!(rt; !gate.gave_up.load(Ordering::SeqCst));
     assert!(rt; gate.passes.load(Ordering::SeqCst) == 2);
 }
@@ -322,8 +351,8 @@ fn no_event_of_another_mode_passes_the_gate(rt: HostRuntime) {
     put(alloc, &mut desk, "f", b"").expect(&rt, "memory");
     for texts in OTHER_MODES.as_slice() {
         let gate = gate_of((0, 0), 0);
-        let called = call_through(&rt, alloc, &mut desk, texts, &gate).expect(&rt, "memory");
-        assert_eq!(rt; called.status, Status::Done);
+        let called = call_through(&rt, alloc, &mut desk, texts, &gate);
+        assert!(rt; called.status == Status::Done);
         assert!(rt; gate.passes.load(Ordering::SeqCst) == 0);
     }
 }
@@ -331,53 +360,51 @@ fn no_event_of_another_mode_passes_the_gate(rt: HostRuntime) {
 // ---- journals
 
 // Whether a run on so many workers ends, and one thread that replays its journal prints the same report.
-fn runs_are_replayed<R: Threads + Wait + Sync>(
+fn runs_are_replayed<R: Threads + Wait + Sync + Abort>(
     rt: &R,
     alloc: Global,
     desk: &mut MemDesk,
     workers: u32,
-) -> Result<bool, AllocError> {
-    let run = run_with(rt, alloc, desk, workers)?;
+) -> bool {
+    let run = run_with(rt, alloc, desk, workers);
     is_replayed(rt, alloc, desk, &run)
 }
 
 #[test]
-fn replays_what_eight_workers_have_done(rt: HostRuntime) -> Result<(), AllocError> {
+fn replays_what_eight_workers_have_done(rt: HostRuntime) {
     let alloc = rt.alloc();
-    let mut desk = desk_of(alloc, TWO_INNER_TOP, SOLVER_SMP, ALL_SCR)?;
-    assert!(rt; runs_are_replayed(&rt, alloc, &mut desk, 8)?);
-    Ok(())
+    let mut desk = desk_of(alloc, TWO_INNER_TOP, SOLVER_SMP, ALL_SCR).expect(&rt, "memory");
+    assert!(rt; runs_are_replayed(&rt, alloc, &mut desk, 8));
 }
 
 // The storm's job, which loses the inner nodes of a set.
-fn storm(alloc: Global, set: u32) -> Result<MemDesk, AllocError> {
-    let faults = lines_of(alloc, set, set % 5, set % 3)?;
-    let script = format!(in alloc; "{ALL_SCR}{faults}")?;
-    desk_of(alloc, STORM_TOP, STORM_SMP, script.as_str())
+fn storm(rt: &impl Abort, alloc: Global, set: u32) -> MemDesk {
+    let faults = lines_of(alloc, set, set % 5, set % 3).expect(rt, "memory");
+    let script = format!(in alloc; "{ALL_SCR}{faults}").expect(rt, "memory");
+    desk_of(alloc, STORM_TOP, STORM_SMP, script.as_str()).expect(rt, "memory")
 }
 
 // 200 runs in a row, each with another set of losses than the one before, with few and with many workers.
 #[test]
-fn replays_two_hundred_storms(rt: HostRuntime) -> Result<(), AllocError> {
+fn replays_two_hundred_storms(rt: HostRuntime) {
     let alloc = rt.alloc();
     for run in 0..50 {
         for workers in [2, 3, 8, 32] {
-            let mut desk = storm(alloc, run)?;
-            assert!(rt; runs_are_replayed(&rt, alloc, &mut desk, workers)?);
+            let mut desk = storm(&rt, alloc, run);
+            assert!(rt; runs_are_replayed(&rt, alloc, &mut desk, workers));
         }
     }
-    Ok(())
 }
 
 // ---- a journal that can't be written
 
 #[test]
-fn a_failing_journal_leaves_the_report(rt: HostRuntime) -> Result<(), AllocError> {
+fn a_failing_journal_leaves_the_report(rt: HostRuntime) {
     let alloc = rt.alloc();
-    let mut desk = desk_of(alloc, TWO_INNER_TOP, SOLVER_SMP, ALL_SCR)?;
-    let report = MemSink::new(alloc, 16, 20_000)?;
-    let mut journal = MemSink::new(alloc, 16, 20_000)?;
-    journal.fail_at(1)?;
+    let mut desk = desk_of(alloc, TWO_INNER_TOP, SOLVER_SMP, ALL_SCR).expect(&rt, "memory");
+    let report = MemSink::new(alloc, 16, 20_000).expect(&rt, "memory");
+    let mut journal = MemSink::new(alloc, 16, 20_000).expect(&rt, "memory");
+    journal.fail_at(1).expect(&rt, "memory");
     let words = [
         "run",
         "--topology=t",
@@ -385,9 +412,8 @@ fn a_failing_journal_leaves_the_report(rt: HostRuntime) -> Result<(), AllocError
         "--script=c",
         "--workers=8",
     ];
-    let called = call_into(&rt, alloc, &mut desk, words.as_slice(), report, journal)?;
-    assert_eq!(rt; called.status, Status::SinkFault(Target::Journal));
-    assert_eq!(rt; called.report.bytes(), SOLVER_REPORT.as_bytes());
+    let called = call_into(&rt, alloc, &mut desk, words.as_slice(), report, journal);
+    assert!(rt; called.status == Status::SinkFault(Target::Journal));
+    assert!(rt; called.report.bytes() == SOLVER_REPORT.as_bytes());
     assert!(rt; called.journal.bytes().is_empty());
-    Ok(())
 }

@@ -24,7 +24,13 @@ fn small_plan(rt: &impl Abort, alloc: Global) -> Plan {
 }
 
 // A release of no samples.
-fn release(alloc: Global, stream: u8, wave: u8, number: u32, kind: Kind) -> Release<OwnedTree>
+fn release<T: PrefixTree>(
+    alloc: Global,
+    stream: u8,
+    wave: u8,
+    number: u32,
+    kind: Kind,
+) -> Release<T>
     ensures stream { result.stream ≡ stream }
     ensures wave { result.wave ≡ wave }
     ensures number { result.number ≡ number }
@@ -34,7 +40,7 @@ fn release(alloc: Global, stream: u8, wave: u8, number: u32, kind: Kind) -> Rele
         wave,
         number,
         kind,
-        tree: OwnedTree::empty(alloc),
+        tree: T::empty(alloc),
         lost: Vec::new(alloc),
     }
 }
@@ -66,14 +72,14 @@ end
 fn puts_releases_in_order(rt: HostRuntime) {
     let alloc = rt.alloc();
     let plan = small_plan(&rt, alloc);
-    let given = [
+    let given: [Release<OwnedTree>; 4] = [
         release(alloc, 1, 0, 1, Kind::Final),
         release(alloc, 0, 1, 1, Kind::Final),
         release(alloc, 0, 0, 2, Kind::Final),
         release(alloc, 0, 0, 1, Kind::Partial),
     ];
     let text = direct_text(alloc, &plan, &given).expect(&rt, "memory");
-    assert_eq!(rt; text.as_slice(), ORDERED);
+    assert!(rt; text.as_slice() == ORDERED);
 }
 
 fn set_of(rt: &impl Abort, alloc: Global, ranks: &[u32]) -> RankSet {
@@ -84,8 +90,8 @@ fn set_of(rt: &impl Abort, alloc: Global, ranks: &[u32]) -> RankSet {
     set
 }
 
-fn tree_over(rt: &impl Abort, alloc: Global, ranks: &[u32]) -> OwnedTree {
-    let mut tree = OwnedTree::empty(alloc);
+fn tree_over<T: PrefixTree>(rt: &impl Abort, alloc: Global, ranks: &[u32]) -> T {
+    let mut tree = T::empty(alloc);
     let ranks = set_of(rt, alloc, ranks);
     tree.cover(&ranks).expect(rt, "memory");
     tree
@@ -102,7 +108,13 @@ fn path_of(rt: &impl Abort, alloc: Global, frame: &str) -> CallPath
 }
 
 // The ranks were seen in the path.
-fn add(rt: &impl Abort, alloc: Global, tree: &mut OwnedTree, ranks: &[u32], path: &CallPath) {
+fn add<T: PrefixTree>(
+    rt: &impl Abort,
+    alloc: Global,
+    tree: &mut T,
+    ranks: &[u32],
+    path: &CallPath,
+) {
     let ranks = set_of(rt, alloc, ranks);
     assert!(rt; ranks.count() > 0);
     assert!(rt; ranks.is_subset(tree.row(0).label));
@@ -110,7 +122,7 @@ fn add(rt: &impl Abort, alloc: Global, tree: &mut OwnedTree, ranks: &[u32], path
 }
 
 // The one release of a report.
-fn release_of(tree: OwnedTree, alloc: Global) -> Release<OwnedTree> {
+fn release_of<T: PrefixTree>(tree: T, alloc: Global) -> Release<T> {
     Release {
         stream: 2,
         wave: 3,
@@ -137,30 +149,26 @@ end
 ";
 
 // A tree of three ranks in one frame and one in another.
-fn tree_of_four(rt: &impl Abort, alloc: Global) -> OwnedTree {
+fn tree_of_four<T: PrefixTree>(rt: &impl Abort, alloc: Global) -> T {
     let mut tree = tree_over(rt, alloc, &[0, 1, 2, 3]);
-    add(
-        rt,
-        alloc,
-        &mut tree,
-        &[0, 2, 3],
-        &path_of(rt, alloc, "MPI_Barrier"),
-    );
-    add(rt, alloc, &mut tree, &[1], &path_of(rt, alloc, "compute"));
+    let path = path_of(rt, alloc, "MPI_Barrier");
+    add(rt, alloc, &mut tree, &[0, 2, 3], &path);
+    let path = path_of(rt, alloc, "compute");
+    add(rt, alloc, &mut tree, &[1], &path);
     tree
 }
 
 #[test]
 fn writes_a_tree_and_its_classes(rt: HostRuntime) {
     let alloc = rt.alloc();
-    let tree = tree_of_four(&rt, alloc);
+    let tree: OwnedTree = tree_of_four(&rt, alloc);
     let plan = small_plan(&rt, alloc);
     let text = direct_text(alloc, &plan, &[release_of(tree, alloc)]).expect(&rt, "memory");
-    assert_eq!(rt; text.as_slice(), TREE);
+    assert!(rt; text.as_slice() == TREE);
 }
 
 // A tree of rank 0 in one frame with a quotation mark, which JSON escapes.
-fn tree_of_one(rt: &impl Abort, alloc: Global) -> OwnedTree {
+fn tree_of_one<T: PrefixTree>(rt: &impl Abort, alloc: Global) -> T {
     let mut tree = tree_over(rt, alloc, &[0]);
     add(rt, alloc, &mut tree, &[0], &path_of(rt, alloc, "a\"b"));
     tree
@@ -172,8 +180,8 @@ const JSON: &[u8] =
 #[test]
 fn writes_a_tree_and_its_classes_as_json(rt: HostRuntime) {
     let alloc = rt.alloc();
-    let tree = tree_of_one(&rt, alloc);
+    let tree: OwnedTree = tree_of_one(&rt, alloc);
     let plan = small_plan(&rt, alloc);
     let text = direct_json(alloc, &plan, &[release_of(tree, alloc)]).expect(&rt, "memory");
-    assert_eq!(rt; text.as_slice(), JSON);
+    assert!(rt; text.as_slice() == JSON);
 }

@@ -14,16 +14,15 @@ const TOPOLOGY_OF_17: &[u8] =
 const SCRIPT_OF_17: &[u8] =
     b"stream 0 wait-for-all waves 1 samples 2 on all\nstream 1 dont-wait waves 1 samples 1 on all\nlose m:1 after 20 keep 1\n";
 
-#[test]
-fn writes_the_topology_of_1(rt: HostRuntime) {
-    let text = make_topology(rt.alloc(), 1).expect(&rt, "memory");
-    assert!(rt; text.as_slice() == b"fe:0 => m:0 ;\nm:0 => d:0 ;\n".as_slice());
-}
+// A size, and its topology.
+const TOPOLOGIES: [(u32, &[u8]); 2] = [(1, b"fe:0 => m:0 ;\nm:0 => d:0 ;\n"), (17, TOPOLOGY_OF_17)];
 
 #[test]
-fn writes_the_topology_of_17(rt: HostRuntime) {
-    let text = make_topology(rt.alloc(), 17).expect(&rt, "memory");
-    assert!(rt; text.as_slice() == TOPOLOGY_OF_17);
+fn writes_topologies(rt: HostRuntime) {
+    for (size, want) in &TOPOLOGIES {
+        let text = make_topology(rt.alloc(), *size).expect(&rt, "memory");
+        assert!(rt; text.as_slice() == *want);
+    }
 }
 
 // 4 % 3 = 1, so rank r at time t is in g((r + t + 1) % 3); 127 / 16 % 4 = 3.
@@ -53,14 +52,14 @@ fn makes_the_plan_of_17(rt: HostRuntime) {
 }
 
 // A release of wave 0 over some ranks, without samples.
-fn release_over(
+fn release_over<T: PrefixTree>(
     rt: &impl Abort,
     alloc: Global,
     stream: u8,
     kind: Kind,
     covered: &RankSet,
-) -> Release<OwnedTree> {
-    let mut tree = OwnedTree::empty(alloc);
+) -> Release<T> {
+    let mut tree = T::empty(alloc);
     tree.cover(covered).expect(rt, "memory");
     Release {
         stream,
@@ -95,10 +94,14 @@ fn made_up_journal(rt: &impl Abort, alloc: Global) -> Journal {
 const MADE_UP: &[u8] =
     b"gen seed 7 size 1\nnodes 3 ranks 64 lines 128\nevents 2 partial 1 final 2 lost 1\nstream 0 wave 0 covered 0 rows 1 classes 0\nstream 1 wave 0 covered 3 rows 1 classes 1\nend\n";
 
+fn made_up_summary(rt: &impl Abort, alloc: Global) -> Vec<u8> {
+    let journal = made_up_journal(rt, alloc);
+    let releases = made_up_releases(rt, alloc);
+    summary(alloc, 7, 1, &journal, &releases).expect(rt, "memory")
+}
+
 #[test]
 fn summarizes_each_stream_by_its_final_release(rt: HostRuntime) {
-    let journal = made_up_journal(&rt, rt.alloc());
-    let releases = made_up_releases(&rt, rt.alloc());
-    let text = summary(rt.alloc(), 7, 1, &journal, &releases).expect(&rt, "memory");
+    let text = made_up_summary(&rt, rt.alloc());
     assert!(rt; text.as_slice() == MADE_UP);
 }

@@ -2,7 +2,7 @@
 
 use overlay_setup::{Fault, Grain, Mode, Script, Topology};
 use script_text::read;
-use std::alloc::{AllocError, Global};
+use std::alloc::Global;
 use std::process::Abort;
 use text_lines::{Quantity, Reason, TextError};
 
@@ -156,9 +156,9 @@ fn assert_script(rt: &impl Abort, script: &Script, case: &Accepted) {
         assert!(rt; stream.waves() == wanted.waves);
         assert!(rt; stream.samples() == wanted.samples);
         assert!(rt; stream.grain() == wanted.grain);
-        assert_eq!(rt; stream.daemons(), wanted.daemons);
+        assert!(rt; stream.daemons() == wanted.daemons);
     }
-    assert_eq!(rt; script.faults(), case.faults);
+    assert!(rt; script.faults() == case.faults);
 }
 
 #[test]
@@ -371,16 +371,19 @@ const BAD: [(&[u8], u64, Reason); 53] = [
     ),
 ];
 
+fn is_refused(alloc: Global, text: &[u8], job: &Topology, want: TextError) -> bool {
+    read(alloc, text, job).err() == Some(want)
+}
+
 #[test]
 fn refuses_texts_at_the_first_fault(rt: HostRuntime) {
     let job = job(&rt, rt.alloc());
     for (text, line, reason) in &BAD {
-        let found = read(rt.alloc(), text, &job).err();
         let want = TextError::Bad {
             line: *line,
             reason: *reason,
         };
-        assert_eq!(rt; found, Some(want), "{text:?}");
+        assert!(rt; is_refused(rt.alloc(), text, &job, want), "line {line}");
     }
 }
 
@@ -422,84 +425,70 @@ const OVER: [(&[u8], u64, Quantity, u64); 5] = [
 fn refuses_what_is_too_much(rt: HostRuntime) {
     let job = job(&rt, rt.alloc());
     for (text, line, what, limit) in &OVER {
-        let found = read(rt.alloc(), text, &job).err();
         let want = TextError::Over {
             line: *line,
             what: *what,
             limit: *limit,
         };
-        assert_eq!(rt; found, Some(want), "{text:?}");
+        assert!(rt; is_refused(rt.alloc(), text, &job, want), "line {line}");
     }
 }
 
-// The name of a daemon, one of at most 676.
-fn push_name(text: &mut Vec<u8>, n: u32) -> Result<(), AllocError> {
-    text.push(b'a' + (n / 26).min(25) as u8)?;
-    text.push(b'a' + (n % 26) as u8)?;
-    text.extend_from_slice(b":0")
+// Appends the name of a daemon, one of at most 676, and what stands behind it.
+fn push_name(rt: &impl Abort, text: &mut Vec<u8>, n: u32, behind: &[u8]) {
+    let name = [
+        b'a' + (n / 26).min(25) as u8,
+        b'a' + (n % 26) as u8,
+        b':',
+        b'0',
+    ];
+    text.extend_from_slice(&name).expect(rt, "memory");
+    text.extend_from_slice(behind).expect(rt, "memory");
 }
 
 // A front end and 511 daemons.
-fn many_daemons(alloc: Global) -> Result<Vec<u8>, AllocError> {
-    let mut text = Vec::new(alloc);
-    text.extend_from_slice(b"FE:0 =>")?;
+fn large_job(rt: &impl Abort, alloc: Global) -> Topology {
+    let mut text = b"FE:0 => ".to_vec(alloc).expect(rt, "memory");
     for n in 0..511 {
-        text.push(b' ')?;
-        push_name(&mut text, n)?;
+        push_name(rt, &mut text, n, if n < 510 { b" " } else { b" ;\n" });
     }
-    text.extend_from_slice(b" ;\n")?;
-    Ok(text)
+    topology_text::read(alloc, &text).expect(rt, "a topology")
 }
 
 // A stream of all daemons, and so many losses, the last nodes first.
-fn many_losses(alloc: Global, count: u32) -> Result<Vec<u8>, AllocError> {
-    let mut text = Vec::new(alloc);
-    text.extend_from_slice(b"stream 0 dont-wait waves 1 samples 1 on all\n")?;
+fn many_losses(rt: &impl Abort, alloc: Global, count: u32) -> Vec<u8> {
+    let stream = b"stream 0 dont-wait waves 1 samples 1 on all\n";
+    let mut text = stream.to_vec(alloc).expect(rt, "memory");
     for n in 0..count {
-        text.extend_from_slice(b"lose ")?;
-        push_name(&mut text, 510 - n.min(510))?;
-        text.extend_from_slice(b" after 1 keep 2\n")?;
+        text.extend_from_slice(b"lose ").expect(rt, "memory");
+        push_name(rt, &mut text, 510 - n.min(510), b" after 1 keep 2\n");
     }
-    Ok(text)
-}
-
-fn large_job(rt: &impl Abort, alloc: Global) -> Topology {
-    let text = many_daemons(alloc).expect(rt, "memory");
-    topology_text::read(alloc, &text).expect(rt, "a topology")
+    text
 }
 
 #[test]
 fn reads_as_many_losses_as_may_be(rt: HostRuntime) {
     let job = large_job(&rt, rt.alloc());
-    let text = many_losses(rt.alloc(), 256).expect(&rt, "memory");
+    let text = many_losses(&rt, rt.alloc(), 256);
     let script = read(rt.alloc(), &text, &job).expect(&rt, "a script");
     assert!(rt; script.faults().len() == 256);
-    assert_eq!(rt; script.faults().first().map(|fault| fault.node), Some(256));
+    assert!(rt; script.faults().first().map(|fault| fault.node) == Some(256));
 }
 
-#[test]
-fn refuses_a_loss_more(rt: HostRuntime) {
-    let job = large_job(&rt, rt.alloc());
-    let text = many_losses(rt.alloc(), 257).expect(&rt, "memory");
-    let want = TextError::Over {
-        line: 258,
-        what: Quantity::Faults,
-        limit: 256,
-    };
-    assert_eq!(rt; read(rt.alloc(), &text, &job).err(), Some(want));
-}
+const LOSS_MORE: TextError = TextError::Over {
+    line: 258,
+    what: Quantity::Faults,
+    limit: 256,
+};
 
 // A line past the limit of losses is refused as that, whatever else is wrong with it.
 #[test]
-fn refuses_a_loss_more_before_its_node(rt: HostRuntime) {
+fn refuses_a_loss_more(rt: HostRuntime) {
     let job = large_job(&rt, rt.alloc());
-    let mut text = many_losses(rt.alloc(), 256).expect(&rt, "memory");
+    let text = many_losses(&rt, rt.alloc(), 257);
+    assert!(rt; is_refused(rt.alloc(), &text, &job, LOSS_MORE));
+    let mut text = many_losses(&rt, rt.alloc(), 256);
     text.extend_from_slice(b"lose x after 1 keep 1\n")
         .expect(&rt, "memory");
-    let want = TextError::Over {
-        line: 258,
-        what: Quantity::Faults,
-        limit: 256,
-    };
-    assert_eq!(rt; read(rt.alloc(), &text, &job).err(), Some(want));
+    assert!(rt; is_refused(rt.alloc(), &text, &job, LOSS_MORE));
 }

@@ -366,7 +366,7 @@ fn words_of(rt: &impl Abort, alloc: Global, text: &str) -> Vec<String> {
 
 fn assert_read(rt: &impl Abort, alloc: Global, text: &str, want: Result<Command<'_>, WordsError>) {
     let words = words_of(rt, alloc, text);
-    assert_eq!(rt; read_words(alloc, words.as_slice()), want, "at {text}");
+    assert!(rt; read_words(alloc, words.as_slice()) == want, "at {text}");
 }
 
 #[test]
@@ -402,6 +402,6 @@ fn refuses_bad_values_in_their_order(rt: HostRuntime) {
 fn shows_faults(rt: HostRuntime) {
     for (fault, line) in &LINES {
         let shown = format!(in rt.alloc(); "{fault}").expect(&rt, "memory");
-        assert_eq!(rt; shown.as_str(), *line);
+        assert!(rt; shown.as_str() == *line);
     }
 }

@@ -1,7 +1,7 @@
 //! What no clause says: texts as they are written, and that each call succeeds with ample memory.
 
 use overlay_setup::Topology;
-use std::alloc::{AllocError, Global};
+use std::alloc::Global;
 use std::process::Abort;
 use text_lines::{Quantity, Reason, TextError};
 use topology_text::read;
@@ -70,8 +70,8 @@ fn assert_nodes(rt: &impl Abort, topology: &Topology, nodes: &[(&str, Option<u32
     assert!(rt; topology.nodes() as usize == nodes.len());
     for n in 0..topology.nodes() {
         let name = topology.name(n);
-        assert_eq!(rt; nodes.get(n as usize), Some(&(name, topology.parent(n))));
-        assert_eq!(rt; topology.number_of(name.as_bytes()), Some(n));
+        assert!(rt; nodes.get(n as usize) == Some(&(name, topology.parent(n))));
+        assert!(rt; topology.number_of(name.as_bytes()) == Some(n));
     }
 }
 
@@ -153,15 +153,18 @@ const FAULTS: [(&str, u64, Reason); 43] = [
     ("#\r# x\r\n$", 2, Reason::BadToken),
 ];
 
+fn is_refused(alloc: Global, text: &[u8], want: TextError) -> bool {
+    read(alloc, text).err() == Some(want)
+}
+
 #[test]
 fn refuses_texts_at_the_first_fault(rt: HostRuntime) {
     for (text, line, reason) in &FAULTS {
-        let found = read(rt.alloc(), text.as_bytes()).err();
         let want = TextError::Bad {
             line: *line,
             reason: *reason,
         };
-        assert_eq!(rt; found, Some(want), "{text:?}");
+        assert!(rt; is_refused(rt.alloc(), text.as_bytes(), want), "{text:?}");
     }
 }
 
@@ -171,73 +174,59 @@ fn reads_comments_that_are_not_utf8(rt: HostRuntime) {
     assert_nodes(&rt, &topology, &[("fe:0", None), ("a:0", Some(0))]);
 }
 
+const CHAIN_OF_TEN: &[u8] =
+    b"n0:0 => n1:0;n1:0 => n2:0;n2:0 => n3:0;n3:0 => n4:0;n4:0 => n5:0;n5:0 => n6:0;n6:0 => n7:0;n7:0 => n8:0;n8:0 => n9:0;";
+
 #[test]
-fn refuses_names_that_are_not_utf8(rt: HostRuntime) {
-    let found = read(rt.alloc(), b"#\xff\nfe:0 => a:0\xff ;").err();
-    let want = TextError::Bad {
+fn refuses_other_names_and_nodes_too_far_from_the_root(rt: HostRuntime) {
+    let bad = TextError::Bad {
         line: 2,
         reason: Reason::BadToken,
     };
-    assert_eq!(rt; found, Some(want));
+    assert!(rt; is_refused(rt.alloc(), b"#\xff\nfe:0 => a:0\xff ;", bad));
+    let over = TextError::Over {
+        line: 0,
+        what: Quantity::Depth,
+        limit: 8,
+    };
+    assert!(rt; is_refused(rt.alloc(), CHAIN_OF_TEN, over));
 }
 
-const CHAIN_OF_TEN: &str =
-    "n0:0 => n1:0;n1:0 => n2:0;n2:0 => n3:0;n3:0 => n4:0;n4:0 => n5:0;n5:0 => n6:0;n6:0 => n7:0;n7:0 => n8:0;n8:0 => n9:0;";
-
-#[test]
-fn refuses_nodes_too_far_from_the_root(rt: HostRuntime) {
-    assert_eq!(rt;
-        read(rt.alloc(), CHAIN_OF_TEN.as_bytes()).err(),
-        Some(TextError::Over {
-            line: 0,
-            what: Quantity::Depth,
-            limit: 8
-        })
-    );
-}
-
-// A front end and so many daemons, at most 676, each on a line of its own.
-fn many_daemons(alloc: Global, count: u32) -> Result<Vec<u8>, AllocError> {
-    let mut text = Vec::new(alloc);
-    text.extend_from_slice(b"FE:0 =>")?;
+// A front end and so many daemons, at most 676, each on a line of its own, and what stands behind them.
+fn many_daemons(rt: &impl Abort, alloc: Global, count: u32, behind: &[u8]) -> Vec<u8> {
+    let mut text = b"FE:0 =>".to_vec(alloc).expect(rt, "memory");
     for n in 0..count.min(676) {
-        text.push(b'\n')?;
-        text.push(b'a' + (n / 26) as u8)?;
-        text.push(b'a' + (n % 26) as u8)?;
-        text.extend_from_slice(b":0")?;
+        let name = [
+            b'\n',
+            b'a' + (n / 26) as u8,
+            b'a' + (n % 26) as u8,
+            b':',
+            b'0',
+        ];
+        text.extend_from_slice(&name).expect(rt, "memory");
     }
-    text.extend_from_slice(b" ;\n")?;
-    Ok(text)
+    text.extend_from_slice(behind).expect(rt, "memory");
+    text
 }
 
 #[test]
 fn reads_as_many_nodes_as_may_be(rt: HostRuntime) {
-    let text = many_daemons(rt.alloc(), 511).expect(&rt, "memory");
+    let text = many_daemons(&rt, rt.alloc(), 511, b" ;\n");
     let topology = topology_of(&rt, rt.alloc(), &text);
     assert!(rt; topology.nodes() == 512);
     assert!(rt; topology.front() == 0);
 }
 
-#[test]
-fn refuses_a_node_more(rt: HostRuntime) {
-    let text = many_daemons(rt.alloc(), 512).expect(&rt, "memory");
-    let want = TextError::Over {
-        line: 513,
-        what: Quantity::Nodes,
-        limit: 512,
-    };
-    assert_eq!(rt; read(rt.alloc(), &text).err(), Some(want));
-}
-
 // A name past the limit is refused as that, and not for what should come behind it.
 #[test]
-fn refuses_a_node_more_before_its_arrow(rt: HostRuntime) {
-    let mut text = many_daemons(rt.alloc(), 511).expect(&rt, "memory");
-    text.extend_from_slice(b"zz:0 zy:0").expect(&rt, "memory");
+fn refuses_a_node_more(rt: HostRuntime) {
     let want = TextError::Over {
         line: 513,
         what: Quantity::Nodes,
         limit: 512,
     };
-    assert_eq!(rt; read(rt.alloc(), &text).err(), Some(want));
+    let text = many_daemons(&rt, rt.alloc(), 512, b" ;\n");
+    assert!(rt; is_refused(rt.alloc(), &text, want));
+    let text = many_daemons(&rt, rt.alloc(), 511, b" ;\nzz:0 zy:0");
+    assert!(rt; is_refused(rt.alloc(), &text, want));
 }

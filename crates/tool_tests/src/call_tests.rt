@@ -1,5 +1,8 @@
 //! Whole calls over a desk and a sink in memory, with worked jobs, and one over the real files.
-use crate::calls::{Called, call, call_into, call_over, report_of, run_on, script_of};
+use crate::calls::{
+    Called, assert_job, assert_refused, assert_report, call, call_into, call_over, report_of,
+    run_on, script_of,
+};
 use crate::shy_tree::ShyTree;
 use overlay_event::{Event, OpenGate};
 use packet_frame::FrameReason;
@@ -7,8 +10,9 @@ use prefix_tree::OwnedTree;
 use stat_desk::{FileDesk, FileSink, MemDesk, MemSink, StdSink};
 use stat_tool::{FileRole, Status, Target, WordFault, stat};
 use stat_words::Opt;
-use std::alloc::{AllocError, Global};
+use std::alloc::Global;
 use std::fs;
+use std::process::Abort;
 use std::sync::Wait;
 use std::thread::Threads;
 use text_lines::{Quantity, Reason};
@@ -126,14 +130,14 @@ fn bad(file: FileRole, line: u64, reason: Reason) -> Status {
 }
 
 // A call over the tree that won't merge many ranks.
-fn call_shy<R: Threads + Wait + Sync>(
+fn call_shy<R: Threads + Wait + Sync + Abort>(
     rt: &R,
     alloc: Global,
     desk: &mut MemDesk,
     texts: &[&str],
-) -> Result<Called, AllocError> {
-    let report = MemSink::new(alloc, 16, 20_000)?;
-    let journal = MemSink::new(alloc, 16, 20_000)?;
+) -> Called {
+    let report = MemSink::new(alloc, 16, 20_000).expect(rt, "memory");
+    let journal = MemSink::new(alloc, 16, 20_000).expect(rt, "memory");
     call_over::<R, ShyTree>(rt, alloc, desk, texts, report, journal)
 }
 
@@ -143,15 +147,15 @@ fn call_shy<R: Threads + Wait + Sync>(
 fn merges_the_parts_of_inner_nodes(rt: HostRuntime) {
     let alloc = rt.alloc();
     let mut desk = desk_of(alloc, TWO_INNER_TOP, SOLVER_SMP, ALL_SCR).expect(&rt, "memory");
-    let run = call(&rt, alloc, &mut desk, WORDS.as_slice()).expect(&rt, "memory");
+    let run = call(&rt, alloc, &mut desk, WORDS.as_slice());
     put(alloc, &mut desk, "j", run.journal.bytes()).expect(&rt, "memory");
     for texts in [
         WORDS.as_slice(),
         SIM_WORDS.as_slice(),
         REPLAY_WORDS.as_slice(),
     ] {
-        let called = call_shy(&rt, alloc, &mut desk, texts).expect(&rt, "memory");
-        assert_eq!(rt; called.status, Status::OutOfMemory);
+        let called = call_shy(&rt, alloc, &mut desk, texts);
+        assert!(rt; called.status == Status::OutOfMemory);
         assert!(rt; called.report.bytes().is_empty() && called.journal.bytes().is_empty());
     }
 }
@@ -160,33 +164,31 @@ fn merges_the_parts_of_inner_nodes(rt: HostRuntime) {
 fn writes_the_reports_of_worked_jobs(rt: HostRuntime) {
     let alloc = rt.alloc();
     for job in WORKED.as_slice() {
-        let mut desk = desk_of(alloc, job.topology, job.samples, job.script).expect(&rt, "memory");
-        let (status, out) = run_on(&rt, alloc, &mut desk).expect(&rt, "memory");
-        assert_eq!(rt; status, Status::Done);
-        assert_eq!(rt; out.bytes(), job.report.as_bytes());
+        let files = [job.topology, job.samples, job.script];
+        assert_job(&rt, alloc, files, WORDS.as_slice(), job.report);
     }
 }
 
 // The status of a run of these files, and whether nothing is written.
-fn ends<R: Threads + Wait + Sync>(
+fn ends<R: Threads + Wait + Sync + Abort>(
     rt: &R,
     alloc: Global,
     topology: &[u8],
     samples: &[u8],
     script: &[u8],
-) -> Result<(Status, bool), AllocError> {
-    let mut desk = desk_of_bytes(alloc, topology, samples, script)?;
-    let (status, out) = run_on(rt, alloc, &mut desk)?;
-    Ok((status, out.bytes().is_empty()))
+) -> (Status, bool) {
+    let mut desk = desk_of_bytes(alloc, topology, samples, script).expect(rt, "memory");
+    let (status, out) = run_on(rt, alloc, &mut desk);
+    (status, out.bytes().is_empty())
 }
 
 // The status of a run of the small job with another text of one of its files, and whether nothing is written.
-fn ends_with<R: Threads + Wait + Sync>(
+fn ends_with<R: Threads + Wait + Sync + Abort>(
     rt: &R,
     alloc: Global,
     file: FileRole,
     text: &[u8],
-) -> Result<(Status, bool), AllocError> {
+) -> (Status, bool) {
     let (topology, samples, script) = (TWO_TOP.as_bytes(), FOUR_SMP.as_bytes(), ALL_SCR.as_bytes());
     match file {
         FileRole::Topology => ends(rt, alloc, text, samples, script),
@@ -210,8 +212,8 @@ fn names_the_first_fault_of_each_file(rt: HostRuntime) {
                 line: *line,
                 reason: *reason,
             };
-            let end = ends_with(&rt, rt.alloc(), file, text).expect(&rt, "memory");
-            assert_eq!(rt; end, (status, true));
+            let end = ends_with(&rt, rt.alloc(), file, text);
+            assert!(rt; end == (status, true));
         }
     }
 }
@@ -229,8 +231,8 @@ fn names_the_first_limit_that_is_passed(rt: HostRuntime) {
                 what: *what,
                 limit: *limit,
             };
-            let end = ends_with(&rt, rt.alloc(), file, text).expect(&rt, "memory");
-            assert_eq!(rt; end, (status, true));
+            let end = ends_with(&rt, rt.alloc(), file, text);
+            assert!(rt; end == (status, true));
         }
     }
 }
@@ -239,22 +241,18 @@ fn names_the_first_limit_that_is_passed(rt: HostRuntime) {
 fn reads_the_files_in_order(rt: HostRuntime) {
     let alloc = rt.alloc();
     let good = TWO_TOP.as_bytes();
-    let first = ends(&rt, alloc, b"", b"stack", b"lose")
-        .expect(&rt, "memory")
-        .0;
-    assert_eq!(rt; first, bad(FileRole::Topology, 0, Reason::NoRoot));
-    let second = ends(&rt, alloc, good, b"stack", b"lose")
-        .expect(&rt, "memory")
-        .0;
-    assert_eq!(rt; second, bad(FileRole::Samples, 1, Reason::BadDirective));
+    let first = ends(&rt, alloc, b"", b"stack", b"lose").0;
+    assert!(rt; first == bad(FileRole::Topology, 0, Reason::NoRoot));
+    let second = ends(&rt, alloc, good, b"stack", b"lose").0;
+    assert!(rt; second == bad(FileRole::Samples, 1, Reason::BadDirective));
 }
 
 #[test]
 fn runs_good_scripts(rt: HostRuntime) {
     let alloc = rt.alloc();
     for script in GOOD_SCRIPTS.as_slice() {
-        let end = ends_with(&rt, alloc, FileRole::Script, script.as_bytes()).expect(&rt, "memory");
-        assert_eq!(rt; end, (Status::Done, false));
+        let end = ends_with(&rt, alloc, FileRole::Script, script.as_bytes());
+        assert!(rt; end == (Status::Done, false));
     }
 }
 
@@ -262,37 +260,33 @@ fn runs_good_scripts(rt: HostRuntime) {
 fn reports_each_wave_of_each_stream(rt: HostRuntime) {
     let alloc = rt.alloc();
     for (streams, waves) in [(1, 16), (8, 1), (8, 16)] {
-        let script = script_of(alloc, streams, waves).expect(&rt, "memory");
-        let mut desk = desk_of(alloc, ONE_TOP, "daemon a:0 0\n", script.as_str()).expect(
-            &rt, "memory",
-        );
-        let (status, out) = run_on(&rt, alloc, &mut desk).expect(&rt, "memory");
-        let report = report_of(alloc, streams, waves, "1:[0]").expect(&rt, "memory");
-        assert_eq!(rt; status, Status::Done);
-        assert_eq!(rt; out.bytes(), report.as_bytes());
+        let script = script_of(&rt, alloc, streams, waves);
+        let files = [ONE_TOP, "daemon a:0 0\n", script.as_str()];
+        let report = report_of(&rt, alloc, streams, waves, "1:[0]");
+        assert_job(&rt, alloc, files, WORDS.as_slice(), &report);
     }
 }
 
 // The events of a run of the small job by this topology and script.
-fn events_of<R: Threads + Wait + Sync>(
+fn events_of<R: Threads + Wait + Sync + Abort>(
     rt: &R,
     alloc: Global,
     topology: &str,
     script: &str,
-) -> Result<Vec<Event>, AllocError> {
-    let mut desk = desk_of(alloc, topology, FOUR_SMP, script)?;
-    let called = call(rt, alloc, &mut desk, WORDS.as_slice())?;
+) -> Vec<Event> {
+    let mut desk = desk_of(alloc, topology, FOUR_SMP, script).expect(rt, "memory");
+    let called = call(rt, alloc, &mut desk, WORDS.as_slice());
     let mut events = Vec::new(alloc);
     for i in 0..called.events.len() {
-        events.push(called.events.at(i))?;
+        events.push(called.events.at(i)).expect(rt, "memory");
     }
-    Ok(events)
+    events
 }
 
 #[test]
 fn gives_the_events_back(rt: HostRuntime) {
     let alloc = rt.alloc();
-    let events = events_of(&rt, alloc, INNER_TOP, ALL_SCR).expect(&rt, "memory");
+    let events = events_of(&rt, alloc, INNER_TOP, ALL_SCR);
     let expected = [
         sample(2),
         recv(1, 2),
@@ -303,8 +297,8 @@ fn gives_the_events_back(rt: HostRuntime) {
         recv(2, 1),
         recv(3, 1),
     ];
-    assert_eq!(rt; events.as_slice(), expected.as_slice());
-    let events = events_of(&rt, alloc, TWO_TOP, DONT_WAIT_SCR).expect(&rt, "memory");
+    assert!(rt; events.as_slice() == expected.as_slice());
+    let events = events_of(&rt, alloc, TWO_TOP, DONT_WAIT_SCR);
     let expected = [
         sample(1),
         recv(0, 1),
@@ -313,7 +307,7 @@ fn gives_the_events_back(rt: HostRuntime) {
         recv(1, 0),
         recv(2, 0),
     ];
-    assert_eq!(rt; events.as_slice(), expected.as_slice());
+    assert!(rt; events.as_slice() == expected.as_slice());
 }
 
 #[test]
@@ -321,8 +315,8 @@ fn prints_the_number_of_any_stream(rt: HostRuntime) {
     let alloc = rt.alloc();
     let script = "stream 7 wait-for-all waves 1 samples 1 on all\n";
     let mut desk = desk_of(alloc, TWO_TOP, FOUR_SMP, script).expect(&rt, "memory");
-    let (status, out) = run_on(&rt, alloc, &mut desk).expect(&rt, "memory");
-    assert_eq!(rt; status, Status::Done);
+    let (status, out) = run_on(&rt, alloc, &mut desk);
+    assert!(rt; status == Status::Done);
     assert!(rt;
         out.bytes()
             .starts_with(b"stream 7 wave 0 release 1 final\ncov".as_slice())
@@ -330,25 +324,25 @@ fn prints_the_number_of_any_stream(rt: HostRuntime) {
 }
 
 // Samples of a rank that has this many paths of one frame at each of this many times, no path twice.
-fn one_frame_paths(alloc: Global, times: u32, paths: u32) -> Result<String, AllocError> {
-    let mut samples = String::from_str(alloc, "daemon a:0 0\n")?;
+fn one_frame_paths(rt: &impl Abort, alloc: Global, times: u32, paths: u32) -> String {
+    let mut samples = String::from_str(alloc, "daemon a:0 0\n").expect(rt, "memory");
     for time in 0..times {
         for i in 0..paths {
-            let line = format!(in alloc; "stack {time} 0 f{i}@{time}\n")?;
-            samples.push_str(line.as_str())?;
+            let line = format!(in alloc; "stack {time} 0 f{i}@{time}\n").expect(rt, "memory");
+            samples.push_str(line.as_str()).expect(rt, "memory");
         }
     }
-    Ok(samples)
+    samples
 }
 
 // A run on a desk, with room for a long report.
-fn call_with_room<R: Threads + Wait + Sync>(
+fn call_with_room<R: Threads + Wait + Sync + Abort>(
     rt: &R,
     alloc: Global,
     desk: &mut MemDesk,
-) -> Result<Called, AllocError> {
-    let report = MemSink::new(alloc, 1_000, 1_000_000)?;
-    let journal = MemSink::new(alloc, 16, 1_000)?;
+) -> Called {
+    let report = MemSink::new(alloc, 1_000, 1_000_000).expect(rt, "memory");
+    let journal = MemSink::new(alloc, 16, 1_000).expect(rt, "memory");
     call_into(rt, alloc, desk, WORDS.as_slice(), report, journal)
 }
 
@@ -366,11 +360,11 @@ fn counts_the_prefixes_of_a_wave(rt: HostRuntime) {
         (1, 2_049, over),
         (2, 2_048, Status::Done),
     ] {
-        let samples = one_frame_paths(alloc, times, paths).expect(&rt, "memory");
+        let samples = one_frame_paths(&rt, alloc, times, paths);
         let mut desk = desk_of(alloc, ONE_TOP, samples.as_str(), ALL_SCR).expect(&rt, "memory");
-        let called = call_with_room(&rt, alloc, &mut desk).expect(&rt, "memory");
-        assert_eq!(rt; called.status, status);
-        assert_eq!(rt; called.report.bytes().is_empty(), status != Status::Done);
+        let called = call_with_room(&rt, alloc, &mut desk);
+        assert!(rt; called.status == status);
+        assert!(rt; called.report.bytes().is_empty() == (status != Status::Done));
     }
 }
 
@@ -389,26 +383,32 @@ const THREE_TIMES: [(&str, &str); 2] = [
 #[test]
 fn counts_the_prefixes_that_a_stream_sees(rt: HostRuntime) {
     let alloc = rt.alloc();
-    let samples = one_frame_paths(alloc, 3, 1_000).expect(&rt, "memory");
+    let samples = one_frame_paths(&rt, alloc, 3, 1_000);
     for (grain, script) in THREE_TIMES.as_slice() {
         let mut desk = desk_of(alloc, ONE_TOP, samples.as_str(), script).expect(&rt, "memory");
-        let called = call_with_room(&rt, alloc, &mut desk).expect(&rt, "memory");
-        assert_eq!(rt; called.status == Status::Done, *grain == "function");
+        let called = call_with_room(&rt, alloc, &mut desk);
+        assert!(rt; (called.status == Status::Done) == (*grain == "function"));
     }
 }
 
 // A front end with 511 daemons, and 2,048 ranks on each, all in one frame.
-fn wide_job(alloc: Global) -> Result<MemDesk, AllocError> {
-    let mut topology = String::from_str(alloc, "fe:0 =>")?;
+fn wide_job(rt: &impl Abort, alloc: Global) -> MemDesk {
+    let mut topology = String::from_str(alloc, "fe:0 =>").expect(rt, "memory");
     let mut samples = String::new(alloc);
     for i in 0..511u32 {
-        topology.push_str(format!(in alloc; " d:{i}")?.as_str())?;
-        let line = format!(in alloc; "daemon d:{i} {}-{}\n", 2_048 * i, 2_048 * i + 2_047)?;
-        samples.push_str(line.as_str())?;
+        topology
+            .push_str(format!(in alloc; " d:{i}").expect(rt, "memory").as_str())
+            .expect(rt, "memory");
+        let line = format!(in alloc; "daemon d:{i} {}-{}\n", 2_048 * i, 2_048 * i + 2_047).expect(
+            rt, "memory",
+        );
+        samples.push_str(line.as_str()).expect(rt, "memory");
     }
-    topology.push_str(" ;\n")?;
-    samples.push_str("stack 0 0-1046527 main\n")?;
-    desk_of(alloc, topology.as_str(), samples.as_str(), ALL_SCR)
+    topology.push_str(" ;\n").expect(rt, "memory");
+    samples
+        .push_str("stack 0 0-1046527 main\n")
+        .expect(rt, "memory");
+    desk_of(alloc, topology.as_str(), samples.as_str(), ALL_SCR).expect(rt, "memory")
 }
 
 const WIDE_REPORT: &str = "stream 0 wave 0 release 1 final
@@ -426,47 +426,40 @@ end
 fn runs_a_million_ranks(rt: HostRuntime) {
     let alloc = rt.alloc();
     for mode in ["run", "sim", "direct"] {
-        let mut desk = wide_job(alloc).expect(&rt, "memory");
+        let mut desk = wide_job(&rt, alloc);
         let words = [mode, "--topology=t", "--samples=s", "--script=c"];
-        let called = call(&rt, alloc, &mut desk, words.as_slice()).expect(&rt, "memory");
-        assert_eq!(rt; called.status, Status::Done);
-        assert_eq!(rt; called.report.bytes(), WIDE_REPORT.as_bytes());
+        assert_report(&rt, alloc, &mut desk, words.as_slice(), WIDE_REPORT);
     }
 }
 
 // The status of a run whose topology is this text, filled up with blanks to this length.
-fn status_of_length<R: Threads + Wait + Sync>(
+fn status_of_length<R: Threads + Wait + Sync + Abort>(
     rt: &R,
     alloc: Global,
     text: &str,
     length: usize,
-) -> Result<Status, AllocError> {
-    let mut topology = text.as_bytes().to_vec(alloc)?;
-    topology.resize(length, b' ')?;
+) -> Status {
+    let mut topology = text.as_bytes().to_vec(alloc).expect(rt, "memory");
+    topology.resize(length, b' ').expect(rt, "memory");
     let mut desk = MemDesk::new(alloc);
-    desk.put(String::from_str(alloc, "t")?, topology)?;
-    put(alloc, &mut desk, "s", FOUR_SMP.as_bytes())?;
-    put(alloc, &mut desk, "c", ALL_SCR.as_bytes())?;
-    Ok(run_on(rt, alloc, &mut desk)?.0)
+    desk.put(String::from_str(alloc, "t").expect(rt, "memory"), topology)
+        .expect(rt, "memory");
+    put(alloc, &mut desk, "s", FOUR_SMP.as_bytes()).expect(rt, "memory");
+    put(alloc, &mut desk, "c", ALL_SCR.as_bytes()).expect(rt, "memory");
+    run_on(rt, alloc, &mut desk).0
 }
 
 #[test]
 fn takes_files_of_33554432_bytes_and_no_longer_ones(rt: HostRuntime) {
     let alloc = rt.alloc();
-    assert_eq!(rt;
-        status_of_length(&rt, alloc, TWO_TOP, 33_554_432).expect(&rt, "memory"),
-        Status::Done
-    );
+    assert!(rt; status_of_length(&rt, alloc, TWO_TOP, 33_554_432) == Status::Done);
     let over = Status::OverLimit {
         file: FileRole::Topology,
         line: 0,
         what: Quantity::Bytes,
         limit: 33_554_432,
     };
-    assert_eq!(rt;
-        status_of_length(&rt, alloc, TWO_TOP, 33_554_433).expect(&rt, "memory"),
-        over
-    );
+    assert!(rt; status_of_length(&rt, alloc, TWO_TOP, 33_554_433) == over);
 }
 
 // Words with which nothing is read or written, and their faults.
@@ -526,11 +519,9 @@ const OTHER_WORDS: [(&[&str], WordFault); 10] = [
 #[test]
 fn refuses_other_words(rt: HostRuntime) {
     let alloc = rt.alloc();
+    let mut desk = desk_of(alloc, TWO_TOP, FOUR_SMP, ALL_SCR).expect(&rt, "memory");
     for (texts, fault) in OTHER_WORDS.as_slice() {
-        let mut desk = desk_of(alloc, TWO_TOP, FOUR_SMP, ALL_SCR).expect(&rt, "memory");
-        let called = call(&rt, alloc, &mut desk, texts).expect(&rt, "memory");
-        assert_eq!(rt; called.status, Status::BadWords(*fault));
-        assert!(rt; called.report.bytes().is_empty() && called.journal.bytes().is_empty());
+        assert_refused(&rt, alloc, &mut desk, texts, Status::BadWords(*fault));
     }
 }
 
@@ -606,8 +597,8 @@ fn prints_the_texts_of_the_statuses(rt: HostRuntime) {
     let alloc = rt.alloc();
     for (status, text, number) in TEXTS.as_slice() {
         let printed = format!(in alloc; "{status}").expect(&rt, "memory");
-        assert_eq!(rt; printed.as_str(), *text);
-        assert_eq!(rt; status.number(), *number);
+        assert!(rt; printed.as_str() == *text);
+        assert!(rt; status.number() == *number);
     }
 }
 
@@ -630,7 +621,7 @@ fn uses_real_files_and_standard_output(rt: HostRuntime) -> anyhow::Result<()> {
         &mut journal,
         &OpenGate,
     );
-    assert_eq!(rt; outcome.status, Status::Done);
+    assert!(rt; outcome.status == Status::Done);
     let text = fs::read(&rt, "j")?;
     assert!(rt;
         text.as_slice()

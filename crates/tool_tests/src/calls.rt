@@ -5,10 +5,11 @@ use prefix_tree::{OwnedTree, PrefixTree};
 use stat_desk::{MemDesk, MemSink};
 use stat_plan::Plan;
 use stat_tool::{Status, stat};
-use std::alloc::{AllocError, Global};
+use std::alloc::Global;
+use std::process::Abort;
 use std::sync::Wait;
 use std::thread::Threads;
-use worked_jobs::desks::{WORDS, words_of};
+use worked_jobs::desks::{WORDS, desk_of, words_of};
 use worked_jobs::gates::BusyGate;
 
 /// What a call leaves: its status and its events, and what it wrote to the sinks of the report and of the journal.
@@ -21,39 +22,39 @@ pub struct Called {
 }
 
 // A call with these words, whose sinks take sixteen bytes at a time.
-pub fn call<R: Threads + Wait + Sync>(
+pub fn call<R: Threads + Wait + Sync + Abort>(
     rt: &R,
     alloc: Global,
     desk: &mut MemDesk,
     texts: &[&str],
-) -> Result<Called, AllocError> {
-    let report = MemSink::new(alloc, 16, 20_000)?;
-    let journal = MemSink::new(alloc, 16, 100_000)?;
+) -> Called {
+    let report = MemSink::new(alloc, 16, 20_000).expect(rt, "memory");
+    let journal = MemSink::new(alloc, 16, 100_000).expect(rt, "memory");
     call_into(rt, alloc, desk, texts, report, journal)
 }
 
 // A call with these words and sinks.
-pub fn call_into<R: Threads + Wait + Sync>(
+pub fn call_into<R: Threads + Wait + Sync + Abort>(
     rt: &R,
     alloc: Global,
     desk: &mut MemDesk,
     texts: &[&str],
     report: MemSink,
     journal: MemSink,
-) -> Result<Called, AllocError> {
+) -> Called {
     call_over::<R, OwnedTree>(rt, alloc, desk, texts, report, journal)
 }
 
 // A call with these words and sinks, over this tree.
-pub fn call_over<R: Threads + Wait + Sync, T: PrefixTree>(
+pub fn call_over<R: Threads + Wait + Sync + Abort, T: PrefixTree>(
     rt: &R,
     alloc: Global,
     desk: &mut MemDesk,
     texts: &[&str],
     report: MemSink,
     journal: MemSink,
-) -> Result<Called, AllocError> {
-    let words = words_of(alloc, texts)?;
+) -> Called {
+    let words = words_of(alloc, texts).expect(rt, "memory");
     let (mut report, mut journal) = (report, journal);
     let outcome = stat::<R, T, _, _, _, _>(
         rt,
@@ -64,12 +65,66 @@ pub fn call_over<R: Threads + Wait + Sync, T: PrefixTree>(
         &mut journal,
         &BusyGate,
     );
-    Ok(Called {
+    Called {
         status: outcome.status,
         events: outcome.journal,
         report,
         journal,
-    })
+    }
+}
+
+// A call is done, and writes this report.
+pub fn assert_report<R: Threads + Wait + Sync + Abort>(
+    rt: &R,
+    alloc: Global,
+    desk: &mut MemDesk,
+    texts: &[&str],
+    report: &str,
+) {
+    let called = call(rt, alloc, desk, texts);
+    assert!(rt; called.status == Status::Done);
+    assert!(rt; called.report.bytes() == report.as_bytes());
+}
+
+// A call on the three files of a job is done, and writes this report.
+pub fn assert_job<R: Threads + Wait + Sync + Abort>(
+    rt: &R,
+    alloc: Global,
+    files: [&str; 3],
+    texts: &[&str],
+    report: &str,
+) {
+    let [topology, samples, script] = files;
+    let mut desk = desk_of(alloc, topology, samples, script).expect(rt, "memory");
+    assert_report(rt, alloc, &mut desk, texts, report);
+}
+
+// A call is done, and writes this report and this journal.
+pub fn assert_written<R: Threads + Wait + Sync + Abort>(
+    rt: &R,
+    alloc: Global,
+    desk: &mut MemDesk,
+    texts: &[&str],
+    written: [&str; 2],
+) {
+    let [report, journal] = written;
+    let called = call(rt, alloc, desk, texts);
+    assert!(rt; called.status == Status::Done);
+    assert!(rt; called.report.bytes() == report.as_bytes());
+    assert!(rt; called.journal.bytes() == journal.as_bytes());
+}
+
+// A call ends with this status, and writes nothing.
+pub fn assert_refused<R: Threads + Wait + Sync + Abort>(
+    rt: &R,
+    alloc: Global,
+    desk: &mut MemDesk,
+    texts: &[&str],
+    status: Status,
+) {
+    let called = call(rt, alloc, desk, texts);
+    assert!(rt; called.status == status);
+    assert!(rt; called.report.bytes().is_empty() && called.journal.bytes().is_empty());
 }
 
 // The plan of the texts of a job.
@@ -87,45 +142,42 @@ pub fn plan_of(alloc: Global, topology: &str, samples: &str, script: &str) -> Op
 }
 
 // The status of a run on a desk, and its report.
-pub fn run_on<R: Threads + Wait + Sync>(
+pub fn run_on<R: Threads + Wait + Sync + Abort>(
     rt: &R,
     alloc: Global,
     desk: &mut MemDesk,
-) -> Result<(Status, MemSink), AllocError> {
-    let called = call(rt, alloc, desk, WORDS.as_slice())?;
-    Ok((called.status, called.report))
+) -> (Status, MemSink) {
+    let called = call(rt, alloc, desk, WORDS.as_slice());
+    (called.status, called.report)
 }
 
 // A script of this many streams, of this many waves each.
-pub fn script_of(alloc: Global, streams: u32, waves: u32) -> Result<String, AllocError> {
+pub fn script_of(rt: &impl Abort, alloc: Global, streams: u32, waves: u32) -> String {
     let mut script = String::new(alloc);
     for stream in 0..streams {
         let line = format!(in alloc;
             "stream {stream} wait-for-all waves {waves} samples 1 on all\n"
-        )?;
-        script.push_str(line.as_str())?;
+        ).expect(rt, "memory");
+        script.push_str(line.as_str()).expect(rt, "memory");
     }
-    Ok(script)
+    script
 }
 
 // The report of this many streams, of this many waves each, of these ranks, which were never seen.
-pub fn report_of(
-    alloc: Global,
-    streams: u32,
-    waves: u32,
-    ranks: &str,
-) -> Result<String, AllocError> {
+pub fn report_of(rt: &impl Abort, alloc: Global, streams: u32, waves: u32, ranks: &str) -> String {
     let mut report = String::new(alloc);
     for stream in 0..streams {
         for wave in 0..waves {
-            let heading = format!(in alloc; "stream {stream} wave {wave} release 1 final\n")?;
-            report.push_str(heading.as_str())?;
+            let heading = format!(in alloc; "stream {stream} wave {wave} release 1 final\n").expect(
+                rt, "memory",
+            );
+            report.push_str(heading.as_str()).expect(rt, "memory");
             let rest = format!(in alloc;
                 "covered {ranks}\ntree\n{ranks} - /\nclasses\nclass {ranks} paths 0\n"
-            )?;
-            report.push_str(rest.as_str())?;
+            ).expect(rt, "memory");
+            report.push_str(rest.as_str()).expect(rt, "memory");
         }
     }
-    report.push_str("end\n")?;
-    Ok(report)
+    report.push_str("end\n").expect(rt, "memory");
+    report
 }

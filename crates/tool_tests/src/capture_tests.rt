@@ -4,7 +4,8 @@ use overlay_event::Event;
 use packet_frame::FrameReason;
 use stat_desk::{MemDesk, MemSink};
 use stat_tool::Status;
-use std::alloc::{AllocError, Global};
+use std::alloc::Global;
+use std::process::Abort;
 use std::sync::Wait;
 use std::thread::Threads;
 use worked_jobs::desks::{desk_of, lines_of, put};
@@ -22,7 +23,7 @@ fn digit(byte: u8) -> u8 {
 }
 
 // The bytes of a text in hexadecimal, with blanks between them.
-fn bytes_of(alloc: Global, text: &str) -> Result<Vec<u8>, AllocError> {
+fn bytes_of(rt: &impl Abort, alloc: Global, text: &str) -> Vec<u8> {
     let mut bytes = Vec::new(alloc);
     let mut high = None;
     for byte in text.as_bytes() {
@@ -32,23 +33,48 @@ fn bytes_of(alloc: Global, text: &str) -> Result<Vec<u8>, AllocError> {
         match high {
             None => high = Some(digit(*byte) << 4),
             Some(first) => {
-                bytes.push(first | digit(*byte))?;
+                bytes.push(first | digit(*byte)).expect(rt, "memory");
                 high = None;
             }
         }
     }
-    Ok(bytes)
+    bytes
 }
 
 // The printing of a capture.
-fn print<R: Threads + Wait + Sync>(
+fn print<R: Threads + Wait + Sync + Abort>(rt: &R, alloc: Global, capture: &[u8]) -> Called {
+    let mut desk = MemDesk::new(alloc);
+    put(alloc, &mut desk, "f", capture).expect(rt, "memory");
+    call(rt, alloc, &mut desk, ["frames", "--capture=f"].as_slice())
+}
+
+// A capture is printed as these lines, and nothing else is written.
+fn assert_printed<R: Threads + Wait + Sync + Abort>(
     rt: &R,
     alloc: Global,
     capture: &[u8],
-) -> Result<Called, AllocError> {
-    let mut desk = MemDesk::new(alloc);
-    put(alloc, &mut desk, "f", capture)?;
-    call(rt, alloc, &mut desk, ["frames", "--capture=f"].as_slice())
+    lines: &str,
+) {
+    let called = print(rt, alloc, capture);
+    assert!(rt; called.status == Status::Done);
+    assert!(rt; called.report.bytes() == lines.as_bytes());
+    assert!(rt; called.events.is_empty() && called.journal.bytes().is_empty());
+}
+
+// A capture is refused at this byte, and nothing is written.
+fn assert_not_printed<R: Threads + Wait + Sync + Abort>(
+    rt: &R,
+    alloc: Global,
+    capture: &[u8],
+    at: u64,
+    reason: FrameReason,
+) {
+    let called = print(rt, alloc, capture);
+    assert!(rt;
+        called.status == Status::BadFrames { at, reason },
+        "at {at}"
+    );
+    assert!(rt; called.report.bytes().is_empty() && called.journal.bytes().is_empty());
 }
 
 // ---- captures
@@ -98,44 +124,38 @@ const PRINTED: [(&str, &str); 7] = [
 fn prints_captures(rt: HostRuntime) {
     let alloc = rt.alloc();
     for (capture, lines) in PRINTED.as_slice() {
-        let called = print(
-            &rt,
-            alloc,
-            bytes_of(alloc, capture).expect(&rt, "memory").as_slice(),
-        )
-        .expect(&rt, "memory");
-        assert_eq!(rt; called.status, Status::Done);
-        assert_eq!(rt; called.report.bytes(), lines.as_bytes());
-        assert!(rt; called.events.is_empty() && called.journal.bytes().is_empty());
+        let bytes = bytes_of(&rt, alloc, capture);
+        assert_printed(&rt, alloc, bytes.as_slice(), lines);
     }
 }
 
 // Ten frames of 2,058 bytes each, of 256 words of 64 ranks and no rows, and their lines.
-fn wide_capture(alloc: Global) -> Result<(Vec<u8>, String), AllocError> {
+fn wide_capture(rt: &impl Abort, alloc: Global) -> (Vec<u8>, String) {
     let (mut capture, mut lines) = (Vec::new(alloc), String::new(alloc));
     for i in 0..10u32 {
-        capture.extend_from_slice(&[1, 1, 0, 0, 0, 0, 1, 0])?;
+        capture
+            .extend_from_slice(&[1, 1, 0, 0, 0, 0, 1, 0])
+            .expect(rt, "memory");
         for _ in 0..2_048 {
-            capture.push(0xff)?;
+            capture.push(0xff).expect(rt, "memory");
         }
-        capture.extend_from_slice(&[0, 0])?;
+        capture.extend_from_slice(&[0, 0]).expect(rt, "memory");
         let line = format!(in alloc;
             "{} up stream 0 wave 0 covered 16384:[0-16383] rows 0\n",
             2_058 * i
-        )?;
-        lines.push_str(line.as_str())?;
+        )
+        .expect(rt, "memory");
+        lines.push_str(line.as_str()).expect(rt, "memory");
     }
-    lines.push_str("end 10 frames\n")?;
-    Ok((capture, lines))
+    lines.push_str("end 10 frames\n").expect(rt, "memory");
+    (capture, lines)
 }
 
 #[test]
 fn prints_captures_of_20580_bytes(rt: HostRuntime) {
     let alloc = rt.alloc();
-    let (capture, lines) = wide_capture(alloc).expect(&rt, "memory");
-    let called = print(&rt, alloc, capture.as_slice()).expect(&rt, "memory");
-    assert_eq!(rt; called.status, Status::Done);
-    assert_eq!(rt; called.report.bytes(), lines.as_bytes());
+    let (capture, lines) = wide_capture(&rt, alloc);
+    assert_printed(&rt, alloc, capture.as_slice(), lines.as_str());
 }
 
 const REFUSED: [(&str, u64, FrameReason); 29] = [
@@ -223,78 +243,51 @@ const REFUSED: [(&str, u64, FrameReason); 29] = [
 fn refuses_captures(rt: HostRuntime) {
     let alloc = rt.alloc();
     for (capture, at, reason) in REFUSED.as_slice() {
-        let called = print(
-            &rt,
-            alloc,
-            bytes_of(alloc, capture).expect(&rt, "memory").as_slice(),
-        )
-        .expect(&rt, "memory");
-        let refused = Status::BadFrames {
-            at: *at,
-            reason: *reason,
-        };
-        assert_eq!(rt; called.status, refused, "at {capture}");
-        assert!(rt; called.report.bytes().is_empty() && called.journal.bytes().is_empty());
+        let bytes = bytes_of(&rt, alloc, capture);
+        assert_not_printed(&rt, alloc, bytes.as_slice(), *at, *reason);
     }
 }
 
 // ---- captures of more than one piece
 
 // Done frames, more than three pieces of 4,096 bytes of them, behind two bytes: none begins or ends with a piece.
-fn long_capture(alloc: Global) -> Result<Vec<u8>, AllocError> {
-    let mut bytes = bytes_of(alloc, "0203")?;
+fn long_capture(rt: &impl Abort, alloc: Global) -> Vec<u8> {
+    let mut bytes = bytes_of(rt, alloc, "0203");
     for _ in 0..4_000 {
-        bytes.extend_from_slice(&[2, 2, 0, 0])?;
+        bytes.extend_from_slice(&[2, 2, 0, 0]).expect(rt, "memory");
     }
-    Ok(bytes)
+    bytes
 }
 
-fn long_lines(alloc: Global) -> Result<String, AllocError> {
-    let mut lines = String::from_str(alloc, "0 attach\n")?;
+fn long_lines(rt: &impl Abort, alloc: Global) -> String {
+    let mut lines = String::from_str(alloc, "0 attach\n").expect(rt, "memory");
     for i in 0..4_000u32 {
-        let line = format!(in alloc; "{} done stream 0 wave 0\n", 4 * i + 2)?;
-        lines.push_str(line.as_str())?;
+        let line = format!(in alloc; "{} done stream 0 wave 0\n", 4 * i + 2).expect(rt, "memory");
+        lines.push_str(line.as_str()).expect(rt, "memory");
     }
-    lines.push_str("end 4001 frames\n")?;
-    Ok(lines)
+    lines.push_str("end 4001 frames\n").expect(rt, "memory");
+    lines
 }
 
 #[test]
 fn prints_captures_of_several_pieces(rt: HostRuntime) {
     let alloc = rt.alloc();
     let mut desk = MemDesk::new(alloc);
-    put(
-        alloc,
-        &mut desk,
-        "f",
-        long_capture(alloc).expect(&rt, "memory").as_slice(),
-    )
-    .expect(&rt, "memory");
+    put(alloc, &mut desk, "f", long_capture(&rt, alloc).as_slice()).expect(&rt, "memory");
     let report = MemSink::new(alloc, 4_096, 200_000).expect(&rt, "memory");
     let journal = MemSink::new(alloc, 16, 16).expect(&rt, "memory");
     let words = ["frames", "--capture", "f"];
-    let called = call_into(&rt, alloc, &mut desk, words.as_slice(), report, journal).expect(
-        &rt, "memory",
-    );
-    assert_eq!(rt; called.status, Status::Done);
-    assert_eq!(rt;
-        called.report.bytes(),
-        long_lines(alloc).expect(&rt, "memory").as_bytes()
-    );
+    let called = call_into(&rt, alloc, &mut desk, words.as_slice(), report, journal);
+    assert!(rt; called.status == Status::Done);
+    assert!(rt; called.report.bytes() == long_lines(&rt, alloc).as_bytes());
 }
 
 #[test]
 fn refuses_captures_of_several_pieces(rt: HostRuntime) {
     let alloc = rt.alloc();
-    let mut capture = long_capture(alloc).expect(&rt, "memory");
+    let mut capture = long_capture(&rt, alloc);
     capture.extend_from_slice(&[2, 2, 0]).expect(&rt, "memory");
-    let called = print(&rt, alloc, capture.as_slice()).expect(&rt, "memory");
-    let short = Status::BadFrames {
-        at: 16_005,
-        reason: FrameReason::Short,
-    };
-    assert_eq!(rt; called.status, short);
-    assert!(rt; called.report.bytes().is_empty());
+    assert_not_printed(&rt, alloc, capture.as_slice(), 16_005, FrameReason::Short);
 }
 
 // ---- the frames of runs
@@ -313,15 +306,11 @@ fn a_simulation_writes_its_frames(rt: HostRuntime) {
         "--report=frames",
         "--seed=0",
     ];
-    let called = call(&rt, alloc, &mut desk, words.as_slice()).expect(&rt, "memory");
-    assert_eq!(rt; called.status, Status::Done);
-    assert_eq!(rt;
-        called.report.bytes(),
-        bytes_of(alloc, FRAMES).expect(&rt, "memory").as_slice()
-    );
-    assert_eq!(rt; called.events.len(), 6);
-    let printed = print(&rt, alloc, called.report.bytes()).expect(&rt, "memory");
-    assert_eq!(rt; printed.report.bytes(), FRAME_LINES.as_bytes());
+    let called = call(&rt, alloc, &mut desk, words.as_slice());
+    assert!(rt; called.status == Status::Done);
+    assert!(rt; called.report.bytes() == bytes_of(&rt, alloc, FRAMES).as_slice());
+    assert!(rt; called.events.len() == 6);
+    assert_printed(&rt, alloc, called.report.bytes(), FRAME_LINES);
 }
 
 const RUN_WORDS: [&str; 7] = [
@@ -344,6 +333,21 @@ const REPLAY_WORDS: [&str; 7] = [
     "--journal-in=j",
 ];
 
+// Whether a replay writes the frames that its run has written, and they can be printed.
+fn replays_frames<R: Threads + Wait + Sync + Abort>(
+    rt: &R,
+    alloc: Global,
+    desk: &mut MemDesk,
+) -> bool {
+    let run = call(rt, alloc, desk, RUN_WORDS.as_slice());
+    put(alloc, desk, "j", run.journal.bytes()).expect(rt, "memory");
+    let replay = call(rt, alloc, desk, REPLAY_WORDS.as_slice());
+    let printed = print(rt, alloc, run.report.bytes());
+    replay.status == Status::Done
+        && printed.status == Status::Done
+        && run.report.bytes() == replay.report.bytes()
+}
+
 // What a lost node has sent is in the log, where it is received.
 #[test]
 fn a_replay_writes_the_frames_of_its_run(rt: HostRuntime) {
@@ -352,13 +356,7 @@ fn a_replay_writes_the_frames_of_its_run(rt: HostRuntime) {
         let faults = lines_of(alloc, set, 2, 1).expect(&rt, "memory");
         let script = format!(in alloc; "{ALL_SCR}{faults}").expect(&rt, "memory");
         let mut desk = desk_of(alloc, STORM_TOP, STORM_SMP, script.as_str()).expect(&rt, "memory");
-        let run = call(&rt, alloc, &mut desk, RUN_WORDS.as_slice()).expect(&rt, "memory");
-        put(alloc, &mut desk, "j", run.journal.bytes()).expect(&rt, "memory");
-        let replay = call(&rt, alloc, &mut desk, REPLAY_WORDS.as_slice()).expect(&rt, "memory");
-        assert_eq!(rt; replay.status, Status::Done);
-        assert!(rt; run.report.bytes() == replay.report.bytes());
-        let printed = print(&rt, alloc, run.report.bytes()).expect(&rt, "memory");
-        assert_eq!(rt; printed.status, Status::Done);
+        assert!(rt; replays_frames(&rt, alloc, &mut desk), "at {set}");
     }
 }
 
@@ -396,10 +394,9 @@ fn a_lost_node_has_sent_frames(rt: HostRuntime) {
     let alloc = rt.alloc();
     let mut desk = desk_of(alloc, INNER_TOP, FOUR_SMP, LOST_SCR).expect(&rt, "memory");
     put(alloc, &mut desk, "j", LOST_JOURNAL.as_bytes()).expect(&rt, "memory");
-    let called = call(&rt, alloc, &mut desk, REPLAY_WORDS.as_slice()).expect(&rt, "memory");
-    assert_eq!(rt; called.status, Status::Done);
-    let printed = print(&rt, alloc, called.report.bytes()).expect(&rt, "memory");
-    assert_eq!(rt; printed.report.bytes(), LOST_LINES.as_bytes());
+    let called = call(&rt, alloc, &mut desk, REPLAY_WORDS.as_slice());
+    assert!(rt; called.status == Status::Done);
+    assert_printed(&rt, alloc, called.report.bytes(), LOST_LINES);
 }
 
 // A journal that ends early has the frames that it receives.
@@ -414,14 +411,14 @@ fn a_journal_that_ends_early_has_its_frames(rt: HostRuntime) {
         b"sample b:0 0 0\nrecv fe:0 b:0\n".as_slice(),
     )
     .expect(&rt, "memory");
-    let called = call(&rt, alloc, &mut desk, REPLAY_WORDS.as_slice()).expect(&rt, "memory");
+    let called = call(&rt, alloc, &mut desk, REPLAY_WORDS.as_slice());
     let next = Event::Sample {
         node: 1,
         stream: 0,
         wave: 0,
     };
-    assert_eq!(rt; called.status, Status::Unfinished(next));
-    let frames = bytes_of(alloc, FRAMES).expect(&rt, "memory");
-    assert_eq!(rt; called.report.bytes().len(), 46usize);
+    assert!(rt; called.status == Status::Unfinished(next));
+    let frames = bytes_of(&rt, alloc, FRAMES);
+    assert!(rt; called.report.bytes().len() == 46usize);
     assert!(rt; frames.as_slice().starts_with(called.report.bytes()));
 }

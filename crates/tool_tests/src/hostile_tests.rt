@@ -1,8 +1,9 @@
 //! Devices that fail at each of their calls, and journals that may not be replayed.
-use crate::calls::{Called, call, call_into};
-use stat_desk::MemSink;
+use crate::calls::{Called, assert_refused, call_into};
+use stat_desk::{MemDesk, MemSink};
 use stat_tool::{FileRole, Status, Target};
-use std::alloc::{AllocError, Global};
+use std::alloc::Global;
+use std::process::Abort;
 use std::sync::Wait;
 use std::thread::Threads;
 use worked_jobs::desks::{REPLAY_WORDS, desk_of, put};
@@ -19,17 +20,21 @@ const FILES: [(u64, FileRole); 4] = [
     (4, FileRole::Journal),
 ];
 
+fn failing_desk(rt: &impl Abort, alloc: Global, number: u64) -> MemDesk {
+    let mut desk = desk_of(alloc, INNER_TOP, FOUR_SMP, LOST_SCR).expect(rt, "memory");
+    put(alloc, &mut desk, "j", LOST_JOURNAL.as_bytes()).expect(rt, "memory");
+    desk.fail_at(number).expect(rt, "memory");
+    desk
+}
+
 // A replay whose desk fails at one of its reads stops there.
 #[test]
 fn the_desk_fails_at_each_file(rt: HostRuntime) {
     let alloc = rt.alloc();
     for (number, role) in FILES.as_slice() {
-        let mut desk = desk_of(alloc, INNER_TOP, FOUR_SMP, LOST_SCR).expect(&rt, "memory");
-        put(alloc, &mut desk, "j", LOST_JOURNAL.as_bytes()).expect(&rt, "memory");
-        desk.fail_at(*number).expect(&rt, "memory");
-        let called = call(&rt, alloc, &mut desk, REPLAY_WORDS.as_slice()).expect(&rt, "memory");
-        assert_eq!(rt; called.status, Status::DeskFault(*role));
-        assert!(rt; called.report.bytes().is_empty() && called.journal.bytes().is_empty());
+        let mut desk = failing_desk(&rt, alloc, *number);
+        let status = Status::DeskFault(*role);
+        assert_refused(&rt, alloc, &mut desk, REPLAY_WORDS.as_slice(), status);
     }
 }
 
@@ -45,24 +50,24 @@ recv a:0 fe:0
 ";
 
 // A sink that takes 16 bytes at a time, and that fails, or takes nothing, at a call.
-fn sink(alloc: Global, number: u64, stalls: bool) -> Result<MemSink, AllocError> {
-    let mut sink = MemSink::new(alloc, 16, 1_000)?;
+fn sink(rt: &impl Abort, alloc: Global, number: u64, stalls: bool) -> MemSink {
+    let mut sink = MemSink::new(alloc, 16, 1_000).expect(rt, "memory");
     if stalls {
-        sink.stall_at(number)?;
+        sink.stall_at(number).expect(rt, "memory");
     } else {
-        sink.fail_at(number)?;
+        sink.fail_at(number).expect(rt, "memory");
     }
-    Ok(sink)
+    sink
 }
 
 // A simulation of the small job with these sinks.
-fn simulate<R: Threads + Wait + Sync>(
+fn simulate<R: Threads + Wait + Sync + Abort>(
     rt: &R,
     alloc: Global,
     report: MemSink,
     journal: MemSink,
-) -> Result<Called, AllocError> {
-    let mut desk = desk_of(alloc, TWO_TOP, FOUR_SMP, ALL_SCR)?;
+) -> Called {
+    let mut desk = desk_of(alloc, TWO_TOP, FOUR_SMP, ALL_SCR).expect(rt, "memory");
     let words = ["sim", "--topology=t", "--samples=s", "--script=c"];
     call_into(rt, alloc, &mut desk, words.as_slice(), report, journal)
 }
@@ -73,54 +78,59 @@ fn holds_first(sink: &MemSink, number: usize, text: &str) -> bool {
         && text.as_bytes().starts_with(sink.bytes())
 }
 
+// A simulation whose report fails at this call ends there, with all events done and no journal.
+fn assert_report_fails<R: Threads + Wait + Sync + Abort>(
+    rt: &R,
+    alloc: Global,
+    number: usize,
+    stalls: bool,
+) {
+    let report = sink(rt, alloc, number as u64, stalls);
+    let journal = MemSink::new(alloc, 16, 1_000).expect(rt, "memory");
+    let called = simulate(rt, alloc, report, journal);
+    if number.saturating_sub(1).saturating_mul(16) < FOUR_REPORT.as_bytes().len() {
+        assert!(rt; called.status == Status::SinkFault(Target::Report));
+        assert!(rt; called.events.len() == 6 && called.journal.bytes().is_empty());
+        assert!(rt; holds_first(&called.report, number, FOUR_REPORT));
+    } else {
+        assert!(rt; called.status == Status::Done);
+    }
+}
+
 #[test]
 fn the_report_fails_at_each_call(rt: HostRuntime) {
-    let alloc = rt.alloc();
     for number in 1..40usize {
-        for stalls in [false, true] {
-            let report = sink(alloc, number as u64, stalls).expect(&rt, "memory");
-            let called = simulate(
-                &rt,
-                alloc,
-                report,
-                MemSink::new(alloc, 16, 1_000).expect(&rt, "memory"),
-            )
-            .expect(&rt, "memory");
-            if (number - 1) * 16 < FOUR_REPORT.as_bytes().len() {
-                assert_eq!(rt; called.status, Status::SinkFault(Target::Report));
-                assert_eq!(rt; called.events.len(), 6);
-                assert!(rt; holds_first(&called.report, number, FOUR_REPORT));
-                assert!(rt; called.journal.bytes().is_empty());
-            } else {
-                assert_eq!(rt; called.status, Status::Done);
-            }
-        }
+        assert_report_fails(&rt, rt.alloc(), number, false);
+        assert_report_fails(&rt, rt.alloc(), number, true);
+    }
+}
+
+// A simulation whose journal fails at this call ends there, with all events done and its report written.
+fn assert_journal_fails<R: Threads + Wait + Sync + Abort>(
+    rt: &R,
+    alloc: Global,
+    number: usize,
+    stalls: bool,
+) {
+    let report = MemSink::new(alloc, 16, 1_000).expect(rt, "memory");
+    let journal = sink(rt, alloc, number as u64, stalls);
+    let called = simulate(rt, alloc, report, journal);
+    assert!(rt; called.report.bytes() == FOUR_REPORT.as_bytes());
+    if number.saturating_sub(1).saturating_mul(16) < FOUR_JOURNAL.as_bytes().len() {
+        assert!(rt; called.status == Status::SinkFault(Target::Journal));
+        assert!(rt; called.events.len() == 6);
+        assert!(rt; holds_first(&called.journal, number, FOUR_JOURNAL));
+    } else {
+        assert!(rt; called.status == Status::Done);
+        assert!(rt; called.journal.bytes() == FOUR_JOURNAL.as_bytes());
     }
 }
 
 #[test]
 fn the_journal_fails_at_each_call(rt: HostRuntime) {
-    let alloc = rt.alloc();
     for number in 1..12usize {
-        for stalls in [false, true] {
-            let journal = sink(alloc, number as u64, stalls).expect(&rt, "memory");
-            let called = simulate(
-                &rt,
-                alloc,
-                MemSink::new(alloc, 16, 1_000).expect(&rt, "memory"),
-                journal,
-            )
-            .expect(&rt, "memory");
-            assert_eq!(rt; called.report.bytes(), FOUR_REPORT.as_bytes());
-            if (number - 1) * 16 < FOUR_JOURNAL.as_bytes().len() {
-                assert_eq!(rt; called.status, Status::SinkFault(Target::Journal));
-                assert_eq!(rt; called.events.len(), 6);
-                assert!(rt; holds_first(&called.journal, number, FOUR_JOURNAL));
-            } else {
-                assert_eq!(rt; called.status, Status::Done);
-                assert_eq!(rt; called.journal.bytes(), FOUR_JOURNAL.as_bytes());
-            }
-        }
+        assert_journal_fails(&rt, rt.alloc(), number, false);
+        assert_journal_fails(&rt, rt.alloc(), number, true);
     }
 }
 
@@ -145,8 +155,12 @@ fn refuses_journals(rt: HostRuntime) {
     for (journal, number) in REFUSED.as_slice() {
         let mut desk = desk_of(alloc, ONE_TOP, "daemon a:0 0\n", ALL_SCR).expect(&rt, "memory");
         put(alloc, &mut desk, "j", journal.as_bytes()).expect(&rt, "memory");
-        let called = call(&rt, alloc, &mut desk, REPLAY_WORDS.as_slice()).expect(&rt, "memory");
-        assert_eq!(rt; called.status, Status::BadJournal(*number));
-        assert!(rt; called.report.bytes().is_empty() && called.journal.bytes().is_empty());
+        assert_refused(
+            &rt,
+            alloc,
+            &mut desk,
+            REPLAY_WORDS.as_slice(),
+            Status::BadJournal(*number),
+        );
     }
 }

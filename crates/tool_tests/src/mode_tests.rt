@@ -1,9 +1,10 @@
 //! Simulations, replays, direct merges, generated jobs, views and commands: worked jobs through whole calls.
-use crate::calls::call;
+use crate::calls::{assert_report, assert_written, call};
 use overlay_event::Event;
 use stat_desk::MemDesk;
 use stat_tool::Status;
-use std::alloc::{AllocError, Global};
+use std::alloc::Global;
+use std::process::Abort;
 use worked_jobs::desks::{REPLAY_WORDS, WORDS, desk_of, put};
 use worked_jobs::jobs::{
     ALL_SCR, DONT_WAIT_SCR, FOUR_RELEASE, FOUR_SMP, INNER_TOP, LOST_JOURNAL, LOST_SCR, ONE_TOP,
@@ -219,29 +220,29 @@ recv b:0 fe:0
 ];
 
 // The report of a replay that ends in this way: none where the journal is refused.
-fn report_of(alloc: Global, job: &Replayed) -> Result<String, AllocError> {
+fn report_of(rt: &impl Abort, alloc: Global, job: &Replayed) -> String {
     let (releases, faults) = (job.releases, job.faults);
     match job.status {
-        Status::BadJournal(_) => Ok(String::new(alloc)),
-        _ => format!(in alloc; "{releases}{faults}end\n"),
+        Status::BadJournal(_) => String::new(alloc),
+        _ => format!(in alloc; "{releases}{faults}end\n").expect(rt, "memory"),
     }
 }
 
-fn desk_with_journal(alloc: Global, job: &Replayed) -> Result<MemDesk, AllocError> {
-    let mut desk = desk_of(alloc, job.topology, job.samples, job.script)?;
-    put(alloc, &mut desk, "j", job.journal.as_bytes())?;
-    Ok(desk)
+fn desk_with_journal(rt: &impl Abort, alloc: Global, job: &Replayed) -> MemDesk {
+    let mut desk = desk_of(alloc, job.topology, job.samples, job.script).expect(rt, "memory");
+    put(alloc, &mut desk, "j", job.journal.as_bytes()).expect(rt, "memory");
+    desk
 }
 
 #[test]
 fn replays_journals(rt: HostRuntime) {
     let alloc = rt.alloc();
     for job in REPLAYED.as_slice() {
-        let mut desk = desk_with_journal(alloc, job).expect(&rt, "memory");
-        let called = call(&rt, alloc, &mut desk, REPLAY_WORDS.as_slice()).expect(&rt, "memory");
-        let report = report_of(alloc, job).expect(&rt, "memory");
-        assert_eq!(rt; called.status, job.status);
-        assert_eq!(rt; called.report.bytes(), report.as_bytes());
+        let mut desk = desk_with_journal(&rt, alloc, job);
+        let called = call(&rt, alloc, &mut desk, REPLAY_WORDS.as_slice());
+        let report = report_of(&rt, alloc, job);
+        assert!(rt; called.status == job.status);
+        assert!(rt; called.report.bytes() == report.as_bytes());
         assert!(rt; called.journal.bytes().is_empty());
     }
 }
@@ -353,10 +354,13 @@ fn simulates_by_a_seed(rt: HostRuntime) {
             first,
             second,
         ];
-        let called = call(&rt, alloc, &mut desk, words.as_slice()).expect(&rt, "memory");
-        assert_eq!(rt; called.status, Status::Done);
-        assert_eq!(rt; called.report.bytes(), job.report.as_bytes());
-        assert_eq!(rt; called.journal.bytes(), job.journal.as_bytes());
+        assert_written(
+            &rt,
+            alloc,
+            &mut desk,
+            words.as_slice(),
+            [job.report, job.journal],
+        );
     }
 }
 
@@ -366,11 +370,9 @@ fn replays_what_was_run(rt: HostRuntime) {
     let alloc = rt.alloc();
     for job in WORKED.as_slice() {
         let mut desk = desk_of(alloc, job.topology, job.samples, job.script).expect(&rt, "memory");
-        let run = call(&rt, alloc, &mut desk, WORDS.as_slice()).expect(&rt, "memory");
+        let run = call(&rt, alloc, &mut desk, WORDS.as_slice());
         put(alloc, &mut desk, "j", run.journal.bytes()).expect(&rt, "memory");
-        let replay = call(&rt, alloc, &mut desk, REPLAY_WORDS.as_slice()).expect(&rt, "memory");
-        assert_eq!(rt; replay.status, Status::Done);
-        assert_eq!(rt; replay.report.bytes(), job.report.as_bytes());
+        assert_report(&rt, alloc, &mut desk, REPLAY_WORDS.as_slice(), job.report);
     }
 }
 
@@ -392,11 +394,11 @@ fn merges_directly(rt: HostRuntime) {
     let alloc = rt.alloc();
     for job in WORKED.as_slice() {
         let mut desk = desk_of(alloc, job.topology, job.samples, job.script).expect(&rt, "memory");
-        let called = call(&rt, alloc, &mut desk, DIRECT_WORDS.as_slice()).expect(&rt, "memory");
-        assert_eq!(rt; called.status, Status::Done);
+        let called = call(&rt, alloc, &mut desk, DIRECT_WORDS.as_slice());
+        assert!(rt; called.status == Status::Done);
         assert!(rt; called.events.is_empty() && called.journal.bytes().is_empty());
         if job.script != DONT_WAIT_SCR {
-            assert_eq!(rt; called.report.bytes(), job.report.as_bytes());
+            assert!(rt; called.report.bytes() == job.report.as_bytes());
         }
     }
 }
@@ -407,10 +409,9 @@ fn merges_lost_daemons_directly(rt: HostRuntime) {
     let alloc = rt.alloc();
     let script = "stream 0 wait-for-all waves 1 samples 1 on all\nlose b:0 after 0 keep 0\n";
     let mut desk = desk_of(alloc, TWO_TOP, FOUR_SMP, script).expect(&rt, "memory");
-    let called = call(&rt, alloc, &mut desk, DIRECT_WORDS.as_slice()).expect(&rt, "memory");
     let report = format!(in alloc; "{FOUR_RELEASE}end\n").expect(&rt, "memory");
-    assert_eq!(rt; called.status, Status::Done);
-    assert_eq!(rt; called.report.bytes(), report.as_bytes());
+    let words = DIRECT_WORDS.as_slice();
+    assert_written(&rt, alloc, &mut desk, words, [report.as_str(), ""]);
 }
 
 // ---- generated jobs
@@ -444,10 +445,7 @@ fn sums_generated_jobs_up(rt: HostRuntime) {
     let alloc = rt.alloc();
     let mut desk = MemDesk::new(alloc);
     for (words, summary) in GENERATED.as_slice() {
-        let called = call(&rt, alloc, &mut desk, words.as_slice()).expect(&rt, "memory");
-        assert_eq!(rt; called.status, Status::Done);
-        assert_eq!(rt; called.report.bytes(), summary.as_bytes());
-        assert!(rt; called.journal.bytes().is_empty());
+        assert_written(&rt, alloc, &mut desk, words.as_slice(), [summary, ""]);
     }
 }
 
@@ -536,6 +534,7 @@ end
 #[test]
 fn views_the_solver(rt: HostRuntime) {
     let alloc = rt.alloc();
+    let mut desk = desk_of(alloc, TWO_INNER_TOP, SOLVER_SMP, ALL_SCR).expect(&rt, "memory");
     for view in VIEWED.as_slice() {
         let (by, argument, rest) = (view.by, view.argument, view.report);
         let words = [
@@ -546,14 +545,11 @@ fn views_the_solver(rt: HostRuntime) {
             by,
             argument,
         ];
-        let mut desk = desk_of(alloc, TWO_INNER_TOP, SOLVER_SMP, ALL_SCR).expect(&rt, "memory");
-        let called = call(&rt, alloc, &mut desk, words.as_slice()).expect(&rt, "memory");
         let report = format!(in alloc;
             "stream 0 wave 0 release 1 final\ncovered 64:[0-63]\n{rest}"
         ).expect(&rt, "memory");
-        assert_eq!(rt; called.status, Status::Done);
-        assert_eq!(rt; called.report.bytes(), report.as_bytes());
-        assert!(rt; called.journal.bytes().is_empty());
+        let written = [report.as_str(), ""];
+        assert_written(&rt, alloc, &mut desk, words.as_slice(), written);
     }
 }
 
@@ -575,9 +571,7 @@ const JSON_REPORT: &str =
 fn views_as_json(rt: HostRuntime) {
     let alloc = rt.alloc();
     let mut desk = desk_of(alloc, TWO_INNER_TOP, SOLVER_SMP, ALL_SCR).expect(&rt, "memory");
-    let called = call(&rt, alloc, &mut desk, JSON_VIEW.as_slice()).expect(&rt, "memory");
-    assert_eq!(rt; called.status, Status::Done);
-    assert_eq!(rt; called.report.bytes(), JSON_REPORT.as_bytes());
+    assert_report(&rt, alloc, &mut desk, JSON_VIEW.as_slice(), JSON_REPORT);
 }
 
 // ---- commands
@@ -617,10 +611,10 @@ fn sends_commands(rt: HostRuntime) {
         let [mode, topology, samples, script] = CAST_WORDS;
         let words = [mode, topology, samples, script, job.commands];
         let mut desk = desk_of(alloc, job.topology, FOUR_SMP, job.script).expect(&rt, "memory");
-        let called = call(&rt, alloc, &mut desk, words.as_slice()).expect(&rt, "memory");
-        assert_eq!(rt; called.status, Status::Done);
-        assert_eq!(rt; called.report.bytes(), job.report.as_bytes());
-        assert_eq!(rt; called.journal.bytes(), job.journal.as_bytes());
+        let called = call(&rt, alloc, &mut desk, words.as_slice());
+        assert!(rt; called.status == Status::Done);
+        assert!(rt; called.report.bytes() == job.report.as_bytes());
+        assert!(rt; called.journal.bytes() == job.journal.as_bytes());
         assert!(rt; called.events.is_empty());
     }
 }
@@ -642,9 +636,7 @@ fn commands_reach_orphans(rt: HostRuntime) {
             "--commands=2",
             option.as_str(),
         ];
-        let called = call(&rt, alloc, &mut desk, words.as_slice()).expect(&rt, "memory");
-        assert_eq!(rt; called.status, Status::Done);
-        assert_eq!(rt; called.report.bytes(), BOTH_OBEY.as_bytes());
+        assert_report(&rt, alloc, &mut desk, words.as_slice(), BOTH_OBEY);
     }
 }
 

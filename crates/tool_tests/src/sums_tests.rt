@@ -2,7 +2,7 @@
 ghost use Rattle.std.specs.Prelude.{◌≡◌, [], false, OnOk};
 ghost use Rattle.overlay_net.specs.Nets.{AllHome, IsReachedBy};
 
-use crate::calls::{Called, call, plan_of};
+use crate::calls::{Called, assert_refused, call, plan_of};
 use front_end::{numbered_releases_are_distinct, sums_text};
 use journal_text::read_journal;
 use overlay_event::Journal;
@@ -13,6 +13,7 @@ use stat_plan::Plan;
 use stat_tool::{FileRole, Status};
 use stat_words::{Opt, WordFault};
 use std::alloc::{AllocError, Global};
+use std::process::Abort;
 use std::sync::Wait;
 use std::thread::Threads;
 use text_lines::{Quantity, Reason};
@@ -25,17 +26,17 @@ const VALUES: &str = "value 0 5\nvalue 1-2 -3\n";
 const TWO_WAVES_SCR: &str = "stream 0 wait-for-all waves 2 samples 2 on all\n";
 
 // What a call says of a job of four ranks, with these values and these words after those of the files.
-fn called<R: Threads + Wait + Sync>(
+fn called<R: Threads + Wait + Sync + Abort>(
     rt: &R,
     alloc: Global,
     job: [&str; 2],
     values: &str,
     options: [&str; 2],
-) -> Result<Called, AllocError> {
+) -> Called {
     let [topology, script] = job;
     let [fold, other] = options;
-    let mut desk = desk_of(alloc, topology, FOUR_SMP, script)?;
-    put(alloc, &mut desk, "v", values.as_bytes())?;
+    let mut desk = desk_of(alloc, topology, FOUR_SMP, script).expect(rt, "memory");
+    put(alloc, &mut desk, "v", values.as_bytes()).expect(rt, "memory");
     let words = [
         "sums",
         "--topology=t",
@@ -61,57 +62,72 @@ fn folds_the_numbers(rt: HostRuntime) {
     let alloc = rt.alloc();
     for (fold, some, none) in FOLDS.as_slice() {
         for (values, value) in [(VALUES, some), ("", none)].as_slice() {
-            let run = called(&rt, alloc, [TWO_TOP, ALL_SCR], values, [fold, "--seed=0"]).expect(
-                &rt, "memory",
-            );
+            let run = called(&rt, alloc, [TWO_TOP, ALL_SCR], values, [fold, "--seed=0"]);
             let report = format!(in alloc;
                 "stream 0 wave 0 release 1 final covered 4:[0-3] {value}\nend\n"
             ).expect(&rt, "memory");
-            assert_eq!(rt; run.status, Status::Done);
-            assert_eq!(rt; run.report.bytes(), report.as_bytes());
+            assert!(rt; run.status == Status::Done);
+            assert!(rt; run.report.bytes() == report.as_bytes());
             assert!(rt; run.journal.bytes().is_empty());
-            assert_eq!(rt; run.events.len(), 6);
+            assert!(rt; run.events.len() == 6);
         }
     }
 }
 
-// Each wave has its line; its parts are sampled at the wave's first time.
-#[test]
-fn folds_each_wave(rt: HostRuntime) {
-    let alloc = rt.alloc();
-    let run = called(
-        &rt,
-        alloc,
-        [TWO_TOP, TWO_WAVES_SCR],
-        VALUES,
-        ["--fold=sum", "--seed=3"],
-    )
-    .expect(&rt, "memory");
-    let report = "stream 0 wave 0 release 1 final covered 4:[0-3] sum -1
-stream 0 wave 1 release 1 final covered 4:[0-3] sum -1
-end
-";
-    assert_eq!(rt; run.status, Status::Done);
-    assert_eq!(rt; run.report.bytes(), report.as_bytes());
+// A job's topology and script, its values, the words after those of the files, and what is printed.
+struct Summed {
+    job: [&'static str; 2],
+    values: &'static str,
+    options: [&'static str; 2],
+    report: &'static str,
 }
 
-// Two daemons with the same part: it counts for both.
+const SUMMED: [Summed; 5] = [
+    // Each wave has its line; its parts are sampled at the wave's first time.
+    Summed {
+        job: [TWO_TOP, TWO_WAVES_SCR],
+        values: VALUES,
+        options: ["--fold=sum", "--seed=3"],
+        report: "stream 0 wave 0 release 1 final covered 4:[0-3] sum -1
+stream 0 wave 1 release 1 final covered 4:[0-3] sum -1
+end
+",
+    },
+    // Two daemons with the same part: it counts for both.
+    Summed {
+        job: [TWO_TOP, ALL_SCR],
+        values: "value 0-3 2\n",
+        options: ["--fold=sum", "--seed=0"],
+        report: "stream 0 wave 0 release 1 final covered 4:[0-3] sum 8\nend\n",
+    },
+    // JSON.
+    Summed {
+        job: [TWO_TOP, ALL_SCR],
+        values: VALUES,
+        options: ["--fold=min", "--report=json"],
+        report: "{\"releases\":[{\"covered\":\"4:[0-3]\",\"fold\":\"min\",\"kind\":\"final\",\"number\":1,\"stream\":0,\"value\":-3,\"wave\":0}]}\n",
+    },
+    Summed {
+        job: [TWO_TOP, ALL_SCR],
+        values: VALUES,
+        options: ["--fold=max", "--report=json"],
+        report: "{\"releases\":[{\"covered\":\"4:[0-3]\",\"fold\":\"max\",\"kind\":\"final\",\"number\":1,\"stream\":0,\"value\":5,\"wave\":0}]}\n",
+    },
+    Summed {
+        job: [TWO_TOP, ALL_SCR],
+        values: "",
+        options: ["--fold=max", "--report=json"],
+        report: "{\"releases\":[{\"covered\":\"4:[0-3]\",\"fold\":\"max\",\"kind\":\"final\",\"number\":1,\"stream\":0,\"value\":null,\"wave\":0}]}\n",
+    },
+];
+
 #[test]
-fn counts_equal_parts_twice(rt: HostRuntime) {
-    let alloc = rt.alloc();
-    let values = "value 0-3 2\n";
-    let run = called(
-        &rt,
-        alloc,
-        [TWO_TOP, ALL_SCR],
-        values,
-        ["--fold=sum", "--seed=0"],
-    )
-    .expect(&rt, "memory");
-    assert_eq!(rt;
-        run.report.bytes(),
-        "stream 0 wave 0 release 1 final covered 4:[0-3] sum 8\nend\n".as_bytes()
-    );
+fn folds_waves_and_equal_parts_and_as_json(rt: HostRuntime) {
+    for case in SUMMED.as_slice() {
+        let run = called(&rt, rt.alloc(), case.job, case.values, case.options);
+        assert!(rt; run.status == Status::Done);
+        assert!(rt; run.report.bytes() == case.report.as_bytes());
+    }
 }
 
 // An inner node is lost and its daemons send their parts again: each counts once, whatever the seed.
@@ -126,38 +142,12 @@ fn counts_no_part_twice(rt: HostRuntime) {
             [INNER_TOP, LOST_SCR],
             VALUES,
             ["--fold=sum", option.as_str()],
-        )
-        .expect(&rt, "memory");
-        assert_eq!(rt; run.status, Status::Done);
-        assert_eq!(rt;
-            run.report.bytes(),
-            "stream 0 wave 0 release 1 final covered 4:[0-3] sum -1\nend\n".as_bytes()
         );
-    }
-}
-
-#[test]
-fn folds_as_json(rt: HostRuntime) {
-    let alloc = rt.alloc();
-    let rows = [
-        ("--fold=min", VALUES, "min", "-3"),
-        ("--fold=max", VALUES, "max", "5"),
-        ("--fold=max", "", "max", "null"),
-    ];
-    for (fold, values, word, value) in rows.as_slice() {
-        let run = called(
-            &rt,
-            alloc,
-            [TWO_TOP, ALL_SCR],
-            values,
-            [fold, "--report=json"],
-        )
-        .expect(&rt, "memory");
-        let report = format!(in alloc;
-            "{{\"releases\":[{{\"covered\":\"4:[0-3]\",\"fold\":\"{word}\",\"kind\":\"final\",\"number\":1,\"stream\":0,\"value\":{value},\"wave\":0}}]}}\n"
-        ).expect(&rt, "memory");
-        assert_eq!(rt; run.status, Status::Done);
-        assert_eq!(rt; run.report.bytes(), report.as_bytes());
+        assert!(rt; run.status == Status::Done);
+        assert!(rt;
+            run.report.bytes()
+                == "stream 0 wave 0 release 1 final covered 4:[0-3] sum -1\nend\n".as_bytes()
+        );
     }
 }
 
@@ -170,68 +160,61 @@ const REFUSED: [(&str, u64, Reason); 5] = [
     ("value 0\n", 1, Reason::BadDirective),
 ];
 
+const SUM_OPTIONS: [&str; 2] = ["--fold=sum", "--seed=0"];
+
+// Values are refused with this status, and nothing is done or written.
+fn assert_bad<R: Threads + Wait + Sync + Abort>(
+    rt: &R,
+    alloc: Global,
+    values: &str,
+    status: Status,
+) {
+    let run = called(rt, alloc, [TWO_TOP, ALL_SCR], values, SUM_OPTIONS);
+    assert!(rt; run.status == status);
+    assert!(rt; run.report.bytes().is_empty() && run.events.is_empty());
+}
+
 #[test]
 fn refuses_values(rt: HostRuntime) {
-    let alloc = rt.alloc();
     let file = FileRole::Values;
     for (values, line, reason) in REFUSED.as_slice() {
         let (line, reason) = (*line, *reason);
-        let run = called(
+        assert_bad(
             &rt,
-            alloc,
-            [TWO_TOP, ALL_SCR],
+            rt.alloc(),
             values,
-            ["--fold=sum", "--seed=0"],
-        )
-        .expect(&rt, "memory");
-        assert_eq!(rt; run.status, Status::BadInput { file, line, reason });
-        assert!(rt; run.report.bytes().is_empty() && run.events.is_empty());
+            Status::BadInput { file, line, reason },
+        );
     }
-    let values = "value 1048576 1\n";
-    let run = called(
-        &rt,
-        alloc,
-        [TWO_TOP, ALL_SCR],
-        values,
-        ["--fold=sum", "--seed=0"],
-    )
-    .expect(&rt, "memory");
-    let (line, what, limit) = (1, Quantity::Ranks, 1_048_576);
-    assert_eq!(rt;
-        run.status,
-        Status::OverLimit {
-            file,
-            line,
-            what,
-            limit
-        }
-    );
+    let status = Status::OverLimit {
+        file,
+        line: 1,
+        what: Quantity::Ranks,
+        limit: 1_048_576,
+    };
+    assert_bad(&rt, rt.alloc(), "value 1048576 1\n", status);
 }
+
+const NO_FOLD: [&str; 2] = ["--fold=mean", "--seed=0"];
+
+const SUM_WORDS: [&str; 6] = [
+    "sums",
+    "--topology=t",
+    "--samples=s",
+    "--script=c",
+    "--values=v",
+    "--fold=sum",
+];
 
 // The file of the values is missing; a fold that is none.
 #[test]
 fn refuses_calls(rt: HostRuntime) {
     let alloc = rt.alloc();
     let mut desk = desk_of(alloc, TWO_TOP, FOUR_SMP, ALL_SCR).expect(&rt, "memory");
-    let words = [
-        "sums",
-        "--topology=t",
-        "--samples=s",
-        "--script=c",
-        "--values=v",
-        "--fold=sum",
-    ];
-    let run = call(&rt, alloc, &mut desk, words.as_slice()).expect(&rt, "memory");
-    assert_eq!(rt; run.status, Status::DeskFault(FileRole::Values));
-    let run = called(
-        &rt,
-        alloc,
-        [TWO_TOP, ALL_SCR],
-        VALUES,
-        ["--fold=mean", "--seed=0"],
-    )
-    .expect(&rt, "memory");
-    assert_eq!(rt; run.status, Status::BadWords(WordFault::Value(Opt::Fold)));
+    let status = Status::DeskFault(FileRole::Values);
+    assert_refused(&rt, alloc, &mut desk, SUM_WORDS.as_slice(), status);
+    let run = called(&rt, alloc, [TWO_TOP, ALL_SCR], VALUES, NO_FOLD);
+    assert!(rt; run.status == Status::BadWords(WordFault::Value(Opt::Fold)));
 }
 
 // ---- a given journal
@@ -265,8 +248,8 @@ fn sums_after<T: PrefixTree>(
     numbered_releases_are_distinct();
     sums_are_exact();
     let parts = part_plan(alloc, plan, values, Fold::Sum)?;
-    let mut net: Net<'_, T> = Net::new(alloc, &parts)?;
     let read = read_journal(alloc, &parts, journal.as_bytes())?;
+    let mut net: Net<'_, T> = Net::new(alloc, &parts)?;
     match redo(&mut net, &read.events) {
         Ok(()) => {}
         Err(_) => return Ok(None),
@@ -284,5 +267,5 @@ fn folds_what_a_journal_releases(rt: HostRuntime) {
     let text = sums_after::<OwnedTree>(alloc, plan, &values, LOST_JOURNAL).expect(&rt, "memory");
     let text = text.expect(&rt, "events that may come");
     let report = "stream 0 wave 0 release 1 final covered 4:[0-3] sum -1\nend\n";
-    assert_eq!(rt; text.as_slice(), report.as_bytes());
+    assert!(rt; text.as_slice() == report.as_bytes());
 }

@@ -42,7 +42,7 @@ fn assert_text<T: PrefixTree>(
     want: &[u8],
 ) -> Result<(), TreeError> {
     let text = rows_text(alloc, tree)?;
-    assert_eq!(rt; text.as_slice(), want);
+    assert!(rt; text.as_slice() == want);
     Ok(())
 }
 

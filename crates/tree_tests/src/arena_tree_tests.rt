@@ -1,8 +1,9 @@
 // Both trees on the same series of calls, and trees at the limits.
+use crate::prefix_tree_tests::refuses_when_full;
 use crate::trees::{add, assert_rows, cover, of_paths, rows_text};
 use arena_tree::ArenaTree;
 use call_path::FRAME_LIMIT;
-use prefix_tree::{OwnedTree, PrefixTree, TreeError};
+use prefix_tree::{OwnedTree, PrefixTree};
 use std::alloc::{AllocError, Global};
 use std::process::Abort;
 
@@ -27,23 +28,36 @@ fn assert_merged<T: PrefixTree>(
     assert_rows(rt, alloc, &copy, want);
 }
 
-// A run is cut by a path that ends in it, by one that leaves it, and by one that goes on below it.
-#[test]
-fn cuts_a_run_of_rows(rt: HostRuntime) {
-    let others = ["a;b", "a;b;c;x", "a;b;c;d;e"];
-    let want = b"0 / 2:[0-1] 0:[]\n1 a 2:[0-1] 0:[]\n2 b 2:[0-1] 1:[1]\n3 c 2:[0-1] 0:[]\n\
-        4 d 2:[0-1] 1:[0]\n5 e 1:[1] 1:[1]\n4 x 1:[1] 1:[1]\n";
-    assert_merged::<ArenaTree>(&rt, rt.alloc(), &["a;b;c;d"], &others, want);
+// The paths of rank 0 and of rank 1, and the rows of both.
+struct Merge {
+    own: &'static [&'static str],
+    others: &'static [&'static str],
+    want: &'static [u8],
 }
 
-// New rows go before, between and behind the rows that stand, and one stands already.
+const MERGES: [Merge; 2] = [
+    // A run is cut by a path that ends in it, by one that leaves it, and by one that goes on below it.
+    Merge {
+        own: &["a;b;c;d"],
+        others: &["a;b", "a;b;c;x", "a;b;c;d;e"],
+        want: b"0 / 2:[0-1] 0:[]\n1 a 2:[0-1] 0:[]\n2 b 2:[0-1] 1:[1]\n3 c 2:[0-1] 0:[]\n\
+            4 d 2:[0-1] 1:[0]\n5 e 1:[1] 1:[1]\n4 x 1:[1] 1:[1]\n",
+    },
+    // New rows go before, between and behind the rows that stand, and one stands already.
+    Merge {
+        own: &["e", "b", "d"],
+        others: &["f", "d;x", "c;y;z", "a"],
+        want: b"0 / 2:[0-1] 0:[]\n1 a 1:[1] 1:[1]\n1 b 1:[0] 1:[0]\n\
+            1 c 1:[1] 0:[]\n2 y 1:[1] 0:[]\n3 z 1:[1] 1:[1]\n\
+            1 d 2:[0-1] 1:[0]\n2 x 1:[1] 1:[1]\n1 e 1:[0] 1:[0]\n1 f 1:[1] 1:[1]\n",
+    },
+];
+
 #[test]
-fn puts_rows_between_siblings(rt: HostRuntime) {
-    let others = ["f", "d;x", "c;y;z", "a"];
-    let want = b"0 / 2:[0-1] 0:[]\n1 a 1:[1] 1:[1]\n1 b 1:[0] 1:[0]\n\
-        1 c 1:[1] 0:[]\n2 y 1:[1] 0:[]\n3 z 1:[1] 1:[1]\n\
-        1 d 2:[0-1] 1:[0]\n2 x 1:[1] 1:[1]\n1 e 1:[0] 1:[0]\n1 f 1:[1] 1:[1]\n";
-    assert_merged::<ArenaTree>(&rt, rt.alloc(), &["e", "b", "d"], &others, want);
+fn cuts_runs_and_puts_rows_between_siblings(rt: HostRuntime) {
+    for merge in &MERGES {
+        assert_merged::<ArenaTree>(&rt, rt.alloc(), merge.own, merge.others, merge.want);
+    }
 }
 
 // A number after another, of no pattern.
@@ -111,32 +125,9 @@ fn both_trees_have_the_same_rows(rt: HostRuntime) {
     }
 }
 
-// A tree with 2,048 rows below the root, all of them siblings, last one first.
-fn full<T: PrefixTree>(rt: &impl Abort, alloc: Global) -> T {
-    let mut tree = T::empty(alloc);
-    cover(alloc, &mut tree, &[0, 1]).expect(rt, "memory");
-    for i in 0..2_048u32 {
-        let text = format!(in alloc; "f{:04}", 2_047u32.wrapping_sub(i)).expect(rt, "memory");
-        add(rt, alloc, &mut tree, &[1], &text).expect(rt, "a path");
-    }
-    tree
-}
-
-// A path and a tree that would make a row more are refused, and the rows stay.
-fn assert_refuses<T: PrefixTree>(rt: &impl Abort, alloc: Global, tree: &mut T) {
-    let before = rows_text(alloc, tree).expect(rt, "memory");
-    assert!(rt; add(rt, alloc, tree, &[1], "g") == Err(TreeError::TooManyPrefixes));
-    let other = of_paths::<T>(rt, alloc, &[0], &["f0000;g"]).expect(rt, "memory");
-    assert!(rt; tree.merge(&other) == Err(TreeError::TooManyPrefixes));
-    assert_rows(rt, alloc, tree, &before);
-}
-
 #[test]
 fn refuses_a_row_more_than_the_limit(rt: HostRuntime) {
-    let mut tree = full::<ArenaTree>(&rt, rt.alloc());
-    assert_refuses(&rt, rt.alloc(), &mut tree);
-    add(&rt, rt.alloc(), &mut tree, &[0], "f0000").expect(&rt, "a path that stands");
-    assert!(&rt; tree.rows() == 2_049);
+    refuses_when_full::<ArenaTree>(&rt, rt.alloc(), true);
 }
 
 // Paths of even or of odd numbers, 1,000 of each.

@@ -1,7 +1,6 @@
 // Trees against plain loops, and counts whose sum is greater than any of them.
 use count_tree::CountTree;
 use std::process::Abort;
-use std::test::Fail;
 
 // Places and the counts that they get, in order. A place may come again.
 const SETS: [(u32, u32); 8] = [
@@ -21,19 +20,19 @@ fn assert_counts(rt: &impl Abort, tree: &CountTree, counts: &[u32]) {
     let mut i = 0u64;
     for n in 0..tree.len() {
         let count = counts[n as usize];
-        assert_eq!(rt; tree.count(n), count);
+        assert!(rt; tree.count(n) == count);
         for j in 0..count {
             assert!(rt; tree.find(i) == Some((n, j as u64)));
             i = i.wrapping_add(1);
         }
     }
-    assert_eq!(rt; tree.total(), i);
+    assert!(rt; tree.total() == i);
     assert!(rt; tree.find(i).is_none());
 }
 
 #[test]
-fn finds_as_plain_loops_do(rt: HostRuntime) -> Result<(), Fail> {
-    let mut tree = CountTree::new(rt.alloc(), 5)?;
+fn finds_as_plain_loops_do(rt: HostRuntime) {
+    let mut tree = CountTree::new(rt.alloc(), 5).expect(&rt, "memory");
     let mut counts = [0; 5];
     assert_counts(&rt, &tree, &counts);
     for (place, count) in &SETS {
@@ -42,35 +41,27 @@ fn finds_as_plain_loops_do(rt: HostRuntime) -> Result<(), Fail> {
         counts[*place as usize] = *count;
         assert_counts(&rt, &tree, &counts);
     }
-    Ok(())
 }
 
 #[test]
-fn has_nothing_without_places(rt: HostRuntime) -> Result<(), Fail> {
-    let tree = CountTree::new(rt.alloc(), 0)?;
-    assert_counts(&rt, &tree, &[]);
-    Ok(())
-}
-
-#[test]
-fn has_one_place(rt: HostRuntime) -> Result<(), Fail> {
-    let mut tree = CountTree::new(rt.alloc(), 1)?;
+fn has_no_place_or_one(rt: HostRuntime) {
+    let none = CountTree::new(rt.alloc(), 0).expect(&rt, "memory");
+    assert_counts(&rt, &none, &[]);
+    let mut tree = CountTree::new(rt.alloc(), 1).expect(&rt, "memory");
     assert_counts(&rt, &tree, &[0]);
     tree.set(0, 3);
     assert_counts(&rt, &tree, &[3]);
-    Ok(())
 }
 
 #[test]
-fn takes_the_greatest_counts(rt: HostRuntime) -> Result<(), Fail> {
-    let mut tree = CountTree::new(rt.alloc(), 3)?;
+fn takes_the_greatest_counts(rt: HostRuntime) {
+    let mut tree = CountTree::new(rt.alloc(), 3).expect(&rt, "memory");
     tree.set(0, u32::MAX);
     tree.set(1, u32::MAX);
     tree.set(2, u32::MAX);
-    assert_eq!(rt; tree.total(), 12_884_901_885);
+    assert!(rt; tree.total() == 12_884_901_885);
     assert!(rt; tree.find(4_294_967_294) == Some((0, 4_294_967_294)));
     assert!(rt; tree.find(4_294_967_295) == Some((1, 0)));
     assert!(rt; tree.find(12_884_901_884) == Some((2, 4_294_967_294)));
     assert!(rt; tree.find(12_884_901_885).is_none());
-    Ok(())
 }

@@ -3,7 +3,6 @@ use node_arena::{Arena, Place};
 use std::cell::Cell;
 use std::marker::Send;
 use std::process::Abort;
-use std::test::Fail;
 
 // More than three chunks of values.
 const MANY: u32 = 200;
@@ -29,9 +28,9 @@ impl Drop for Counted<'_> {
 }
 
 #[test]
-fn puts_give_places(rt: HostRuntime) -> Result<(), Fail> {
+fn puts_give_places(rt: HostRuntime) {
     let mut arena = Arena::new(rt.alloc());
-    arena.reserve(2)?;
+    arena.reserve(2).expect(&rt, "memory");
     assert!(rt; arena.put(5u64) == 0 && arena.put(6) == 1);
     assert!(rt; *arena.get(0) == 5 && *arena.get(1) == 6);
     assert!(rt; arena.len() == 2 && arena.spare() == 0);
@@ -40,7 +39,6 @@ fn puts_give_places(rt: HostRuntime) -> Result<(), Fail> {
     arena.clear();
     assert!(rt; arena.len() == 0 && arena.spare() == 2);
     drop(sent_arena(arena));
-    Ok(())
 }
 
 fn triple(place: Place) -> u64 {
@@ -49,21 +47,20 @@ fn triple(place: Place) -> u64 {
 
 // Where memory runs out, the arena has the values that it had, and no spare.
 #[test]
-fn keeps_values_over_chunks(rt: HostRuntime) -> Result<(), Fail> {
+fn keeps_values_over_chunks(rt: HostRuntime) {
     let mut arena: Arena<u64> = Arena::new(rt.alloc());
     for i in 0..MANY {
-        assert_eq!(rt; arena.len(), i);
+        assert!(rt; arena.len() == i);
         let made = arena.reserve(1).is_ok();
-        assert_eq!(rt; arena.spare(), u32::from(made));
+        assert!(rt; arena.spare() == u32::from(made));
         if arena.spare() == 0 {
             break;
         }
-        assert_eq!(rt; arena.put(triple(i)), i);
+        assert!(rt; arena.put(triple(i)) == i);
     }
     for i in 0..arena.len() {
-        assert_eq!(rt; *arena.get(i), triple(i));
+        assert!(rt; *arena.get(i) == triple(i));
     }
-    Ok(())
 }
 
 fn put_all<'a>(rt: &impl Abort, arena: &mut Arena<Counted<'a>>, counts: &'a [Cell<u32>]) {
@@ -75,18 +72,18 @@ fn put_all<'a>(rt: &impl Abort, arena: &mut Arena<Counted<'a>>, counts: &'a [Cel
 
 fn assert_counts(rt: &impl Abort, counts: &[Cell<u32>], want: u32) {
     for drops in counts {
-        assert_eq!(rt; drops.get(), want);
+        assert!(rt; drops.get() == want);
     }
 }
 
 #[test]
-fn drops_each_value_once(rt: HostRuntime) -> Result<(), Fail> {
+fn drops_each_value_once(rt: HostRuntime) {
     let mut counts = Vec::new(rt.alloc());
     for _ in 0..MANY {
-        counts.push(Cell::new(0))?;
+        counts.push(Cell::new(0)).expect(&rt, "memory");
     }
     let mut arena = Arena::new(rt.alloc());
-    arena.reserve(MANY)?;
+    arena.reserve(MANY).expect(&rt, "memory");
     put_all(&rt, &mut arena, &counts);
     assert_counts(&rt, &counts, 0);
     arena.clear();
@@ -95,5 +92,4 @@ fn drops_each_value_once(rt: HostRuntime) -> Result<(), Fail> {
     assert_counts(&rt, &counts, 1);
     drop(arena);
     assert_counts(&rt, &counts, 2);
-    Ok(())
 }

@@ -27,11 +27,6 @@ fn merges<T: PrefixTree>(rt: &impl Abort, alloc: Global) {
     assert_all(rt, alloc, &left.copy().expect(rt, "memory"), want);
 }
 
-#[test]
-fn merges_owned(rt: HostRuntime) {
-    merges::<OwnedTree>(&rt, rt.alloc());
-}
-
 // New rows go before, between and behind the rows that stand, and one stands already.
 fn weaves<T: PrefixTree>(rt: &impl Abort, alloc: Global) {
     let mut left = of_paths::<T>(rt, alloc, &[0], &["e", "b", "d"]).expect(rt, "memory");
@@ -44,16 +39,22 @@ fn weaves<T: PrefixTree>(rt: &impl Abort, alloc: Global) {
 }
 
 #[test]
-fn weaves_owned(rt: HostRuntime) {
+fn merges_and_weaves_owned(rt: HostRuntime) {
+    merges::<OwnedTree>(&rt, rt.alloc());
     weaves::<OwnedTree>(&rt, rt.alloc());
 }
 
-// A tree with 2,048 rows besides the root.
-fn full<T: PrefixTree>(rt: &impl Abort, alloc: Global) -> T {
+// A tree with 2,048 rows besides the root, all of them siblings, first or last one first.
+fn full<T: PrefixTree>(rt: &impl Abort, alloc: Global, is_falling: bool) -> T {
     let mut tree = T::empty(alloc);
     cover(alloc, &mut tree, &[0, 1]).expect(rt, "memory");
     for i in 0..2_048u32 {
-        let text = format!(in alloc; "f{i}").expect(rt, "memory");
+        let number = if is_falling {
+            2_047u32.wrapping_sub(i)
+        } else {
+            i
+        };
+        let text = format!(in alloc; "f{number:04}").expect(rt, "memory");
         add(rt, alloc, &mut tree, &[1], &text).expect(rt, "a path");
     }
     tree
@@ -62,7 +63,7 @@ fn full<T: PrefixTree>(rt: &impl Abort, alloc: Global) -> T {
 // A tree with a row that a full one hasn't.
 fn with_a_row_more<T: PrefixTree>(rt: &impl Abort, alloc: Global) -> T {
     let mut tree = of_paths::<T>(rt, alloc, &[0, 1], &[]).expect(rt, "memory");
-    add(rt, alloc, &mut tree, &[0], "f0;g").expect(rt, "a path");
+    add(rt, alloc, &mut tree, &[0], "f0000;g").expect(rt, "a path");
     tree
 }
 
@@ -76,15 +77,15 @@ fn assert_refuses<T: PrefixTree>(rt: &impl Abort, alloc: Global, tree: &mut T) {
     assert_all(rt, alloc, tree, &before);
 }
 
-fn refuses_when_full<T: PrefixTree>(rt: &impl Abort, alloc: Global) {
-    let mut tree = full::<T>(rt, alloc);
+pub fn refuses_when_full<T: PrefixTree>(rt: &impl Abort, alloc: Global, is_falling: bool) {
+    let mut tree = full::<T>(rt, alloc, is_falling);
     assert_refuses(rt, alloc, &mut tree);
-    add(rt, alloc, &mut tree, &[0], "f0").expect(rt, "a path that stands");
+    add(rt, alloc, &mut tree, &[0], "f0000").expect(rt, "a path that stands");
     assert!(rt; tree.rows() == 2_049);
     assert!(rt; tree.row(1).ends.count() == 2);
 }
 
 #[test]
 fn refuses_when_full_owned(rt: HostRuntime) {
-    refuses_when_full::<OwnedTree>(&rt, rt.alloc());
+    refuses_when_full::<OwnedTree>(&rt, rt.alloc(), false);
 }

@@ -1,7 +1,6 @@
 // Tables against a plain list of numbers: runs within a word, over its ends, of whole words, and over numbers of others.
 use rank_table::{NumberRun, RankTable};
 use std::process::Abort;
-use std::test::Fail;
 
 // More than four words, and the last is not whole.
 const END: u32 = 300;
@@ -35,53 +34,44 @@ fn plain_run(numbers: &[u32; END as usize], first: u32) -> NumberRun {
 
 // Compares each number of a table, and the run that each rank begins.
 fn assert_numbers(rt: &impl Abort, table: &RankTable, numbers: &[u32; END as usize]) {
-    assert_eq!(rt; table.len(), END);
+    assert!(rt; table.len() == END);
     for rank in 0..END {
-        assert_eq!(rt; table.number(rank), numbers[rank as usize]);
+        assert!(rt; table.number(rank) == numbers[rank as usize]);
         assert!(rt; table.run_at(rank, END) == plain_run(numbers, rank));
     }
 }
 
 #[test]
-fn holds_what_a_plain_list_holds(rt: HostRuntime) -> Result<(), Fail> {
-    let mut table = RankTable::new(rt.alloc(), END)?;
+fn holds_what_a_plain_list_holds(rt: HostRuntime) {
+    let mut table = RankTable::new(rt.alloc(), END).expect(&rt, "memory");
     let mut numbers = [0; END as usize];
     assert_numbers(&rt, &table, &numbers);
     for (first, end, number) in &RUNS {
         assert!(rt; first <= end && *end <= table.len() && *end <= END);
-        table.set_run(*first, *end, *number)?;
+        table.set_run(*first, *end, *number).expect(&rt, "memory");
         for rank in *first..*end {
             numbers[rank as usize] = *number;
         }
         assert_numbers(&rt, &table, &numbers);
     }
-    Ok(())
 }
 
+// A rank, where to end at the latest, and the number and the end of the run that it begins.
+const CUT_RUNS: [(u32, u32, u32, u32); 3] = [
+    (20, 180, 7, 150),
+    (20, 100, 7, 100),
+    (150, 180, 0, 180),
+];
+
 #[test]
-fn ends_a_run_where_it_is_told(rt: HostRuntime) -> Result<(), Fail> {
-    let mut table = RankTable::new(rt.alloc(), 200)?;
-    table.set_run(10, 150, 7)?;
-    assert!(rt;
-        table.run_at(20, 180)
-            == NumberRun {
-                number: 7,
-                end: 150
-            }
-    );
-    assert!(rt;
-        table.run_at(20, 100)
-            == NumberRun {
-                number: 7,
-                end: 100
-            }
-    );
-    assert!(rt;
-        table.run_at(150, 180)
-            == NumberRun {
-                number: 0,
-                end: 180
-            }
-    );
-    Ok(())
+fn ends_a_run_where_it_is_told(rt: HostRuntime) {
+    let mut table = RankTable::new(rt.alloc(), 200).expect(&rt, "memory");
+    table.set_run(10, 150, 7).expect(&rt, "memory");
+    for (rank, end, number, found) in &CUT_RUNS {
+        let run = NumberRun {
+            number: *number,
+            end: *found,
+        };
+        assert!(rt; table.run_at(*rank, *end) == run);
+    }
 }

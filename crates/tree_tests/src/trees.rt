@@ -91,7 +91,7 @@ pub fn rows_text<T: PrefixTree>(alloc: Global, tree: &T) -> Result<Vec<u8>, Allo
 
 pub fn assert_rows<T: PrefixTree>(rt: &impl Abort, alloc: Global, tree: &T, want: &[u8]) {
     let text = rows_text(alloc, tree).expect(rt, "memory");
-    assert_eq!(rt; text.as_slice(), want);
+    assert!(rt; text.as_slice() == want);
 }
 
 // The root, and the rows that a cursor comes to.
@@ -152,8 +152,8 @@ fn chains_text<T: PrefixTree>(
 
 pub fn assert_walk<T: PrefixTree>(rt: &impl Abort, alloc: Global, tree: &T, want: &[u8]) {
     let text = walk_text(rt, alloc, tree);
-    assert_eq!(rt; text.as_slice(), want);
+    assert!(rt; text.as_slice() == want);
     let no_ranks = RankSet::new(alloc);
     let text = chains_text(rt, alloc, tree, &no_ranks);
-    assert_eq!(rt; text.as_slice(), want);
+    assert!(rt; text.as_slice() == want);
 }

@@ -17,4 +17,4 @@ assert_waves-requires-after_bounds g c κs w lt =
     let items = c.streams-stream-items.result.now in
     let item = c.stream-item.result in
     let there : In item items = subst (λ (x : Stream). In x items) (sym c.stream-item.is) (in_at items c.loop-stream.stream-index item c.loop-stream-test.true) in
-    waves_listed c.small_plan-plan.result.streams item w (subst (λ (xs : List Stream). In item xs) c.streams-stream-items.ensures there) lt
+    waves_listed c.plan_of-plan.result.streams item w (subst (λ (xs : List Stream). In item xs) c.streams-stream-items.ensures there) lt
