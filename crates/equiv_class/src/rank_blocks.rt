@@ -70,7 +70,8 @@ fn ranks_by_state(
     let mut numbers = vec![in alloc; 0; end as usize]?;
     let mut blocks = Vec::new(alloc);
     let mut from = 0;
-    while let Some(run) = covered.next_run(from) {
+    let mut hint = 0;
+    while let Some(run) = covered.next_run_near(from, &mut hint) {
         from = run.first;
         while from <= run.last {
             let own = states.run_at(from, run.last + 1);

@@ -100,7 +100,8 @@ fn part(
 {
     let base = count_states(next.as_slice())?;
     let mut from = 0;
-    while let Some(run) = ranks.next_run(from) {
+    let mut hint = 0;
+    while let Some(run) = ranks.next_run_near(from, &mut hint) {
         from = run.first;
         while from <= run.last {
             let own = states.run_at(from, run.last + 1);

@@ -59,7 +59,8 @@ fn mark_nodes(
         numbers.old numbers.new) }
 {
     let mut from = 0;
-    while let Some(run) = ranks.next_run(from) {
+    let mut hint = 0;
+    while let Some(run) = ranks.next_run_near(from, &mut hint) {
         from = run.first;
         while from <= run.last {
             let part = rank_to_node.run_at(from, run.last + 1);

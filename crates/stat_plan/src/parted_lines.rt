@@ -44,7 +44,8 @@ fn assign(rank_to_node: &mut RankTable, ranks: &RankSet, node: u32) -> Result<()
         → get_or rank_to_node.new r 0 ≡ get_or rank_to_node.old r 0 }
 {
     let mut from = 0;
-    while let Some(run) = ranks.next_run(from) {
+    let mut hint = 0;
+    while let Some(run) = ranks.next_run_near(from, &mut hint) {
         from = run.last + 1;
         rank_to_node.set_run(run.first, from, node)?;
     }

@@ -79,7 +79,8 @@ fn add_spread(
         (GainSeen times.samples times.wave own.now spread.now lines.old.items lines.new.items) }
 {
     let mut from = 0;
-    while let Some(run) = numbers.next_run(from) {
+    let mut hint = 0;
+    while let Some(run) = numbers.next_run_near(from, &mut hint) {
         from = run.last + 1;
         let first = spread.len().min(run.first as usize);
         let end = spread.len().min(from as usize);

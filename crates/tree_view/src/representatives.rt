@@ -18,8 +18,9 @@ fn add_least(all: &mut RankSet, ranks: &RankSet, count: u32) -> Result<(), Alloc
         ((r : ℕ) → has all.new r ≡ (has all.old r || list_any (eq_by_cmp nat_cmp r) (take count (in_order ranks.now)))) }
 {
     let mut from = 0;
+    let mut hint = 0;
     for _ in 0..count {
-        let Some(run) = ranks.next_run(from) else {
+        let Some(run) = ranks.next_run_near(from, &mut hint) else {
             return Ok(());
         };
         match all.insert(run.first) {

@@ -89,7 +89,8 @@ fn has_entry(entries: &RankTable, ranks: &RankSet) -> bool
     ensures { (result ≡ false) ↔ ((r : ℕ) → Has r ranks.now → get_or entries.now r 0 ≡ 0) }
 {
     let mut from = 0;
-    while let Some(run) = ranks.next_run(from) {
+    let mut hint = 0;
+    while let Some(run) = ranks.next_run_near(from, &mut hint) {
         from = run.last + 1;
         if run_has_entry(entries, run.first, run.last) {
             return true;
@@ -106,7 +107,8 @@ fn set_entries(entries: &mut RankTable, ranks: &RankSet, entry: u32) -> Result<(
     ensures others { (r : ℕ) → has ranks.now r ≡ false → get_or entries.new r 0 ≡ get_or entries.old r 0 }
 {
     let mut from = 0;
-    while let Some(run) = ranks.next_run(from) {
+    let mut hint = 0;
+    while let Some(run) = ranks.next_run_near(from, &mut hint) {
         from = run.last + 1;
         entries.set_run(run.first, from, entry)?;
     }
