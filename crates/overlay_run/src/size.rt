@@ -10,8 +10,8 @@ use std::thread::{Threads, available_parallelism};
 // What an event takes beside its samples: as much as so many lines of samples.
 const EVENT: u64 = 50;
 
-// From here on several workers were seen to be faster than one. 256 daemons with some 300 paths each in one wave come
-// to 82,000. Of the jobs that come to less than half of that, each lost by a second thread.
+// From here on several workers were seen to be faster than one. 256 daemons with five paths each in sixteen waves come to
+// 240,000, and gain. Of the jobs that come to 33,000 and less, most lost by a second thread.
 const LARGE: u64 = 50_000;
 
 // Whether a plan has enough to do for several workers. A node's events of a wave are taken to cost as much as those of

@@ -15,7 +15,7 @@ ghost use Rattle.stat_tool.specs.Outputs.{HasOutput, HasRun, ReplaysAs};
 ghost use Rattle.stat_tool.specs.Reports.{IsReportIn, IsWrittenIn, losses_of};
 ghost use Rattle.stat_tool.specs.Status.{refusal_of_capture};
 ghost use Rattle.stat_tool.specs.Views.{output_view};
-ghost use Rattle.wide_report.specs.Pieces.{shown_faults, shown_losses};
+ghost use Rattle.wide_report.specs.Pieces.{faults_in, losses_in};
 
 use crate::status::Status;
 use capture_text::{capture_text, captures_are_frames};
@@ -115,7 +115,7 @@ fn run_text<R: Threads + Sync, T: PrefixTree>(
     match wanted {
         RunReport::Releases(form) => {
             numbered_releases_are_distinct();
-            wide_report(rt, wide, releases, form)
+            report_in(rt, wide, releases, form)
         }
         RunReport::Frames => {
             leave(releases);
@@ -125,7 +125,7 @@ fn run_text<R: Threads + Sync, T: PrefixTree>(
 }
 
 // The report of these releases in a form.
-fn wide_report<R: Threads + Sync, T: PrefixTree>(
+fn report_in<R: Threads + Sync, T: PrefixTree>(
     rt: &R,
     wide: &WideReport<'_>,
     releases: Vec<Release<T>>,
@@ -133,8 +133,8 @@ fn wide_report<R: Threads + Sync, T: PrefixTree>(
 ) -> Result<Vec<u8>, AllocError>
     requires distinct { AreDistinct (releases_view T.tree releases.items) }
     ensures { IfOk result
-        (λ text. IsReportIn form wide.now.plan.now (shown_faults wide.now.shows_faults wide.now.plan.now)
-        (releases_view T.tree releases.items) (shown_losses wide.now.shows_faults wide.now.lost.now) text.items) }
+        (λ text. IsReportIn form wide.now.plan.now (faults_in wide.now) (releases_view T.tree releases.items)
+        (losses_in wide.now) text.items) }
 {
     match form {
         ReportForm::Text => wide_text(rt, wide, releases),
@@ -264,7 +264,7 @@ pub fn direct_plan<R: Threads + Sync, T: PrefixTree, G: Gate>(
         lost: &[],
         workers: number,
     };
-    let report = wide_report(host.rt, &wide, releases, form)?;
+    let report = report_in(host.rt, &wide, releases, form)?;
     Ok(Output {
         unfinished: None,
         journal: Journal::new(host.alloc),

@@ -6,12 +6,11 @@ use Rattle.std.specs.FinMap as finmap
 use Rattle.std.specs.declared.cmp.Ordering.TheVariants.{Less}
 use Rattle.rank_set.specs.Ranks.{Ranks, has, has-those, has-union, same_ranks, those, union}
 use Rattle.call_path.specs.Path.{Path, path_cmp, path_cmp_total}
-use Rattle.call_path.specs.Pairs.{Pairs}
 use Rattle.prefix_tree.specs.Tree.{Marks, Tree, pairs_of}
 use Rattle.prefix_tree.proofs.Rows.{first, second, less}
 use Rattle.equiv_class.specs.SeenPaths.{ends_at, has_ends, seen_in}
 use Rattle.equiv_class.specs.declared.Class.{Class}
-use Rattle.wide_merge.specs.Joining.{AreClassesOver, AreClassesSeen, ArePathsInOrder}
+use Rattle.wide_merge.specs.Joining.{AreClassesOver, AreClassesSeen, ArePathsInOrder, AreUnited}
 
 -- what is in a set, and what is not
 pub cut_parts : (s below low high : Ranks) → low ≡ those (has below) s → high ≡ those (λ r. not (has below r)) s → union low high ≡ s
@@ -59,7 +58,6 @@ seen_sorted t = kept_sorted (finmap.entries t.below) (finmap.entries_sorted t.be
 
 -- the classes of both parts, united, are those of all
 pub whole_classes : (es : List (Path × Ranks)) (ranks low high : Ranks) (one other all : List Class) → union low high ≡ ranks → AreClassesSeen es low one → AreClassesSeen es high other
-    → ((gs : List (Path × Ranks)) (P : Pairs) (A B : Ranks) → ArePathsInOrder gs → AreClassesOver gs P A one → AreClassesOver gs P B other → AreClassesOver gs P (union A B) all)
-    → AreClassesSeen es ranks all
+    → AreUnited one other all → AreClassesSeen es ranks all
 whole_classes es ranks low high one other all cut ones others united t is =
     subst (λ C. AreClassesOver es (pairs_of t) C all) cut (united es (pairs_of t) low high (subst ArePathsInOrder (sym is) (seen_sorted t)) (ones t is) (others t is))

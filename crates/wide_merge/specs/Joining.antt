@@ -25,6 +25,11 @@ pub record AreClassesOver (es : List (Path × Ranks)) (P : Pairs) (C : Ranks) (k
 abbrev pub AreClassesSeen : List (Path × Ranks) → Ranks → List Class → Type 0
 AreClassesSeen es C ks = (t : Tree) → es ≡ seen_in t → AreClassesOver es (pairs_of t) C ks
 
+-- all are the classes over both of two sets of ranks, where one and other are those over each: of any pairs, and of any paths in order
+abbrev pub AreUnited : List Class → List Class → List Class → Type 0
+AreUnited one other all = (es : List (Path × Ranks)) (P : Pairs) (A B : Ranks) → ArePathsInOrder es
+    → AreClassesOver es P A one → AreClassesOver es P B other → AreClassesOver es P (union A B) all
+
 -- ---- how they are made one. No clause of a public call cites what follows.
 
 -- the ranks of a class, and the indices of its paths

@@ -67,8 +67,8 @@ fn wide_part<R: Threads + Sync, T: PrefixTree, G: Gate>(
         return one_part(merge, some);
     }
     let (front, back) = some.split_at(some.len() / 2);
-    let fewer = workers / 2;
-    let more = workers - fewer;
+    let half = workers / 2;
+    let more = workers - half;
     let (all, rest) = join(
         rt,
         || -> Result<Contribution<T>, AllocError>
@@ -76,7 +76,7 @@ fn wide_part<R: Threads + Sync, T: PrefixTree, G: Gate>(
                 × MayMerge merge.now.plan.now front.now merge.now.stream merge.now.wave }
             ensures { IfOk result
                 (IsPartOf merge.entry.now.plan.now front.entry.now merge.entry.now.stream merge.entry.now.wave) }
-        { wide_part(rt, merge, front, fewer) },
+        { wide_part(rt, merge, front, half) },
         || -> Result<Contribution<T>, AllocError>
             requires { IsSync R.row × IsSync G.row × IsSend T.row
                 × MayMerge merge.now.plan.now back.now merge.now.stream merge.now.wave }

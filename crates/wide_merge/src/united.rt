@@ -1,12 +1,10 @@
 //! Classes over two sets of ranks, united.
 
-ghost use Rattle.std.specs.Prelude.{◌≡◌, ◌<◌, ℕ, List, [], IfOk, OnOk, length, map, get_or};
+ghost use Rattle.std.specs.Prelude.{◌≡◌, ◌<◌, [], IfOk, OnOk, length, get_or};
 ghost use Rattle.std.specs.Ordering.{nat_cmp};
 ghost use Rattle.std.specs.Cmp.Lexicographic.{slice_cmp};
-ghost use Rattle.rank_set.specs.Ranks.{Ranks, in_order, union};
-ghost use Rattle.call_path.specs.Path.{Path};
-ghost use Rattle.call_path.specs.Pairs.{Pairs};
-ghost use Rattle.wide_merge.specs.Joining.{AreClassesOver, ArePathsInOrder, ends_with, index_view, index_views, same_indices, with_block, with_blocks, with_ranks};
+ghost use Rattle.rank_set.specs.Ranks.{in_order};
+ghost use Rattle.wide_merge.specs.Joining.{AreUnited, ends_with, index_view, index_views, same_indices, with_block, with_blocks, with_ranks};
 
 use equiv_class::Class;
 use rank_set::RankSet;
@@ -77,10 +75,7 @@ fn unite_neighbours(alloc: Global, classes: Vec<Class>) -> Result<Vec<Class>, Al
 /// The classes over the ranks of two sets, by the classes over each. The sets may have ranks in common. The classes
 /// list their paths by indices in one list of paths in order, each path once.
 pub fn unite(one: Vec<Class>, other: Vec<Class>) -> Result<Vec<Class>, AllocError>
-    ensures { IfOk result
-        (λ all. (es : List (Path × Ranks)) (P : Pairs) (A B : Ranks) → ArePathsInOrder es
-        → AreClassesOver es P A one.items → AreClassesOver es P B other.items
-        → AreClassesOver es P (union A B) all.items) }
+    ensures { IfOk result (λ all. AreUnited one.items other.items all.items) }
 {
     let mut both = one;
     let mut more = other;

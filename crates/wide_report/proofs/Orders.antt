@@ -1,5 +1,5 @@
 -- A sort puts releases in order.
-use Rattle.std.proofs.Common.{List, map}
+use Rattle.std.proofs.Common.{List}
 use Rattle.std.specs.List.Sorted.{IsPermutation, IsSortedBy}
 use Rattle.std.specs.Ordering.{eq_by_cmp, is_lt}
 use Rattle.std.proofs.lemmas.Cmp.{eq_by_cmp_equiv}

@@ -8,11 +8,13 @@ use Rattle.stat_plan.specs.Plans.{Plan}
 use Rattle.prefix_tree.specs.Tree.{Tree}
 use Rattle.overlay_core.specs.TreeReleases.{TreeRelease, releases_view}
 use Rattle.overlay_core.specs.declared.release.Release.{Release}
-use Rattle.front_end.specs.JsonReport.{fault_data, release_data}
+use Rattle.front_end.specs.JsonReport.{IsJsonReport, fault_data, release_data}
 use Rattle.front_end.specs.JsonValues.{list_of}
 use Rattle.front_end.specs.ReleaseText.{release_text}
+use Rattle.front_end.specs.Report.{IsReport}
 use Rattle.wide_report.specs.declared.parts.Form.{Form}
 use Rattle.wide_report.specs.declared.parts.Form.TheVariants.{Text, Json}
+use Rattle.wide_report.specs.declared.report.WideReport.{WideReport}
 
 -- of which faults a report has a line: all of the script, or none
 abbrev pub shown_faults : Bool → Plan → List Fault
@@ -23,6 +25,21 @@ shown_faults false p = []
 abbrev pub shown_losses : Bool → List ℕ → List ℕ
 shown_losses true lost = lost
 shown_losses false lost = []
+
+-- those of a report
+abbrev pub faults_in : WideReport → List Fault
+faults_in report = shown_faults report.shows_faults report.plan.now
+
+abbrev pub losses_in : WideReport → List ℕ
+losses_in report = shown_losses report.shows_faults report.lost.now
+
+-- the text is the whole report of these releases
+abbrev pub IsTextOf : WideReport → List TreeRelease → List ℕ → Type 0
+IsTextOf report releases text = IsReport report.plan.now (faults_in report) releases (losses_in report) text
+
+-- and the same as JSON
+abbrev pub IsJsonOf : WideReport → List TreeRelease → List ℕ → Type 0
+IsJsonOf report releases text = IsJsonReport report.plan.now (faults_in report) releases (losses_in report) text
 
 -- what is written of a release: its text, or its JSON behind a comma
 abbrev pub piece : Form → Plan → TreeRelease → List ℕ

@@ -1,8 +1,7 @@
 //! What stands around the pieces of the releases: the rest of the report, as that of no releases has it.
 ghost use Rattle.std.specs.Prelude.{◌≡◌, ◌++◌, IfOk, [], drop};
-ghost use Rattle.front_end.specs.JsonReport.{IsJsonReport};
-ghost use Rattle.front_end.specs.Report.{IsReport, report_text};
-ghost use Rattle.wide_report.specs.Pieces.{json_text, shown_faults, shown_losses};
+ghost use Rattle.front_end.specs.Report.{report_text};
+ghost use Rattle.wide_report.specs.Pieces.{IsJsonOf, IsTextOf, faults_in, json_text, losses_in};
 
 use crate::report::WideReport;
 use front_end::{direct_json, direct_text, report_json, report_text};
@@ -15,9 +14,7 @@ const END: &[u8] = b"]}\n";
 
 // The text of no releases: the lines of the faults that are shown, and the end.
 fn end_text<T: PrefixTree>(report: &WideReport<'_>) -> Result<Vec<u8>, AllocError>
-    ensures { IfOk result
-        (λ text. IsReport report.now.plan.now (shown_faults report.now.shows_faults report.now.plan.now) []
-        (shown_losses report.now.shows_faults report.now.lost.now) text.items) }
+    ensures { IfOk result (λ text. IsTextOf report.now [] text.items) }
 {
     let none: Vec<Release<T>> = Vec::new(report.alloc);
     if report.shows_faults {
@@ -32,9 +29,8 @@ pub fn text_before_end<T: PrefixTree>(
     report: &WideReport<'_>,
     text: Vec<u8>,
 ) -> Result<Vec<u8>, AllocError>
-    ensures { IfOk result (λ whole. whole.items ≡ text.items ++ report_text report.now.plan.now
-        (shown_faults report.now.shows_faults report.now.plan.now)
-        (shown_losses report.now.shows_faults report.now.lost.now) []) }
+    ensures { IfOk result (λ whole. whole.items
+        ≡ text.items ++ report_text report.now.plan.now (faults_in report.now) (losses_in report.now) []) }
 {
     let end = end_text::<T>(report)?;
     let mut whole = text;
@@ -44,9 +40,7 @@ pub fn text_before_end<T: PrefixTree>(
 
 // The JSON of no releases.
 fn empty_json<T: PrefixTree>(report: &WideReport<'_>) -> Result<Vec<u8>, AllocError>
-    ensures { IfOk result
-        (λ text. IsJsonReport report.now.plan.now (shown_faults report.now.shows_faults report.now.plan.now) []
-        (shown_losses report.now.shows_faults report.now.lost.now) text.items) }
+    ensures { IfOk result (λ text. IsJsonOf report.now [] text.items) }
 {
     let none: Vec<Release<T>> = Vec::new(report.alloc);
     if report.shows_faults {
@@ -71,8 +65,8 @@ pub fn json_around<T: PrefixTree>(
     report: &WideReport<'_>,
     pieces: &[u8],
 ) -> Result<Vec<u8>, AllocError>
-    ensures { IfOk result (λ text. text.items ≡ json_text report.now.plan.now
-        (shown_faults report.now.shows_faults report.now.plan.now) (shown_losses report.now.shows_faults report.now.lost.now) (drop 1 pieces.now)) }
+    ensures { IfOk result (λ text. text.items
+        ≡ json_text report.now.plan.now (faults_in report.now) (losses_in report.now) (drop 1 pieces.now)) }
 {
     let mut text = empty_json::<T>(report)?;
     text.truncate(text.len().saturating_sub(END.len()));

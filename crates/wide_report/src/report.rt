@@ -1,9 +1,8 @@
 //! Reports of releases that several threads write.
 ghost use Rattle.std.specs.Prelude.{IfOk};
 ghost use Rattle.overlay_core.specs.TreeReleases.{releases_view};
-ghost use Rattle.front_end.specs.JsonReport.{IsJsonReport};
-ghost use Rattle.front_end.specs.Report.{AreDistinct, IsReport, IsSortedCopy};
-ghost use Rattle.wide_report.specs.Pieces.{shown_faults, shown_losses};
+ghost use Rattle.front_end.specs.Report.{AreDistinct, IsSortedCopy};
+ghost use Rattle.wide_report.specs.Pieces.{IsJsonOf, IsTextOf};
 
 use crate::ends::{json_around, text_before_end};
 use crate::parts::{Form, wide_part};
@@ -37,8 +36,7 @@ pub fn wide_text<R: Threads + Sync, T: PrefixTree>(
     releases: Vec<Release<T>>,
 ) -> Result<Vec<u8>, AllocError>
     requires distinct { AreDistinct (releases_view T.tree releases.items) }
-    ensures { IfOk result (λ text. IsReport report.now.plan.now (shown_faults report.now.shows_faults report.now.plan.now)
-        (releases_view T.tree releases.items) (shown_losses report.now.shows_faults report.now.lost.now) text.items) }
+    ensures { IfOk result (λ text. IsTextOf report.now (releases_view T.tree releases.items) text.items) }
 {
     let ordered = in_order(releases);
     let text = wide_part(rt, report, Form::Text, ordered, report.workers)?;
@@ -53,8 +51,7 @@ pub fn wide_json<R: Threads + Sync, T: PrefixTree>(
     releases: Vec<Release<T>>,
 ) -> Result<Vec<u8>, AllocError>
     requires distinct { AreDistinct (releases_view T.tree releases.items) }
-    ensures { IfOk result (λ text. IsJsonReport report.now.plan.now (shown_faults report.now.shows_faults report.now.plan.now)
-        (releases_view T.tree releases.items) (shown_losses report.now.shows_faults report.now.lost.now) text.items) }
+    ensures { IfOk result (λ text. IsJsonOf report.now (releases_view T.tree releases.items) text.items) }
 {
     let ordered = in_order(releases);
     let pieces = wide_part(rt, report, Form::Json, ordered, report.workers)?;

@@ -1,9 +1,8 @@
 use Rattle.std.proofs.Common.{List}
 use Rattle.std.proofs.lemmas.Result.{IfOk-at_ok, IfOk-weaker}
-use Rattle.rank_set.specs.Ranks.{Ranks, union}
+use Rattle.rank_set.specs.Ranks.{Ranks}
 use Rattle.call_path.specs.Path.{Path}
-use Rattle.call_path.specs.Pairs.{Pairs}
-use Rattle.wide_merge.specs.Joining.{AreClassesOver, AreClassesSeen, ArePathsInOrder}
+use Rattle.wide_merge.specs.Joining.{AreClassesSeen, AreUnited}
 use Rattle.wide_merge.proofs.Cutting.{whole_classes}
 use Rattle.wide_merge.proofs.class_parts.+fn-wide_part-join+arg2+fn-wide_part-join+arg3+wide_part.Goals as goal
 
@@ -11,8 +10,7 @@ pub returns : goal.returns
 returns g t c =
     let es : List (Path × Ranks) = g.S.SharedPaths.seen c.args.seen.now in
     IfOk-weaker c.unite.result
-    (λ all. (gs : List (Path × Ranks)) (P : Pairs) (A B : Ranks) → ArePathsInOrder gs → AreClassesOver gs P A c.in_ok-one.one.items → AreClassesOver gs P B c.in_ok-other.other.items
-    → AreClassesOver gs P (union A B) all.items)
+    (λ all. AreUnited c.in_ok-one.one.items c.in_ok-other.other.items all.items)
     (λ all. AreClassesSeen es c.args.ranks.now all.items)
     (λ all united.
     whole_classes es c.args.ranks.now c.in_ok-low.low c.in_ok-low.high c.in_ok-one.one.items c.in_ok-other.other.items all.items c.in_ok-low.ensures
