@@ -39,11 +39,10 @@ fn command_in<'a>(mode: Mode, matches: &ArgMatches<'a>) -> Result<Command<'a>, W
             workers: workers(matches, 1)?,
             form: form(matches)?,
         }),
-        Mode::Gen => {
-            let seed = seed(matches)?;
-            let size = size(matches)?;
-            Ok(Command::Gen { size, seed })
-        }
+        Mode::Gen => Ok(Command::Gen {
+            seed: seed(matches)?,
+            size: size(matches)?,
+        }),
         Mode::Cast => Ok(Command::Cast {
             files: files(matches)?,
             seed: seed(matches)?,
