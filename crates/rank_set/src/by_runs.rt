@@ -36,9 +36,16 @@ pub(crate) fn covers_word(set: &RankSet, index: u32, word: u64) -> bool
 pub(crate) fn is_subset(set: &RankSet, other: &RankSet) -> bool
     ensures { result ≡ is_subset set.now other.now }
 {
-    match &set.held {
-        Held::Words(_) => has_no_rank_in_gaps(set, other),
-        Held::Runs(_) => has_runs_in(set, other),
+    // The set with fewer runs is the shorter way.
+    let by_gaps = match (&set.held, &other.held) {
+        (Held::Words(_), _) => true,
+        (Held::Runs(runs), Held::Runs(others)) => others.len() < runs.len(),
+        (Held::Runs(_), Held::Words(_)) => false,
+    };
+    if by_gaps {
+        has_no_rank_in_gaps(set, other)
+    } else {
+        has_runs_in(set, other)
     }
 }
 
