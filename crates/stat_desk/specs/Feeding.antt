@@ -1,6 +1,7 @@
 -- What is fed to a value by a read in pieces. Feeding bytes, however they are cut, turns the value into another.
-use Rattle.std.specs.Prelude.{◌≡◌, ℕ, ◌+◌, ◌^◌, ◌<◌, ◌≤◌, List, [], ◌∷◌, ◌++◌, length, Option, IfSome, Result, Ok, Err}
-use Rattle.stat_desk.specs.Desk.{IsWhole}
+use Rattle.std.specs.Prelude.{◌≡◌, ℕ, ◌+◌, ◌^◌, ◌<◌, ◌≤◌, List, ◌++◌, length, Option, IfSome, Result, Ok, Err}
+use Rattle.stat_desk.specs.Change.{Change}
+use Rattle.stat_desk.specs.Desk.{Bytes, DeskSeen, HasGiven}
 use Rattle.stat_desk.specs.declared.desk.DeskError.{DeskError}
 use Rattle.stat_desk.specs.declared.desk.DeskError.TheVariants.{OutOfMemory}
 
@@ -14,17 +15,9 @@ abbrev pub FeedsNext : {F : Type 0} → (F → List ℕ → F → Type 0) → F 
 FeedsNext {F} feeds old piece new =
     (start : F) (before : List ℕ) → feeds start before old → feeds start (before ++ piece) new
 
--- all bytes of a file were fed, at most max
-abbrev pub FeedsWhole : {F : Type 0} → (F → List ℕ → F → Type 0) → F → F → Option (List ℕ) → ℕ → Type 0
-FeedsWhole feeds old new contents max = (bytes : List ℕ) × (feeds old bytes new × IsWhole contents max bytes)
-
--- The bytes that reads gave, before and after a read in pieces that returned this: all bytes of a file were fed, at most
--- max, and they come last.
-abbrev pub HasFed : {F : Type 0} → (F → List ℕ → F → Type 0) → F → F → Option (List ℕ) → ℕ →
-    List (List ℕ) → List (List ℕ) → Result (Unit {0}) DeskError → Type 0
-HasFed feeds old new contents max before now (Ok x) =
-    (bytes : List ℕ) × (feeds old bytes new × (IsWhole contents max bytes × (now ≡ before ++ bytes ∷ [])))
-HasFed feeds old new contents max before now (Err e) = now ≡ before
+-- the file of this name gave all its bytes, and these were fed
+abbrev pub FeedsFile : {F : Type 0} → (F → List ℕ → F → Type 0) → F → F → Change DeskSeen → List ℕ → ℕ → Type 0
+FeedsFile feeds old new desk name max = (bytes : List ℕ) × (feeds old bytes new × HasGiven desk name max (Bytes bytes))
 
 -- the first bytes of a file were fed, at most max
 abbrev pub FeedsPrefix : {F : Type 0} → (F → List ℕ → F → Type 0) → F → F → Option (List ℕ) → ℕ → Type 0

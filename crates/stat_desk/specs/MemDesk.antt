@@ -2,6 +2,7 @@
 use Rattle.std.specs.Prelude.{◌≡◌, ◌==◌, nat_lt, ℕ, ◌+◌, ◌++◌, length, List, [], ◌∷◌, map, Option, Some, None, Result, Ok, Err, if◌then◌else◌, string_bytes, Vec}
 use Rattle.std.specs.List.{list_any}
 use Rattle.std.specs.Str.{bytes_eq}
+use Rattle.stat_desk.specs.Desk.{Bytes, DeskSeen, ReadResult, TooLong as GaveTooLong}
 use Rattle.stat_desk.specs.Faults.{next_count}
 use Rattle.stat_desk.specs.declared.desk.DeskError.{DeskError}
 use Rattle.stat_desk.specs.declared.desk.DeskError.TheVariants.{Failed, TooLong, OutOfMemory}
@@ -15,8 +16,8 @@ pub record MemDeskView : Type 0 where
   pub failing : List ℕ
   -- the names of the reads so far, in order
   pub reads : List (List ℕ)
-  -- the bytes of the files that they gave
-  pub gave : List (List ℕ)
+  -- what they gave
+  pub gave : List ReadResult
   -- how many of them were faults, and the name at the last one
   pub faults : ℕ
   pub last_fault : Option (List ℕ)
@@ -29,6 +30,10 @@ entries_of = map (λ file. (string_bytes file.name, file.bytes.items))
 abbrev pub file_of : List (List ℕ × List ℕ) → List ℕ → Option (List ℕ)
 file_of [] name = None
 file_of (file ∷ files) name = if bytes_eq file.0 name then Some file.1 else file_of files name
+
+-- as contracts see a desk
+abbrev pub desk_seen : MemDeskView → DeskSeen
+desk_seen d = record { faults = d.faults; last_fault = d.last_fault; reads = d.reads; gave = d.gave; contents = file_of d.files }
 
 -- a file read whole: it fails where there is none, and is refused where it has more than max bytes
 abbrev pub whole_file : Option (List ℕ) → ℕ → Result (List ℕ) DeskError
@@ -46,11 +51,11 @@ Gives answer (Ok bytes) = answer ≡ Ok bytes.items
 Gives answer (Err OutOfMemory) = Unit {0}
 Gives answer (Err e) = answer ≡ Err e
 
--- the desk after a read to which this is the answer: the name is the last of its reads, and the bytes, or a fault, are
--- counted with it
+-- the desk after a read to which this is the answer: the name is the last of its reads, and what the file gave, or the
+-- fault, is noted with it
 abbrev pub after_answer : MemDeskView → List ℕ → Result (List ℕ) DeskError → MemDeskView
-after_answer d name (Ok bytes) = record d { reads = d.reads ++ name ∷ []; gave = d.gave ++ bytes ∷ [] }
-after_answer d name (Err TooLong) = record d { reads = d.reads ++ name ∷ [] }
+after_answer d name (Ok bytes) = record d { reads = d.reads ++ name ∷ []; gave = d.gave ++ Bytes bytes ∷ [] }
+after_answer d name (Err TooLong) = record d { reads = d.reads ++ name ∷ []; gave = d.gave ++ GaveTooLong ∷ [] }
 after_answer d name (Err Failed) =
     record d { reads = d.reads ++ name ∷ []; faults = next_count d.faults; last_fault = Some name }
 after_answer d name (Err OutOfMemory) = d

@@ -1,7 +1,8 @@
 -- The sink in memory, as its callers see it.
-use Rattle.std.specs.Prelude.{◌==◌, ◌||◌, ◌&&◌, not, ℕ, Bool, ◌-◌, ◌^◌, ◌<◌, ◌≤◌, min, length, List, [], ◌++◌, take, Result, Ok, Err, if◌then◌else◌}
+use Rattle.std.specs.Prelude.{◌==◌, ◌||◌, ◌&&◌, not, ℕ, Bool, ◌-◌, ◌^◌, ◌<◌, ◌≤◌, min, length, List, [], ◌++◌, take, Some, Result, Ok, Err, if◌then◌else◌}
 use Rattle.std.specs.List.{list_any}
 use Rattle.stat_desk.specs.Faults.{next_count}
+use Rattle.stat_desk.specs.Sink.{SinkSeen}
 use Rattle.stat_desk.specs.declared.sink.SinkError.{SinkError}
 use Rattle.stat_desk.specs.declared.sink.SinkError.TheVariants.{Failed}
 
@@ -17,6 +18,10 @@ pub record MemSinkView : Type 0 where
   -- how many writes there were, and how many of them were faults
   pub calls : ℕ
   pub faults : ℕ
+
+-- as contracts see a sink
+abbrev pub sink_seen : MemSinkView → SinkSeen
+sink_seen s = record { faults = s.faults; took = s.bytes; contents = Some s.bytes }
 
 -- a write may take a byte, and the memory for all the room is there
 pub record HasRoom (at_once held room capacity faults : ℕ) : Type 0 where

@@ -1,7 +1,8 @@
 //! A desk gives files by name, whole or in pieces.
-ghost use Rattle.std.specs.Prelude.{◌≡◌, ◌<◌, ◌^◌, [], ℕ, List, Option, IfOk, OnOk, OnErr, IsErrOf};
-ghost use Rattle.stat_desk.specs.Desk.{CountsAt, FailedAt, HasGiven, IsAsked, IsLonger, IsWhole, SameFaults};
-ghost use Rattle.stat_desk.specs.Feeding.{FeedsNext, FeedsPrefix, FeedsWhole, HasFed, HasRoomFor};
+ghost use Rattle.std.specs.Prelude.{◌<◌, ◌^◌, [], ℕ, List, IfErr, IfOk, OnErr, OnOk};
+ghost use Rattle.stat_desk.specs.Change.{change};
+ghost use Rattle.stat_desk.specs.Desk.{DeskSeen, HasGiven, HasNotRead, Bytes};
+ghost use Rattle.stat_desk.specs.Feeding.{FeedsFile, FeedsNext, FeedsPrefix, HasRoomFor};
 
 /// Why a read returned no bytes.
 #[derive(Clone, Copy, Debug, PartialEq, Eq)]
@@ -28,40 +29,21 @@ pub trait Feed {
 
 /// Gives files by name, and counts its faults.
 pub trait Desk {
-    /// How often reads have failed, up to 2^64 - 1.
-    ghost faults: { Self → ℕ };
+    /// What a contract sees: its faults, the names that were asked for, what the files gave, and their contents.
+    ghost seen: { Self → DeskSeen };
 
-    /// The name of the last read at which that count rose, if it ever did.
-    ghost last_fault: { Self → Option (List ℕ) };
-
-    /// The names of the files that were asked for, in order.
-    ghost reads: { Self → List (List ℕ) };
-
-    /// The bytes of each file that was read whole, in the order of the reads.
-    ghost gave: { Self → List (List ℕ) };
-
-    /// The bytes of the file of a name, where the desk can tell them. `None` says nothing.
-    ghost contents: { Self → List ℕ → Option (List ℕ) };
-
-    /// Returns all bytes of the file of that name, if they are at most `max`.
+    /// Returns all bytes of the file of that name, if they are at most `max`. A read that ends without memory may have
+    /// asked for the file or not. No read changes the contents of a file.
     ///
     /// # Errors
     ///
-    /// `Failed` only where the desk counted a fault at this name, `TooLong` only where the file has more than `max`
-    /// bytes. No read changes the contents of a file.
+    /// `Failed` only where the desk counted a fault at this name, `TooLong` only where the file gave more than `max`
+    /// bytes.
     fn read(&mut self, name: &str, max: u64) -> Result<Vec<u8>, DeskError>
-        ensures whole { IfOk result (λ bytes. IsWhole (contents self.old name.now) max bytes.items) }
-        ensures too_long { IsErrOf result DeskError.TooLong → IsLonger (contents self.old name.now) max }
-        ensures failed { IsErrOf result DeskError.Failed
-            → FailedAt (faults self.old) (faults self.new) (last_fault self.new) name.now }
-        ensures counts { CountsAt (faults self.old) (faults self.new) (last_fault self.old)
-            (last_fault self.new) name.now }
-        ensures fits_u64 { faults self.new < 2 ^ 64 }
-        ensures out_of_memory { IsErrOf result DeskError.OutOfMemory → SameFaults (faults self.old) (faults self.new)
-            (last_fault self.old) (last_fault self.new) }
-        ensures reads { IsAsked (reads self.old) (reads self.new) name.now result }
-        ensures gave { HasGiven (gave self.old) (gave self.new) result }
-        ensures contents { contents self.new ≡ contents self.old };
+        ensures ok { IfOk result
+            (λ bytes. HasGiven (change seen self.old self.new) name.now max (Bytes bytes.items)) }
+        ensures err { IfErr result (HasNotRead (change seen self.old self.new) name.now max) }
+        ensures fits_u64 { (seen self.new).faults < 2 ^ 64 };
 
     /// Feeds all bytes of the file of that name, if they are at most `max`, piece by piece to a value that was fed
     /// nothing. After an error it was fed a prefix of the file.
@@ -71,18 +53,10 @@ pub trait Desk {
     /// Those of `read`.
     fn read_pieces<F: Feed>(&mut self, name: &str, max: u64, fed: &mut F) -> Result<(), DeskError>
         requires nothing_fed { F.feeds fed.old [] fed.old }
-        ensures whole { OnOk result (FeedsWhole F.feeds fed.old fed.new (contents self.old name.now) max) }
-        ensures prefix { OnErr result (FeedsPrefix F.feeds fed.old fed.new (contents self.old name.now) max) }
-        ensures too_long { IsErrOf result DeskError.TooLong → IsLonger (contents self.old name.now) max }
-        ensures failed { IsErrOf result DeskError.Failed
-            → FailedAt (faults self.old) (faults self.new) (last_fault self.new) name.now }
-        ensures counts { CountsAt (faults self.old) (faults self.new) (last_fault self.old)
-            (last_fault self.new) name.now }
-        ensures fits_u64 { faults self.new < 2 ^ 64 }
-        ensures out_of_memory { IsErrOf result DeskError.OutOfMemory → SameFaults (faults self.old) (faults self.new)
-            (last_fault self.old) (last_fault self.new) }
-        ensures reads { IsAsked (reads self.old) (reads self.new) name.now result }
-        ensures gave { HasFed F.feeds fed.old fed.new (contents self.old name.now) max (gave self.old) (gave self.new)
-            result }
-        ensures contents { contents self.new ≡ contents self.old };
+        ensures ok { OnOk result
+            (FeedsFile F.feeds fed.old fed.new (change seen self.old self.new) name.now max) }
+        ensures err { IfErr result (HasNotRead (change seen self.old self.new) name.now max) }
+        ensures prefix { OnErr result
+            (FeedsPrefix F.feeds fed.old fed.new ((seen self.old).contents name.now) max) }
+        ensures fits_u64 { (seen self.new).faults < 2 ^ 64 };
 }

@@ -3,6 +3,7 @@
 #![tactic(auto)]
 
 mod desk;
+mod given;
 mod history;
 mod mem_desk;
 mod mem_sink;

@@ -1,12 +1,13 @@
 //! The desk in memory.
-ghost use Rattle.std.specs.Prelude.{◌≡◌, ◌<◌, ◌^◌, ◌∷◌, ◌++◌, [], ℕ, Vec, None, Some, OnOk, OnErr, IfOk, IsErrOf, option_map, string_bytes};
+ghost use Rattle.std.specs.Prelude.{◌≡◌, ◌<◌, ◌^◌, ◌∷◌, ◌++◌, [], ℕ, Vec, None, OnOk, OnErr, IfErr, IfOk, IsErrOf, option_map, string_bytes};
 ghost use Rattle.std.specs.Borrow.{Bor};
 ghost use Rattle.std.specs.declared.alloc.Global.{Global};
-ghost use Rattle.stat_desk.specs.Desk.{CountsAt, FailedAt, HasGiven, IsAsked, IsLonger, IsWhole, SameFaults};
-ghost use Rattle.stat_desk.specs.Faults.{next_count};
-ghost use Rattle.stat_desk.specs.Feeding.{FeedsAs, FeedsPrefix, FeedsWhole, HasFed};
-ghost use Rattle.stat_desk.specs.MemDesk.{Gives, after_read, entries_of, file_of, read_answer};
+ghost use Rattle.stat_desk.specs.Change.{change};
+ghost use Rattle.stat_desk.specs.Desk.{Bytes, HasGiven, HasNotRead, IsLonger, IsWhole};
+ghost use Rattle.stat_desk.specs.Feeding.{FeedsAs, FeedsFile, FeedsPrefix};
+ghost use Rattle.stat_desk.specs.MemDesk.{Gives, after_read, desk_seen, entries_of, file_of, read_answer};
 
+use crate::given::Given;
 use crate::history::History;
 use crate::{Desk, DeskError, Feed};
 use std::alloc::{AllocError, Global};
@@ -44,13 +45,14 @@ pub struct MemDesk {
     files: Vec<StoredFile>,
     failing: Vec<u64>,
     reads: Vec<String>,
-    gave: Vec<History>,
+    gave: Vec<Given>,
     faults: u64,
     last_fault: Option<String>,
 }
 
 impl Model for MemDesk {
     ghost use Rattle.std.specs.Prelude.{◌<◌, ◌^◌, map, option_map, string_bytes};
+    ghost use Rattle.stat_desk.specs.Given.{results_of};
     ghost use Rattle.stat_desk.specs.MemDesk.{MemDeskView};
 
     ghost Value = { MemDeskView };
@@ -61,7 +63,7 @@ impl Model for MemDesk {
       files = entries_of d.files.items;
       failing = d.failing.items;
       reads = map string_bytes d.reads.items;
-      gave = map (λ h. h.bytes) d.gave.items;
+      gave = results_of d.gave.items;
       faults = d.faults;
       last_fault = option_map string_bytes d.last_fault;
     } };
@@ -140,30 +142,15 @@ fn bytes_of<'a>(files: &'a [StoredFile], name: &str) -> Option<&'a Vec<u8>>
 }
 
 impl Desk for MemDesk {
-    ghost faults = { λ d. d.faults };
-
-    ghost last_fault = { λ d. d.last_fault };
-
-    ghost reads = { λ d. d.reads };
-
-    ghost gave = { λ d. d.gave };
-
-    ghost contents = { λ d name. file_of d.files name };
+    ghost seen = { desk_seen };
 
     // `exactly` says what each read returns, and `state` what the desk is afterwards. A read that runs out of memory
     // leaves the desk unchanged, and has no number.
     fn read(&mut self, name: &str, max: u64) -> Result<Vec<u8>, DeskError>
-        ensures whole { IfOk result (λ bytes. IsWhole (file_of self.old.files name.now) max bytes.items) }
-        ensures too_long { IsErrOf result DeskError.TooLong → IsLonger (file_of self.old.files name.now) max }
-        ensures failed { IsErrOf result DeskError.Failed
-            → FailedAt self.old.faults self.new.faults self.new.last_fault name.now }
-        ensures counts { CountsAt self.old.faults self.new.faults self.old.last_fault self.new.last_fault name.now }
+        ensures ok { IfOk result
+            (λ bytes. HasGiven (change desk_seen self.old self.new) name.now max (Bytes bytes.items)) }
+        ensures err { IfErr result (HasNotRead (change desk_seen self.old self.new) name.now max) }
         ensures fits_u64 { self.new.faults < 2 ^ 64 }
-        ensures out_of_memory { IsErrOf result DeskError.OutOfMemory
-            → SameFaults self.old.faults self.new.faults self.old.last_fault self.new.last_fault }
-        ensures reads { IsAsked self.old.reads self.new.reads name.now result }
-        ensures gave { HasGiven self.old.gave self.new.gave result }
-        ensures contents { self.new.files ≡ self.old.files }
         ensures state { self.new ≡ after_read self.old name.now max result }
         ensures exactly { Gives (read_answer self.old name.now max) result }
     {
@@ -179,9 +166,12 @@ impl Desk for MemDesk {
                 if self.reads.push(asked).is_err() {
                     return Err(DeskError::OutOfMemory);
                 }
-                if let Ok(bytes) = &answer
-                    && self.gave.push(History::of(bytes)).is_err()
-                {
+                let noted = match &answer {
+                    Ok(bytes) => self.gave.push(Given::Bytes(History::of(bytes))),
+                    Err(DeskError::TooLong) => self.gave.push(Given::TooLong),
+                    Err(_) => Ok(()),
+                };
+                if noted.is_err() {
                     self.reads.pop();
                     return Err(DeskError::OutOfMemory);
                 }
@@ -193,22 +183,15 @@ impl Desk for MemDesk {
             }
         }
     }
+
     // `exactly` says what each read feeds or returns, and `state` what the desk is afterwards.
     fn read_pieces<F: Feed>(&mut self, name: &str, max: u64, fed: &mut F) -> Result<(), DeskError>
         requires nothing_fed { F.feeds fed.old [] fed.old }
-        ensures whole { OnOk result (FeedsWhole F.feeds fed.old fed.new (file_of self.old.files name.now) max) }
+        ensures ok { OnOk result
+            (FeedsFile F.feeds fed.old fed.new (change desk_seen self.old self.new) name.now max) }
+        ensures err { IfErr result (HasNotRead (change desk_seen self.old self.new) name.now max) }
         ensures prefix { OnErr result (FeedsPrefix F.feeds fed.old fed.new (file_of self.old.files name.now) max) }
-        ensures too_long { IsErrOf result DeskError.TooLong → IsLonger (file_of self.old.files name.now) max }
-        ensures failed { IsErrOf result DeskError.Failed
-            → FailedAt self.old.faults self.new.faults self.new.last_fault name.now }
-        ensures counts { CountsAt self.old.faults self.new.faults self.old.last_fault self.new.last_fault name.now }
         ensures fits_u64 { self.new.faults < 2 ^ 64 }
-        ensures out_of_memory { IsErrOf result DeskError.OutOfMemory
-            → SameFaults self.old.faults self.new.faults self.old.last_fault self.new.last_fault }
-        ensures reads { IsAsked self.old.reads self.new.reads name.now result }
-        ensures gave { HasFed F.feeds fed.old fed.new (file_of self.old.files name.now) max self.old.gave self.new.gave
-            result }
-        ensures contents { self.new.files ≡ self.old.files }
         ensures state { self.new ≡ after_read self.old name.now max result }
         ensures exactly { FeedsAs F.feeds fed.old fed.new (read_answer self.old name.now max) result }
     {

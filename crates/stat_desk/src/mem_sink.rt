@@ -1,8 +1,9 @@
 //! The sink in memory.
 ghost use Rattle.std.specs.Prelude.{◌≡◌, ◌≤◌, ◌<◌, ◌^◌, ◌∷◌, ◌++◌, [], Some, OnOk, OnErr, IfOk};
 ghost use Rattle.stat_desk.specs.Faults.{next_count};
-ghost use Rattle.stat_desk.specs.MemSink.{after_write, new_sink, write_answer};
-ghost use Rattle.stat_desk.specs.Sink.{HasCause, HasTaken, TakesFirst};
+ghost use Rattle.stat_desk.specs.MemSink.{after_write, new_sink, sink_seen, write_answer};
+ghost use Rattle.stat_desk.specs.Change.{change};
+ghost use Rattle.stat_desk.specs.Sink.{HasNotTaken, TookFirst};
 
 use crate::{Sink, SinkError};
 use std::alloc::{AllocError, Global};
@@ -93,18 +94,12 @@ impl MemSink {
 }
 
 impl Sink for MemSink {
-    ghost faults = { λ s. s.faults };
-
-    ghost took = { λ s. s.bytes };
-
-    ghost contents = { λ s. Some s.bytes };
+    ghost seen = { sink_seen };
 
     // `exactly` says what each write gives, and `state` what it leaves behind.
     fn write(&mut self, piece: &[u8]) -> Result<usize, SinkError>
-        ensures taken { IfOk result (TakesFirst (Some self.old.bytes) (Some self.new.bytes) piece.now) }
-        ensures err { OnErr result (self.new.bytes ≡ self.old.bytes) }
-        ensures took { HasTaken self.old.bytes self.new.bytes piece.now result }
-        ensures cause { HasCause self.old.faults self.new.faults result }
+        ensures ok { IfOk result (TookFirst (change sink_seen self.old self.new) piece.now) }
+        ensures err { OnErr result (HasNotTaken (change sink_seen self.old self.new)) }
         ensures fits_u64 { self.new.faults < 2 ^ 64 }
         ensures state { self.new ≡ after_write self.old piece.now result }
         ensures exactly { result ≡ write_answer self.old piece.now }

@@ -1,8 +1,11 @@
 //! The real desk and sinks. No contract says what the system contains; they count each of its errors.
-ghost use Rattle.std.specs.Prelude.{◌≡◌, ◌<◌, ◌≤◌, ◌+◌, ◌^◌, [], length, map, None, IfOk, IfSome, OnOk, vec_len, option_map, string_bytes};
-ghost use Rattle.stat_desk.specs.Desk.{CountsAt, FailedAt};
+ghost use Rattle.std.specs.Prelude.{◌≡◌, ◌<◌, ◌≤◌, ◌+◌, ◌^◌, ◌∷◌, ◌++◌, [], ℕ, List, length, map, None, IfOk, IfSome, OnErr, OnOk, vec_len, option_map, string_bytes};
+ghost use Rattle.stat_desk.specs.Desk.{after_asking, after_error, after_noting, new_desk};
 ghost use Rattle.stat_desk.specs.Feeding.{FeedsPrefix};
+ghost use Rattle.stat_desk.specs.Given.{result_of, results_of};
+ghost use Rattle.stat_desk.specs.Sink.{new_sink_seen};
 
+use crate::given::Given;
 use crate::history::History;
 use crate::{Desk, DeskError, Feed, Sink, SinkError};
 use std::alloc::{AllocError, Global};
@@ -18,17 +21,14 @@ pub struct FileDesk<'a, R: Files> {
     faults: u64,
     last_fault: Option<String>,
     reads: Vec<String>,
-    gave: Vec<History>,
+    gave: Vec<Given>,
     ghost fits_u64: { faults < 2 ^ 64 },
 }
 
 impl<'a, R: Files> FileDesk<'a, R> {
-    /// A desk with no fault.
+    /// A desk with no fault, which was not asked for anything yet.
     pub fn new(alloc: Global, rt: &'a R) -> FileDesk<'a, R>
-        ensures faults { ⟦<FileDesk<'a, R> as Desk>⟧.faults result ≡ 0 }
-        ensures last_fault { ⟦<FileDesk<'a, R> as Desk>⟧.last_fault result ≡ None }
-        ensures reads { ⟦<FileDesk<'a, R> as Desk>⟧.reads result ≡ [] }
-        ensures gave { ⟦<FileDesk<'a, R> as Desk>⟧.gave result ≡ [] }
+        ensures { ⟦<FileDesk<'a, R> as Desk>⟧.seen result ≡ new_desk }
     {
         FileDesk {
             rt,
@@ -40,20 +40,53 @@ impl<'a, R: Files> FileDesk<'a, R> {
         }
     }
 
-    // Counts a read that failed at this name.
-    fn refuse(&mut self, name: String) -> DeskError
-        ensures why { result ≡ DeskError.Failed }
-        ensures counts { CountsAt self.old.faults self.new.faults (option_map string_bytes self.old.last_fault)
-            (option_map string_bytes self.new.last_fault) (string_bytes name) }
-        ensures failed { FailedAt self.old.faults self.new.faults (option_map string_bytes self.new.last_fault)
-            (string_bytes name) }
+    // Lists this name among those that were asked for, and returns a copy of it. The memory for both is taken first, so
+    // that a read is always listed, and a fault counted with its name.
+    fn ask(&mut self, name: &str) -> Result<String, AllocError>
+        ensures copy { IfOk result (λ copy. string_bytes copy ≡ name.now) }
+        ensures ok { OnOk result (⟦<FileDesk<'a, R> as Desk>⟧.seen self.new
+            ≡ after_asking (⟦<FileDesk<'a, R> as Desk>⟧.seen self.old) name.now) }
+        ensures err { OnErr result (⟦<FileDesk<'a, R> as Desk>⟧.seen self.new
+            ≡ ⟦<FileDesk<'a, R> as Desk>⟧.seen self.old) }
         ensures fits_u64 { self.new.faults < 2 ^ 64 }
-        ensures reads { self.new.reads ≡ self.old.reads }
-        ensures gave { self.new.gave ≡ self.old.gave }
     {
-        self.faults = self.faults.saturating_add(1);
-        self.last_fault = Some(name);
-        DeskError::Failed
+        let copy = String::from_str(self.alloc, name)?;
+        let asked = String::from_str(self.alloc, name)?;
+        self.reads.push(asked)?;
+        Ok(copy)
+    }
+
+    // Notes what a file gave.
+    fn note(&mut self, given: Given) -> Result<(), AllocError>
+        ensures ok { OnOk result (⟦<FileDesk<'a, R> as Desk>⟧.seen self.new
+            ≡ after_noting (⟦<FileDesk<'a, R> as Desk>⟧.seen self.old) (result_of given)) }
+        ensures err { OnErr result (⟦<FileDesk<'a, R> as Desk>⟧.seen self.new
+            ≡ ⟦<FileDesk<'a, R> as Desk>⟧.seen self.old) }
+        ensures fits_u64 { self.new.faults < 2 ^ 64 }
+    {
+        self.gave.push(given)?;
+        Ok(())
+    }
+
+    // Notes why a read of this name, which was asked for, returns no bytes.
+    fn refuse(&mut self, name: String, error: DeskError) -> DeskError
+        ensures noted { ⟦<FileDesk<'a, R> as Desk>⟧.seen self.new
+            ≡ after_error (⟦<FileDesk<'a, R> as Desk>⟧.seen self.old) (string_bytes name) result }
+        ensures fits_u64 { self.new.faults < 2 ^ 64 }
+    {
+        match error {
+            DeskError::Failed => {
+                self.faults = self.faults.saturating_add(1);
+                self.last_fault = Some(name);
+            }
+            DeskError::TooLong => {
+                if self.note(Given::TooLong).is_err() {
+                    return DeskError::OutOfMemory;
+                }
+            }
+            DeskError::OutOfMemory => {}
+        }
+        error
     }
 }
 
@@ -152,60 +185,43 @@ fn feed_up_to<I: Read, F: Feed>(
 }
 
 impl<R: Files> Desk for FileDesk<'_, R> {
-    ghost faults = { λ d. d.faults };
+    ghost seen = { λ d. record {
+      faults = d.faults;
+      last_fault = option_map string_bytes d.last_fault;
+      reads = map string_bytes d.reads.items;
+      gave = results_of d.gave.items;
+      contents = λ name. None;
+    } };
 
-    ghost last_fault = { λ d. option_map string_bytes d.last_fault };
-
-    ghost reads = { λ d. map string_bytes d.reads.items };
-
-    ghost gave = { λ d. map (λ h. h.bytes) d.gave.items };
-
-    ghost contents = { λ d name. None };
-
-    // The memory for the names is taken first, so that a read is always listed, and a fault counted with its name.
     fn read(&mut self, name: &str, max: u64) -> Result<Vec<u8>, DeskError> {
-        let (Ok(asked), Ok(at_fault)) = (
-            String::from_str(self.alloc, name),
-            String::from_str(self.alloc, name),
-        ) else {
+        let Ok(asked) = self.ask(name) else {
             return Err(DeskError::OutOfMemory);
         };
-        if self.reads.push(asked).is_err() {
-            return Err(DeskError::OutOfMemory);
-        }
         let Ok(mut file) = fs::open(self.rt, name) else {
-            return Err(self.refuse(at_fault));
+            return Err(self.refuse(asked, DeskError::Failed));
         };
         match read_up_to(self.alloc, &mut file, max) {
-            Ok(bytes) => match self.gave.push(History::of(&bytes)) {
+            Ok(bytes) => match self.note(Given::Bytes(History::of(&bytes))) {
                 Ok(()) => Ok(bytes),
                 Err(_) => Err(DeskError::OutOfMemory),
             },
-            Err(DeskError::Failed) => Err(self.refuse(at_fault)),
-            Err(other) => Err(other),
+            Err(error) => Err(self.refuse(asked, error)),
         }
     }
 
     fn read_pieces<F: Feed>(&mut self, name: &str, max: u64, fed: &mut F) -> Result<(), DeskError> {
-        let (Ok(asked), Ok(at_fault)) = (
-            String::from_str(self.alloc, name),
-            String::from_str(self.alloc, name),
-        ) else {
+        let Ok(asked) = self.ask(name) else {
             return Err(DeskError::OutOfMemory);
         };
-        if self.reads.push(asked).is_err() {
-            return Err(DeskError::OutOfMemory);
-        }
         let Ok(mut file) = fs::open(self.rt, name) else {
-            return Err(self.refuse(at_fault));
+            return Err(self.refuse(asked, DeskError::Failed));
         };
         match feed_up_to(self.alloc, &mut file, max, fed) {
-            Ok(given) => match self.gave.push(given) {
+            Ok(bytes) => match self.note(Given::Bytes(bytes)) {
                 Ok(()) => Ok(()),
                 Err(_) => Err(DeskError::OutOfMemory),
             },
-            Err(DeskError::Failed) => Err(self.refuse(at_fault)),
-            Err(other) => Err(other),
+            Err(error) => Err(self.refuse(asked, error)),
         }
     }
 }
@@ -222,8 +238,7 @@ pub struct StdSink<'a, R: Print> {
 impl<'a, R: Print> StdSink<'a, R> {
     /// A sink with no fault.
     pub fn new(rt: &'a R) -> StdSink<'a, R>
-        ensures faults { ⟦<StdSink<'a, R> as Sink>⟧.faults result ≡ 0 }
-        ensures took { ⟦<StdSink<'a, R> as Sink>⟧.took result ≡ [] }
+        ensures { ⟦<StdSink<'a, R> as Sink>⟧.seen result ≡ new_sink_seen }
     {
         StdSink {
             rt,
@@ -234,11 +249,7 @@ impl<'a, R: Print> StdSink<'a, R> {
 }
 
 impl<R: Print> Sink for StdSink<'_, R> {
-    ghost faults = { λ s. s.faults };
-
-    ghost took = { λ s. s.took.bytes };
-
-    ghost contents = { λ s. None };
+    ghost seen = { λ s. record { faults = s.faults; took = s.took.bytes; contents = None } };
 
     fn write(&mut self, piece: &[u8]) -> Result<usize, SinkError> {
         match self.rt.write_some(piece) {
@@ -268,8 +279,7 @@ pub struct FileSink<'a, R: Files> {
 impl<'a, R: Files> FileSink<'a, R> {
     /// A sink with no fault, for the file of this name. No file is made yet.
     pub fn new(rt: &'a R, name: String) -> FileSink<'a, R>
-        ensures faults { ⟦<FileSink<'a, R> as Sink>⟧.faults result ≡ 0 }
-        ensures took { ⟦<FileSink<'a, R> as Sink>⟧.took result ≡ [] }
+        ensures { ⟦<FileSink<'a, R> as Sink>⟧.seen result ≡ new_sink_seen }
     {
         FileSink {
             rt,
@@ -295,11 +305,7 @@ impl<'a, R: Files> FileSink<'a, R> {
 }
 
 impl<R: Files> Sink for FileSink<'_, R> {
-    ghost faults = { λ s. s.faults };
-
-    ghost took = { λ s. s.took.bytes };
-
-    ghost contents = { λ s. None };
+    ghost seen = { λ s. record { faults = s.faults; took = s.took.bytes; contents = None } };
 
     fn write(&mut self, piece: &[u8]) -> Result<usize, SinkError> {
         if piece.is_empty() {

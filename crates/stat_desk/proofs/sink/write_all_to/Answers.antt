@@ -13,18 +13,20 @@ taken_on before old new bytes a n first then =
 
 pub loop-taken-preserved : goal.loop-taken-preserved
 loop-taken-preserved g c =
-    let taken = rw c.split_at.ensures.back at c.in_ok-taken.ensures.taken in
-    let took = rw c.split_at.ensures.back at c.in_ok-taken.ensures.took in
+    let next = rw c.split_at.ensures.back at c.in_ok-taken.ensures.ok in
+    let so_far = c.loop-taken.invariant.taken in
     record {
-      within = omega (arith, c.in_ok-taken.ensures.taken.within, c.split_at.ensures.back_len);
-      appended = rw (take-add c.loop-taken.taken c.in_ok-taken.field-0 c.args.bytes.now)
-          (Appends-trans _ _ _ _ _ c.loop-taken.invariant.appended taken.appended);
-      took = taken_on (g.S.Sink.took c.args.sink.now) _ _ c.args.bytes.now c.loop-taken.taken c.in_ok-taken.field-0
-          c.loop-taken.invariant.took took;
-      later = omega (arith, c.write.ensures.cause.later);
+      within = omega (arith, c.in_ok-taken.ensures.ok.within, c.split_at.ensures.back_len);
+      taken = record {
+        took = taken_on (g.S.Sink.seen c.args.sink.now).took _ _ c.args.bytes.now c.loop-taken.taken c.in_ok-taken.field-0
+            so_far.took next.taken.took;
+        contents = rw (take-add c.loop-taken.taken c.in_ok-taken.field-0 c.args.bytes.now)
+            (Appends-trans _ _ _ _ _ so_far.contents next.taken.contents);
+        later = omega (arith, so_far.later, next.taken.later);
+      };
       untouched = λ none.
           let left : 0 < length c.split_at.result.1.now =
           omega (arith, c.split_at.ensures.back_len, c.loop-taken-test.true) in
-          let some : 0 < c.in_ok-taken.field-0 = c.in_ok-taken.ensures.taken.some_taken left in
+          let some : 0 < c.in_ok-taken.field-0 = c.in_ok-taken.ensures.ok.some_taken left in
           absurd (omega (arith, some, none));
     }

@@ -1,13 +1,12 @@
-use Rattle.std.proofs.Common.{◌≡◌, ◌++◌, length, ◌-◌, ◌≤◌, take}
-use Rattle.std.specs.Io.KnownBytes.{Appends}
+use Rattle.std.proofs.Common.{◌≡◌, length, ◌-◌, ◌≤◌, take}
+use Rattle.stat_desk.specs.Change.{change}
+use Rattle.stat_desk.specs.Sink.{TookWhole}
 use Rattle.stat_desk.proofs.sink.write_all_to.Given as goal
 
 abbrev pub invariant-loop-taken : goal.invariant-loop-taken
 invariant-loop-taken g l = record {
   within : l.taken ≤ length l.bytes;
-  appended : Appends (g.S.Sink.contents l.fn.sink) (g.S.Sink.contents l.sink) (take l.taken l.bytes);
-  took : g.S.Sink.took l.sink ≡ g.S.Sink.took l.fn.sink ++ take l.taken l.bytes;
-  later : g.S.Sink.faults l.fn.sink ≤ g.S.Sink.faults l.sink;
+  taken : TookWhole (change g.S.Sink.seen l.fn.sink l.sink) (take l.taken l.bytes);
   untouched : l.taken ≡ 0 → l.sink ≡ l.fn.sink;
 }
 
