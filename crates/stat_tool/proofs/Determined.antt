@@ -1,9 +1,12 @@
 -- From why a call gives a status to what its texts determine, where nothing fails.
-use Rattle.std.proofs.Common.{◌≡◌, ◌≤◌, inl, inr, ℕ, Bool, List, [], ◌∷◌, Option, Some, None, Ok, Err, length, refl, sym, ap, subst, ◌∙◌}
-use Rattle.std.specs.Prelude.{Result, IfOk, if◌then◌else◌}
+use Rattle.std.proofs.Common.{◌≡◌, ◌≤◌, inl, inr, ℕ, Bool, List, [], ◌∷◌, Option, Some, None, Ok, Err, length, refl, sym, ap, subst, ◌∙◌, arith}
+use Rattle.std.specs.Prelude.{Result, if◌then◌else◌}
 use Rattle.std.proofs.lemmas.Bool.{le-leb, lt-leb}
 use Rattle.overlay_setup.specs.Scripts.{Scripted}
 use Rattle.overlay_setup.specs.Topologies.{Nodes}
+use Rattle.stat_desk.specs.Change.{Change}
+use Rattle.stat_desk.specs.Desk.{Agrees, Bytes, DeskSeen, ReadResult, TooLong}
+use Rattle.stat_desk.specs.Sink.{SinkSeen}
 use Rattle.stat_plan.specs.Plans.{Plan, Sampled, plan_of}
 use Rattle.stat_plan.specs.Limits.{first_over}
 use Rattle.text_lines.specs.declared.text_error.TextError.{TextError}
@@ -15,10 +18,10 @@ use Rattle.stat_words.specs.declared.words.WordFault.{WordFault}
 use Rattle.topology_text.specs.Whole.{topology_of}
 use Rattle.sample_text.specs.Whole.{samples_of_text}
 use Rattle.script_text.specs.Whole.{script_of}
-use Rattle.stat_tool.specs.Call.{Answered, AreTold, DeskChange, Finishes, IsDetermined, SinkChange, all_given, answer_of, answer_of_job, end_of, given}
+use Rattle.stat_tool.specs.Call.{Answered, AreTold, Finishes, IsDetermined, all_given, answer_of, answer_of_job, end_of, given}
 use Rattle.stat_tool.specs.Files.{NamedFile, files_of, limit_of}
 use Rattle.stat_tool.specs.Jobs.{Job, RunJob, SimJob, ReplayJob, DirectJob, GenJob, CastJob, SumsJob, ViewJob, CaptureJob, RunOutput}
-use Rattle.stat_tool.specs.NextStep.{AfterPlan, Agrees, Answers, Bytes, Does, AreReadResults, ReadResult, Step, TooLong, Wants, at_capture, at_journal, at_samples, at_script, at_values, by_limit, by_samples, by_script, by_topology, next_step, plan_step}
+use Rattle.stat_tool.specs.NextStep.{AfterPlan, Answers, Does, AreReadResults, Step, Wants, at_capture, at_journal, at_samples, at_script, at_values, by_limit, by_samples, by_script, by_topology, next_step, plan_step}
 use Rattle.stat_tool.specs.Outputs.{HasOutput}
 use Rattle.stat_tool.specs.declared.status.Target.TheVariants.{Report, Journal}
 use Rattle.stat_tool.specs.declared.status.Status.{Status}
@@ -167,31 +170,31 @@ module _ (asked : Asked) (contents : List ℕ → Option (List ℕ)) (told : Are
       ap answer_of (sym is)
       ∙ ap answer_of (sym (step_stays asked results (all_given contents (files_of asked)) (results_begin contents (files_of asked) results told read) (subst IsSettled (sym is) settled)))
 
-  finishes : (results : List ReadResult) (out journal : SinkChange) (events : List Event) (status : Status) (f : Finishes (next_step asked results) out journal events status) → AreReadResults contents (files_of asked) results → status ≡ end_of f.output.unfinished
+  finishes : (results : List ReadResult) (out journal : Change SinkSeen) (events : List Event) (status : Status) (f : Finishes (next_step asked results) out journal events status) → AreReadResults contents (files_of asked) results → status ≡ end_of f.output.unfinished
       → status ≡ answer_of (next_step asked (all_given contents (files_of asked)))
   finishes results out journal events status f read ends = ends ∙ end_of_job f.job f.output f.is_output ∙ answers results (Does f.job) read f.step tt
 
 -- the texts determine the answer, where nothing fails
-pub determined : (asked : Asked) (desk : DeskChange) (out journal : SinkChange) (events : List Event) (status : Status) → Answered (Ok asked) desk out journal events status → IsDetermined asked desk out journal status
+pub determined : (asked : Asked) (desk : Change DeskSeen) (out journal : Change SinkSeen) (events : List Event) (status : Status) → Answered (Ok asked) desk out journal events status → IsDetermined (Ok asked) desk out journal status
 determined asked desk out journal events Done a told no_fault no_loss no_journal_loss =
-    inl (finishes asked desk.contents told a.0 out journal events Done a.1.1 a.1.0.contents (ap end_of (sym a.1.1.written.0)))
+    inl (finishes asked desk.before.contents told a.0 out journal events Done a.1.1 a.1.0.contents (ap end_of (sym a.1.1.written.0)))
 determined asked desk out journal events (Unfinished e) a told no_fault no_loss no_journal_loss =
-    inl (finishes asked desk.contents told a.0 out journal events (Unfinished e) a.1.1 a.1.0.contents (ap end_of (sym a.1.1.written.0)))
+    inl (finishes asked desk.before.contents told a.0 out journal events (Unfinished e) a.1.1 a.1.0.contents (ap end_of (sym a.1.1.written.0)))
 determined asked desk out journal events OutOfMemory a told no_fault no_loss no_journal_loss = inr refl
 determined asked desk out journal events (BadInput file line reason) a told no_fault no_loss no_journal_loss =
-    inl (answers asked desk.contents told a.0 (Answers (BadInput file line reason)) a.1.0.contents a.1.1.0 tt)
+    inl (answers asked desk.before.contents told a.0 (Answers (BadInput file line reason)) a.1.0.contents a.1.1.0 tt)
 determined asked desk out journal events (OverLimit file line what most) a told no_fault no_loss no_journal_loss =
-    inl (answers asked desk.contents told a.0 (Answers (OverLimit file line what most)) a.1.0.contents a.1.1.0 tt)
+    inl (answers asked desk.before.contents told a.0 (Answers (OverLimit file line what most)) a.1.0.contents a.1.1.0 tt)
 determined asked desk out journal events (BadJournal i) a told no_fault no_loss no_journal_loss =
-    inl (answers asked desk.contents told a.0 (Answers (BadJournal i)) a.1.0.contents a.1.1.0 tt)
+    inl (answers asked desk.before.contents told a.0 (Answers (BadJournal i)) a.1.0.contents a.1.1.0 tt)
 determined asked desk out journal events (BadFrames at reason) a told no_fault no_loss no_journal_loss =
-    inl (answers asked desk.contents told a.0 (Answers (BadFrames at reason)) a.1.0.contents a.1.1.0 tt)
-determined asked desk out journal events (DeskFault role) a told no_fault no_loss no_journal_loss = absurd (no_fault a.1.1.0.1.failed.rose)
+    inl (answers asked desk.before.contents told a.0 (Answers (BadFrames at reason)) a.1.0.contents a.1.1.0 tt)
+determined asked desk out journal events (DeskFault role) a told no_fault no_loss no_journal_loss = absurd (no_fault (omega (arith, a.1.1.0.1.counted)))
 determined asked desk out journal events (SinkFault Report) a told no_fault no_loss no_journal_loss = absurd (no_loss a.1.1.written.0.rose)
 determined asked desk out journal events (SinkFault Journal) a told no_fault no_loss no_journal_loss = absurd (no_journal_loss a.1.1.written.1.rose)
 determined asked desk out journal events (BadWords fault) a told no_fault no_loss no_journal_loss = absurd a.1.1.0
 
 -- the same, for any words
-pub all_determined : (asked : Result Asked WordFault) (desk : DeskChange) (out journal : SinkChange) (events : List Event) (status : Status) → Answered asked desk out journal events status → IfOk asked (λ command. IsDetermined command desk out journal status)
+pub all_determined : (asked : Result Asked WordFault) (desk : Change DeskSeen) (out journal : Change SinkSeen) (events : List Event) (status : Status) → Answered asked desk out journal events status → IsDetermined asked desk out journal status
 all_determined (Err fault) desk out journal events status a = tt
 all_determined (Ok command) desk out journal events status a = determined command desk out journal events status a

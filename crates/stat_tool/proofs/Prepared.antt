@@ -1,6 +1,6 @@
 -- From a plan and the output of its job to what the files of a mode lead to.
-use Rattle.std.proofs.Common.{◌≡◌, inl, inr, ℕ, List, [], ◌∷◌, ◌++◌, Option, Err, length, refl, sym, ap, subst, ◌∙◌, arith, append-nil}
-use Rattle.std.specs.Prelude.{Result}
+use Rattle.std.proofs.Common.{◌≡◌, ◌<◌, ◌≤◌, inl, inr, ℕ, zero, suc, List, [], ◌∷◌, ◌++◌, Option, Err, length, refl, sym, ap, subst, ◌∙◌, arith, append-nil}
+use Rattle.std.specs.Prelude.{Result, take}
 use Rattle.overlay_setup.specs.NodeSets.{In}
 use Rattle.stat_plan.specs.Plans.{Plan}
 use Rattle.stat_plan.proofs.InLists.{append_left}
@@ -8,40 +8,28 @@ use Rattle.overlay_event.specs.declared.event.Event.{Event}
 use Rattle.capture_text.specs.Captures.{capture_of}
 use Rattle.journal_text.specs.Reading.{ReadJournal}
 use Rattle.value_text.specs.Numbers.{Numbers}
-use Rattle.stat_words.specs.Words.{Asked, AskedSums, Names}
+use Rattle.stat_words.specs.Words.{AskedSums, Names}
 use Rattle.stat_words.specs.Words.{Replay, Sums, Frames}
 use Rattle.stat_words.specs.declared.words.RunReport.{RunReport}
-use Rattle.stat_tool.specs.Call.{DeskChange, Gave, HasJournal, HasNoJournal, HasRead, IsCaptureRefusal, IsJobRefusal, IsPlanned, IsStopped, Prepared, Prevented, Prevents, Refuses, StopsAt, Tells}
-use Rattle.stat_tool.specs.Files.{NamedFile, files_of, limit_of, plan_files}
+use Rattle.stat_desk.specs.Change.{Change}
+use Rattle.stat_desk.specs.Desk.{Bytes, DeskSeen, HasGiven, ReadResult, TooLong}
+use Rattle.stat_tool.specs.Call.{HasJournal, HasNoJournal, HasRead, IsCaptureRefusal, IsJobRefusal, IsPlanned, IsStopped, IsWhyItStops, LeadsTo, Prepared, Prevented, Prevents, Refuses, StopsAt, Tells}
+use Rattle.stat_tool.specs.Files.{NamedFile, limit_of, names_in, plan_files}
 use Rattle.stat_tool.specs.Jobs.{Job, ReplayJob, SumsJob, CaptureJob, RunOutput}
-use Rattle.stat_tool.specs.NextStep.{AfterPlan, Agrees, Answers, AreReadResults, Bytes, Does, ReadResult, Step, TooLong, Wants, at_journal, at_values, by_capture, by_values, next_step, plan_step, replay_step, too_long, values_of}
+use Rattle.stat_tool.specs.NextStep.{AfterPlan, Answers, AreReadResults, Does, Step, Wants, at_capture, at_journal, at_values, by_capture, by_values, plan_step, replay_step, too_long, values_of}
 use Rattle.stat_tool.specs.Outputs.{HasOutput}
 use Rattle.stat_tool.specs.Status.{refusal_of}
 use Rattle.text_lines.specs.declared.text_error.TextError.{TextError}
-use Rattle.stat_tool.proofs.Stopping.{IsRestOf, read_no_more, read_one_more, read_too_long, stops, unread, whole_change, whole_earlier}
+use Rattle.stat_tool.proofs.Stopping.{IsNext, from, given_asked, read_one_more, stops, unread}
 use Rattle.stat_tool.specs.declared.status.FileRole.{FileRole}
 use Rattle.stat_tool.specs.declared.status.FileRole.TheVariants.{Journal, Capture, Values}
 use Rattle.stat_tool.specs.declared.status.Status.{Status}
 use Rattle.stat_tool.specs.declared.status.Status.TheVariants.{Done, BadWords, DeskFault, BadInput, OverLimit, SinkFault, OutOfMemory, BadJournal, Unfinished, BadFrames}
 
--- what the files gave, of more files
-read_less : (contents : List ℕ → Option (List ℕ)) (files more : List NamedFile) (results : List ReadResult) → AreReadResults contents files results → AreReadResults contents (files ++ more) results
-read_less contents files more [] read = tt
-read_less contents [] more (g ∷ gs) read = absurd read
-read_less contents (f ∷ files) more (g ∷ gs) read = (read.0, read_less contents files more gs read.1)
-
--- what one more file gave
-read_on : (contents : List ℕ → Option (List ℕ)) (files more : List NamedFile) (results rest : List ReadResult) → AreReadResults contents files results → length results ≡ length files
-    → AreReadResults contents more rest → AreReadResults contents (files ++ more) (results ++ rest)
-read_on contents [] more [] rest read same after = after
-read_on contents [] more (g ∷ gs) rest read same after = absurd read
-read_on contents (f ∷ files) more [] rest read same after = absurd (omega (arith, same))
-read_on contents (f ∷ files) more (g ∷ gs) rest read same after = (read.0, read_on contents files more gs rest read.1 (omega (arith, same)) after)
-
 -- a call that stops at one of the files stops where there are more
-prevents_less : (files more : List NamedFile) (desk : DeskChange) (next : Step) (status : Status) → Prevents files desk next status → Prevents (files ++ more) desk next status
+prevents_less : (files more : List NamedFile) (desk : Change DeskSeen) (next : Step) (status : Status) → Prevents files desk next status → Prevents (files ++ more) desk next status
 prevents_less files more desk next OutOfMemory r = tt
-prevents_less files more desk next (DeskFault role) r = (r.0, record { name = r.1.name; is_named = append_left (role, r.1.name) files more r.1.is_named; failed = r.1.failed })
+prevents_less files more desk next (DeskFault role) r = (r.0, record { name = r.1.name; is_named = append_left (role, r.1.name) files more r.1.is_named; counted = r.1.counted; last = r.1.last })
 prevents_less files more desk next (BadInput file line reason) r = r
 prevents_less files more desk next (OverLimit file line what most) r = r
 prevents_less files more desk next (BadJournal i) r = r
@@ -51,111 +39,204 @@ prevents_less files more desk next (BadWords fault) r = absurd r
 prevents_less files more desk next (SinkFault target) r = absurd r
 prevents_less files more desk next (Unfinished e) r = absurd r
 
+-- what the files gave, where there are more
+read_less : (contents : List ℕ → Option (List ℕ)) (files more : List NamedFile) (results : List ReadResult) → AreReadResults contents files results → AreReadResults contents (files ++ more) results
+read_less contents files more [] read = tt
+read_less contents [] more (g ∷ gs) read = absurd read
+read_less contents (f ∷ files) more (g ∷ gs) read = (read.0, read_less contents files more gs read.1)
+
+take_less : (n : ℕ) (names more : List (List ℕ)) → (m : ℕ) × ((m ≤ n) × (take n names ≡ take m (names ++ more)))
+take_less zero [] more = (0, (omega (arith), refl))
+take_less zero (name ∷ names) more = (0, (omega (arith), refl))
+take_less (suc n) [] more = (0, (omega (arith), sym (take_none more)))
+  where
+    take_none : (more : List (List ℕ)) → take 0 more ≡ []
+    take_none [] = refl
+    take_none (name ∷ more) = refl
+take_less (suc n) (name ∷ names) more =
+    let less = take_less n names more in (suc less.0, (omega (arith, less.1.0), ap (λ (all : List (List ℕ)). name ∷ all) less.1.1))
+
+-- what the files gave, where there are more
+read_less : (contents : List ℕ → Option (List ℕ)) (files more : List NamedFile) (results : List ReadResult) → AreReadResults contents files results → AreReadResults contents (files ++ more) results
+read_less contents files more [] read = tt
+read_less contents [] more (g ∷ gs) read = absurd read
+read_less contents (f ∷ files) more (g ∷ gs) read = (read.0, read_less contents files more gs read.1)
+
+no_more_than_files : (contents : List ℕ → Option (List ℕ)) (files : List NamedFile) (results : List ReadResult) → AreReadResults contents files results → length results ≤ length (names_in files)
+no_more_than_files contents files [] read = omega (arith)
+no_more_than_files contents [] (g ∷ gs) read = absurd read
+no_more_than_files contents (f ∷ files) (g ∷ gs) read = omega (arith, no_more_than_files contents files gs read.1)
+
+not_more : (k m : ℕ) (n l : ℕ) → ((k : ℕ) → k ≤ n → k ≤ l → k ≤ m) → k ≤ suc n → k ≤ suc l → k ≤ suc m
+not_more zero m n l all below within = omega (arith)
+not_more (suc k) m n l all below within = omega (arith, all k (omega (arith, below)) (omega (arith, within)))
+
+-- the first of some names are the first of more
+take_less : (n : ℕ) (names more : List (List ℕ)) → (m : ℕ) × ((m ≤ n) × ((take n names ≡ take m (names ++ more)) × ((k : ℕ) → k ≤ n → k ≤ length names → k ≤ m)))
+take_less zero [] [] = (0, (omega (arith), (refl, λ k below within. below)))
+take_less zero [] (x ∷ more) = (0, (omega (arith), (refl, λ k below within. below)))
+take_less zero (name ∷ names) more = (0, (omega (arith), (refl, λ k below within. below)))
+take_less (suc n) [] [] = (0, (omega (arith), (refl, λ k below within. within)))
+take_less (suc n) [] (x ∷ more) = (0, (omega (arith), (refl, λ k below within. within)))
+take_less (suc n) (name ∷ names) more =
+    let less = take_less n names more in
+    (
+      suc less.0,
+      (omega (arith, less.1.0), (ap (λ (all : List (List ℕ)). name ∷ all) less.1.1.0, λ k below within. not_more k less.0 n (length names) less.1.1.1 below within)),
+    )
+
 -- ---- where there is no plan, whatever the mode
 
 -- of a mode that reads the files of a plan alone
-pub job_stops : (names : Names) (job : Plan → Job) (desk : DeskChange) (status : Status) → IsStopped (plan_files names) desk status
-    → (results : List ReadResult) × (HasRead (plan_files names) desk results × Prevents (plan_files names) desk (plan_step results (λ p rest. Does (job p))) status)
-job_stops names job desk status s = (s.0, (s.1.0, s.1.1 (λ p rest. Does (job p))))
+pub job_stops : (names : Names) (job : Plan → Job) (desk : Change DeskSeen) (status : Status) → IsStopped (plan_files names) desk status
+    → IsWhyItStops (plan_files names) (λ results. plan_step results (λ p rest. Does (job p))) desk status
+job_stops names job desk status s = (s.0, s.1 (λ p rest. Does (job p)))
 
 -- of a mode that reads one file more
 abbrev pub files_and : Names → FileRole → List ℕ → List NamedFile
 files_and names role name = plan_files names ++ (role, name) ∷ []
 
 -- what the files gave is why the call stops
-abbrev pub StopsLast : Names → FileRole → List ℕ → AfterPlan → DeskChange → Status → Type 0
-StopsLast names role name after desk status =
-    (results : List ReadResult) × (HasRead (files_and names role name) desk results × Prevents (files_and names role name) desk (plan_step results after) status)
+abbrev pub StopsLast : Names → FileRole → List ℕ → AfterPlan → Change DeskSeen → Status → Type 0
+StopsLast names role name after = IsWhyItStops (files_and names role name) (λ results. plan_step results after)
 
-pub last_stops : (names : Names) (role : FileRole) (name : List ℕ) (after : AfterPlan) (desk : DeskChange) (status : Status) → IsStopped (plan_files names) desk status → StopsLast names role name after desk status
-last_stops names role name after desk status s = (
-  s.0,
-  (
-    record { gave = s.1.0.gave; contents = read_less desk.contents (plan_files names) ((role, name) ∷ []) s.0 s.1.0.contents },
-    prevents_less (plan_files names) ((role, name) ∷ []) desk (plan_step s.0 after) status (s.1.1 after),
-  ),
-)
+pub last_stops : (names : Names) (role : FileRole) (name : List ℕ) (after : AfterPlan) (desk : Change DeskSeen) (status : Status) → IsStopped (plan_files names) desk status → StopsLast names role name after desk status
+last_stops names role name after desk status s =
+    let read = (s.1 after).0 in
+    let less = take_less read.count (names_in (plan_files names)) (name ∷ []) in
+    (
+      s.0,
+      (
+        record {
+          gave = read.gave;
+          contents = read_less desk.before.contents (plan_files names) ((role, name) ∷ []) s.0 read.contents;
+          count = less.0;
+          asked = read.asked ∙ ap (λ (all : List (List ℕ)). desk.before.reads ++ all) less.1.1.0;
+          each_gave = (
+            less.1.1.1 (length s.0) read.each_gave.0 (no_more_than_files desk.before.contents (plan_files names) s.0 read.contents),
+            omega (arith, less.1.0, read.each_gave.1),
+          );
+          in_turn = λ i lt. read.in_turn i (omega (arith, lt, less.1.0));
+        },
+        prevents_less (plan_files names) ((role, name) ∷ []) desk (plan_step s.0 after) status (s.1 after).1,
+      ),
+    )
 
 -- ---- where there is one
 
-step_at : (files : List NamedFile) (desk : DeskChange) (p : Plan) (planned : IsPlanned files desk p) (after : AfterPlan) → plan_step planned.results after ≡ after p []
-step_at files desk p planned after = ap (λ (rs : List ReadResult). plan_step rs after) (sym (append-nil planned.results)) ∙ planned.step [] after
+step_at : (names : Names) (desk : Change DeskSeen) (p : Plan) (planned : IsPlanned names desk p) (after : AfterPlan)
+    → plan_step (Bytes planned.topology ∷ Bytes planned.samples ∷ Bytes planned.script ∷ []) after ≡ after p []
+step_at names desk p planned after = planned.step [] after
+
+-- the files of a plan, where no more is read
+pub all_read : (names : Names) (after : AfterPlan) (desk : Change DeskSeen) (p : Plan) (planned : IsPlanned names desk p)
+    → HasRead (plan_files names) (λ results. plan_step results after) desk (Bytes planned.topology ∷ Bytes planned.samples ∷ Bytes planned.script ∷ [])
+all_read names after desk p planned = record { gave = planned.gave; contents = planned.contents; count = 3; asked = planned.asked; each_gave = (omega (arith), omega (arith)); in_turn = planned.in_turn after }
 
 -- of a mode that reads the files of a plan alone
-pub job_prepared : (names : Names) (job : Plan → Job) (desk : DeskChange) (p : Plan) (output : RunOutput) → IsPlanned (plan_files names) desk p → HasOutput (job p) output
-    → (results : List ReadResult) × (HasRead (plan_files names) desk results × ((done : Job) × ((plan_step results (λ p rest. Does (job p)) ≡ Does done) × HasOutput done output)))
-job_prepared names job desk p output planned has = (planned.results, (planned.read, (job p, (step_at (plan_files names) desk p planned (λ p rest. Does (job p)), has))))
+pub job_prepared : (names : Names) (job : Plan → Job) (desk : Change DeskSeen) (p : Plan) (output : RunOutput) → IsPlanned names desk p → HasOutput (job p) output
+    → LeadsTo (plan_files names) (λ results. plan_step results (λ p rest. Does (job p))) desk output
+job_prepared names job desk p output planned has = record {
+  results = Bytes planned.topology ∷ Bytes planned.samples ∷ Bytes planned.script ∷ [];
+  read = all_read names (λ p rest. Does (job p)) desk p planned;
+  all_read = planned.asked;
+  job = job p;
+  step = step_at names desk p planned (λ p rest. Does (job p));
+  is_output = has;
+}
 
--- memory ran out, once there is a plan
-pub no_memory : (asked : Asked) (desk : DeskChange) (results : List ReadResult) → HasRead (files_of asked) desk results → Prevented asked desk OutOfMemory
-no_memory asked desk results read = (results, (read, tt))
+-- the same, where memory runs out then
+pub job_no_memory : (names : Names) (job : Plan → Job) (desk : Change DeskSeen) (p : Plan) → IsPlanned names desk p
+    → IsWhyItStops (plan_files names) (λ results. plan_step results (λ p rest. Does (job p))) desk OutOfMemory
+job_no_memory names job desk p planned = (Bytes planned.topology ∷ Bytes planned.samples ∷ Bytes planned.script ∷ [], (all_read names (λ p rest. Does (job p)) desk p planned, tt))
 
 -- ---- the file behind those of a plan
 
 module _ (names : Names) (role : FileRole) (name : List ℕ) (after : AfterPlan) (wants : (p : Plan) → after p [] ≡ Wants role) (long : (p : Plan) → after p (TooLong ∷ []) ≡ Answers (too_long role))
-    (desk first rest : DeskChange) (p : Plan) (planned : IsPlanned (plan_files names) first p) (read : AreReadResults desk.contents (plan_files names) planned.results) (is_rest : IsRestOf desk rest planned.results) where
-  steps : Unit {0} → List ReadResult → Step
+    (first mid now : DeskSeen) (p : Plan) (planned : IsPlanned names (from first mid) p) where
+  abbrev steps : Unit {0} → List ReadResult → Step
   steps i results = plan_step results after
 
-  without_last : AreReadResults desk.contents (files_and names role name) planned.results
-  without_last = read_less desk.contents (plan_files names) ((role, name) ∷ []) planned.results read
+  abbrev before : List ReadResult
+  before = Bytes planned.topology ∷ Bytes planned.samples ∷ Bytes planned.script ∷ []
 
-  with_last : (g : ReadResult) → Agrees (desk.contents name) (limit_of role) g → AreReadResults desk.contents (files_and names role name) (planned.results ++ g ∷ [])
-  with_last g agrees = read_on desk.contents (plan_files names) ((role, name) ∷ []) planned.results (g ∷ []) read planned.all (agrees, tt)
+  last_turn : (i : Unit {0}) (n : ℕ) → n < 4 → (role : FileRole) × (plan_step (take n before) after ≡ Wants role)
+  last_turn i zero lt = planned.in_turn after 0 (omega (arith))
+  last_turn i (suc zero) lt = planned.in_turn after 1 (omega (arith))
+  last_turn i (suc (suc zero)) lt = planned.in_turn after 2 (omega (arith))
+  last_turn i (suc (suc (suc zero))) lt = (role, planned.step [] after ∙ wants p)
+  last_turn i (suc (suc (suc (suc n)))) lt = absurd (omega (arith, lt))
+
+  last_next : IsNext steps (files_and names role name) first mid role name before
+  last_next = record {
+    same_faults = planned.same_faults;
+    same_contents = planned.same_contents;
+    gave = planned.gave;
+    asked = planned.asked;
+    is_named = inr (inr (inr (inl refl)));
+    is_next = refl;
+    in_turn = last_turn;
+    wants = λ i. planned.step [] after ∙ wants p;
+    contents = (planned.contents.0, (planned.contents.1.0, (planned.contents.1.1.0, tt)));
+    more = λ g more. (planned.contents.0, (planned.contents.1.0, (planned.contents.1.1.0, (more, tt))));
+  }
 
   -- where it was not read
-  pub last_unread : (status : Status) → Refuses role name rest status → StopsLast names role name after desk status
-  unfolding steps
+  pub last_unread : (status : Status) → Refuses role name (from mid now) status → StopsLast names role name after (from first now) status
   last_unread status r =
-      let s = unread steps (files_and names role name) desk rest role name planned.results is_rest (λ i. step_at (plan_files names) first p planned after ∙ wants p) (λ i. planned.step (TooLong ∷ []) after ∙ long p)
-      (inr (inr (inr (inl refl)))) without_last with_last status r in
-      (s.0, (s.1.0, s.1.1 tt))
+      let s = unread steps (files_and names role name) first mid now role name before last_next (λ i. planned.step (TooLong ∷ []) after ∙ long p) status r in
+      (s.0, s.1 tt)
 
   -- where it was read
-  pub last_read : (bytes : List ℕ) → Gave rest name (limit_of role) bytes → HasRead (files_and names role name) desk (planned.results ++ Bytes bytes ∷ [])
-  last_read bytes given = read_one_more (files_and names role name) desk rest planned.results is_rest name (limit_of role) bytes given
-      (with_last (Bytes bytes) (whole_earlier (files_and names role name) desk rest planned.results is_rest name (limit_of role) bytes given))
+  pub last_read : (bytes : List ℕ) → HasGiven (from mid now) name (limit_of role) (Bytes bytes)
+      → HasRead (files_and names role name) (λ results. plan_step results after) (from first now) (Bytes planned.topology ∷ Bytes planned.samples ∷ Bytes planned.script ∷ Bytes bytes ∷ [])
+  last_read bytes given = read_one_more steps (files_and names role name) first mid now role name before last_next (Bytes bytes) given tt
 
   -- where its text has an error
   pub last_refused : {A : Type 0} (read_as : List ℕ → Result A TextError) → ((bytes : List ℕ) (e : TextError) → read_as bytes ≡ Err e → after p (Bytes bytes ∷ []) ≡ Answers (refusal_of role e))
-      → (status : Status) → StopsAt read_as role name rest status → StopsLast names role name after desk status
-  unfolding steps
+      → (status : Status) → StopsAt read_as role name (from mid now) status → StopsLast names role name after (from first now) status
   last_refused read_as bad status r =
-      let s = stops steps (files_and names role name) desk rest role name planned.results is_rest (λ i. step_at (plan_files names) first p planned after ∙ wants p) (λ i. planned.step (TooLong ∷ []) after ∙ long p)
-      (inr (inr (inr (inl refl)))) without_last with_last read_as (λ bytes e is i. planned.step (Bytes bytes ∷ []) after ∙ bad bytes e is) status r in
-      (s.0, (s.1.0, s.1.1 tt))
+      let s = stops steps (files_and names role name) first mid now role name before last_next (λ i. planned.step (TooLong ∷ []) after ∙ long p)
+      read_as (λ bytes e is i. planned.step (Bytes bytes ∷ []) after ∙ bad bytes e is) status r in
+      (s.0, s.1 tt)
 
   -- memory ran out behind it
-  pub last_no_memory : (bytes : List ℕ) → Gave rest name (limit_of role) bytes → StopsLast names role name after desk OutOfMemory
-  last_no_memory bytes given = (planned.results ++ Bytes bytes ∷ [], (last_read bytes given, tt))
+  pub last_no_memory : (bytes : List ℕ) → HasGiven (from mid now) name (limit_of role) (Bytes bytes) → StopsLast names role name after (from first now) OutOfMemory
+  last_no_memory bytes given = (before ++ Bytes bytes ∷ [], (last_read bytes given, tt))
 
   -- the job that it leads to
-  pub last_prepared : (bytes : List ℕ) (job : Job) (output : RunOutput) → Gave rest name (limit_of role) bytes → after p (Bytes bytes ∷ []) ≡ Does job → HasOutput job output
-      → (results : List ReadResult) × (HasRead (files_and names role name) desk results × ((done : Job) × ((plan_step results after ≡ Does done) × HasOutput done output)))
-  last_prepared bytes job output given leads has = (planned.results ++ Bytes bytes ∷ [], (last_read bytes given, (job, (planned.step (Bytes bytes ∷ []) after ∙ leads, has))))
+  pub last_prepared : (bytes : List ℕ) (job : Job) (output : RunOutput) → HasGiven (from mid now) name (limit_of role) (Bytes bytes) → after p (Bytes bytes ∷ []) ≡ Does job → HasOutput job output
+      → LeadsTo (files_and names role name) (λ results. plan_step results after) (from first now) output
+  last_prepared bytes job output given leads has = record {
+    results = before ++ Bytes bytes ∷ [];
+    read = last_read bytes given;
+    all_read = given_asked steps (files_and names role name) first mid now role name before last_next (Bytes bytes) given;
+    job = job;
+    step = planned.step (Bytes bytes ∷ []) after ∙ leads;
+    is_output = has;
+  }
 
 -- ---- the journal
 
-module _ (names : Names) (journal : List ℕ) (wanted : RunReport) (desk first rest : DeskChange) (p : Plan) (planned : IsPlanned (plan_files names) first p)
-    (read : AreReadResults desk.contents (plan_files names) planned.results) (is_rest : IsRestOf desk rest planned.results) where
+module _ (names : Names) (journal : List ℕ) (wanted : RunReport) (first mid now : DeskSeen) (p : Plan) (planned : IsPlanned names (from first mid) p) where
   -- where the journal was not read
-  pub journal_stops : (status : Status) → HasNoJournal rest journal status → Prevented (Replay names journal wanted) desk status
-  journal_stops status (inl r) = last_unread names Journal journal (at_journal wanted) (λ p. refl) (λ p. refl) desk first rest p planned read is_rest status r
-  journal_stops status (inr r) = subst (Prevented (Replay names journal wanted) desk) (sym r.0)
-      (last_no_memory names Journal journal (at_journal wanted) (λ p. refl) (λ p. refl) desk first rest p planned read is_rest r.1.0 r.1.1)
+  pub journal_stops : (status : Status) → HasNoJournal (from mid now) journal status → Prevented (Replay names journal wanted) (from first now) status
+  journal_stops status (inl r) = last_unread names Journal journal (at_journal wanted) (λ p. refl) (λ p. refl) first mid now p planned status r
+  journal_stops status (inr r) = subst (Prevented (Replay names journal wanted) (from first now)) (sym r.0)
+      (last_no_memory names Journal journal (at_journal wanted) (λ p. refl) (λ p. refl) first mid now p planned r.1.0 r.1.1)
 
-  module _ (events_read : ReadJournal) (has : HasJournal rest journal p events_read) where
-    pub replay_prepared : (events : List Event) (output : RunOutput) → replay_step p wanted events_read ≡ Does (ReplayJob p events wanted) → HasOutput (ReplayJob p events wanted) output → Prepared (Replay names journal wanted) desk output
+  module _ (events_read : ReadJournal) (has : HasJournal (from mid now) journal p events_read) where
+    pub replay_prepared : (events : List Event) (output : RunOutput) → replay_step p wanted events_read ≡ Does (ReplayJob p events wanted) → HasOutput (ReplayJob p events wanted) output → Prepared (Replay names journal wanted) (from first now) output
     replay_prepared events output leads is =
-        last_prepared names Journal journal (at_journal wanted) (λ p. refl) (λ p. refl) desk first rest p planned read is_rest has.0 (ReplayJob p events wanted) output has.1.0 (ap (replay_step p wanted) has.1.1 ∙ leads) is
+        last_prepared names Journal journal (at_journal wanted) (λ p. refl) (λ p. refl) first mid now p planned has.0 (ReplayJob p events wanted) output has.1.0 (ap (replay_step p wanted) has.1.1 ∙ leads) is
 
     -- why it is not replayed to its end
-    pub replay_refused : (status : Status) → IsJobRefusal (replay_step p wanted events_read) status → Prevented (Replay names journal wanted) desk status
-    replay_refused OutOfMemory r = last_no_memory names Journal journal (at_journal wanted) (λ p. refl) (λ p. refl) desk first rest p planned read is_rest has.0 has.1.0
+    pub replay_refused : (status : Status) → IsJobRefusal (replay_step p wanted events_read) status → Prevented (Replay names journal wanted) (from first now) status
+    replay_refused OutOfMemory r = last_no_memory names Journal journal (at_journal wanted) (λ p. refl) (λ p. refl) first mid now p planned has.0 has.1.0
     replay_refused (BadJournal i) r = (
-      planned.results ++ Bytes has.0 ∷ [],
+      Bytes planned.topology ∷ Bytes planned.samples ∷ Bytes planned.script ∷ Bytes has.0 ∷ [],
       (
-        last_read names Journal journal (at_journal wanted) (λ p. refl) (λ p. refl) desk first rest p planned read is_rest has.0 has.1.0,
+        last_read names Journal journal (at_journal wanted) (λ p. refl) (λ p. refl) first mid now p planned has.0 has.1.0,
         planned.step (Bytes has.0 ∷ []) (at_journal wanted) ∙ ap (replay_step p wanted) has.1.1 ∙ r,
       ),
     )
@@ -170,55 +251,66 @@ module _ (names : Names) (journal : List ℕ) (wanted : RunReport) (desk first r
 
 -- ---- the numbers of the ranks
 
-module _ (names : Names) (seed : ℕ) (wanted : AskedSums) (desk first rest : DeskChange) (p : Plan) (planned : IsPlanned (plan_files names) first p)
-    (read : AreReadResults desk.contents (plan_files names) planned.results) (is_rest : IsRestOf desk rest planned.results) where
+module _ (names : Names) (seed : ℕ) (wanted : AskedSums) (first mid now : DeskSeen) (p : Plan) (planned : IsPlanned names (from first mid) p) where
   -- where they were not read, or have an error
-  pub values_stop : (status : Status) → StopsAt (values_of p) Values wanted.values rest status → Prevented (Sums names seed wanted) desk status
+  pub values_stop : (status : Status) → StopsAt (values_of p) Values wanted.values (from mid now) status → Prevented (Sums names seed wanted) (from first now) status
   values_stop status r =
-      last_refused names Values wanted.values (at_values seed wanted) (λ p. refl) (λ p. refl) desk first rest p planned read is_rest (values_of p) (λ bytes e is. ap (by_values p seed wanted) is) status r
+      last_refused names Values wanted.values (at_values seed wanted) (λ p. refl) (λ p. refl) first mid now p planned (values_of p) (λ bytes e is. ap (by_values p seed wanted) is) status r
 
-  module _ (v : Numbers) (has : Tells rest wanted.values (limit_of Values) (values_of p) v) where
-    pub sums_prepared : (output : RunOutput) → HasOutput (SumsJob p v seed wanted.fold wanted.form) output → Prepared (Sums names seed wanted) desk output
+  module _ (v : Numbers) (has : Tells (from mid now) wanted.values (limit_of Values) (values_of p) v) where
+    pub sums_prepared : (output : RunOutput) → HasOutput (SumsJob p v seed wanted.fold wanted.form) output → Prepared (Sums names seed wanted) (from first now) output
     sums_prepared output is =
-        last_prepared names Values wanted.values (at_values seed wanted) (λ p. refl) (λ p. refl) desk first rest p planned read is_rest has.0 (SumsJob p v seed wanted.fold wanted.form) output has.1.0 (ap (by_values p seed wanted) has.1.1) is
+        last_prepared names Values wanted.values (at_values seed wanted) (λ p. refl) (λ p. refl) first mid now p planned has.0 (SumsJob p v seed wanted.fold wanted.form) output has.1.0 (ap (by_values p seed wanted) has.1.1) is
 
-    pub sums_no_memory : Prevented (Sums names seed wanted) desk OutOfMemory
-    sums_no_memory = last_no_memory names Values wanted.values (at_values seed wanted) (λ p. refl) (λ p. refl) desk first rest p planned read is_rest has.0 has.1.0
+    pub sums_no_memory : Prevented (Sums names seed wanted) (from first now) OutOfMemory
+    sums_no_memory = last_no_memory names Values wanted.values (at_values seed wanted) (λ p. refl) (λ p. refl) first mid now p planned has.0 has.1.0
 
 -- ---- the capture
 
-module _ (capture : List ℕ) (desk : DeskChange) where
+module _ (capture : List ℕ) (first now : DeskSeen) where
+  abbrev captures : Unit {0} → List ReadResult → Step
+  captures i = at_capture
+
+  capture_turn : (i : Unit {0}) (n : ℕ) → n < 1 → (role : FileRole) × (at_capture (take n []) ≡ Wants role)
+  capture_turn i zero lt = (Capture, refl)
+  capture_turn i (suc n) lt = absurd (omega (arith, lt))
+
+  capture_next : IsNext captures ((Capture, capture) ∷ []) first first Capture capture []
+  capture_next = record {
+    same_faults = refl;
+    same_contents = refl;
+    gave = sym (append-nil first.gave);
+    asked = sym (append-nil first.reads);
+    is_named = inl refl;
+    is_next = refl;
+    in_turn = capture_turn;
+    wants = λ i. refl;
+    contents = tt;
+    more = λ g agrees. (agrees, tt);
+  }
+
   -- where it was not read
-  pub capture_stops : (status : Status) → Refuses Capture capture desk status → Prevented (Frames capture) desk status
-  capture_stops OutOfMemory r = ([], (read_no_more ((Capture, capture) ∷ []) desk desk [] (whole_change desk) tt r, tt))
-  capture_stops (DeskFault role) r = (
-    [],
-    (
-      read_no_more ((Capture, capture) ∷ []) desk desk [] (whole_change desk) tt r.1.0,
-      (
-        ap Wants (sym r.0),
-        record { name = capture; is_named = subst (λ (role : FileRole). In {X = NamedFile} (role, capture) ((Capture, capture) ∷ [])) (sym r.0) (inl refl); failed = r.1.1 },
-      ),
-    ),
-  )
-  capture_stops (OverLimit file line what most) r = (TooLong ∷ [], (read_too_long ((Capture, capture) ∷ []) desk desk [] (whole_change desk) (r.1.1, tt) r.1.0, ap Answers (sym r.0)))
-  capture_stops Done r = absurd r
-  capture_stops (BadWords fault) r = absurd r
-  capture_stops (BadInput file line reason) r = absurd r
-  capture_stops (SinkFault target) r = absurd r
-  capture_stops (BadJournal i) r = absurd r
-  capture_stops (Unfinished e) r = absurd r
-  capture_stops (BadFrames at reason) r = absurd r
+  pub capture_stops : (status : Status) → Refuses Capture capture (from first now) status → Prevented (Frames capture) (from first now) status
+  capture_stops status r =
+      let s = unread captures ((Capture, capture) ∷ []) first first now Capture capture [] capture_next (λ i. refl) status r in
+      (s.0, s.1 tt)
 
-  module _ (bytes : List ℕ) (given : Gave desk capture (limit_of Capture) bytes) where
-    capture_read : HasRead ((Capture, capture) ∷ []) desk (Bytes bytes ∷ [])
-    capture_read = record { gave = given.gave; contents = (given.whole, tt) }
+  module _ (bytes : List ℕ) (given : HasGiven (from first now) capture (limit_of Capture) (Bytes bytes)) where
+    capture_read : HasRead ((Capture, capture) ∷ []) at_capture (from first now) (Bytes bytes ∷ [])
+    capture_read = read_one_more captures ((Capture, capture) ∷ []) first first now Capture capture [] capture_next (Bytes bytes) given tt
 
-    pub capture_prepared : (output : RunOutput) → by_capture bytes (capture_of bytes) ≡ Does (CaptureJob bytes) → HasOutput (CaptureJob bytes) output → Prepared (Frames capture) desk output
-    capture_prepared output leads is = (Bytes bytes ∷ [], (capture_read, (CaptureJob bytes, (leads, is))))
+    pub capture_prepared : (output : RunOutput) → by_capture bytes (capture_of bytes) ≡ Does (CaptureJob bytes) → HasOutput (CaptureJob bytes) output → Prepared (Frames capture) (from first now) output
+    capture_prepared output leads is = record {
+      results = Bytes bytes ∷ [];
+      read = capture_read;
+      all_read = given_asked captures ((Capture, capture) ∷ []) first first now Capture capture [] capture_next (Bytes bytes) given;
+      job = CaptureJob bytes;
+      step = leads;
+      is_output = is;
+    }
 
     -- why it is not printed
-    pub capture_refused : (status : Status) → IsCaptureRefusal (by_capture bytes (capture_of bytes)) status → Prevented (Frames capture) desk status
+    pub capture_refused : (status : Status) → IsCaptureRefusal (by_capture bytes (capture_of bytes)) status → Prevented (Frames capture) (from first now) status
     capture_refused OutOfMemory r = (Bytes bytes ∷ [], (capture_read, tt))
     capture_refused (BadFrames at reason) r = (Bytes bytes ∷ [], (capture_read, r))
     capture_refused (BadJournal i) r = absurd r
@@ -229,3 +321,9 @@ module _ (capture : List ℕ) (desk : DeskChange) where
     capture_refused (BadWords fault) r = absurd r
     capture_refused (SinkFault target) r = absurd r
     capture_refused (Unfinished e) r = absurd r
+
+-- ---- no file
+
+-- a desk that was not asked for anything
+pub not_asked : (next : List ReadResult → Step) (first : DeskSeen) → HasRead [] next (from first first) []
+not_asked next first = record { gave = sym (append-nil first.gave); contents = tt; count = 0; asked = sym (append-nil first.reads); each_gave = (omega (arith), omega (arith)); in_turn = λ i lt. absurd (omega (arith, lt)) }

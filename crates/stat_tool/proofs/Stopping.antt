@@ -1,11 +1,14 @@
--- From why one file's text was not read to why the call stops.
-use Rattle.std.proofs.Common.{◌≡◌, ◌≢◌, ◌≤◌, inl, inr, ℕ, zero, suc, List, [], ◌∷◌, ◌++◌, Option, Ok, Err, refl, sym, ap, subst, ◌∙◌, arith, append-nil}
+-- From what one file gave to what all files gave, and to why the call stops.
+use Rattle.std.proofs.Common.{◌≡◌, ◌≢◌, ◌<◌, ◌≤◌, inl, inr, ℕ, zero, suc, List, [], ◌∷◌, ◌++◌, Option, Ok, Err, length, refl, sym, ap, subst, ◌∙◌, arith, append-nil}
 use Rattle.std.specs.Prelude.{Result, IfErr, IfOk, take}
-use Rattle.std.proofs.lemmas.List.{append_assoc}
+use Rattle.std.proofs.lemmas.List.{append_assoc, length-append}
 use Rattle.overlay_setup.specs.NodeSets.{In}
 use Rattle.overlay_setup.specs.Scripts.{Scripted}
 use Rattle.overlay_setup.specs.Topologies.{Nodes}
-use Rattle.stat_desk.specs.Desk.{FailedAt, IsLonger, IsWhole}
+use Rattle.stat_desk.specs.Change.{Change}
+use Rattle.stat_desk.specs.Desk.{Agrees, Bytes, DeskSeen, HasGiven, ReadResult, TooLong}
+use Rattle.stat_desk.specs.Sink.{SinkSeen, TookNothing}
+use Rattle.stat_desk.specs.Faults.{next_count}
 use Rattle.stat_plan.specs.Plans.{Plan, Sampled, plan_of}
 use Rattle.text_lines.specs.declared.text_error.TextError.{TextError}
 use Rattle.text_lines.specs.declared.text_error.TextError.TheVariants.{Bad, Over, OutOfMemory as NoMemory}
@@ -15,207 +18,270 @@ use Rattle.script_text.specs.Whole.{script_of}
 use Rattle.overlay_event.specs.declared.event.Event.{Event}
 use Rattle.stat_words.specs.Words.{Asked, Names}
 use Rattle.stat_words.specs.declared.words.WordFault.{WordFault}
-use Rattle.stat_tool.specs.Call.{Answered, AreReadInOrder, DeskChange, Explains, Gave, GaveNothing, HasRead, IsBadText, IsPlanRefusal, IsPlanned, IsStopped, Prevents, Refuses, SinkChange, StopsAt, Tells, TookNothing}
-use Rattle.stat_tool.specs.Files.{NamedFile, files_of, limit_of, plan_files}
-use Rattle.stat_tool.specs.NextStep.{AfterPlan, Agrees, Answers, Bytes, AreReadResults, ReadResult, Step, TooLong, Wants, bytes_of, at_samples, at_script, by_samples, by_script, by_topology, next_step, plan_step, with_plan, too_long}
+use Rattle.stat_tool.specs.Call.{Answered, Explains, HasRead, IsBadText, IsPlanRefusal, IsPlanned, IsStopped, Prevents, Refuses, StopsAt, Tells}
+use Rattle.stat_tool.specs.Files.{NamedFile, files_of, limit_of, names_in, plan_files}
+use Rattle.stat_tool.specs.NextStep.{AfterPlan, Answers, AreReadResults, Step, Wants, at_samples, at_script, by_samples, by_script, by_topology, next_step, plan_step, with_plan, too_long}
 use Rattle.stat_tool.specs.Status.{refusal_of}
 use Rattle.stat_tool.specs.declared.status.FileRole.{FileRole}
 use Rattle.stat_tool.specs.declared.status.FileRole.TheVariants.{Topology, Samples, Script}
 use Rattle.stat_tool.specs.declared.status.Status.{Status}
 use Rattle.stat_tool.specs.declared.status.Status.TheVariants.{Done, BadWords, DeskFault, BadInput, OverLimit, SinkFault, OutOfMemory, BadJournal, Unfinished, BadFrames}
 
+-- what follows from an error, and from a value
+pub if_err : {A B : Type 0} (r : Result A B) (P Q : B → Type 0) → ((e : B) → P e → Q e) → IfErr r P → IfErr r Q
+if_err (Ok x) P Q f h = tt
+if_err (Err e) P Q f h = f e h
+
+pub if_ok : {A B : Type 0} (r : Result A B) (P Q : A → Type 0) → ((x : A) → P x → Q x) → IfOk r P → IfOk r Q
+if_ok (Ok x) P Q f h = f x h
+if_ok (Err e) P Q f h = tt
+
 -- a text that was refused
-pub stops_refused : {A : Type 0} (read : List ℕ → Result A TextError) (role : FileRole) (name : List ℕ) (desk : DeskChange) (error : TextError) (bytes text : List ℕ) (status : Status)
-    → status ≡ refusal_of role error → Gave desk name (limit_of role) bytes → text ≡ bytes → (error ≢ NoMemory → read text ≡ Err error) → StopsAt read role name desk status
+pub stops_refused : {A : Type 0} (read : List ℕ → Result A TextError) (role : FileRole) (name : List ℕ) (desk : Change DeskSeen) (error : TextError) (bytes text : List ℕ) (status : Status)
+    → status ≡ refusal_of role error → HasGiven desk name (limit_of role) (Bytes bytes) → text ≡ bytes → (error ≢ NoMemory → read text ≡ Err error) → StopsAt read role name desk status
 stops_refused read role name desk (Bad line reason) bytes text status is gave same says =
     inr (bytes, (gave, inr (Bad line reason, (ap read (sym same) ∙ says (λ e. cc), sym is))))
 stops_refused read role name desk (Over line what most) bytes text status is gave same says =
     inr (bytes, (gave, inr (Over line what most, (ap read (sym same) ∙ says (λ e. cc), sym is))))
 stops_refused read role name desk NoMemory bytes text status is gave same says = inr (bytes, (gave, inl is))
 
--- ---- a part of a call, after some results
-
--- this change of a desk is the rest of another, after reads of these results
-pub record IsRestOf (desk rest : DeskChange) (results : List ReadResult) : Type 0 where
-  pub later : desk.before ≤ rest.before
-  pub now : desk.now ≡ rest.now
-  pub last : desk.last_fault ≡ rest.last_fault
-  pub contents : rest.contents ≡ desk.contents
-  pub gave_before : rest.gave_before ≡ desk.gave_before ++ bytes_of results
-  pub gave_now : desk.gave_now ≡ rest.gave_now
-
--- the whole of it
-pub whole_change : (desk : DeskChange) → IsRestOf desk desk []
-whole_change desk = record { later = omega (arith); now = refl; last = refl; contents = refl; gave_before = sym (append-nil desk.gave_before); gave_now = refl }
-
-bytes_of_more : (results : List ReadResult) (bytes : List ℕ) → bytes_of (results ++ Bytes bytes ∷ []) ≡ bytes_of results ++ bytes ∷ []
-bytes_of_more [] bytes = refl
-bytes_of_more (Bytes first ∷ results) bytes = ap (λ (all : List (List ℕ)). first ∷ all) (bytes_of_more results bytes)
-bytes_of_more (TooLong ∷ results) bytes = bytes_of_more results bytes
-
-bytes_of_long : (results : List ReadResult) → bytes_of (results ++ TooLong ∷ []) ≡ bytes_of results
-bytes_of_long [] = refl
-bytes_of_long (Bytes first ∷ results) = ap (λ (all : List (List ℕ)). first ∷ all) (bytes_of_long results)
-bytes_of_long (TooLong ∷ results) = bytes_of_long results
-
-module _ (files : List NamedFile) (desk rest : DeskChange) (results : List ReadResult) (is_rest : IsRestOf desk rest results) where
-  -- the rest gave nothing
-  pub read_no_more : AreReadResults desk.contents files results → GaveNothing rest → HasRead files desk results
-  read_no_more read nothing = record { gave = is_rest.gave_now ∙ nothing ∙ is_rest.gave_before; contents = read }
-
-  pub read_too_long : AreReadResults desk.contents files (results ++ TooLong ∷ []) → GaveNothing rest → HasRead files desk (results ++ TooLong ∷ [])
-  read_too_long read nothing = record {
-    gave = is_rest.gave_now ∙ nothing ∙ is_rest.gave_before ∙ ap (λ (all : List (List ℕ)). desk.gave_before ++ all) (sym (bytes_of_long results));
-    contents = read;
-  }
-
-  -- the rest gave one file more
-  pub read_one_more : (name : List ℕ) (limit : ℕ) (bytes : List ℕ) → Gave rest name limit bytes → AreReadResults desk.contents files (results ++ Bytes bytes ∷ []) → HasRead files desk (results ++ Bytes bytes ∷ [])
-  read_one_more name limit bytes given read = record {
-    gave = is_rest.gave_now ∙ given.gave ∙ ap (λ (all : List (List ℕ)). all ++ bytes ∷ []) is_rest.gave_before ∙ append_assoc desk.gave_before (bytes_of results) (bytes ∷ [])
-        ∙ ap (λ (all : List (List ℕ)). desk.gave_before ++ all) (sym (bytes_of_more results bytes));
-    contents = read;
-  }
-
-  -- what a file has, and that the desk failed, seen from the beginning
-  pub whole_earlier : (name : List ℕ) (limit : ℕ) (bytes : List ℕ) → Gave rest name limit bytes → IsWhole (desk.contents name) limit bytes
-  whole_earlier name limit bytes given = subst (λ (t : List ℕ → Option (List ℕ)). IsWhole (t name) limit bytes) is_rest.contents given.whole
-
-  pub longer_earlier : (name : List ℕ) (limit : ℕ) → IsLonger (rest.contents name) limit → IsLonger (desk.contents name) limit
-  longer_earlier name limit longer = subst (λ (t : List ℕ → Option (List ℕ)). IsLonger (t name) limit) is_rest.contents longer
-
-  pub failed_earlier : (name : List ℕ) → FailedAt rest.before rest.now rest.last_fault name → FailedAt desk.before desk.now desk.last_fault name
-  failed_earlier name failed = record { rose = omega (arith, failed.rose, is_rest.later, is_rest.now); last = is_rest.last ∙ failed.last }
-
 -- a text's error is the answer
-error_prevents : (files : List NamedFile) (desk : DeskChange) (next : Step) (role : FileRole) (error : TextError) → next ≡ Answers (refusal_of role error) → Prevents files desk next (refusal_of role error)
+error_prevents : (files : List NamedFile) (desk : Change DeskSeen) (next : Step) (role : FileRole) (error : TextError) → next ≡ Answers (refusal_of role error) → Prevents files desk next (refusal_of role error)
 error_prevents files desk next role (Bad line reason) is = is
 error_prevents files desk next role (Over line what most) is = is
 error_prevents files desk next role NoMemory is = tt
 
+-- ---- the reads so far
+
+take_front : (n : ℕ) (xs ys : List ReadResult) → n ≤ length xs → take n (xs ++ ys) ≡ take n xs
+take_front zero [] ys le = refl
+take_front zero (x ∷ xs) ys le = refl
+take_front (suc n) [] ys le = absurd (omega (arith, le))
+take_front (suc n) (x ∷ xs) ys le = ap (λ (zs : List ReadResult). x ∷ zs) (take_front n xs ys (omega (arith, le)))
+
+-- a desk that was this at first, and is that now
+abbrev pub from : DeskSeen → DeskSeen → Change DeskSeen
+from first now = record { before = first; now = now }
+
+-- Files gave these results, each in its turn, and this file is the next to be read: what the desk is now, by what it was at
+-- first. `I` is what the steps leave open.
+pub record IsNext {I : Type 0} (next : I → List ReadResult → Step) (files : List NamedFile) (first now : DeskSeen) (role : FileRole) (name : List ℕ) (before : List ReadResult) : Type 0 where
+  pub same_faults : now.faults ≡ first.faults
+  pub same_contents : now.contents ≡ first.contents
+  pub gave : now.gave ≡ first.gave ++ before
+  pub asked : now.reads ≡ first.reads ++ take (length before) (names_in files)
+  pub is_named : In (role, name) files
+  pub is_next : take (suc (length before)) (names_in files) ≡ take (length before) (names_in files) ++ name ∷ []
+  pub in_turn : (after : I) (i : ℕ) → i < suc (length before) → (role : FileRole) × (next after (take i before) ≡ Wants role)
+  pub wants : (after : I) → next after before ≡ Wants role
+  pub contents : AreReadResults first.contents files before
+  pub more : (g : ReadResult) → Agrees (first.contents name) (limit_of role) g → AreReadResults first.contents files (before ++ g ∷ [])
+
 -- what the files gave is why the call stops, by each of these ways from what was read to a step
-abbrev pub IsStoppedBy : {I : Type 0} → (I → List ReadResult → Step) → List NamedFile → DeskChange → Status → Type 0
-IsStoppedBy {I} step files desk status = (results : List ReadResult) × (HasRead files desk results × ((after : I) → Prevents files desk (step after results) status))
+abbrev pub IsStoppedBy : {I : Type 0} → (I → List ReadResult → Step) → List NamedFile → Change DeskSeen → Status → Type 0
+IsStoppedBy {I} next files desk status = (results : List ReadResult) × ((after : I) → HasRead files (next after) desk results × Prevents files desk (next after results) status)
 
--- the call stops at a file whose text was not read, where all files before it were read
-module _ {I : Type 0} (step : I → List ReadResult → Step) (files : List NamedFile) (desk rest : DeskChange) (role : FileRole) (name : List ℕ) (before : List ReadResult)
-    (is_rest : IsRestOf desk rest before)
-    (wants : (after : I) → step after before ≡ Wants role)
-    (long : (after : I) → step after (before ++ TooLong ∷ []) ≡ Answers (too_long role))
-    (listed : In (role, name) files)
-    (earlier : AreReadResults desk.contents files before)
-    (more : (g : ReadResult) → Agrees (desk.contents name) (limit_of role) g → AreReadResults desk.contents files (before ++ g ∷ [])) where
-  pub unread : (status : Status) → Refuses role name rest status → IsStoppedBy step files desk status
-  unread OutOfMemory r = (before, (read_no_more files desk rest before is_rest earlier r, λ after. tt))
-  unread (DeskFault at) r = (
-    before,
-    (
-      read_no_more files desk rest before is_rest earlier r.1.0,
+module _ {I : Type 0} (next : I → List ReadResult → Step) (files : List NamedFile) (first mid now : DeskSeen) (role : FileRole) (name : List ℕ) (before : List ReadResult)
+    (is : IsNext next files first mid role name before) where
+  -- the file was not asked for
+  read_no_more : now ≡ mid → (after : I) → HasRead files (next after) (from first now) before
+  read_no_more same after = record {
+    gave = ap (λ (d : DeskSeen). d.gave) same ∙ is.gave;
+    contents = is.contents;
+    count = length before;
+    asked = ap (λ (d : DeskSeen). d.reads) same ∙ is.asked;
+    each_gave = (omega (arith), omega (arith));
+    in_turn = λ i lt. is.in_turn after i (omega (arith, lt));
+  }
+
+  pub all_asked : now.reads ≡ mid.reads ++ name ∷ [] → now.reads ≡ first.reads ++ take (suc (length before)) (names_in files)
+  all_asked asked = asked ∙ ap (λ (names : List (List ℕ)). names ++ name ∷ []) is.asked ∙ append_assoc first.reads (take (length before) (names_in files)) (name ∷ [])
+      ∙ ap (λ (names : List (List ℕ)). first.reads ++ names) (sym is.is_next)
+
+  -- it was asked for, and gave nothing
+  read_nothing : now.gave ≡ mid.gave → now.reads ≡ mid.reads ++ name ∷ [] → (after : I) → HasRead files (next after) (from first now) before
+  read_nothing same asked after = record { gave = same ∙ is.gave; contents = is.contents; count = suc (length before); asked = all_asked asked; each_gave = (omega (arith), omega (arith)); in_turn = is.in_turn after }
+
+  module _ (g : ReadResult) (given : HasGiven (from mid now) name (limit_of role) g) where
+    pub given_faults : now.faults ≡ first.faults
+    given_faults = ap (λ (d : DeskSeen). d.faults) given.noted ∙ is.same_faults
+
+    pub given_contents : now.contents ≡ first.contents
+    given_contents = ap (λ (d : DeskSeen). d.contents) given.noted ∙ is.same_contents
+
+    pub all_given : now.gave ≡ first.gave ++ before ++ g ∷ []
+    all_given = ap (λ (d : DeskSeen). d.gave) given.noted ∙ ap (λ (results : List ReadResult). results ++ g ∷ []) is.gave ∙ append_assoc first.gave before (g ∷ [])
+
+    pub given_asked : now.reads ≡ first.reads ++ take (suc (length before)) (names_in files)
+    given_asked = all_asked (ap (λ (d : DeskSeen). d.reads) given.noted)
+
+    pub given_agrees : Agrees (first.contents name) (limit_of role) g
+    given_agrees = subst (λ (t : List ℕ → Option (List ℕ)). Agrees (t name) (limit_of role) g) is.same_contents given.agrees
+
+    -- it gave this
+    pub read_one_more : (after : I) → HasRead files (next after) (from first now) (before ++ g ∷ [])
+    read_one_more after = record {
+      gave = all_given;
+      contents = is.more g given_agrees;
+      count = suc (length before);
+      asked = given_asked;
+      each_gave = (omega (arith, length-append before (g ∷ [])), omega (arith, length-append before (g ∷ [])));
+      in_turn = λ i lt. let turn = is.in_turn after i lt in (turn.0, ap (next after) (take_front i before (g ∷ []) (omega (arith, lt))) ∙ turn.1);
+    }
+
+  module _ (long : (after : I) → next after (before ++ TooLong ∷ []) ≡ Answers (too_long role)) where
+    -- the call stops where the file can't be read
+    pub unread : (status : Status) → Refuses role name (from mid now) status → IsStoppedBy next files (from first now) status
+    unread OutOfMemory (inl same) = (before, λ after. (read_no_more same after, tt))
+    unread OutOfMemory (inr asked) = (before, λ after. (read_nothing (ap (λ (d : DeskSeen). d.gave) asked) (ap (λ (d : DeskSeen). d.reads) asked) after, tt))
+    unread (DeskFault at) r = (
+      before,
       λ after. (
-        wants after ∙ ap Wants (sym r.0),
-        record { name = name; is_named = subst (λ (q : FileRole). In (q, name) files) (sym r.0) listed; failed = failed_earlier files desk rest before is_rest name r.1.1 },
+        read_nothing (ap (λ (d : DeskSeen). d.gave) r.1) (ap (λ (d : DeskSeen). d.reads) r.1) after,
+        (
+          is.wants after ∙ ap Wants (sym r.0),
+          record {
+            name = name;
+            is_named = subst (λ (q : FileRole). In (q, name) files) (sym r.0) is.is_named;
+            counted = ap (λ (d : DeskSeen). d.faults) r.1 ∙ ap next_count is.same_faults;
+            last = ap (λ (d : DeskSeen). d.last_fault) r.1;
+          },
+        ),
       ),
-    ),
-  )
-  unread (OverLimit file line what most) r = (
-    before ++ TooLong ∷ [],
-    (
-      read_too_long files desk rest before is_rest (more TooLong (longer_earlier files desk rest before is_rest name (limit_of role) r.1.1)) r.1.0,
-      λ after. long after ∙ ap Answers (sym r.0),
-    ),
-  )
-  unread Done r = absurd r
-  unread (BadWords fault) r = absurd r
-  unread (BadInput file line reason) r = absurd r
-  unread (SinkFault target) r = absurd r
-  unread (BadJournal i) r = absurd r
-  unread (Unfinished e) r = absurd r
-  unread (BadFrames at reason) r = absurd r
+    )
+    unread (OverLimit file line what most) r = (before ++ TooLong ∷ [], λ after. (read_one_more TooLong r.1 after, long after ∙ ap Answers (sym r.0)))
+    unread Done r = absurd r
+    unread (BadWords fault) r = absurd r
+    unread (BadInput file line reason) r = absurd r
+    unread (SinkFault target) r = absurd r
+    unread (BadJournal i) r = absurd r
+    unread (Unfinished e) r = absurd r
+    unread (BadFrames at reason) r = absurd r
 
-  pub one_more : (bytes : List ℕ) → Gave rest name (limit_of role) bytes → HasRead files desk (before ++ Bytes bytes ∷ [])
-  one_more bytes given = read_one_more files desk rest before is_rest name (limit_of role) bytes given (more (Bytes bytes) (whole_earlier files desk rest before is_rest name (limit_of role) bytes given))
+    module _ {A : Type 0} (read : List ℕ → Result A TextError)
+        (bad : (bytes : List ℕ) (e : TextError) → read bytes ≡ Err e → (after : I) → next after (before ++ Bytes bytes ∷ []) ≡ Answers (refusal_of role e)) where
+      refused : (status : Status) (bytes : List ℕ) → HasGiven (from mid now) name (limit_of role) (Bytes bytes) → IsBadText read role bytes status → IsStoppedBy next files (from first now) status
+      refused status bytes given (inl memory) = subst (IsStoppedBy next files (from first now)) (sym memory) (before ++ Bytes bytes ∷ [], λ after. (read_one_more (Bytes bytes) given after, tt))
+      refused status bytes given (inr e) = subst (IsStoppedBy next files (from first now)) e.1.1
+          (before ++ Bytes bytes ∷ [], λ after. (read_one_more (Bytes bytes) given after, error_prevents files (from first now) (next after (before ++ Bytes bytes ∷ [])) role e.0 (bad bytes e.0 e.1.0 after)))
 
-  module _ {A : Type 0} (read : List ℕ → Result A TextError)
-      (bad : (bytes : List ℕ) (e : TextError) → read bytes ≡ Err e → (after : I) → step after (before ++ Bytes bytes ∷ []) ≡ Answers (refusal_of role e)) where
-    refused : (status : Status) (bytes : List ℕ) → Gave rest name (limit_of role) bytes → IsBadText read role bytes status → IsStoppedBy step files desk status
-    refused status bytes given (inl is) = subst (IsStoppedBy step files desk) (sym is) (before ++ Bytes bytes ∷ [], (one_more bytes given, λ after. tt))
-    refused status bytes given (inr e) = subst (IsStoppedBy step files desk) e.1.1
-        (before ++ Bytes bytes ∷ [], (one_more bytes given, λ after. error_prevents files desk (step after (before ++ Bytes bytes ∷ [])) role e.0 (bad bytes e.0 e.1.0 after)))
+      -- or where it has no value
+      pub stops : (status : Status) → StopsAt read role name (from mid now) status → IsStoppedBy next files (from first now) status
+      stops status (inl r) = unread status r
+      stops status (inr r) = refused status r.0 r.1.0 r.1.1
 
-    pub stops : (status : Status) → StopsAt read role name rest status → IsStoppedBy step files desk status
-    stops status (inl r) = unread status r
-    stops status (inr r) = refused status r.0 r.1.0 r.1.1
+-- ---- the three files
 
 -- the ways to go on behind the files of a plan
 abbrev by_plan : AfterPlan → List ReadResult → Step
 by_plan after results = plan_step results after
 
--- ---- the three files
+topology_turn : (after : AfterPlan) (i : ℕ) → i < 1 → (role : FileRole) × (plan_step (take i []) after ≡ Wants role)
+topology_turn after zero lt = (Topology, refl)
+topology_turn after (suc i) lt = absurd (omega (arith, lt))
 
--- a file with these contents was read as this
-abbrev pub HasText : {A : Type 0} → Option (List ℕ) → ℕ → (List ℕ → Result A TextError) → A → Type 0
-HasText contents limit read x = (bytes : List ℕ) × (IsWhole contents limit bytes × (read bytes ≡ Ok x))
-
--- a file that was read, as the desk had it at the start
-abbrev pub text_at_start : {A : Type 0} (start : List ℕ → Option (List ℕ)) (desk : DeskChange) (name : List ℕ) (limit : ℕ) (read : List ℕ → Result A TextError) (x : A)
-    → desk.contents ≡ start → Tells desk name limit read x → HasText (start name) limit read x
-text_at_start start desk name limit read x same t = (t.0, (subst (λ (u : List ℕ → Option (List ℕ)). IsWhole (u name) limit t.0) same t.1.0.whole, t.1.1))
-
--- two files were given, and three
-pub gave_two : (old mid new : List (List ℕ)) (a b : List ℕ) → mid ≡ old ++ a ∷ [] → new ≡ mid ++ b ∷ [] → new ≡ old ++ a ∷ b ∷ []
-gave_two old mid new a b first second = second ∙ ap (λ (all : List (List ℕ)). all ++ b ∷ []) first ∙ append_assoc old (a ∷ []) (b ∷ [])
-
-pub gave_three : (old one two new : List (List ℕ)) (a b c : List ℕ) → one ≡ old ++ a ∷ [] → two ≡ one ++ b ∷ [] → new ≡ two ++ c ∷ [] → new ≡ old ++ a ∷ b ∷ c ∷ []
-gave_three old one two new a b c first second third =
-    third ∙ ap (λ (all : List (List ℕ)). all ++ c ∷ []) (gave_two old one two a b first second) ∙ append_assoc old (a ∷ b ∷ []) (c ∷ [])
+topology_next : (names : Names) (first : DeskSeen) → IsNext by_plan (plan_files names) first first Topology names.topology []
+topology_next names first = record {
+  same_faults = refl;
+  same_contents = refl;
+  gave = sym (append-nil first.gave);
+  asked = sym (append-nil first.reads);
+  is_named = inl refl;
+  is_next = refl;
+  in_turn = topology_turn;
+  wants = λ after. refl;
+  contents = tt;
+  more = λ g agrees. (agrees, tt);
+}
 
 -- where the topology was not read
-pub stops_topology : (names : Names) (desk : DeskChange) (status : Status) → StopsAt topology_of Topology names.topology desk status → IsStopped (plan_files names) desk status
-stops_topology names desk status r =
-    stops by_plan (plan_files names) desk desk Topology names.topology [] (whole_change desk) (λ after. refl) (λ after. refl) (inl refl) tt (λ g agrees. (agrees, tt))
+pub stops_topology : (names : Names) (first now : DeskSeen) (status : Status) → StopsAt topology_of Topology names.topology (from first now) status → IsStopped (plan_files names) (from first now) status
+stops_topology names first now status r =
+    stops by_plan (plan_files names) first first now Topology names.topology [] (topology_next names first) (λ after. refl)
     topology_of (λ bytes e is after. ap (λ o. by_topology o [] after) is) status r
 
-module _ (names : Names) (desk : DeskChange) (t : Nodes) (topology : HasText (desk.contents names.topology) (limit_of Topology) topology_of t) where
+module _ (names : Names) (first one : DeskSeen) (t : Nodes) (topology : Tells (from first one) names.topology (limit_of Topology) topology_of t) where
   -- the steps from the samples on
   with_nodes : (rest : List ReadResult) (after : AfterPlan) → plan_step (Bytes topology.0 ∷ rest) after ≡ at_samples t rest after
   with_nodes rest after = ap (λ o. by_topology o rest after) topology.1.1
 
+  samples_turn : (after : AfterPlan) (i : ℕ) → i < 2 → (role : FileRole) × (plan_step (take i (Bytes topology.0 ∷ [])) after ≡ Wants role)
+  samples_turn after zero lt = (Topology, refl)
+  samples_turn after (suc zero) lt = (Samples, with_nodes [] after)
+  samples_turn after (suc (suc i)) lt = absurd (omega (arith, lt))
+
+  samples_next : IsNext by_plan (plan_files names) first one Samples names.samples (Bytes topology.0 ∷ [])
+  samples_next =
+      let agrees = given_agrees by_plan (plan_files names) first first one Topology names.topology [] (topology_next names first) (Bytes topology.0) topology.1.0 in
+      record {
+        same_faults = given_faults by_plan (plan_files names) first first one Topology names.topology [] (topology_next names first) (Bytes topology.0) topology.1.0;
+        same_contents = given_contents by_plan (plan_files names) first first one Topology names.topology [] (topology_next names first) (Bytes topology.0) topology.1.0;
+        gave = all_given by_plan (plan_files names) first first one Topology names.topology [] (topology_next names first) (Bytes topology.0) topology.1.0;
+        asked = given_asked by_plan (plan_files names) first first one Topology names.topology [] (topology_next names first) (Bytes topology.0) topology.1.0;
+        is_named = inr (inl refl);
+        is_next = refl;
+        in_turn = samples_turn;
+        wants = with_nodes [];
+        contents = (agrees, tt);
+        more = λ g more. (agrees, (more, tt));
+      }
+
   -- where the samples were not read
-  pub stops_samples : (rest : DeskChange) → IsRestOf desk rest (Bytes topology.0 ∷ []) → (status : Status) → StopsAt (samples_of_text t) Samples names.samples rest status → IsStopped (plan_files names) desk status
-  stops_samples rest is_rest status r =
-      stops by_plan (plan_files names) desk rest Samples names.samples (Bytes topology.0 ∷ []) is_rest (with_nodes []) (with_nodes (TooLong ∷ [])) (inr (inl refl)) (topology.1.0, tt) (λ g agrees. (topology.1.0, (agrees, tt)))
+  pub stops_samples : (now : DeskSeen) (status : Status) → StopsAt (samples_of_text t) Samples names.samples (from one now) status → IsStopped (plan_files names) (from first now) status
+  stops_samples now status r =
+      stops by_plan (plan_files names) first one now Samples names.samples (Bytes topology.0 ∷ []) samples_next (with_nodes (TooLong ∷ []))
       (samples_of_text t) (λ bytes e is after. with_nodes (Bytes bytes ∷ []) after ∙ ap (λ o. by_samples t o [] after) is) status r
 
-  module _ (s : Sampled) (samples : HasText (desk.contents names.samples) (limit_of Samples) (samples_of_text t) s) where
+  module _ (two : DeskSeen) (s : Sampled) (samples : Tells (from one two) names.samples (limit_of Samples) (samples_of_text t) s) where
     -- the steps from the script on
     with_samples : (rest : List ReadResult) (after : AfterPlan) → plan_step (Bytes topology.0 ∷ Bytes samples.0 ∷ rest) after ≡ at_script t s rest after
     with_samples rest after = with_nodes (Bytes samples.0 ∷ rest) after ∙ ap (λ o. by_samples t o rest after) samples.1.1
 
+    script_turn : (after : AfterPlan) (i : ℕ) → i < 3 → (role : FileRole) × (plan_step (take i (Bytes topology.0 ∷ Bytes samples.0 ∷ [])) after ≡ Wants role)
+    script_turn after zero lt = (Topology, refl)
+    script_turn after (suc zero) lt = (Samples, with_nodes [] after)
+    script_turn after (suc (suc zero)) lt = (Script, with_samples [] after)
+    script_turn after (suc (suc (suc i))) lt = absurd (omega (arith, lt))
+
+    script_next : IsNext by_plan (plan_files names) first two Script names.script (Bytes topology.0 ∷ Bytes samples.0 ∷ [])
+    script_next =
+        let first_agrees = samples_next.contents.0 in
+        let agrees = given_agrees by_plan (plan_files names) first one two Samples names.samples (Bytes topology.0 ∷ []) samples_next (Bytes samples.0) samples.1.0 in
+        record {
+          same_faults = given_faults by_plan (plan_files names) first one two Samples names.samples (Bytes topology.0 ∷ []) samples_next (Bytes samples.0) samples.1.0;
+          same_contents = given_contents by_plan (plan_files names) first one two Samples names.samples (Bytes topology.0 ∷ []) samples_next (Bytes samples.0) samples.1.0;
+          gave = all_given by_plan (plan_files names) first one two Samples names.samples (Bytes topology.0 ∷ []) samples_next (Bytes samples.0) samples.1.0;
+          asked = given_asked by_plan (plan_files names) first one two Samples names.samples (Bytes topology.0 ∷ []) samples_next (Bytes samples.0) samples.1.0;
+          is_named = inr (inr (inl refl));
+          is_next = refl;
+          in_turn = script_turn;
+          wants = with_samples [];
+          contents = (first_agrees, (agrees, tt));
+          more = λ g more. (first_agrees, (agrees, (more, tt)));
+        }
+
     -- where the script was not read
-    pub stops_script : (rest : DeskChange) → IsRestOf desk rest (Bytes topology.0 ∷ Bytes samples.0 ∷ []) → (status : Status) → StopsAt (script_of t) Script names.script rest status → IsStopped (plan_files names) desk status
-    stops_script rest is_rest status r =
-        stops by_plan (plan_files names) desk rest Script names.script (Bytes topology.0 ∷ Bytes samples.0 ∷ []) is_rest (with_samples []) (with_samples (TooLong ∷ [])) (inr (inr (inl refl))) (topology.1.0, (samples.1.0, tt)) (λ g agrees. (topology.1.0, (samples.1.0, (agrees, tt))))
+    pub stops_script : (now : DeskSeen) (status : Status) → StopsAt (script_of t) Script names.script (from two now) status → IsStopped (plan_files names) (from first now) status
+    stops_script now status r =
+        stops by_plan (plan_files names) first two now Script names.script (Bytes topology.0 ∷ Bytes samples.0 ∷ []) script_next (with_samples (TooLong ∷ []))
         (script_of t) (λ bytes e is after. with_samples (Bytes bytes ∷ []) after ∙ ap (λ o. by_script t s o [] after) is) status r
 
-    module _ (c : Scripted) (script : HasText (desk.contents names.script) (limit_of Script) (script_of t) c) (gave : desk.gave_now ≡ desk.gave_before ++ topology.0 ∷ samples.0 ∷ script.0 ∷ []) where
+    module _ (three : DeskSeen) (c : Scripted) (script : Tells (from two three) names.script (limit_of Script) (script_of t) c) where
       -- what the three files gave
-      pub all_results : List ReadResult
+      abbrev all_results : List ReadResult
       all_results = Bytes topology.0 ∷ Bytes samples.0 ∷ Bytes script.0 ∷ []
 
-      pub all_are_read : HasRead (plan_files names) desk all_results
-      unfolding all_results
-      all_are_read = record { gave = gave; contents = (topology.1.0, (samples.1.0, (script.1.0, tt))) }
+      all_are_read : (after : AfterPlan) → HasRead (plan_files names) (by_plan after) (from first three) all_results
+      all_are_read after = read_one_more by_plan (plan_files names) first two three Script names.script (Bytes topology.0 ∷ Bytes samples.0 ∷ []) script_next (Bytes script.0) script.1.0 after
 
       -- where they lead
-      pub with_script : (rest : List ReadResult) (after : AfterPlan) → plan_step (all_results ++ rest) after ≡ with_plan (plan_of t s c) rest after
-      unfolding all_results
+      with_script : (rest : List ReadResult) (after : AfterPlan) → plan_step (Bytes topology.0 ∷ Bytes samples.0 ∷ Bytes script.0 ∷ rest) after ≡ with_plan (plan_of t s c) rest after
       with_script rest after = with_samples (Bytes script.0 ∷ rest) after ∙ ap (λ o. by_script t s o rest after) script.1.1
 
       -- why a good plan is not run is why the call stops
-      pub stops_plan : (status : Status) → IsPlanRefusal (with_plan (plan_of t s c) []) status → IsStopped (plan_files names) desk status
-      unfolding all_results
-      stops_plan OutOfMemory r = (all_results, (all_are_read, λ after. tt))
-      stops_plan (OverLimit file line what most) r = (all_results, (all_are_read, λ after. with_script [] after ∙ r after))
+      pub stops_plan : (status : Status) → IsPlanRefusal (with_plan (plan_of t s c) []) status → IsStopped (plan_files names) (from first three) status
+      stops_plan OutOfMemory r = (all_results, λ after. (all_are_read after, tt))
+      stops_plan (OverLimit file line what most) r = (all_results, λ after. (all_are_read after, with_script [] after ∙ r after))
       stops_plan (DeskFault role) r = absurd r
       stops_plan (BadInput file line reason) r = absurd r
       stops_plan Done r = absurd r
@@ -225,67 +291,36 @@ module _ (names : Names) (desk : DeskChange) (t : Nodes) (topology : HasText (de
       stops_plan (Unfinished e) r = absurd r
       stops_plan (BadFrames at reason) r = absurd r
 
+      plan_turn : (after : AfterPlan) (i : ℕ) → i < 3 → (role : FileRole) × (plan_step (take i all_results) after ≡ Wants role)
+      plan_turn after zero lt = (Topology, refl)
+      plan_turn after (suc zero) lt = (Samples, with_nodes [] after)
+      plan_turn after (suc (suc zero)) lt = (Script, with_samples [] after)
+      plan_turn after (suc (suc (suc i))) lt = absurd (omega (arith, lt))
+
       -- the plan that is run
-      pub planned : (plan : Plan) → ((rest : List ReadResult) (after : AfterPlan) → with_plan (plan_of t s c) rest after ≡ after plan rest) → IsPlanned (plan_files names) desk plan
-      unfolding all_results
-      planned plan is = record { results = all_results; read = all_are_read; all = refl; step = λ rest after. with_script rest after ∙ is rest after }
-
--- what follows from an error
-pub if_err : {A B : Type 0} (r : Result A B) (P Q : B → Type 0) → ((e : B) → P e → Q e) → IfErr r P → IfErr r Q
-if_err (Ok x) P Q f h = tt
-if_err (Err e) P Q f h = f e h
-
-pub if_ok : {A B : Type 0} (r : Result A B) (P Q : A → Type 0) → ((x : A) → P x → Q x) → IfOk r P → IfOk r Q
-if_ok (Ok x) P Q f h = f x h
-if_ok (Err e) P Q f h = tt
-
--- ---- which files are read
-
--- the first of some files was read, or none
-pub reads_first : (before now : List (List ℕ)) (name : List ℕ) (rest : List (List ℕ)) → AreReadInOrder before now (name ∷ []) → AreReadInOrder before now (name ∷ rest)
-reads_first before now name rest some = by some.0 some.1
-  where
-    none : (n : ℕ) → ◌≡◌ {A = List (List ℕ)} (take n []) []
-    none zero = refl
-    none (suc n) = refl
-
-    by : (n : ℕ) → now ≡ before ++ take n (name ∷ []) → AreReadInOrder before now (name ∷ rest)
-    by zero is = (zero, is)
-    by (suc n) is = (1, is ∙ ap (λ xs. before ++ name ∷ xs) (none n))
-
--- a file was read, and then some of the rest
-pub reads_more : (before mid now : List (List ℕ)) (name : List ℕ) (rest : List (List ℕ)) → mid ≡ before ++ name ∷ [] → AreReadInOrder mid now rest → AreReadInOrder before now (name ∷ rest)
-reads_more before mid now name rest is more = (suc more.0, more.1 ∙ ap (λ xs. xs ++ take more.0 rest) is ∙ append_assoc before (name ∷ []) (take more.0 rest))
-
-part_of_more : {X : Type 0} (n : ℕ) (xs ys : List X) → (m : ℕ) × (take n xs ≡ take m (xs ++ ys))
-part_of_more zero [] ys = (0, refl)
-part_of_more zero (x ∷ xs) ys = (0, refl)
-part_of_more (suc n) [] ys = (0, refl)
-part_of_more (suc n) (x ∷ xs) ys = let part = part_of_more n xs ys in (suc part.0, ap (λ zs. x ∷ zs) part.1)
-
-part_after : {X : Type 0} (n : ℕ) (xs ys : List X) → (m : ℕ) × (xs ++ take n ys ≡ take m (xs ++ ys))
-part_after n [] ys = (n, refl)
-part_after n (x ∷ xs) ys = let part = part_after n xs ys in (suc part.0, ap (λ zs. x ∷ zs) part.1)
-
--- some of the first files were read, and none of the rest
-pub reads_fewer : (before now xs ys : List (List ℕ)) → AreReadInOrder before now xs → AreReadInOrder before now (xs ++ ys)
-reads_fewer before now xs ys some = let part = part_of_more some.0 xs ys in (part.0, some.1 ∙ ap (λ zs. before ++ zs) part.1)
-
--- all of the first files were read, and some of the rest
-pub reads_all : (before mid now xs ys : List (List ℕ)) → mid ≡ before ++ xs → AreReadInOrder mid now ys → AreReadInOrder before now (xs ++ ys)
-reads_all before mid now xs ys all some =
-    let part = part_after some.0 xs ys in
-    (part.0, some.1 ∙ ap (λ zs. zs ++ take some.0 ys) all ∙ append_assoc before xs (take some.0 ys) ∙ ap (λ zs. before ++ zs) part.1)
+      pub planned : (plan : Plan) → ((rest : List ReadResult) (after : AfterPlan) → with_plan (plan_of t s c) rest after ≡ after plan rest) → IsPlanned names (from first three) plan
+      planned plan is = record {
+        topology = topology.0;
+        samples = samples.0;
+        script = script.0;
+        same_faults = given_faults by_plan (plan_files names) first two three Script names.script (Bytes topology.0 ∷ Bytes samples.0 ∷ []) script_next (Bytes script.0) script.1.0;
+        same_contents = given_contents by_plan (plan_files names) first two three Script names.script (Bytes topology.0 ∷ Bytes samples.0 ∷ []) script_next (Bytes script.0) script.1.0;
+        gave = all_given by_plan (plan_files names) first two three Script names.script (Bytes topology.0 ∷ Bytes samples.0 ∷ []) script_next (Bytes script.0) script.1.0;
+        asked = given_asked by_plan (plan_files names) first two three Script names.script (Bytes topology.0 ∷ Bytes samples.0 ∷ []) script_next (Bytes script.0) script.1.0;
+        contents = script_next.more (Bytes script.0) (given_agrees by_plan (plan_files names) first two three Script names.script (Bytes topology.0 ∷ Bytes samples.0 ∷ []) script_next (Bytes script.0) script.1.0);
+        in_turn = plan_turn;
+        step = λ rest after. with_script rest after ∙ is rest after;
+      }
 
 -- where memory ran out before the words were read
-pub words_need_memory : (asked : Result Asked WordFault) (desk : DeskChange) (out journal : SinkChange) (events : List Event) (status : Status)
-    → status ≡ OutOfMemory → GaveNothing desk → TookNothing out → TookNothing journal → events ≡ [] → Answered asked desk out journal events status
-words_need_memory (Err fault) desk out journal events status is gave same_out same_journal none = (inr is, record { same_report = same_out; same_journal = same_journal; no_events = none })
-words_need_memory (Ok command) desk out journal events status is gave same_out same_journal none = (
+pub words_need_memory : (asked : Result Asked WordFault) (first : DeskSeen) (out journal : Change SinkSeen) (events : List Event) (status : Status)
+    → status ≡ OutOfMemory → TookNothing out → TookNothing journal → events ≡ [] → Answered asked (from first first) out journal events status
+words_need_memory (Err fault) first out journal events status is same_out same_journal none = (inr is, record { same_report = same_out; same_journal = same_journal; no_events = none })
+words_need_memory (Ok command) first out journal events status is same_out same_journal none = (
   [],
   (
-    read_no_more (files_of command) desk desk [] (whole_change desk) tt gave,
-    subst (λ (s : Status). Explains (files_of command) desk out journal (next_step command []) events s) (sym is)
+    record { gave = sym (append-nil first.gave); contents = tt; count = 0; asked = sym (append-nil first.reads); each_gave = (omega (arith), omega (arith)); in_turn = λ i lt. absurd (omega (arith, lt)) },
+    subst (λ (s : Status). Explains (files_of command) (from first first) out journal (next_step command []) events s) (sym is)
         (tt, record { same_report = same_out; same_journal = same_journal; no_events = none }),
   ),
 )

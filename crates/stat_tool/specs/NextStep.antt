@@ -1,6 +1,6 @@
 -- What a call does next, by the files that it has read, one after another.
 use Rattle.std.specs.Prelude.{ℕ, suc, List, [], ◌∷◌, Option, Some, None, Result, Ok, Err, option_map, if◌then◌else◌}
-use Rattle.stat_desk.specs.Desk.{IsLonger, IsWhole}
+use Rattle.stat_desk.specs.Desk.{Agrees, Bytes, ReadResult, TooLong}
 use Rattle.overlay_event.specs.declared.event.Event.{Event}
 use Rattle.stat_plan.specs.Limits.{first_over}
 use Rattle.stat_plan.specs.Plans.{Plan, Sampled, plan_of}
@@ -29,11 +29,6 @@ use Rattle.stat_tool.specs.declared.status.FileRole.{FileRole}
 use Rattle.stat_tool.specs.declared.status.FileRole.TheVariants.{Topology, Samples, Script, Journal, Capture, Values}
 use Rattle.stat_tool.specs.declared.status.Status.{Status}
 use Rattle.stat_tool.specs.declared.status.Status.TheVariants.{OverLimit, BadJournal, BadFrames}
-
--- what a read returned: all bytes of a file, or that it has more than its limit
-pub data ReadResult : Type 0 where
-  Bytes : List ℕ → ReadResult
-  TooLong : ReadResult
 
 -- what comes next: this file is read, this is the answer, or this job is run
 pub data Step : Type 0 where
@@ -161,19 +156,8 @@ next_step (Frames capture) results = at_capture results
 
 -- ---- what the files gave
 
--- this is what a file with these contents gives, where the desk can tell them
-abbrev pub Agrees : Option (List ℕ) → ℕ → ReadResult → Type 0
-Agrees contents limit (Bytes bytes) = IsWhole contents limit bytes
-Agrees contents limit TooLong = IsLonger contents limit
-
--- these are what the first of these files gave
+-- these are what the first of these files gave, where the desk can tell them
 abbrev pub AreReadResults : (List ℕ → Option (List ℕ)) → List NamedFile → List ReadResult → Type 0
 AreReadResults contents files [] = Unit {0}
 AreReadResults contents [] (g ∷ gs) = ⊥
 AreReadResults contents (f ∷ files) (g ∷ gs) = Agrees (contents f.1) (limit_of f.0) g × AreReadResults contents files gs
-
--- the bytes of what was read, file by file
-abbrev pub bytes_of : List ReadResult → List (List ℕ)
-bytes_of [] = []
-bytes_of (Bytes bytes ∷ results) = bytes ∷ bytes_of results
-bytes_of (TooLong ∷ results) = bytes_of results

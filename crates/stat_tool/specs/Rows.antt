@@ -1,6 +1,6 @@
 -- The limits of two files, and what the promises refuse: each row behind the first two is a case of which one of them does
 -- not hold.
-use Rattle.std.specs.Prelude.{◌≡◌, refl, codes, ℕ, Bool, true, false, List, [], ◌∷◌, ◌++◌, Some, None}
+use Rattle.std.specs.Prelude.{◌≡◌, refl, codes, ℕ, Bool, true, false, List, [], ◌∷◌, ◌++◌, Some, None, Ok}
 use Rattle.std.proofs.Common.{ap, sym, subst, ◌∙◌, inl, inr}
 use Rattle.std.proofs.lemmas.Bool.{true≢false}
 use Rattle.rank_set.specs.Ranks.{has, none, set_of, with_rank}
@@ -12,12 +12,15 @@ use Rattle.overlay_core.specs.Nodes.{Release}
 use Rattle.overlay_core.specs.Refused.{is_final, no_last, the_last}
 use Rattle.overlay_core.specs.Rows.{final, partial}
 use Rattle.journal_text.specs.Reading.{ReadJournal, events_before}
+use Rattle.stat_desk.specs.Change.{Change}
+use Rattle.stat_desk.specs.Desk.{DeskSeen}
 use Rattle.stat_desk.specs.Faults.{Rose}
+use Rattle.stat_desk.specs.Sink.{SinkSeen}
 use Rattle.front_end.specs.Report.{report_text}
 use Rattle.stat_words.specs.Words.{Gen}
 use Rattle.stat_words.specs.declared.words.ReportForm.TheVariants.{Text}
 use Rattle.stat_words.specs.declared.words.RunReport.{RunReport}
-use Rattle.stat_tool.specs.Call.{DeskChange, IsDetermined, SinkChange, Written}
+use Rattle.stat_tool.specs.Call.{IsDetermined, Written}
 use Rattle.stat_tool.specs.Files.{limit_of}
 use Rattle.stat_tool.specs.Jobs.{RunOutput}
 use Rattle.stat_tool.specs.Outputs.{IsReplay, IsReplayed}
@@ -55,14 +58,14 @@ has_second [] = false
 has_second (x ∷ xs) = is_some xs
 
 -- a call is not done where the sink of the report took a prefix of it alone
-took_a_prefix : (output : RunOutput) (out journal : SinkChange) → output.report ≡ codes "ab" → out.took_before ≡ [] → out.took_now ≡ codes "a" → Written output out journal Done → ⊥
+took_a_prefix : (output : RunOutput) (out journal : Change SinkSeen) → output.report ≡ codes "ab" → out.before.took ≡ [] → out.now.took ≡ codes "a" → Written output out journal Done → ⊥
 took_a_prefix output out journal report before now h =
     let took : codes "a" ≡ codes "ab" =
     sym now ∙ h.1.0.took ∙ ap (λ bytes. bytes ++ output.report) before ∙ report in
     true≢false (sym (ap has_second took))
 
 -- nor where an event may still come
-may_go_on : (output : RunOutput) (out journal : SinkChange) (e : Event) → output.unfinished ≡ Some e → Written output out journal Done → ⊥
+may_go_on : (output : RunOutput) (out journal : Change SinkSeen) (e : Event) → output.unfinished ≡ Some e → Written output out journal Done → ⊥
 may_go_on output out journal e next h = let none : Some e ≡ None = sym next ∙ h.0 in cc
 
 -- ---- replays
@@ -109,8 +112,8 @@ is_fault (DeskFault role) = true
 is_fault status = false
 
 -- where nothing failed, a command without files does not answer that a file failed
-fails_without_a_file : (desk : DeskChange) (out journal : SinkChange) → ¬ Rose desk.before desk.now → ¬ Rose out.before out.now → ¬ Rose journal.before journal.now
-    → IsDetermined (Gen 1 0) desk out journal (DeskFault Topology) → ⊥
+fails_without_a_file : (desk : Change DeskSeen) (out journal : Change SinkSeen) → ¬ Rose desk.before.faults desk.now.faults → ¬ Rose out.before.faults out.now.faults → ¬ Rose journal.before.faults journal.now.faults
+    → IsDetermined (Ok (Gen 1 0)) desk out journal (DeskFault Topology) → ⊥
 fails_without_a_file desk out journal good_desk good_out good_journal h = elim (h (λ f there. absurd there) good_desk good_out good_journal) [
   | (inl done) ↦ true≢false (ap is_fault done)
   | (inr memory) ↦ true≢false (ap is_fault memory)

@@ -1,9 +1,9 @@
 //! From words and files to a report and a journal.
 ghost use Rattle.std.specs.Prelude.{◌≡◌, ⊤, [], Ok, IfErr, IfOk, OnOk};
 ghost use Rattle.stat_words.specs.Words.{HasGoodArgument, IsInRanges, asked_of};
-ghost use Rattle.stat_tool.specs.Call.{Answered, AreAllRead, AreReadInOrder, HasWritten, IsDetermined, asked_by};
+ghost use Rattle.stat_desk.specs.Change.{change};
+ghost use Rattle.stat_tool.specs.Call.{Answered, AreAllRead, HasWritten, IsDetermined, asked_by};
 ghost use Rattle.stat_tool.specs.Call.{Prepared, Prevented, Written, WritesNoJournal};
-ghost use Rattle.stat_tool.specs.Call.{desk_change, sink_change};
 ghost use Rattle.stat_tool.specs.Files.{files_of, names_in};
 ghost use Rattle.stat_tool.specs.Views.{output_view};
 
@@ -29,12 +29,12 @@ use std::thread::Threads;
 /// thread or passes the gate.
 ///
 /// The files are read each once, in the order topology, samples, script, journal or values, and each is tested before
-/// the next is read; a capture is read alone. The report and the journal's text are built whole before their first byte
+/// the next is asked for; a capture is read alone. The report and the journal's text are built whole before their first byte
 /// is written. What else was made for them stays allocated, for the system to take back when the program ends.
 ///
 /// `answered` has the headline: where the status is Done, the files lead to a job, and the journal and the report are
-/// an output of it, `HasOutput`. The bytes of the files are those that the desk's reads gave, and the sinks took just
-/// those of the output. Every other status has its cause there, too.
+/// an output of it, `HasOutput`. The bytes of the files are those that the desk's reads gave, each file in its turn,
+/// `HasRead`, and the sinks took just those of the output. Every other status has its cause there, too.
 pub fn stat<R: Threads + Wait + Sync, T: PrefixTree, D: Desk, O: Sink, J: Sink, G: Gate>(
     rt: &R,
     alloc: Global,
@@ -44,18 +44,12 @@ pub fn stat<R: Threads + Wait + Sync, T: PrefixTree, D: Desk, O: Sink, J: Sink, 
     journal: &mut J,
     gate: &G,
 ) -> Outcome
-    ensures answered { Answered (asked_by words.now)
-        (desk_change D.faults D.last_fault D.gave D.contents desk.old desk.new)
-        (sink_change O.faults O.took O.contents out.old out.new)
-        (sink_change J.faults J.took J.contents journal.old journal.new) result.journal result.status }
-    ensures determined { IfOk (asked_by words.now) (λ command. IsDetermined command
-        (desk_change D.faults D.last_fault D.gave D.contents desk.old desk.new)
-        (sink_change O.faults O.took O.contents out.old out.new)
-        (sink_change J.faults J.took J.contents journal.old journal.new) result.status) }
-    ensures reads { IfOk (asked_by words.now) (λ command.
-        AreReadInOrder (D.reads desk.old) (D.reads desk.new) (names_in (files_of command))) }
+    ensures answered { Answered (asked_by words.now) (change D.seen desk.old desk.new)
+        (change O.seen out.old out.new) (change J.seen journal.old journal.new) result.journal result.status }
+    ensures determined { IsDetermined (asked_by words.now) (change D.seen desk.old desk.new)
+        (change O.seen out.old out.new) (change J.seen journal.old journal.new) result.status }
     ensures all_read { IfOk (asked_by words.now) (λ command. HasWritten result.status
-        → AreAllRead (D.reads desk.old) (D.reads desk.new) (names_in (files_of command))) }
+        → AreAllRead (names_in (files_of command)) (change D.seen desk.old desk.new)) }
     ensures unread { IfErr (asked_by words.now) (λ fault. desk.new ≡ desk.old) }
     ensures untouched { ¬ HasWritten result.status → (out.new ≡ out.old) × (journal.new ≡ journal.old) }
     ensures journal { ¬ HasWritten result.status → result.journal ≡ [] }
@@ -75,14 +69,10 @@ fn run<R: Threads + Wait + Sync, T: PrefixTree, D: Desk, O: Sink, J: Sink, G: Ga
     journal: &mut J,
     gate: &G,
 ) -> Outcome
-    ensures answered { Answered (asked_by words.now)
-        (desk_change D.faults D.last_fault D.gave D.contents desk.old desk.new)
-        (sink_change O.faults O.took O.contents out.old out.new)
-        (sink_change J.faults J.took J.contents journal.old journal.new) result.journal result.status }
-    ensures reads { IfOk (asked_by words.now) (λ command.
-        AreReadInOrder (D.reads desk.old) (D.reads desk.new) (names_in (files_of command))) }
+    ensures answered { Answered (asked_by words.now) (change D.seen desk.old desk.new)
+        (change O.seen out.old out.new) (change J.seen journal.old journal.new) result.journal result.status }
     ensures all_read { IfOk (asked_by words.now) (λ command. HasWritten result.status
-        → AreAllRead (D.reads desk.old) (D.reads desk.new) (names_in (files_of command))) }
+        → AreAllRead (names_in (files_of command)) (change D.seen desk.old desk.new)) }
     ensures unread { IfErr (asked_by words.now) (λ fault. desk.new ≡ desk.old) }
     ensures untouched { ¬ HasWritten result.status → (out.new ≡ out.old) × (journal.new ≡ journal.old) }
     ensures journal { ¬ HasWritten result.status → result.journal ≡ [] }
@@ -121,13 +111,9 @@ fn prepare<R: Threads + Wait + Sync, T: PrefixTree, D: Desk, G: Gate>(
     requires ranges { IsInRanges command }
     requires argument { HasGoodArgument command }
     ensures ok { IfOk result (λ output. Prepared (asked_of command.entry)
-        (desk_change D.faults D.last_fault D.gave D.contents desk.old desk.new) (output_view output)) }
+        (change D.seen desk.old desk.new) (output_view output)) }
     ensures err { IfErr result (Prevented (asked_of command.entry)
-        (desk_change D.faults D.last_fault D.gave D.contents desk.old desk.new)) }
-    ensures reads { AreReadInOrder (D.reads desk.old) (D.reads desk.new)
-        (names_in (files_of (asked_of command.entry))) }
-    ensures all_read { OnOk result (AreAllRead (D.reads desk.old) (D.reads desk.new)
-        (names_in (files_of (asked_of command.entry)))) }
+        (change D.seen desk.old desk.new)) }
     ensures unwritten { IfOk result
         (λ output. WritesNoJournal (asked_of command.entry) → output.journal_text.items ≡ []) }
 {
@@ -175,8 +161,8 @@ fn prepare<R: Threads + Wait + Sync, T: PrefixTree, D: Desk, G: Gate>(
 
 // Writes the report, and then the journal.
 fn deliver<O: Sink, J: Sink>(output: Output, out: &mut O, journal: &mut J) -> Outcome
-    ensures written { Written (output_view output) (sink_change O.faults O.took O.contents out.old out.new)
-        (sink_change J.faults J.took J.contents journal.old journal.new) result.status }
+    ensures written { Written (output_view output) (change O.seen out.old out.new)
+        (change J.seen journal.old journal.new) result.status }
     ensures events { result.journal ≡ output.journal }
     ensures some { HasWritten result.status }
     ensures kept { output.journal_text.items ≡ [] → journal.new ≡ journal.old }

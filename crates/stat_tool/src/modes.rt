@@ -5,8 +5,8 @@ ghost use Rattle.tree_view.specs.Views.{TreeView};
 ghost use Rattle.journal_text.specs.Reading.{read_view};
 ghost use Rattle.stat_words.specs.Words.{names_of};
 ghost use Rattle.stat_words.specs.Words.{Cast, Direct, Frames, Gen, Replay, Run, Sim, Sums, View, sums_asked, view_asked};
-ghost use Rattle.stat_tool.specs.Call.{AreAllRead, AreReadInOrder, HasJournal, HasNoJournal, Prepared, Prevented};
-ghost use Rattle.stat_tool.specs.Call.{desk_change};
+ghost use Rattle.stat_desk.specs.Change.{change};
+ghost use Rattle.stat_tool.specs.Call.{HasJournal, HasNoJournal, Prepared, Prevented};
 ghost use Rattle.stat_tool.specs.Files.{files_of, names_in};
 ghost use Rattle.stat_tool.specs.Views.{output_view};
 
@@ -40,13 +40,9 @@ pub fn prepare_run<R: Threads + Wait + Sync, T: PrefixTree, D: Desk, G: Gate>(
 ) -> Result<Output, Status>
     requires workers { (1 ≤ workers) × (workers ≤ 32) }
     ensures ok { IfOk result (λ output. Prepared (Run (names_of files.entry) workers wanted)
-        (desk_change D.faults D.last_fault D.gave D.contents desk.old desk.new) (output_view output)) }
+        (change D.seen desk.old desk.new) (output_view output)) }
     ensures err { IfErr result (Prevented (Run (names_of files.entry) workers wanted)
-        (desk_change D.faults D.last_fault D.gave D.contents desk.old desk.new)) }
-    ensures reads { AreReadInOrder (D.reads desk.old) (D.reads desk.new)
-        (names_in (files_of (Run (names_of files.entry) workers wanted))) }
-    ensures all_read { OnOk result (AreAllRead (D.reads desk.old) (D.reads desk.new)
-        (names_in (files_of (Run (names_of files.entry) workers wanted)))) }
+        (change D.seen desk.old desk.new)) }
 {
     let plan = match read_plan(host.alloc, files, desk) {
         Ok(plan) => plan,
@@ -75,13 +71,9 @@ pub fn prepare_sim<T: PrefixTree, D: Desk>(
     desk: &mut D,
 ) -> Result<Output, Status>
     ensures ok { IfOk result (λ output. Prepared (Sim (names_of files.entry) seed wanted)
-        (desk_change D.faults D.last_fault D.gave D.contents desk.old desk.new) (output_view output)) }
+        (change D.seen desk.old desk.new) (output_view output)) }
     ensures err { IfErr result (Prevented (Sim (names_of files.entry) seed wanted)
-        (desk_change D.faults D.last_fault D.gave D.contents desk.old desk.new)) }
-    ensures reads { AreReadInOrder (D.reads desk.old) (D.reads desk.new)
-        (names_in (files_of (Sim (names_of files.entry) seed wanted))) }
-    ensures all_read { OnOk result (AreAllRead (D.reads desk.old) (D.reads desk.new)
-        (names_in (files_of (Sim (names_of files.entry) seed wanted)))) }
+        (change D.seen desk.old desk.new)) }
 {
     let plan = match read_plan(alloc, files, desk) {
         Ok(plan) => plan,
@@ -105,13 +97,9 @@ pub fn prepare_replay<T: PrefixTree, D: Desk>(
     desk: &mut D,
 ) -> Result<Output, Status>
     ensures ok { IfOk result (λ output. Prepared (Replay (names_of files.entry) journal.now wanted)
-        (desk_change D.faults D.last_fault D.gave D.contents desk.old desk.new) (output_view output)) }
+        (change D.seen desk.old desk.new) (output_view output)) }
     ensures err { IfErr result (Prevented (Replay (names_of files.entry) journal.now wanted)
-        (desk_change D.faults D.last_fault D.gave D.contents desk.old desk.new)) }
-    ensures reads { AreReadInOrder (D.reads desk.old) (D.reads desk.new)
-        (names_in (files_of (Replay (names_of files.entry) journal.now wanted))) }
-    ensures all_read { OnOk result (AreAllRead (D.reads desk.old) (D.reads desk.new)
-        (names_in (files_of (Replay (names_of files.entry) journal.now wanted)))) }
+        (change D.seen desk.old desk.new)) }
     ensures unwritten { IfOk result (λ output. output.journal_text.items ≡ []) }
 {
     let plan = match read_plan(alloc, files, desk) {
@@ -134,12 +122,10 @@ fn read_events<D: Desk>(
     name: &str,
     desk: &mut D,
 ) -> Result<JournalRead, Status>
-    ensures ok { IfOk result (λ read. HasJournal (desk_change D.faults D.last_fault D.gave D.contents desk.old desk.new)
+    ensures ok { IfOk result (λ read. HasJournal (change D.seen desk.old desk.new)
         name.now plan.now (read_view read)) }
     ensures err { IfErr result (HasNoJournal
-        (desk_change D.faults D.last_fault D.gave D.contents desk.old desk.new) name.now) }
-    ensures read { OnOk result (D.reads desk.new ≡ D.reads desk.old ++ name.now ∷ []) }
-    ensures reads { AreReadInOrder (D.reads desk.old) (D.reads desk.new) (name.now ∷ []) }
+        (change D.seen desk.old desk.new) name.now) }
 {
     let bytes = match read_file(desk, name, FileRole::Journal) {
         Ok(bytes) => bytes,
@@ -161,13 +147,9 @@ pub fn prepare_direct<R: Threads + Sync, T: PrefixTree, D: Desk, G: Gate>(
 ) -> Result<Output, Status>
     requires workers { (1 ≤ workers) × (workers ≤ 32) }
     ensures ok { IfOk result (λ output. Prepared (Direct (names_of files.entry) workers form)
-        (desk_change D.faults D.last_fault D.gave D.contents desk.old desk.new) (output_view output)) }
+        (change D.seen desk.old desk.new) (output_view output)) }
     ensures err { IfErr result (Prevented (Direct (names_of files.entry) workers form)
-        (desk_change D.faults D.last_fault D.gave D.contents desk.old desk.new)) }
-    ensures reads { AreReadInOrder (D.reads desk.old) (D.reads desk.new)
-        (names_in (files_of (Direct (names_of files.entry) workers form))) }
-    ensures all_read { OnOk result (AreAllRead (D.reads desk.old) (D.reads desk.new)
-        (names_in (files_of (Direct (names_of files.entry) workers form)))) }
+        (change D.seen desk.old desk.new)) }
     ensures unwritten { IfOk result (λ output. output.journal_text.items ≡ []) }
 {
     let plan = match read_plan(host.alloc, files, desk) {
@@ -192,9 +174,9 @@ pub fn prepare_gen<T: PrefixTree, D: Desk>(
 ) -> Result<Output, Status>
     requires size { (1 ≤ size) × (size ≤ 256) }
     ensures ok { IfOk result (λ output. Prepared (Gen size seed)
-        (desk_change D.faults D.last_fault D.gave D.contents desk.old desk.new) (output_view output)) }
+        (change D.seen desk.old desk.new) (output_view output)) }
     ensures err { IfErr result (Prevented (Gen size seed)
-        (desk_change D.faults D.last_fault D.gave D.contents desk.old desk.new)) }
+        (change D.seen desk.old desk.new)) }
     ensures same { desk.new ≡ desk.old }
     ensures unwritten { IfOk result (λ output. output.journal_text.items ≡ []) }
 {
@@ -214,13 +196,9 @@ pub fn prepare_cast<D: Desk>(
 ) -> Result<Output, Status>
     requires commands { commands ≤ 1000 }
     ensures ok { IfOk result (λ output. Prepared (Cast (names_of files.entry) seed commands)
-        (desk_change D.faults D.last_fault D.gave D.contents desk.old desk.new) (output_view output)) }
+        (change D.seen desk.old desk.new) (output_view output)) }
     ensures err { IfErr result (Prevented (Cast (names_of files.entry) seed commands)
-        (desk_change D.faults D.last_fault D.gave D.contents desk.old desk.new)) }
-    ensures reads { AreReadInOrder (D.reads desk.old) (D.reads desk.new)
-        (names_in (files_of (Cast (names_of files.entry) seed commands))) }
-    ensures all_read { OnOk result (AreAllRead (D.reads desk.old) (D.reads desk.new)
-        (names_in (files_of (Cast (names_of files.entry) seed commands)))) }
+        (change D.seen desk.old desk.new)) }
 {
     let plan = match read_plan(alloc, files, desk) {
         Ok(plan) => plan,
@@ -244,13 +222,9 @@ pub fn prepare_sums<T: PrefixTree, D: Desk>(
     desk: &mut D,
 ) -> Result<Output, Status>
     ensures ok { IfOk result (λ output. Prepared (Sums (names_of files.entry) seed (sums_asked sums.entry))
-        (desk_change D.faults D.last_fault D.gave D.contents desk.old desk.new) (output_view output)) }
+        (change D.seen desk.old desk.new) (output_view output)) }
     ensures err { IfErr result (Prevented (Sums (names_of files.entry) seed (sums_asked sums.entry))
-        (desk_change D.faults D.last_fault D.gave D.contents desk.old desk.new)) }
-    ensures reads { AreReadInOrder (D.reads desk.old) (D.reads desk.new)
-        (names_in (files_of (Sums (names_of files.entry) seed (sums_asked sums.entry)))) }
-    ensures all_read { OnOk result (AreAllRead (D.reads desk.old) (D.reads desk.new)
-        (names_in (files_of (Sums (names_of files.entry) seed (sums_asked sums.entry))))) }
+        (change D.seen desk.old desk.new)) }
     ensures unwritten { IfOk result (λ output. output.journal_text.items ≡ []) }
 {
     let plan = match read_plan(alloc, files, desk) {
@@ -280,13 +254,9 @@ pub fn prepare_view<T: PrefixTree, D: Desk>(
 ) -> Result<Output, Status>
     requires argument { (v : TreeView) × (view_of view.by view.argument.now ≡ Some v) }
     ensures ok { IfOk result (λ output. Prepared (View (names_of files.entry) seed (view_asked view.entry))
-        (desk_change D.faults D.last_fault D.gave D.contents desk.old desk.new) (output_view output)) }
+        (change D.seen desk.old desk.new) (output_view output)) }
     ensures err { IfErr result (Prevented (View (names_of files.entry) seed (view_asked view.entry))
-        (desk_change D.faults D.last_fault D.gave D.contents desk.old desk.new)) }
-    ensures reads { AreReadInOrder (D.reads desk.old) (D.reads desk.new)
-        (names_in (files_of (View (names_of files.entry) seed (view_asked view.entry)))) }
-    ensures all_read { OnOk result (AreAllRead (D.reads desk.old) (D.reads desk.new)
-        (names_in (files_of (View (names_of files.entry) seed (view_asked view.entry))))) }
+        (change D.seen desk.old desk.new)) }
     ensures unwritten { IfOk result (λ output. output.journal_text.items ≡ []) }
 {
     let plan = match read_plan(alloc, files, desk) {
@@ -309,12 +279,9 @@ pub fn prepare_frames<T: PrefixTree, D: Desk>(
     desk: &mut D,
 ) -> Result<Output, Status>
     ensures ok { IfOk result (λ output. Prepared (Frames capture.now)
-        (desk_change D.faults D.last_fault D.gave D.contents desk.old desk.new) (output_view output)) }
+        (change D.seen desk.old desk.new) (output_view output)) }
     ensures err { IfErr result (Prevented (Frames capture.now)
-        (desk_change D.faults D.last_fault D.gave D.contents desk.old desk.new)) }
-    ensures reads { AreReadInOrder (D.reads desk.old) (D.reads desk.new) (names_in (files_of (Frames capture.now))) }
-    ensures all_read { OnOk result (AreAllRead (D.reads desk.old) (D.reads desk.new)
-        (names_in (files_of (Frames capture.now)))) }
+        (change D.seen desk.old desk.new)) }
     ensures unwritten { IfOk result (λ output. output.journal_text.items ≡ []) }
 {
     let bytes = match read_file(desk, capture, FileRole::Capture) {

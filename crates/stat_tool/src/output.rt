@@ -238,6 +238,26 @@ fn replayed<T: PrefixTree>(
     })
 }
 
+// How many workers a direct merge is worth, of those that it may have. One wave is for one, unless a gate may hold it until
+// others come.
+fn direct_workers<R: Threads, G: Gate>(rt: &R, plan: &Plan, workers: u32, gate: &G) -> u32
+    requires { 1 ≤ workers }
+    ensures { (1 ≤ result) × (result ≤ workers) }
+{
+    if has_one_wave(plan) && !gate.may_wait() {
+        return 1;
+    }
+    workers_for(rt, plan, workers, gate)
+}
+
+// Whether the streams of a plan have one wave in all.
+fn has_one_wave(plan: &Plan) -> bool {
+    match plan.streams() {
+        [stream] => stream.waves() == 1,
+        _ => false,
+    }
+}
+
 /// The direct merge of each wave by so many workers: no event, and no line of a fault.
 pub fn direct_plan<R: Threads + Sync, T: PrefixTree, G: Gate>(
     host: &Host<'_, R, G>,
@@ -249,7 +269,7 @@ pub fn direct_plan<R: Threads + Sync, T: PrefixTree, G: Gate>(
     ensures { IfOk result (λ output. HasOutput (DirectJob plan.now form) (output_view output)) }
 {
     plan.invariant();
-    let number = workers_for(host.rt, plan, u32::from(workers), host.gate);
+    let number = direct_workers(host.rt, plan, u32::from(workers), host.gate);
     let job = WideDirect {
         alloc: host.alloc,
         plan,

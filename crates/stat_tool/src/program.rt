@@ -1,9 +1,9 @@
 //! What the program does around the top call: it takes its words, uses the real files and standard output, and ends.
-ghost use Rattle.std.specs.Prelude.{◌≡◌, List};
+ghost use Rattle.std.specs.Prelude.{◌≡◌};
 ghost use Rattle.std.specs.Process.{exit_status};
-ghost use Rattle.overlay_event.specs.declared.event.Event.{Event};
-ghost use Rattle.stat_tool.specs.Call.{Answered, asked_by, desk_change, sink_change};
-ghost use Rattle.stat_tool.specs.Ending.{IsEnding, ended_with};
+ghost use Rattle.stat_desk.specs.Change.{change};
+ghost use Rattle.stat_tool.specs.Call.{asked_by};
+ghost use Rattle.stat_tool.specs.Ending.{EndsAs, IsEnding, ended_with};
 ghost use Rattle.stat_tool.specs.Status.{number_of, refusal_of_status};
 
 use crate::call::stat;
@@ -67,10 +67,8 @@ pub fn run_words<R: Threads + Wait + Sync, T: PrefixTree, D: Desk, O: Sink, J: S
     journal: &mut J,
     gate: &G,
 ) -> Ending
-    ensures answered { (events : List Event) × Answered (asked_by words.now)
-        (desk_change D.faults D.last_fault D.gave D.contents desk.old desk.new)
-        (sink_change O.faults O.took O.contents out.old out.new)
-        (sink_change J.faults J.took J.contents journal.old journal.new) events (ended_with result.refusal) }
+    ensures answered { EndsAs (asked_by words.now) (change D.seen desk.old desk.new)
+        (change O.seen out.old out.new) (change J.seen journal.old journal.new) result }
     ensures ending { IsEnding (ended_with result.refusal) result }
 {
     let outcome = stat::<R, T, D, O, J, G>(rt, alloc, words, desk, out, journal, gate);

@@ -8,10 +8,12 @@ ghost use Rattle.topology_text.specs.Whole.{topology_of};
 ghost use Rattle.sample_text.specs.Whole.{samples_of_text};
 ghost use Rattle.script_text.specs.Whole.{script_of};
 ghost use Rattle.stat_words.specs.Words.{names_of};
-ghost use Rattle.stat_tool.specs.Call.{AreReadInOrder, FeedsFile, Gave, IsPlanned, IsPlanRefusal, IsStopped};
-ghost use Rattle.stat_tool.specs.Call.{Refuses, StopsAt, Tells, desk_change};
-ghost use Rattle.stat_tool.specs.Files.{limit_of, names_in, plan_files};
-ghost use Rattle.stat_tool.specs.NextStep.{AfterPlan, ReadResult, values_of, with_plan};
+ghost use Rattle.stat_desk.specs.Change.{change};
+ghost use Rattle.stat_desk.specs.Desk.{Bytes, HasGiven, ReadResult};
+ghost use Rattle.stat_desk.specs.Feeding.{FeedsFile};
+ghost use Rattle.stat_tool.specs.Call.{IsPlanned, IsPlanRefusal, IsStopped, Refuses, StopsAt, Tells};
+ghost use Rattle.stat_tool.specs.Files.{limit_of, plan_files};
+ghost use Rattle.stat_tool.specs.NextStep.{AfterPlan, values_of, with_plan};
 ghost use Rattle.stat_tool.specs.Status.{refusal_of};
 
 use crate::status::{FileRole, Status};
@@ -37,14 +39,9 @@ fn limit_of(role: FileRole) -> u64
 
 /// All bytes of one file.
 pub fn read_file<D: Desk>(desk: &mut D, name: &str, role: FileRole) -> Result<Vec<u8>, Status>
-    ensures ok { IfOk result (λ bytes. Gave (desk_change D.faults D.last_fault D.gave D.contents desk.old desk.new)
-        name.now (limit_of role) bytes.items) }
-    ensures err { IfErr result
-        (Refuses role name.now (desk_change D.faults D.last_fault D.gave D.contents desk.old desk.new)) }
-    ensures read { OnOk result (D.reads desk.new ≡ D.reads desk.old ++ name.now ∷ []) }
-    ensures reads { AreReadInOrder (D.reads desk.old) (D.reads desk.new) (name.now ∷ []) }
-    ensures later { D.faults desk.old ≤ D.faults desk.new }
-    ensures contents { D.contents desk.new ≡ D.contents desk.old }
+    ensures ok { IfOk result
+        (λ bytes. HasGiven (change D.seen desk.old desk.new) name.now (limit_of role) (Bytes bytes.items)) }
+    ensures err { IfErr result (Refuses role name.now (change D.seen desk.old desk.new)) }
 {
     let limit = limit_of(role);
     match desk.read(name, limit) {
@@ -68,14 +65,9 @@ fn feed_file<D: Desk, F: Feed>(
     fed: &mut F,
 ) -> Result<(), Status>
     requires nothing_fed { F.feeds fed.old [] fed.old }
-    ensures ok { OnOk result (FeedsFile F.feeds fed.old fed.new
-        (desk_change D.faults D.last_fault D.gave D.contents desk.old desk.new) name.now (limit_of role)) }
-    ensures err { IfErr result
-        (Refuses role name.now (desk_change D.faults D.last_fault D.gave D.contents desk.old desk.new)) }
-    ensures read { OnOk result (D.reads desk.new ≡ D.reads desk.old ++ name.now ∷ []) }
-    ensures reads { AreReadInOrder (D.reads desk.old) (D.reads desk.new) (name.now ∷ []) }
-    ensures later { D.faults desk.old ≤ D.faults desk.new }
-    ensures contents { D.contents desk.new ≡ D.contents desk.old }
+    ensures ok { OnOk result
+        (FeedsFile F.feeds fed.old fed.new (change D.seen desk.old desk.new) name.now (limit_of role)) }
+    ensures err { IfErr result (Refuses role name.now (change D.seen desk.old desk.new)) }
 {
     let limit = limit_of(role);
     match desk.read_pieces(name, limit, fed) {
@@ -113,14 +105,10 @@ fn refusal(role: FileRole, error: TextError) -> Status
 
 /// The nodes, from the topology's file.
 fn read_topology<D: Desk>(alloc: Global, desk: &mut D, name: &str) -> Result<Topology, Status>
-    ensures ok { IfOk result (λ t. Tells (desk_change D.faults D.last_fault D.gave D.contents desk.old desk.new)
+    ensures ok { IfOk result (λ t. Tells (change D.seen desk.old desk.new)
         name.now (limit_of FileRole.Topology) topology_of t) }
     ensures err { IfErr result (StopsAt topology_of FileRole.Topology name.now
-        (desk_change D.faults D.last_fault D.gave D.contents desk.old desk.new)) }
-    ensures read { OnOk result (D.reads desk.new ≡ D.reads desk.old ++ name.now ∷ []) }
-    ensures reads { AreReadInOrder (D.reads desk.old) (D.reads desk.new) (name.now ∷ []) }
-    ensures later { D.faults desk.old ≤ D.faults desk.new }
-    ensures contents { D.contents desk.new ≡ D.contents desk.old }
+        (change D.seen desk.old desk.new)) }
 {
     let bytes = match read_file(desk, name, FileRole::Topology) {
         Ok(bytes) => bytes,
@@ -139,15 +127,11 @@ fn read_samples<D: Desk>(
     name: &str,
     topology: &Topology,
 ) -> Result<Samples, Status>
-    ensures ok { IfOk result (λ s. Tells (desk_change D.faults D.last_fault D.gave D.contents desk.old desk.new)
+    ensures ok { IfOk result (λ s. Tells (change D.seen desk.old desk.new)
         name.now (limit_of FileRole.Samples) (samples_of_text topology.now) s) }
     ensures fits { IfOk result (λ s. SamplesFit topology.now s) }
     ensures err { IfErr result (StopsAt (samples_of_text topology.now) FileRole.Samples name.now
-        (desk_change D.faults D.last_fault D.gave D.contents desk.old desk.new)) }
-    ensures read { OnOk result (D.reads desk.new ≡ D.reads desk.old ++ name.now ∷ []) }
-    ensures reads { AreReadInOrder (D.reads desk.old) (D.reads desk.new) (name.now ∷ []) }
-    ensures later { D.faults desk.old ≤ D.faults desk.new }
-    ensures contents { D.contents desk.new ≡ D.contents desk.old }
+        (change D.seen desk.old desk.new)) }
 {
     let mut feeder = match Feeder::new(alloc, topology) {
         Ok(feeder) => feeder,
@@ -170,15 +154,11 @@ fn read_script<D: Desk>(
     name: &str,
     topology: &Topology,
 ) -> Result<Script, Status>
-    ensures ok { IfOk result (λ c. Tells (desk_change D.faults D.last_fault D.gave D.contents desk.old desk.new)
+    ensures ok { IfOk result (λ c. Tells (change D.seen desk.old desk.new)
         name.now (limit_of FileRole.Script) (script_of topology.now) c) }
     ensures fits { IfOk result (λ c. ScriptFits topology.now c) }
     ensures err { IfErr result (StopsAt (script_of topology.now) FileRole.Script name.now
-        (desk_change D.faults D.last_fault D.gave D.contents desk.old desk.new)) }
-    ensures read { OnOk result (D.reads desk.new ≡ D.reads desk.old ++ name.now ∷ []) }
-    ensures reads { AreReadInOrder (D.reads desk.old) (D.reads desk.new) (name.now ∷ []) }
-    ensures later { D.faults desk.old ≤ D.faults desk.new }
-    ensures contents { D.contents desk.new ≡ D.contents desk.old }
+        (change D.seen desk.old desk.new)) }
 {
     let bytes = match read_file(desk, name, FileRole::Script) {
         Ok(bytes) => bytes,
@@ -197,12 +177,10 @@ pub fn read_values<D: Desk>(
     name: &str,
     plan: &Plan,
 ) -> Result<Values, Status>
-    ensures ok { IfOk result (λ v. Tells (desk_change D.faults D.last_fault D.gave D.contents desk.old desk.new)
+    ensures ok { IfOk result (λ v. Tells (change D.seen desk.old desk.new)
         name.now (limit_of FileRole.Values) (values_of plan.now) v) }
     ensures err { IfErr result (StopsAt (values_of plan.now) FileRole.Values name.now
-        (desk_change D.faults D.last_fault D.gave D.contents desk.old desk.new)) }
-    ensures read { OnOk result (D.reads desk.new ≡ D.reads desk.old ++ name.now ∷ []) }
-    ensures reads { AreReadInOrder (D.reads desk.old) (D.reads desk.new) (name.now ∷ []) }
+        (change D.seen desk.old desk.new)) }
 {
     let bytes = match read_file(desk, name, FileRole::Values) {
         Ok(bytes) => bytes,
@@ -241,15 +219,9 @@ fn plan_of_files(
 
 /// The plan of the three files.
 pub fn read_plan<D: Desk>(alloc: Global, files: Files<'_>, desk: &mut D) -> Result<Plan, Status>
-    ensures ok { IfOk result (IsPlanned (plan_files (names_of files.entry))
-        (desk_change D.faults D.last_fault D.gave D.contents desk.old desk.new)) }
+    ensures ok { IfOk result (IsPlanned (names_of files.entry) (change D.seen desk.old desk.new)) }
     ensures err { IfErr result (IsStopped (plan_files (names_of files.entry))
-        (desk_change D.faults D.last_fault D.gave D.contents desk.old desk.new)) }
-    ensures read { OnOk result (D.reads desk.new ≡ D.reads desk.old ++ names_in (plan_files (names_of files.entry))) }
-    ensures reads { AreReadInOrder (D.reads desk.old) (D.reads desk.new)
-        (names_in (plan_files (names_of files.entry))) }
-    ensures later { D.faults desk.old ≤ D.faults desk.new }
-    ensures contents { D.contents desk.new ≡ D.contents desk.old }
+        (change D.seen desk.old desk.new)) }
 {
     let topology = match read_topology(alloc, desk, files.topology) {
         Ok(topology) => topology,

@@ -1,7 +1,8 @@
 use Rattle.std.proofs.Common.{◌≡◌, refl, sym, ap, subst, ◌∙◌}
 use Rattle.std.specs.Prelude.{map, string_bytes}
 use Rattle.stat_words.specs.Words.{asked}
-use Rattle.stat_tool.specs.Call.{Answered, desk_change, sink_change}
+use Rattle.stat_desk.specs.Change.{change}
+use Rattle.stat_tool.specs.Call.{Answered}
 use Rattle.stat_tool.specs.Ending.{IsEnding, ended_with}
 use Rattle.stat_tool.specs.Status.{refusal_of_status}
 use Rattle.stat_tool.specs.declared.program.Ending.{Ending}
@@ -30,9 +31,9 @@ pub returns-clause-answered : goal.returns-clause-answered
 returns-clause-answered g c = (
   c.stat-outcome.result.journal,
   subst (λ (status : Status). Answered (asked (map string_bytes c.args.words.now))
-      (desk_change g.D.Desk.faults g.D.Desk.last_fault g.D.Desk.gave g.D.Desk.contents c.args.desk.now c.stat-outcome.new.desk)
-      (sink_change g.O.Sink.faults g.O.Sink.took g.O.Sink.contents c.args.out.now c.stat-outcome.new.out)
-      (sink_change g.J.Sink.faults g.J.Sink.took g.J.Sink.contents c.args.journal.now c.stat-outcome.new.journal) c.stat-outcome.result.journal status)
+      (change g.D.Desk.seen c.args.desk.now c.stat-outcome.new.desk)
+      (change g.O.Sink.seen c.args.out.now c.stat-outcome.new.out)
+      (change g.J.Sink.seen c.args.journal.now c.stat-outcome.new.journal) c.stat-outcome.result.journal status)
       (same_status c.stat-outcome.result.status c.ending_of.result c.ending_of.ensures.refusal) c.stat-outcome.ensures.answered,
 )
 

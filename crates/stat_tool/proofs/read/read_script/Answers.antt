@@ -1,6 +1,6 @@
 use Rattle.std.proofs.Common.{inl, sym, ap, ◌∙◌}
 use Rattle.script_text.specs.Whole.{script_of}
-use Rattle.stat_tool.specs.Call.{desk_change}
+use Rattle.stat_desk.specs.Change.{change}
 use Rattle.stat_tool.proofs.Stopping.{stops_refused}
 use Rattle.stat_tool.specs.declared.status.FileRole.TheVariants.{Script}
 use Rattle.stat_tool.proofs.read.read_script.Goals as goal
@@ -14,5 +14,5 @@ returns-in-Ok-read-clause-ok g c = (c.in-Ok.bytes.items, (c.in-Ok.ensures.ok, ap
 
 pub returns-clause-err : goal.returns-clause-err
 returns-clause-err g c =
-    let desk = desk_change g.D.Desk.faults g.D.Desk.last_fault g.D.Desk.gave g.D.Desk.contents c.args.desk.now c.read_file.new.desk in
+    let desk = change g.D.Desk.seen c.args.desk.now c.read_file.new.desk in
     stops_refused (script_of c.args.topology.now) Script c.args.name.now desk c.in-Err-read.error c.in-Ok.bytes.items c.as_slice.result.now c.refusal.result c.refusal.ensures c.in-Ok.ensures.ok c.as_slice.ensures.value c.in-Err-read.ensures.err
