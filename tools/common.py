@@ -85,7 +85,8 @@ def run(main):
             signal.signal(other, signal.SIG_IGN)
         sys.exit(128 + number)
     for number in SIGNALS:
-        signal.signal(number, end)
+        if signal.getsignal(number) != signal.SIG_IGN:  # as nohup has it
+            signal.signal(number, end)
     main()
 
 
