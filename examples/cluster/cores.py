@@ -4,16 +4,19 @@
     cores.py CORE .. FOLDER
 
 A core file's rank is what its launcher told the process: it is in the environment, which the core has. A file in which no
-rank is found, or two, is named on standard error, and left out; RANK:CORE in place of CORE says it. stat-job starts it
-with --cores.
+rank is found, or two, is named on standard error, and left out; RANK:CORE in place of CORE says it. Where a file was left
+out the status is 1. stat-job starts it with --cores; by hand:
+
+    mkdir -p hung.d && cores.py core.* 7:core.4711 hung.d && fold.py hung.d hung
 """
-import argparse
 import concurrent.futures
 import mmap
 import os
 import re
 import sys
+import time
 
+import command_line
 import processes
 import sample
 
@@ -49,15 +52,18 @@ def rank_of(word):
     return (found[0], found[1], name) if found else None
 
 
-def printed(name, asked):
-    """What eu-stack prints of a core, or why there is nothing; and the process' number."""
-    words = ['eu-stack', '-n', '0', '-m', '-b'] + (['-i', '-s'] if asked.lines else []) + ['--core', name]
+def printed(name, asked, until):
+    """What eu-stack prints of a core, or why there is nothing; and the process' number. Nothing goes on after `until`."""
+    limit = min(asked.each, until - time.monotonic())
+    if limit <= 0:
+        return 0, ' (no time was left)', ''
+    command = ['eu-stack', '-n', '0', '-m', '-b'] + (['-i', '-s'] if asked.lines else []) + ['--core', name]
     try:
-        found = sample.ended(words, asked.each)
+        found = sample.ended(command, limit)
     except OSError as error:
         return 0, ' (eu-stack: %s)' % error.strerror, ''
     if found is None:
-        return 0, ' (eu-stack took over %g s)' % asked.each, ''
+        return 0, ' (eu-stack took over %.0f s)' % limit, ''
     pid = re.match(r'PID (\d+) ', found[0])
     if not pid or 'TID %s:\n#0 ' % pid[1] not in found[0]:
         return 0, ' (%s)' % sample.complaint(found[1], 0), ''
@@ -69,43 +75,56 @@ def word_of(name):
     return re.sub(r'\s', '?', os.path.abspath(name))
 
 
-def ranks_of(words):
-    """The files of each rank, and the size of the job; says which files have no rank."""
-    files, size = {}, 0
-    for word in words:
+def ranks_of(names):
+    """The files of each rank, the size of the job, and how many files have no rank; says which."""
+    files, size, left_out = {}, 0, 0
+    for word in names:
+        why = 'no rank is in it, or two are: RANK:%s says it' % word
         try:
             found = rank_of(word)
-        except (OSError, ValueError) as why:
-            print('cores.py: cannot read %s: %s' % (word, why), file=sys.stderr)
-            continue
+        except (OSError, ValueError) as error:
+            found, why = None, 'cannot be read: %s' % (getattr(error, 'strerror', None) or 'it is empty')
         if found is None:
-            print('cores.py: %s has no rank, or two: RANK:%s says it' % (word, word), file=sys.stderr)
+            print('cores.py: %s: %s' % (word, why), file=sys.stderr)
+            left_out += 1
             continue
         files.setdefault(found[0], []).append(found[2])
         size = max(size, found[1])
-    return files, size
+    return files, size, left_out
+
+
+def write(out, files, size, asked):
+    """Writes the stacks of all files."""
+    single = {rank: names[0] for rank, names in sorted(files.items()) if len(names) == 1}
+    out.write('== host cores size %d mpi 0 by core others 0 job \n' % size)
+    for rank in sorted(set(files) - set(single)):
+        for name in files[rank]:
+            out.write('== rank %d pid 0 of %s time 0 (two processes of this rank)\n' % (rank, word_of(name)))
+    until = time.monotonic() + asked.all
+    with concurrent.futures.ThreadPoolExecutor(len(os.sched_getaffinity(0))) as pool:
+        for rank, (pid, why, text) in zip(single, pool.map(lambda name: printed(name, asked, until), single.values())):
+            out.write('== rank %d pid %d of %s time 0%s\n%s' % (rank, pid, word_of(single[rank]), why, text))
+    out.write('\n== end\n')
 
 
 def main():
-    parser = argparse.ArgumentParser(description=__doc__, formatter_class=argparse.RawDescriptionHelpFormatter)
+    parser = command_line.Parser(__doc__)
     sample.add_options(parser)
     parser.add_argument('cores', metavar='CORE', nargs='+')
     parser.add_argument('folder', metavar='FOLDER')
     asked = sample.options(parser)
-    files, size = ranks_of(asked.cores)
-    folder = os.path.join(asked.folder, 'hosts')
-    os.makedirs(folder, exist_ok=True)
-    single = {rank: names[0] for rank, names in sorted(files.items()) if len(names) == 1}
-    with open(os.path.join(folder, '.cores'), 'w', encoding='utf-8', errors='replace') as out:
-        out.write('== host cores size %d mpi 0 by core others 0 job \n' % size)
-        for rank in sorted(set(files) - set(single)):
-            for name in files[rank]:
-                out.write('== rank %d pid 0 of %s time 0 (two processes of this rank)\n' % (rank, word_of(name)))
-        with concurrent.futures.ThreadPoolExecutor(len(os.sched_getaffinity(0))) as pool:
-            for rank, (pid, why, text) in zip(single, pool.map(lambda name: printed(name, asked), single.values())):
-                out.write('== rank %d pid %d of %s time 0%s\n%s' % (rank, pid, word_of(single[rank]), why, text))
-        out.write('\n== end\n')
-    os.rename(os.path.join(folder, '.cores'), os.path.join(folder, 'cores'))
+    if not os.path.isdir(asked.folder):
+        sample.stop('no folder ' + asked.folder)
+    files, size, left_out = ranks_of(asked.cores)
+    try:
+        os.makedirs(os.path.join(asked.folder, 'hosts'), exist_ok=True)
+        out, part, whole = sample.opened(os.path.join(asked.folder, 'hosts'), 'cores')
+        with out:
+            write(out, files, size, asked)
+        os.rename(part, whole)
+    except OSError as why:
+        sample.stop('%s: %s' % (why.filename or asked.folder, why.strerror))
+    sys.exit(left_out > 0)
 
 
 if __name__ == '__main__':

@@ -3,52 +3,63 @@
 
     fold.py [OPTIONS] FOLDER OUT
 
+For example, the ranks that a loop around MPI_Test parts are put together, and the classes are printed:
+
+    fold.py --cut '^Comm::wait' hung.d hung
+    ranktree direct --topology hung.top --samples hung.smp --script hung.scr
+
 Written are OUT.top (a front end, and a daemon for each host), OUT.smp (which rank is where, and the stacks), OUT.scr (one
 wave with all samples), and OUT.pids, with a line RANK HOST PID for each rank (of a core file, its name in place of PID).
 The folder's files are read piece by piece.
 
 Ranks that the job has, by its size, and that no host had, are seen in `(not found)`, below a daemon of that name; a rank
-with two processes is seen in `(two processes of this rank)`. What is odd is said on standard error, too. Where no rank
-has a stack, nothing is written, and the status is 1.
+with two processes is seen in `(two processes of this rank)`. What is odd is said on standard error, too. Of a file that
+has no end, what is whole is taken. Where no rank has a stack, nothing is written, and the status is 1. What can't be
+read, or is none of sample.py's, ends with one line and status 2.
 """
-import argparse
 import array
 import collections
 import os
 import re
 import sys
 
+import command_line
 import paths
 import stacks
 
 # What `stat` takes: docs/FORMATS.md.
-RANKS, DAEMONS, PREFIXES, LINES, BYTES = 1048576, 511, 2048, 262144, 33554432
+RANKS, DAEMONS, PREFIXES, LINES, BYTES, TIMES = 1048576, 511, 2048, 262144, 33554432, 64
 ADDRESS = re.compile(r'0x[0-9a-f]{9,}')
 HOST = re.compile(r'[^A-Za-z0-9._-]')
-HEAD = re.compile(r'^== host \S+ size (?P<size>[\d,]+) mpi (?P<mpi>[01]) by (?P<by>\S+) '
-                  r'others (?P<others>\d+) job (?P<job>.*)$')
-RECORD = re.compile(r'^rank (\d+) pid (\d+)(?: of (\S+))? time (\d+)(?: (\(.*\)))?$')
+HEAD = re.compile(r'^== host \S+ size (?P<size>\d{1,9}(?:,\d{1,9})*) mpi (?P<mpi>[01]) by (?P<by>\S+) '
+                  r'others (?P<others>\d{1,9}) job (?P<job>.*)$', re.ASCII)
+RECORD = re.compile(r'^rank (\d{1,18}) pid (\d{1,18})(?: of (\S+))? time (\d{1,18})(?: (\(.*\)))?$', re.ASCII)
 TWO, NOT_FOUND, NO_STACK = '(two processes of this rank)', '(not found)', '(no stack)'
 PIECE, KNOWN = 1 << 20, 1 << 14  # bytes that are read at once; texts whose paths are kept
 
 
 class Refused(Exception):
-    """Why nothing was folded."""
+    """Why nothing was folded, and the status that says so: 2 where what was gathered, or what was asked for, is no good."""
+
+    def __init__(self, why, status=1):
+        Exception.__init__(self, why)
+        self.status = status
 
 
-def refuse(why):
+def refuse(why, status=1):
     """Ends the fold."""
-    raise Refused(why)
+    raise Refused(why, status)
 
 
 def add_options(parser):
     """The options of folding, which stat-job has, too."""
-    parser.add_argument('--cut', action='append', default=[], metavar='REGEX',
+    parser.add_argument('--cut', type=command_line.expression, action='append', default=[], metavar='REGEX',
                         help="end stacks at calls that REGEX finds, too, and not at MPI's alone; any number of times")
     parser.add_argument('--whole', action='store_true', help='keep stacks whole')
     parser.add_argument('--threads', action='store_true',
                         help="the threads that run the program's own code, too, as OpenMP's, and not the first alone")
-    parser.add_argument('--depth', type=int, default=0, metavar='D', help='at most D frames of each path (all)')
+    parser.add_argument('--depth', type=command_line.number(int, 1, paths.FRAMES), default=0, metavar='D',
+                        help='at most D frames of each path, 1 to 128 (all, and both ends where there are more than 128)')
 
 
 def choice(asked):
@@ -58,25 +69,33 @@ def choice(asked):
 
 
 def pieces(file):
-    """The parts of a host's file that `== ` begins, one after another; what is no record is left out.
+    """The parts of a host's file behind its first line that `== ` begins, each with the number of its line.
 
     >>> import io
     >>> list(pieces(io.StringIO('== rank 0 pid 7 time 0\\nx\\n== rank 1 pid 8 time 0\\n== end\\n')))
-    ['rank 0 pid 7 time 0\\nx', 'rank 1 pid 8 time 0', 'end\\n']
+    [(2, 'rank 0 pid 7 time 0\\nx'), (4, 'rank 1 pid 8 time 0'), (5, 'end\\n')]
     """
-    rest = '\n'
+    rest, number = '\n', 1
     for block in iter(lambda: file.read(PIECE), ''):
         *whole, rest = (rest + block).split('\n== ')
-        yield from filter(str.strip, whole)
-    yield rest
+        for part in whole:
+            if part.strip():
+                yield number, part
+            number += 1 + part.count('\n')
+    yield number, rest
 
 
 def heads_of(folder):
-    """What the first line of each host's file says; None where a file isn't whole, or is none of sample.py's."""
-    found = {}
-    for name in os.listdir(folder):
+    """What the first line of each host's file says; None where that is none of sample.py's, or isn't whole.
+
+    A file that isn't whole, whose name begins with a dot, has what its host could write before it was ended.
+    """
+    found, names = {}, set(os.listdir(folder))
+    for name in sorted(names):
+        if name.startswith('.') and (name[1:] in names or name.startswith('.nfs')):
+            continue
         with open(os.path.join(folder, name), encoding='utf-8', errors='replace') as file:
-            found[name] = None if name.startswith('.') else HEAD.match(file.readline().rstrip('\n'))
+            found[name] = HEAD.match(file.readline().rstrip('\n'))
     return found
 
 
@@ -135,6 +154,16 @@ def few(names):
     return ' '.join(names[:8]) + (' and %d more' % (len(names) - 8) if len(names) > 8 else '')
 
 
+def some(numbers):
+    """Ranks in a line that can be read: where they are many runs, the first of these, and how many there are in all.
+
+    >>> some([0, 1, 2, 7]), some(range(0, 2000, 2))
+    ('0-2,7', '0,2,4,6,8,10,12,14,16,18,20,22,24,26,28,30, .. (1000 ranks)')
+    """
+    items = ranges(numbers).split(',')
+    return ','.join(items) if len(items) <= 32 else ','.join(items[:16]) + ', .. (%d ranks)' % len(set(numbers))
+
+
 class Fold:
     """What the files of the hosts say, put together."""
 
@@ -168,19 +197,20 @@ class Fold:
             found = [one[:self.asked.depth] for one in found]
         return [';'.join(one) for one in found if one], was_long
 
-    def add(self, host, part):
-        """Takes a record of a host's file."""
+    def add(self, host, file_name, number, part):
+        """Takes a record of a host's file, which begins at a line."""
         head, _, text = part.partition('\n')
-        words = RECORD.match(head) or refuse('%s has a record that is none: %.60s' % (host, head))
+        words = RECORD.match(head) or refuse('%s: line %d: not a record: %.60s' % (file_name, number, head), 2)
         rank, pid, when = int(words[1]), int(words[2]), int(words[4])
+        if rank >= RANKS or when >= TIMES:
+            refuse('%s: line %d: rank %d at time %d, and stat takes ranks below %d and times below %d'
+                   % (file_name, number, rank, when, RANKS, TIMES), 2)
         if self.is_placed(rank, (host, words[3] or words[2]), words[5] == TWO):
             found = self.paths(text, pid, rank) if text.strip() else []
             self.take(rank, when, found, words[5] or '')
 
     def is_placed(self, rank, where, are_two=False):
         """Gives a rank its place, a host and a process; whether it is the only one."""
-        if max(rank, self.size - 1) >= RANKS:
-            refuse('rank %d: stat takes ranks below %d' % (max(rank, self.size - 1), RANKS))
         place = self.home.setdefault(rank, where)
         if place != where or are_two:
             self.two.setdefault(rank, set()).update([place, where])
@@ -193,9 +223,10 @@ class Fold:
     def take(self, rank, when, found, why):
         """Takes the paths that a rank was seen in at a time, and what is odd about them."""
         if why:
-            why = why.replace(';', ':')
+            why = paths.text_of_frame(why)
             self.odd[why].add(rank)
-            found = [';'.join(filter(None, [found[0] if found else '', why]))] + found[1:]
+            frames = paths.both_ends(found[0].split(';'), paths.FRAMES - 1) if found else []
+            found = [';'.join(frames + [why])] + found[1:]
         self.times = max(self.times, when + 1)
         for one in found or [NO_STACK]:
             self.seen[when, self.names.setdefault(one, one)].append(rank)
@@ -203,27 +234,29 @@ class Fold:
     def read(self, folder):
         """Takes the files of all hosts that count."""
         heads = heads_of(folder)
-        self.broken = [name.lstrip('.') for name, head in sorted(heads.items()) if head is None]
+        self.broken = [name.lstrip('.') for name, head in heads.items() if head is None]
         self.others = sum(int(head['others']) for head in heads.values() if head)
         counting = those_that_count(heads)
         self.size = one_job(list(counting.values()))
+        if self.size > RANKS:
+            refuse('the job has %d ranks, and stat takes ranks below %d' % (self.size, RANKS))
         for name, head in sorted(heads.items()):
             if head:
-                host = HOST.sub('_', name)[:63]
+                host = host_of(name.lstrip('.'), self.hosts)
                 (self.hosts.add if name in counting and self.has_ranks(folder, name, host) else self.without.append)(host)
 
     def has_ranks(self, folder, name, host):
         """Takes a host's file. What stands last in one that was cut off may be in part, and isn't taken."""
-        last, count = '', 0
-        with open(os.path.join(folder, name), encoding='utf-8', errors='replace', newline='\n') as file:
+        last, count, file_name = '', 0, os.path.join(folder, name)
+        with open(file_name, encoding='utf-8', errors='replace', newline='\n') as file:
             file.readline()
-            for part in pieces(file):
+            for number, part in pieces(file):
                 if last:
-                    self.add(host, last)
+                    self.add(host, file_name, *last)
                     count += 1
-                last = part
-        if last.strip() != 'end':
-            self.broken.append(name)
+                last = number, part
+        if last[1].strip() != 'end' or name.startswith('.'):
+            self.broken.append(name.lstrip('.'))
         return count > 0
 
     def settle(self):
@@ -236,6 +269,20 @@ class Fold:
         if gone:
             self.seen[0, NOT_FOUND].extend(sorted(gone))
         return gone
+
+
+def host_of(name, taken):
+    """A host's name as a topology takes it, and no other host's.
+
+    >>> host_of('größe-1.x_y', set()), host_of('n' * 80, {'n' * 63})[-5:]
+    ('gr__e-1.x_y', 'nnn_2')
+    """
+    name, number = HOST.sub('_', name), 1
+    own = name[:63]
+    while own in taken:
+        number += 1
+        own = name[:63 - len('_%d' % number)] + '_%d' % number
+    return own
 
 
 def daemons(home, gone):
@@ -292,18 +339,33 @@ def shortened(seen, depth):
     return found
 
 
+def fitted(seen):
+    """What was seen, with paths that end where there would be more prefixes than `stat` takes; and where that is, or 0."""
+    least = 0
+    while True:
+        depth = depth_that_fits({text for _, text in seen})
+        if not depth:
+            return seen, least
+        if depth == least == 1:
+            refuse('more than %d paths that have no frame in common: stat takes no more' % PREFIXES)
+        seen, least = shortened(seen, depth), depth
+
+
 def write(found, gone, out):
-    """Writes the four files."""
+    """Writes the four files, if they are such as `stat` takes."""
     places = daemons(found.home, gone)
     front = 'front'
     while front in places:
         front += '_'
+    samples = ['daemon %s:0 %s\n' % (name, ranges(ranks)) for name, ranks in places.items()]
+    samples += ['stack %d %s %s\n' % (when, ranges(ranks), text) for (when, text), ranks in sorted(found.seen.items()) if ranks]
+    size = sum(len(line.encode('utf-8')) for line in samples)
+    if size > BYTES:
+        refuse('%s.smp would have %d bytes, and stat takes %d: fewer samples, or --cut' % (out, size, BYTES))
     with open(out + '.top', 'w', encoding='utf-8') as top:
         top.write('%s:0 =>\n%s  ;\n' % (front, ''.join('  %s:0\n' % name for name in places)))
     with open(out + '.smp', 'w', encoding='utf-8') as smp:
-        smp.writelines('daemon %s:0 %s\n' % (name, ranges(ranks)) for name, ranks in places.items())
-        smp.writelines('stack %d %s %s\n' % (when, ranges(ranks), text)
-                       for (when, text), ranks in sorted(found.seen.items()) if ranks)
+        smp.writelines(samples)
     with open(out + '.scr', 'w', encoding='utf-8') as scr:
         scr.write('stream 0 wait-for-all waves 1 samples %d on all\n' % found.times)
     with open(out + '.pids', 'w', encoding='utf-8') as pids:
@@ -313,19 +375,20 @@ def write(found, gone, out):
 def remarks(found, gone):
     """What is to be known of what was gathered, line by line."""
     counts = len(found.home), len(found.hosts), found.times, len(found.seen)
-    yield '%d ranks on %d hosts, %d samples, %d stacks' % counts
+    yield ', '.join(['%d rank%s on %d host%s', '%d sample%s', '%d stack%s']) % tuple(
+        part for number in counts for part in (number, 's' * (number != 1)))
     if gone:
-        yield 'not found, of %d: %s' % (max(found.size, max(found.home) + 1), ranges(gone))
+        yield 'not found, of %d: %s' % (max(found.size, max(found.home) + 1), some(gone))
     if not found.size:
         yield "the job's size isn't known: ranks above %d would be missing without a word" % max(found.home)
     for rank in sorted(found.two)[:10]:
         yield 'two processes of rank %d: %s' % (rank, found.both(rank))
     if len(found.two) > 10:
-        yield 'two processes of ranks ' + ranges(found.two)
+        yield 'two processes of ranks ' + some(found.two)
     for why, ranks in sorted(found.odd.items()):
-        yield '%s: %s' % (why, ranges(ranks))
+        yield '%s: %s' % (why, some(ranks))
     if found.too_long:
-        yield 'over 128 frames, of which both ends were kept: %s' % ranges(found.too_long)
+        yield 'over 128 frames, of which both ends were kept: %s' % some(found.too_long)
     if found.broken:
         yield 'began and did not end: %s' % few(found.broken)
     if found.without:
@@ -344,39 +407,41 @@ def finish(found, out):
         why += ['rank %d is %s' % (rank, found.both(rank)) for rank in sorted(found.two)[:1]]
         refuse('none of %d ranks has a stack: %s' % (len(found.home), ', '.join(why)))
     said = list(remarks(found, gone))
-    depth = depth_that_fits({text for _, text in found.seen})
+    found.seen, depth = fitted(found.seen)
     if depth:
         said.append('more than %d prefixes: paths end at frame %d; --cut says what to cut instead' % (PREFIXES, depth))
-        found.seen = shortened(found.seen, depth)
     if len(found.seen) > LINES:
         refuse('%d stacks, and stat takes %d: fewer samples, or --cut' % (len(found.seen), LINES))
-    write(found, gone, out)
-    if os.path.getsize(out + '.smp') > BYTES:
-        refuse('%s.smp has over %d bytes: fewer samples, or --cut' % (out, BYTES))
+    try:
+        write(found, gone, out)
+    except OSError as error:
+        refuse('%s: cannot be written: %s' % (error.filename or out, error.strerror), 2)
     return said
 
 
 def fold(folder, out, asked):
-    """Folds a folder, and returns what is to be known of it, line by line."""
+    """Folds a folder. What is to be known of it, line by line, and whether each rank was found once, on hosts that ended."""
     found = Fold(asked)
     try:
         found.read(os.path.join(folder, 'hosts'))
     except OSError as error:
-        refuse('cannot read %s: %s' % (error.filename, error.strerror))
-    return finish(found, out)
+        refuse('%s: cannot be read: %s' % (error.filename, error.strerror), 2)
+    said = finish(found, out)
+    return said, not (found.two or found.broken or any(text == NOT_FOUND for _, text in found.seen))
 
 
 def main():
-    parser = argparse.ArgumentParser(description=__doc__, formatter_class=argparse.RawDescriptionHelpFormatter)
+    parser = command_line.Parser(__doc__)
     add_options(parser)
     parser.add_argument('--lines', action='store_true', help='keep the numbers of lines, where they were sampled')
     parser.add_argument('folder', metavar='FOLDER')
     parser.add_argument('out', metavar='OUT')
     asked = parser.parse_args()
     try:
-        print('\n'.join(fold(asked.folder, asked.out, asked)), file=sys.stderr)
+        print('\n'.join(fold(asked.folder, asked.out, asked)[0]), file=sys.stderr)
     except Refused as why:
-        sys.exit('fold.py: %s' % why)
+        print('fold.py: %s' % why, file=sys.stderr)
+        sys.exit(why.status)
 
 
 if __name__ == '__main__':

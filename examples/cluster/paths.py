@@ -83,7 +83,7 @@ def frame_name(frame, is_innermost):
         # where a loop stands moves from sample to sample; the caller's place says which function it is
         offset = frame.offset if frame.offset and not is_innermost else '?'
         text = VERSION.sub(r'\1', os.path.basename(frame.module)) + '+' + offset
-    return fitting(CONTROL.sub(' ', text.replace(';', ':')).strip() or '??')
+    return text_of_frame(text)
 
 
 def is_own(frame):
@@ -148,6 +148,15 @@ def once(names, shown):
     return texts
 
 
+def text_of_frame(text):
+    """A text as one frame that `stat` takes.
+
+    >>> text_of_frame(' (ptrace:\\tno; not permitted) '), text_of_frame('')
+    ('(ptrace: no: not permitted)', '??')
+    """
+    return fitting(CONTROL.sub(' ', text.replace(';', ':')).strip() or '??')
+
+
 def is_remark(frame):
     """Whether a frame is a word of sample.py's or fold.py's, and no function.
 
@@ -157,20 +166,23 @@ def is_remark(frame):
     return frame.startswith('(') and frame.endswith(')') and not frame.startswith('(anonymous')
 
 
-def both_ends(texts):
-    """At most 128 frames: of more, those at both ends, and a frame that says so.
+def both_ends(texts, most=FRAMES):
+    """At most 128 frames, or as many as are asked for: of more, those at both ends, and a frame that says so.
 
     >>> len(both_ends(['f'] * 128)), len(both_ends(['f'] * 129)), both_ends([str(i) for i in range(400)])[62:65]
     (128, 128, ['62', '(frames left out)', '336'])
+    >>> len(both_ends(['f'] * 128, 127)), both_ends(both_ends(['f'] * 129), 127).count('(frames left out)')
+    (127, 1)
     """
-    if len(texts) <= FRAMES:
+    if len(texts) <= most:
         return texts
-    return texts[:FRAMES // 2 - 1] + [LEFT_OUT] + texts[-(FRAMES // 2):]
+    return texts[:most // 2 - 1] + [LEFT_OUT] + texts[most // 2 - most:]
 
 
 def with_line(name, frame):
     """A frame's name with the number of its line behind an `@`, where it is known."""
-    return name + '@' + frame.line if frame.line and len(frame.line) < 10 else name
+    known = frame.line and len(frame.line) < 10
+    return fitting(name + '@' + frame.line) if known else name
 
 
 def path(stack, choice, is_first=True):

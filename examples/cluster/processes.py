@@ -72,6 +72,15 @@ def ancestors(pid, parent):
     return found
 
 
+def is_number(text):
+    """Whether a value of a variable is a number of ranks, or of one.
+
+    >>> [is_number(text) for text in ('0', '65535', '', '-1', '²', None, '1' * 5000)]
+    [True, True, False, False, False, False, False]
+    """
+    return bool(re.match(r'[0-9]{1,9}$', text or ''))
+
+
 def told(environment):
     """The rank that a process was told, the size of the job (0: none was told), and by which variable; or None.
 
@@ -82,8 +91,8 @@ def told(environment):
     ((3, 0, 'PALS_RANKID'), None)
     """
     for rank, sizes in LAUNCHERS:
-        if environment.get(rank, '').isdigit():
-            size = next((environment[name] for name in sizes if environment.get(name, '').isdigit()), '0')
+        if is_number(environment.get(rank)):
+            size = next((environment[name] for name in sizes if is_number(environment.get(name))), '0')
             return int(environment[rank]), int(size), rank
     return None
 

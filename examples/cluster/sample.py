@@ -3,8 +3,12 @@
 
     sample.py [OPTIONS] FOLDER
 
-stat-job starts it once on each host of a job, with one folder that all hosts share; fold.py reads that folder. The file
-has what eu-stack (of elfutils) or gdb printed, as it is, so that stacks can be folded in one way and then in another:
+stat-job starts it once on each host of a job, with one folder that all hosts share; fold.py reads that folder. By hand, on
+one host:
+
+    mkdir -p hung.d && sample.py --times 1 hung.d && fold.py hung.d hung
+
+The file has what eu-stack (of elfutils) or gdb printed, as it is, so that stacks can be folded in one way and then in another:
 
     == host NAME size N mpi M by V others O job J
                                     the size and the name of the job, by the environment of its ranks; M is 1 where some
@@ -13,9 +17,9 @@ has what eu-stack (of elfutils) or gdb printed, as it is, so that stacks can be 
     == end                          the last line: a file without it was cut off
 
 A file whose name begins with a dot is not whole yet. Where FOLDER/options.json is, it has the options; those of the
-command line go before it.
+command line go before it. FOLDER/started has a file for each machine, so that a second start on it samples nothing. Where two
+machines have one name, the file of the second one is HOST_2.
 """
-import argparse
 import concurrent.futures
 import json
 import os
@@ -27,35 +31,31 @@ import subprocess
 import sys
 import time
 
+import command_line
 import processes
 
 GDB = ['gdb', '-nx', '-batch', '-ex', 'set print frame-arguments none', '-ex', 'set backtrace past-main on']
 REFUSED = re.compile(r'not permitted|[Pp]ermission denied|[Nn]o such process')
 
 
-def times(text):
-    """A number of samples, as the command line has it."""
-    number = int(text)
-    if not 1 <= number <= 64:
-        raise ValueError(text)
-    return number
-
-
 def add_options(parser):
     """The options of sampling, which stat-job has, too."""
-    parser.add_argument('--times', type=times, default=3, metavar='N', help='samples of each rank (3; at most 64)')
-    parser.add_argument('--pause', type=float, default=0.5, metavar='SECONDS', help='between two samples (0.5)')
-    parser.add_argument('--each', type=float, default=60, metavar='SECONDS',
+    parser.add_argument('--times', type=command_line.number(int, 1, 64), default=3, metavar='N',
+                        help='samples of each rank (3; at most 64)')
+    parser.add_argument('--pause', type=command_line.number(float, 0, 3600), default=0.5, metavar='SECONDS',
+                        help='between two samples (0.5; at most 3600)')
+    parser.add_argument('--each', type=command_line.number(float, 0.1, 86400), default=60, metavar='SECONDS',
                         help='the longest that the sampler may take for a process, after which it is ended (60)')
-    parser.add_argument('--all', type=float, default=600, metavar='SECONDS',
+    parser.add_argument('--all', type=command_line.number(float, 1, 86400), default=600, metavar='SECONDS',
                         help='the longest that all samples of a host may take; what is left then is said (600)')
     parser.add_argument('--lines', action='store_true',
                         help='inlined functions and lines, too: wants programs built with -g, and takes longer')
     parser.add_argument('--gdb', action='store_true', help='gdb, though there is eu-stack: 30 to 60 times slower')
     parser.add_argument('--python', action='store_true',
                         help="programs in Python: their own calls, by gdb's py-bt; wants what package python3-dbg has")
-    parser.add_argument('--exe', default='', metavar='REGEX', help='only processes whose command has REGEX in it')
-    parser.add_argument('--where', action='append', default=[], metavar='VAR=VALUE',
+    parser.add_argument('--exe', type=command_line.expression, metavar='REGEX',
+                        help='only processes whose command has REGEX in it')
+    parser.add_argument('--where', type=command_line.condition, action='append', default=[], metavar='VAR=VALUE',
                         help='only processes with this in their environment, as SLURM_STEP_ID=0; any number of times')
 
 
@@ -190,7 +190,7 @@ def head(found, others):
 def write(out, asked):
     """Writes all samples."""
     wanted = [tuple(word.partition('=')[::2]) for word in asked.where]
-    ranks, others = processes.job(wanted, asked.exe)
+    ranks, others = processes.job(wanted, asked.exe or '')
     single = {rank: same[0].pid for rank, same in sorted(ranks.items()) if len(same) == 1}
     out.write(head([one for same in ranks.values() for one in same], others))
     for rank, same in sorted(ranks.items()):
@@ -203,6 +203,7 @@ def write(out, asked):
             for rank, (why, text) in zip(single, pool.map(lambda pid: printed(pid, asked, until), single.values())):
                 why = ' (%s)' % why if why else ''
                 out.write('== rank %d pid %d time %d%s\n%s' % (rank, single[rank], when, why, text))
+                out.flush()  # what is there when this host is ended counts
     out.write('\n== end\n')
 
 
@@ -211,29 +212,97 @@ def options(parser):
     asked = parser.parse_args()
     name = os.path.join(asked.folder, 'options.json')
     if os.path.exists(name):
-        with open(name, encoding='utf-8') as file:
-            parser.set_defaults(**json.load(file))
+        try:
+            with open(name, encoding='utf-8') as file:
+                parser.set_defaults(**json.load(file))
+        except (OSError, ValueError, TypeError) as why:
+            stop('%s: line %d: no options of stat-job' % (name, getattr(why, 'lineno', 1)))
         asked = parser.parse_args()
     return asked
 
 
-def main():
-    parser = argparse.ArgumentParser(description=__doc__, formatter_class=argparse.RawDescriptionHelpFormatter)
-    add_options(parser)
-    parser.add_argument('folder', metavar='FOLDER')
-    asked = options(parser)
-    folder = os.path.join(asked.folder, 'hosts')
-    os.makedirs(folder, exist_ok=True)
-    part, whole = os.path.join(folder, '.' + host_name()), os.path.join(folder, host_name())
+def stop(why, status=2):
+    """Ends with one line, which names this host: there are many of them."""
+    print('%s: %s: %s' % (os.path.basename(sys.argv[0]), host_name(), why), file=sys.stderr)
+    sys.exit(status)
+
+
+def machine():
+    """What tells this machine, or container, from all others."""
     try:
-        out = None if os.path.exists(whole) else open(part, 'x', encoding='utf-8', errors='replace')
+        space = os.readlink('/proc/self/ns/pid')
+    except OSError:
+        space = ''
+    boot = processes.slurp('/proc/sys/kernel/random/boot_id').strip()
+    return '-'.join([host_name(), boot, space.partition('[')[2].rstrip(']')]).replace('/', '_')
+
+
+def is_first_start(folder, name):
+    """Whether nothing was started on the machine of this name before; it is remembered.
+
+    >>> import tempfile
+    >>> with tempfile.TemporaryDirectory() as folder:
+    ...     [is_first_start(folder, name) for name in ('n1', 'n2', 'n1')]
+    [True, True, False]
+    """
+    os.makedirs(os.path.join(folder, 'started'), exist_ok=True)
+    try:
+        os.close(os.open(os.path.join(folder, 'started', name), os.O_CREAT | os.O_EXCL | os.O_WRONLY, 0o644))
     except FileExistsError:
-        out = None
-    if not out:
-        sys.exit('%s: sample.py was started here before, or on a host of the same name; this one ends' % host_name())
+        return False
+    return True
+
+
+def opened(hosts, name):
+    """A new file for what is sampled, with its names while it grows and when it is whole. No file is written over.
+
+    >>> import tempfile
+    >>> with tempfile.TemporaryDirectory() as folder:
+    ...     for _ in range(2):
+    ...         out, _, whole = opened(folder, 'n1')
+    ...         out.close()
+    ...         os.path.basename(whole)
+    'n1'
+    'n1_2'
+    """
+    for i in range(1, 10000):
+        own = name if i == 1 else '%s_%d' % (name, i)
+        part, whole = os.path.join(hosts, '.' + own), os.path.join(hosts, own)
+        try:
+            if not os.path.exists(whole):
+                return open(part, 'x', encoding='utf-8', errors='replace'), part, whole
+        except FileExistsError:
+            pass
+    raise FileExistsError(17, 'there are too many files of this name', whole)
+
+
+def sample_into(folder, asked):
+    """Samples this host's ranks into a file of its own."""
+    if not os.path.isdir(folder):
+        stop('no folder %s here: all hosts must share it' % folder)
+    if not is_first_start(folder, machine()):
+        print('sample.py: %s: it was started here before, and this second start samples nothing' % host_name(), file=sys.stderr)
+        return
+    hosts = os.path.join(folder, 'hosts')
+    os.makedirs(hosts, exist_ok=True)
+    out, part, whole = opened(hosts, host_name())
+    if os.path.basename(whole) != host_name():
+        print('sample.py: another host is called %s, too; this one is %s here' % (host_name(), os.path.basename(whole)),
+              file=sys.stderr)
     with out:
         write(out, asked)
     os.rename(part, whole)  # a file that is there is whole
+
+
+def main():
+    parser = command_line.Parser(__doc__)
+    add_options(parser)
+    parser.add_argument('folder', metavar='FOLDER')
+    asked = options(parser)
+    try:
+        sample_into(asked.folder, asked)
+    except OSError as why:
+        stop('%s: %s' % (why.filename or asked.folder, why.strerror))
 
 
 if __name__ == '__main__':

@@ -70,11 +70,16 @@ def first_thread(text, pid):
 
 
 def eu_stacks(text):
-    """The stacks in what eu-stack printed, as (thread, frames)."""
+    """The stacks in what eu-stack printed, as (thread, frames).
+
+    >>> [(thread, len(frames)) for thread, frames in eu_stacks('TID 8:\\n#0  0x1 g\\nTID none\\n#0  0x1 h\\n')]
+    [(8, 1)]
+    """
     found = []
     for part in ('\n' + text).split('\nTID ')[1:]:
         thread, *lines = part.split('\n')
-        found.append((int(thread.rstrip(':')), eu_stack(lines)))
+        if re.match(r'[0-9]{1,18}:?$', thread):
+            found.append((int(thread.rstrip(':')), eu_stack(lines)))
     return [(thread, frames) for thread, frames in found if frames]
 
 

@@ -3,15 +3,27 @@
 
     where.py REPORT.json [PIDS]
 
-REPORT.json is a report as JSON; PIDS has a line RANK HOST PID for each rank (fold.py writes it).
+REPORT.json is a report as JSON; PIDS has a line RANK HOST PID for each rank (fold.py writes it). For example:
+
+    ranktree direct --topology hung.top --samples hung.smp --script hung.scr --report json > hung.json
+    where.py hung.json hung.pids
+
+Bytes by which a name could steer the terminal are shown as `?`. What is no report, or no such line, ends with one line on
+standard error and status 2.
 """
 import io
 import json
+import os
+import re
 import sys
 
+import command_line
 import paths
 
 WIDTH, PATHS = 60, 4  # columns of a set or a frame; paths of a class that are shown
+STEERS = re.compile('[\0-\x1f\x7f-\x9f\u200e\u200f\u2028-\u202e\u2066-\u2069]')  # controls, and marks of writing direction
+SET = re.compile(r'[0-9]{1,7}:\[[0-9]{1,7}(-[0-9]{1,7})?(,[0-9]{1,7}(-[0-9]{1,7})?)*\]$')
+RELEASE = {'stream': int, 'wave': int, 'number': int, 'kind': str, 'covered': str, 'missing': list, 'classes': list}
 
 
 def ranks(text):
@@ -57,7 +69,7 @@ def outline(text, common):
     frames = frames[max(0, common - 1):] or frames
     if len(frames) > 6:
         frames = frames[:3] + ['..'] + frames[-2:]
-    return ' | '.join(map(short, frames))
+    return ' | '.join(short(STEERS.sub('?', frame)) for frame in frames)
 
 
 def place(first, hosts, home):
@@ -89,22 +101,86 @@ def lines(release, home):
             yield '    and %d more paths' % (len(found['paths']) - PATHS)
 
 
+def test_fields(value, fields, what):
+    """Tests that a value has these fields, each of its kind.
+
+    >>> test_fields({'ranks': 3}, {'ranks': str}, 'a class')
+    Traceback (most recent call last):
+    ValueError: a class without a good "ranks"
+    """
+    for name, kind in fields.items():
+        if not isinstance(value, dict) or not isinstance(value.get(name), kind):
+            raise ValueError('%s without a good "%s"' % (what, name))
+
+
+def test(report):
+    """Tests that a value is a report, as far as it is shown.
+
+    >>> test({'releases': []})
+    Traceback (most recent call last):
+    ValueError: a report without a release
+    """
+    test_fields(report, {'releases': list}, 'a report')
+    if not report['releases']:
+        raise ValueError('a report without a release')
+    for release in report['releases']:
+        test_fields(release, RELEASE, 'a release')
+        for one in release['missing']:
+            test_fields(one, {'ranks': str, 'daemon': str, 'state': str}, 'a daemon with missing ranks')
+        for one in release['classes']:
+            test_fields(one, {'ranks': str, 'paths': list}, 'a class')
+            if not SET.match(one['ranks']) or not all(isinstance(path, str) for path in one['paths']):
+                raise ValueError('a class without ranks, or with a path that is no text')
+
+
+def read_report(name):
+    """The releases of the report in a file."""
+    try:
+        with open(name, encoding='utf-8') as file:
+            report = json.load(file)
+        test(report)
+    except json.JSONDecodeError as why:
+        raise ValueError('%s: line %d: no report as JSON: %s' % (name, why.lineno, why.msg))
+    except (ValueError, RecursionError) as why:
+        raise ValueError('%s: line 1: %s' % (name, why))
+    return report['releases']
+
+
+def read_pids(name):
+    """The host and the process of each rank, by the lines of a file."""
+    home = {}
+    with open(name, encoding='utf-8', errors='replace') as file:
+        for number, line in enumerate(file, 1):
+            parts = line.strip().split(None, 2)
+            if len(parts) != 3 or not re.match(r'[0-9]{1,7}$', parts[0]):
+                raise ValueError('%s: line %d: not RANK HOST PID' % (name, number))
+            if int(parts[0]) in home:
+                raise ValueError('%s: line %d: rank %s is there once more' % (name, number, parts[0]))
+            home[int(parts[0])] = parts[1], parts[2]
+    return home
+
+
 def view(report, pids):
     """The lines of a report, by its file and the file of its processes."""
-    with open(report, encoding='utf-8') as file:
-        releases = json.load(file)['releases']
-    home = {}
-    if pids:
-        with open(pids, encoding='utf-8') as file:
-            home = {int(rank): (host, pid) for rank, host, pid in map(str.split, file)}
-    return '\n\n'.join('\n'.join(lines(release, home)) for release in releases) + '\n'
+    home = read_pids(pids) if pids else {}
+    return '\n\n'.join('\n'.join(lines(release, home)) for release in read_report(report)) + '\n'
 
 
 def main():
-    if not 2 <= len(sys.argv) <= 3:
-        sys.exit('usage: where.py REPORT.json [PIDS]')
+    parser = command_line.Parser(__doc__)
+    parser.add_argument('report', metavar='REPORT.json')
+    parser.add_argument('pids', metavar='PIDS', nargs='?')
+    asked = parser.parse_args()
     sys.stdout = io.TextIOWrapper(sys.stdout.buffer, 'utf-8')  # whatever the locale is
-    sys.stdout.write(view(sys.argv[1], sys.argv[2] if len(sys.argv) > 2 else None))
+    try:
+        sys.stdout.write(view(asked.report, asked.pids))
+        sys.stdout.flush()
+    except (OSError, ValueError) as why:
+        if isinstance(why, BrokenPipeError):
+            os.dup2(os.open(os.devnull, os.O_WRONLY), 1)  # what could not be written is not tried again at the end
+        text = '%s: %s' % (why.filename or 'standard output', why.strerror) if isinstance(why, OSError) else why
+        print('where.py: %s' % text, file=sys.stderr)
+        sys.exit(2)
 
 
 if __name__ == '__main__':
