@@ -381,6 +381,9 @@ def remarks(found, gone):
         yield 'not found, of %d: %s' % (max(found.size, max(found.home) + 1), some(gone))
     if not found.size:
         yield "the job's size isn't known: ranks above %d would be missing without a word" % max(found.home)
+    beyond = [rank for rank in found.home if 0 < found.size <= rank]
+    if beyond:
+        yield 'the job has %d ranks, by their environment or by --size, and these are above: %s' % (found.size, some(beyond))
     for rank in sorted(found.two)[:10]:
         yield 'two processes of rank %d: %s' % (rank, found.both(rank))
     if len(found.two) > 10:
