@@ -69,7 +69,8 @@ def choice(asked):
 
 
 def pieces(file):
-    """The parts of a host's file behind its first line that `== ` begins, each with the number of its line.
+    """The parts of a host's file behind its first line that `== ` begins, each with the number of its line. Empty ones are
+    left out, but at the end: there the last part is given as it is, so that the reader knows how the file ends.
 
     >>> import io
     >>> list(pieces(io.StringIO('== rank 0 pid 7 time 0\\nx\\n== rank 1 pid 8 time 0\\n== end\\n')))

@@ -14,6 +14,7 @@ The file has what eu-stack (of elfutils) or gdb printed, as it is, so that stack
                                     the size and the name of the job, by the environment of its ranks; M is 1 where some
                                     have MPI; V told them their ranks; O processes have one, too, and were not asked for
     == rank R pid P time T (WHY)    what was printed follows; WHY is why there is no stack, or what is odd about it
+    ==                              and a blank: what stands above is whole
     == end                          the last line: a file without it was cut off
 
 A file whose name begins with a dot is not whole yet. Where FOLDER/options.json is, it has the options; those of the
@@ -202,7 +203,7 @@ def write(out, asked):
             time.sleep(asked.pause if when else 0)
             for rank, (why, text) in zip(single, pool.map(lambda pid: printed(pid, asked, until), single.values())):
                 why = ' (%s)' % why if why else ''
-                out.write('== rank %d pid %d time %d%s\n%s' % (rank, single[rank], when, why, text))
+                out.write('== rank %d pid %d time %d%s\n%s== \n' % (rank, single[rank], when, why, text))
                 out.flush()  # what is there when this host is ended counts
     out.write('\n== end\n')
 
@@ -281,7 +282,8 @@ def sample_into(folder, asked):
     if not os.path.isdir(folder):
         stop('no folder %s here: all hosts must share it' % folder)
     if not is_first_start(folder, machine()):
-        print('sample.py: %s: it was started here before, and this second start samples nothing' % host_name(), file=sys.stderr)
+        if is_first_start(folder, machine() + '.again'):  # one line says it of any number of starts
+            print('sample.py: %s: it was started here before, and further starts sample nothing' % host_name(), file=sys.stderr)
         return
     hosts = os.path.join(folder, 'hosts')
     os.makedirs(hosts, exist_ok=True)
