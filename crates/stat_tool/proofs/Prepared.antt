@@ -1,7 +1,6 @@
 -- From a plan and the output of its job to what the files of a mode lead to.
 use Rattle.std.proofs.Common.{◌≡◌, ◌<◌, ◌≤◌, inl, inr, ℕ, zero, suc, List, [], ◌∷◌, ◌++◌, Option, Err, length, refl, sym, ap, subst, ◌∙◌, arith, append-nil}
 use Rattle.std.specs.Prelude.{Result, take}
-use Rattle.overlay_setup.specs.NodeSets.{In}
 use Rattle.stat_plan.specs.Plans.{Plan}
 use Rattle.stat_plan.proofs.InLists.{append_left}
 use Rattle.overlay_event.specs.declared.event.Event.{Event}
@@ -45,23 +44,6 @@ read_less contents files more [] read = tt
 read_less contents [] more (g ∷ gs) read = absurd read
 read_less contents (f ∷ files) more (g ∷ gs) read = (read.0, read_less contents files more gs read.1)
 
-take_less : (n : ℕ) (names more : List (List ℕ)) → (m : ℕ) × ((m ≤ n) × (take n names ≡ take m (names ++ more)))
-take_less zero [] more = (0, (omega (arith), refl))
-take_less zero (name ∷ names) more = (0, (omega (arith), refl))
-take_less (suc n) [] more = (0, (omega (arith), sym (take_none more)))
-  where
-    take_none : (more : List (List ℕ)) → take 0 more ≡ []
-    take_none [] = refl
-    take_none (name ∷ more) = refl
-take_less (suc n) (name ∷ names) more =
-    let less = take_less n names more in (suc less.0, (omega (arith, less.1.0), ap (λ (all : List (List ℕ)). name ∷ all) less.1.1))
-
--- what the files gave, where there are more
-read_less : (contents : List ℕ → Option (List ℕ)) (files more : List NamedFile) (results : List ReadResult) → AreReadResults contents files results → AreReadResults contents (files ++ more) results
-read_less contents files more [] read = tt
-read_less contents [] more (g ∷ gs) read = absurd read
-read_less contents (f ∷ files) more (g ∷ gs) read = (read.0, read_less contents files more gs read.1)
-
 no_more_than_files : (contents : List ℕ → Option (List ℕ)) (files : List NamedFile) (results : List ReadResult) → AreReadResults contents files results → length results ≤ length (names_in files)
 no_more_than_files contents files [] read = omega (arith)
 no_more_than_files contents [] (g ∷ gs) read = absurd read
@@ -79,8 +61,7 @@ take_less zero (name ∷ names) more = (0, (omega (arith), (refl, λ k below wit
 take_less (suc n) [] [] = (0, (omega (arith), (refl, λ k below within. within)))
 take_less (suc n) [] (x ∷ more) = (0, (omega (arith), (refl, λ k below within. within)))
 take_less (suc n) (name ∷ names) more =
-    let less = take_less n names more in
-    (
+    let less = take_less n names more in (
       suc less.0,
       (omega (arith, less.1.0), (ap (λ (all : List (List ℕ)). name ∷ all) less.1.1.0, λ k below within. not_more k less.0 n (length names) less.1.1.1 below within)),
     )
@@ -103,8 +84,7 @@ StopsLast names role name after = IsWhyItStops (files_and names role name) (λ r
 pub last_stops : (names : Names) (role : FileRole) (name : List ℕ) (after : AfterPlan) (desk : Change DeskSeen) (status : Status) → IsStopped (plan_files names) desk status → StopsLast names role name after desk status
 last_stops names role name after desk status s =
     let read = (s.1 after).0 in
-    let less = take_less read.count (names_in (plan_files names)) (name ∷ []) in
-    (
+    let less = take_less read.count (names_in (plan_files names)) (name ∷ []) in (
       s.0,
       (
         record {

@@ -18,8 +18,9 @@ use Rattle.script_text.specs.Whole.{script_of}
 use Rattle.overlay_event.specs.declared.event.Event.{Event}
 use Rattle.stat_words.specs.Words.{Asked, Names}
 use Rattle.stat_words.specs.declared.words.WordFault.{WordFault}
-use Rattle.stat_tool.specs.Call.{Answered, Explains, HasRead, IsBadText, IsPlanRefusal, IsPlanned, IsStopped, Prevents, Refuses, StopsAt, Tells}
+use Rattle.stat_tool.specs.Call.{Answered, Explains, HasRead, IsBadText, IsPlanRefusal, IsPlanned, IsStopped, Prepared, Prevents, Refuses, StopsAt, Tells, Written}
 use Rattle.stat_tool.specs.Files.{NamedFile, files_of, limit_of, names_in, plan_files}
+use Rattle.stat_tool.specs.Jobs.{RunOutput}
 use Rattle.stat_tool.specs.NextStep.{AfterPlan, Answers, AreReadResults, Step, Wants, at_samples, at_script, by_samples, by_script, by_topology, next_step, plan_step, with_plan, too_long}
 use Rattle.stat_tool.specs.Status.{refusal_of}
 use Rattle.stat_tool.specs.declared.status.FileRole.{FileRole}
@@ -109,7 +110,7 @@ module _ {I : Type 0} (next : I → List ReadResult → Step) (files : List Name
     pub given_contents : now.contents ≡ first.contents
     given_contents = ap (λ (d : DeskSeen). d.contents) given.noted ∙ is.same_contents
 
-    pub all_given : now.gave ≡ first.gave ++ before ++ g ∷ []
+    pub all_given : now.gave ≡ first.gave ++ (before ++ g ∷ [])
     all_given = ap (λ (d : DeskSeen). d.gave) given.noted ∙ ap (λ (results : List ReadResult). results ++ g ∷ []) is.gave ∙ append_assoc first.gave before (g ∷ [])
 
     pub given_asked : now.reads ≡ first.reads ++ take (suc (length before)) (names_in files)
@@ -311,6 +312,23 @@ module _ (names : Names) (first one : DeskSeen) (t : Nodes) (topology : Tells (f
         in_turn = plan_turn;
         step = λ rest after. with_script rest after ∙ is rest after;
       }
+
+-- where the job that the files lead to was run, and its output was written
+pub explained : (asked : Asked) (desk : Change DeskSeen) (out journal : Change SinkSeen) (events : List Event) (output : RunOutput) (status : Status)
+    → Prepared asked desk output → Written output out journal status → events ≡ output.journal → Answered (Ok asked) desk out journal events status
+explained asked desk out journal events output Done p w same =
+    (p.results, (p.read, record { job = p.job; output = output; step = p.step; is_output = p.is_output; given = same; written = w }))
+explained asked desk out journal events output (Unfinished e) p w same =
+    (p.results, (p.read, record { job = p.job; output = output; step = p.step; is_output = p.is_output; given = same; written = w }))
+explained asked desk out journal events output (SinkFault target) p w same =
+    (p.results, (p.read, record { job = p.job; output = output; step = p.step; is_output = p.is_output; given = same; written = w }))
+explained asked desk out journal events output OutOfMemory p w same = absurd w
+explained asked desk out journal events output (BadWords fault) p w same = absurd w
+explained asked desk out journal events output (DeskFault role) p w same = absurd w
+explained asked desk out journal events output (BadInput file line reason) p w same = absurd w
+explained asked desk out journal events output (OverLimit file line what most) p w same = absurd w
+explained asked desk out journal events output (BadJournal i) p w same = absurd w
+explained asked desk out journal events output (BadFrames at reason) p w same = absurd w
 
 -- where memory ran out before the words were read
 pub words_need_memory : (asked : Result Asked WordFault) (first : DeskSeen) (out journal : Change SinkSeen) (events : List Event) (status : Status)

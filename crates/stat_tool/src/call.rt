@@ -1,5 +1,5 @@
 //! From words and files to a report and a journal.
-ghost use Rattle.std.specs.Prelude.{◌≡◌, ⊤, [], Ok, IfErr, IfOk, OnOk};
+ghost use Rattle.std.specs.Prelude.{◌≡◌, [], Ok, IfErr, IfOk};
 ghost use Rattle.stat_words.specs.Words.{HasGoodArgument, IsInRanges, asked_of};
 ghost use Rattle.stat_desk.specs.Change.{change};
 ghost use Rattle.stat_tool.specs.Call.{Answered, AreAllRead, HasWritten, IsDetermined, asked_by};

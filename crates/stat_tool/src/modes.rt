@@ -1,5 +1,5 @@
 //! The modes: from the files that the words name to an output.
-ghost use Rattle.std.specs.Prelude.{◌≡◌, ◌≤◌, ◌∷◌, ◌++◌, [], IfErr, IfOk, OnOk, Some};
+ghost use Rattle.std.specs.Prelude.{◌≡◌, ◌≤◌, [], IfErr, IfOk, Some};
 ghost use Rattle.tree_view.specs.Reading.{view_of};
 ghost use Rattle.tree_view.specs.Views.{TreeView};
 ghost use Rattle.journal_text.specs.Reading.{read_view};
@@ -7,7 +7,6 @@ ghost use Rattle.stat_words.specs.Words.{names_of};
 ghost use Rattle.stat_words.specs.Words.{Cast, Direct, Frames, Gen, Replay, Run, Sim, Sums, View, sums_asked, view_asked};
 ghost use Rattle.stat_desk.specs.Change.{change};
 ghost use Rattle.stat_tool.specs.Call.{HasJournal, HasNoJournal, Prepared, Prevented};
-ghost use Rattle.stat_tool.specs.Files.{files_of, names_in};
 ghost use Rattle.stat_tool.specs.Views.{output_view};
 
 use crate::cast::cast_plan;

@@ -21,12 +21,12 @@ pub returns-clause-ok : goal.returns-clause-ok
 returns-clause-ok g c =
     if_ok c.replay_plan-ended.result _ _
     (λ output is. replay_prepared (names_of c.args.files) c.args.journal.now c.args.wanted (g.D.Desk.seen c.args.desk.now) (g.D.Desk.seen c.read_plan.new.desk) (g.D.Desk.seen c.read_events.new.desk)
-        c.in-Ok.plan c.in-Ok.ensures.ok (read_view c.in-Ok-read_events.read) c.in-Ok-read_events.ensures.ok output.journal (output_view output) is.0 is.1)
+    c.in-Ok.plan c.in-Ok.ensures.ok (read_view c.in-Ok-read_events.read) c.in-Ok-read_events.ensures.ok output.journal (output_view output) is.0 is.1)
     c.replay_plan-ended.ensures.ok
 
 pub returns-clause-err : goal.returns-clause-err
 returns-clause-err g c =
     if_err c.replay_plan-ended.result _ _
     (replay_refused (names_of c.args.files) c.args.journal.now c.args.wanted (g.D.Desk.seen c.args.desk.now) (g.D.Desk.seen c.read_plan.new.desk) (g.D.Desk.seen c.read_events.new.desk)
-        c.in-Ok.plan c.in-Ok.ensures.ok (read_view c.in-Ok-read_events.read) c.in-Ok-read_events.ensures.ok)
+    c.in-Ok.plan c.in-Ok.ensures.ok (read_view c.in-Ok-read_events.read) c.in-Ok-read_events.ensures.ok)
     c.replay_plan-ended.ensures.err

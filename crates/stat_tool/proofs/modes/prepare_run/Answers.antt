@@ -1,5 +1,5 @@
-use Rattle.stat_words.specs.Words.{names_of}
 use Rattle.stat_desk.specs.Change.{change}
+use Rattle.stat_words.specs.Words.{names_of}
 use Rattle.stat_tool.specs.Jobs.{RunJob}
 use Rattle.stat_tool.specs.Views.{output_view}
 use Rattle.stat_tool.proofs.Prepared.{job_no_memory, job_prepared, job_stops}

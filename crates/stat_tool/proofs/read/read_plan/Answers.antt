@@ -21,14 +21,14 @@ pub returns-clause-ok : goal.returns-clause-ok
 returns-clause-ok g c =
     if_ok c.plan_of_files.result _ _
     (planned (names_of c.args.files) (g.D.Desk.seen c.args.desk.now) (g.D.Desk.seen c.read_topology.new.desk) c.in-Ok.topology c.in-Ok.ensures.ok
-        (g.D.Desk.seen c.read_samples.new.desk) c.in-Ok-read_samples.samples c.in-Ok-read_samples.ensures.ok
-        (g.D.Desk.seen c.read_script.new.desk) c.in-Ok-read_script.script c.in-Ok-read_script.ensures.ok)
+    (g.D.Desk.seen c.read_samples.new.desk) c.in-Ok-read_samples.samples c.in-Ok-read_samples.ensures.ok
+    (g.D.Desk.seen c.read_script.new.desk) c.in-Ok-read_script.script c.in-Ok-read_script.ensures.ok)
     c.plan_of_files.ensures.ok
 
 pub returns-clause-err : goal.returns-clause-err
 returns-clause-err g c =
     if_err c.plan_of_files.result _ _
     (stops_plan (names_of c.args.files) (g.D.Desk.seen c.args.desk.now) (g.D.Desk.seen c.read_topology.new.desk) c.in-Ok.topology c.in-Ok.ensures.ok
-        (g.D.Desk.seen c.read_samples.new.desk) c.in-Ok-read_samples.samples c.in-Ok-read_samples.ensures.ok
-        (g.D.Desk.seen c.read_script.new.desk) c.in-Ok-read_script.script c.in-Ok-read_script.ensures.ok)
+    (g.D.Desk.seen c.read_samples.new.desk) c.in-Ok-read_samples.samples c.in-Ok-read_samples.ensures.ok
+    (g.D.Desk.seen c.read_script.new.desk) c.in-Ok-read_script.script c.in-Ok-read_script.ensures.ok)
     c.plan_of_files.ensures.err

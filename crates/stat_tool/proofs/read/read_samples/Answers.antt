@@ -13,7 +13,7 @@ returns-in-Err-feed_file-clause-err g c =
     inl c.in-Err-feed_file.ensures.err
 
 pub returns-in-Err-clause-err : goal.returns-in-Err-clause-err
-returns-in-Err-clause-err g c = inl refl
+returns-in-Err-clause-err g c = inl (inl refl)
 
 pub finish-requires : goal.finish-requires
 finish-requires g c =
