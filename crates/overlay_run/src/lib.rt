@@ -9,4 +9,4 @@ mod worker;
 
 pub use board::{NetBoard, Ran};
 pub use run::run_workers;
-pub use size::workers_for;
+pub use size::{LARGE_DIRECT, LARGE_RUN, workers_for};

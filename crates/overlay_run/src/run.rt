@@ -8,7 +8,7 @@ ghost use Rattle.overlay_run.specs.Boards.{IsWholeRun};
 ghost use Rattle.overlay_run.specs.Seats.{IsIdle, plan_of};
 
 use crate::board::{NetBoard, Ran};
-use crate::size::workers_for;
+use crate::size::{LARGE_RUN, workers_for};
 use crate::worker::{WorkContext, work};
 use board_turn::{Turn, TurnSeat};
 use overlay_event::Gate;
@@ -82,7 +82,7 @@ pub fn run_workers<R: Threads + Wait + Sync, T: PrefixTree, G: Gate>(
 {
     let board: NetBoard<T> = NetBoard::new(alloc, plan)?;
     let (turn, mut first) = Turn::new(alloc, board)?;
-    let workers = workers_for(rt, plan, workers, gate);
+    let workers = workers_for(rt, plan, workers, gate, LARGE_RUN);
     let seats = split_seats(alloc, &turn, &mut first, workers)?;
     let shared = &turn;
     let job = |seat: TurnSeat| -> bool

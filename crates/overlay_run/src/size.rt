@@ -8,25 +8,30 @@ use stat_plan::{Plan, WaveTimes};
 use std::thread::{Threads, available_parallelism};
 
 // What an event takes beside its samples: as much as so many lines of samples.
-const EVENT: u64 = 50;
+const EVENT: u64 = 10;
 
-// From here on several workers were seen to be faster than one. 256 daemons with five paths each in sixteen waves come to
-// 240,000, and gain. Of the jobs that come to 33,000 and less, most lost by a second thread.
-const LARGE: u64 = 50_000;
+/// From which size on several workers were seen to run a plan faster than one. 256 daemons with some twenty paths each in
+/// one wave come to 7,600, and gain; 511 daemons with one path each come to 5,600, and don't.
+pub const LARGE_RUN: u64 = 7_000;
 
-// Whether a plan has enough to do for several workers. A node's events of a wave are taken to cost as much as those of
-// the stream's first daemon do in the first wave.
-fn is_large(plan: &Plan) -> bool {
+/// From which size on they were seen to merge it directly faster than one. 256 daemons with some fifty paths each in
+/// sixteen waves come to 288,000, and gain; 16 daemons in 36 waves come to 8,000, and don't.
+pub const LARGE_DIRECT: u64 = 50_000;
+
+// What a plan has to do, counted in lines of samples. A node's events of a wave are taken to cost as much as those of the
+// stream's middle daemon do in the first wave.
+fn plan_size(plan: &Plan) -> u64 {
     let mut size: u64 = 0;
     for stream in plan.streams() {
         size = size.saturating_add(stream_size(plan, stream));
     }
-    size >= LARGE
+    size
 }
 
-// What a stream has to do, counted in lines of samples.
+// What a stream has to do, counted in the same way.
 fn stream_size(plan: &Plan, stream: &StreamDef) -> u64 {
-    let lines = match stream.daemons().first() {
+    let daemons = stream.daemons();
+    let lines = match daemons.get(daemons.len() / 2) {
         Some(daemon) => first_lines(plan, *daemon, stream.samples()),
         None => 0,
     };
@@ -46,17 +51,23 @@ fn first_lines(plan: &Plan, daemon: u32, samples: u8) -> u64 {
     }
 }
 
-/// How many workers a run or a direct merge is worth, of those that it may have. At a gate that may wait these are all,
-/// since it may hold one until others come. At any other it is one where the job is small, by an estimate from its nodes,
-/// its waves and one daemon's lines, and no more than the machine has processors.
-pub fn workers_for<R: Threads, G: Gate>(rt: &R, plan: &Plan, workers: u32, gate: &G) -> u32
+/// How many workers a plan is worth, of those that it may have. At a gate that may wait these are all, since it may hold
+/// one until others come. At any other it is one where the plan is smaller than `large`, by an estimate from its nodes, its
+/// waves and one daemon's lines, and no more than the machine has processors.
+pub fn workers_for<R: Threads, G: Gate>(
+    rt: &R,
+    plan: &Plan,
+    workers: u32,
+    gate: &G,
+    large: u64,
+) -> u32
     requires { 1 ≤ workers }
     ensures { (1 ≤ result) × (result ≤ workers) }
 {
     if gate.may_wait() || workers == 1 {
         return workers;
     }
-    if !is_large(plan) {
+    if plan_size(plan) < large {
         return 1;
     }
     match available_parallelism(rt) {

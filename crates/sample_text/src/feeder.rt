@@ -1,6 +1,6 @@
 //! Samples that are read in pieces.
 
-ghost use Rattle.std.specs.Prelude.{◌≡◌, ◌<◌, ◌≤◌, ◌+◌, ◌^◌, ◌++◌, [], ℕ, List, length, IfOk, IfErr, OnOk};
+ghost use Rattle.std.specs.Prelude.{◌≡◌, ◌<◌, ◌+◌, ◌^◌, [], ℕ, List, length, IfOk, IfErr, OnOk};
 ghost use Rattle.overlay_setup.specs.Topologies.{Nodes};
 ghost use Rattle.text_lines.specs.Lines.{lines};
 ghost use Rattle.text_lines.specs.Parsing.{TakesLines, RefusesLines};
@@ -87,7 +87,7 @@ impl<'t> Feeder<'t> {
     ghost use Rattle.stat_plan.specs.Invariants.{SamplesFit};
     ghost use Rattle.text_lines.specs.Parsing.{IsValueOf, IsErrorOf};
     ghost use Rattle.sample_text.specs.Whole.{samples_of_text};
-    ghost use Rattle.sample_text.specs.Feeding.{HasRead, IsCut, RefusesPiece, TakesPiece, MayTake, nodes_of};
+    ghost use Rattle.sample_text.specs.Feeding.{HasRead, RefusesPiece, TakesPiece, MayTake, nodes_of};
 
     /// Samples of a topology's nodes, of which nothing was fed yet.
     pub fn new(alloc: Global, topology: &'t Topology) -> Result<Feeder<'t>, AllocError>

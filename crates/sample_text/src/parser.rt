@@ -1,6 +1,6 @@
 //! What is parsed of a samples text so far.
 
-ghost use Rattle.std.specs.Prelude.{◌≡◌, ◌≢◌, ◌<◌, not, nat_lt, length, IfOk, IfErr, IfSome, OnOk, true, Ok, Err};
+ghost use Rattle.std.specs.Prelude.{◌≡◌, ◌<◌, not, nat_lt, length, IfOk, IfErr, IfSome, OnOk, true, Ok, Err};
 ghost use Rattle.rank_set.specs.Ranks.{none, union, has};
 ghost use Rattle.rank_set.specs.Runs.{ranks_between};
 ghost use Rattle.text_lines.specs.Parsing.{IsValueOf, IsErrorOf};

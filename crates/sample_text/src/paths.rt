@@ -1,6 +1,6 @@
 //! The paths of a samples text, each of them once.
 
-ghost use Rattle.std.specs.Prelude.{◌≡◌, ◌≢◌, ◌≤◌, ◌<◌, ◌+◌, ℕ, true, length, IfOk, IfErr, IfSome, OnOk, Ok, Err};
+ghost use Rattle.std.specs.Prelude.{◌≡◌, ◌≤◌, ◌<◌, ◌+◌, ℕ, true, length, IfOk, IfSome, OnOk, Ok, Err};
 ghost use Rattle.call_path.specs.Reading.{path_of};
 ghost use Rattle.stat_plan.specs.declared.samples.TheConstants.{LINE_LIMIT};
 ghost use Rattle.text_lines.specs.Parsing.{IsValueOf, IsErrorOf};

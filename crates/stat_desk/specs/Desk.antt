@@ -5,10 +5,10 @@ use Rattle.stat_desk.specs.Faults.{next_count}
 use Rattle.stat_desk.specs.declared.desk.DeskError.{DeskError}
 use Rattle.stat_desk.specs.declared.desk.DeskError.TheVariants.{Failed, TooLong as IsTooLong, OutOfMemory}
 
--- what a file gave: all its bytes, or that they are more than the caller allows
+-- what a file gave: all its bytes, or the first of them, where these alone are more than the caller allows
 pub data ReadResult : Type 0 where
   Bytes : List ℕ → ReadResult
-  TooLong : ReadResult
+  TooLong : List ℕ → ReadResult
 
 -- a desk, as a contract sees it
 pub record DeskSeen : Type 0 where
@@ -27,14 +27,19 @@ pub record IsWhole (contents : Option (List ℕ)) (max : ℕ) (bytes : List ℕ)
   pub within : length bytes ≤ max
   pub whole : IfSome contents (λ file. bytes ≡ file)
 
--- a file gave more than max bytes: of a file that the desk tells, it has more
-abbrev pub IsLonger : Option (List ℕ) → ℕ → Type 0
-IsLonger contents max = IfSome contents (λ file. max < length file)
+-- these are the first bytes of a file, where the desk tells it
+abbrev pub IsFront : Option (List ℕ) → List ℕ → Type 0
+IsFront contents bytes = IfSome contents (λ file. (rest : List ℕ) × (file ≡ bytes ++ rest))
+
+-- these are the first bytes of a file, and more than max
+pub record IsLonger (contents : Option (List ℕ)) (max : ℕ) (bytes : List ℕ) : Type 0 where
+  pub more : max < length bytes
+  pub front : IsFront contents bytes
 
 -- this is what a file with these contents gives
 abbrev pub Agrees : Option (List ℕ) → ℕ → ReadResult → Type 0
 Agrees contents max (Bytes bytes) = IsWhole contents max bytes
-Agrees contents max TooLong = IsLonger contents max
+Agrees contents max (TooLong bytes) = IsLonger contents max bytes
 
 -- a desk that was asked for a name
 abbrev pub after_asking : DeskSeen → List ℕ → DeskSeen
@@ -44,11 +49,9 @@ after_asking desk name = record desk { reads = desk.reads ++ name ∷ [] }
 abbrev pub after_noting : DeskSeen → ReadResult → DeskSeen
 after_noting desk given = record desk { gave = desk.gave ++ given ∷ [] }
 
--- a desk that noted why the file of this name gave no bytes
-abbrev pub after_error : DeskSeen → List ℕ → DeskError → DeskSeen
-after_error desk name Failed = record desk { faults = next_count desk.faults; last_fault = Some name }
-after_error desk name IsTooLong = after_noting desk TooLong
-after_error desk name OutOfMemory = desk
+-- a desk that counted a fault at this name
+abbrev pub after_fault : DeskSeen → List ℕ → DeskSeen
+after_fault desk name = record desk { faults = next_count desk.faults; last_fault = Some name }
 
 -- the file of this name gave this, and nothing else became of the desk
 pub record HasGiven (desk : Change DeskSeen) (name : List ℕ) (max : ℕ) (given : ReadResult) : Type 0 where
@@ -61,9 +64,15 @@ MayHaveAsked desk name = (desk.now ≡ desk.before) ⊎ (desk.now ≡ after_aski
 
 -- a read of this name ended with this error
 abbrev pub HasNotRead : Change DeskSeen → List ℕ → ℕ → DeskError → Type 0
-HasNotRead desk name max Failed = desk.now ≡ after_error (after_asking desk.before name) name Failed
-HasNotRead desk name max IsTooLong = HasGiven desk name max TooLong
+HasNotRead desk name max Failed = desk.now ≡ after_fault (after_asking desk.before name) name
+HasNotRead desk name max IsTooLong = (bytes : List ℕ) × HasGiven desk name max (TooLong bytes)
 HasNotRead desk name max OutOfMemory = MayHaveAsked desk name
+
+-- the first bytes of a file that is too long were noted, or there was no memory to note them
+abbrev pub IsNotedLong : Change DeskSeen → List ℕ → DeskError → Type 0
+IsNotedLong desk bytes IsTooLong = desk.now ≡ after_noting desk.before (TooLong bytes)
+IsNotedLong desk bytes OutOfMemory = desk.now ≡ desk.before
+IsNotedLong desk bytes Failed = ⊥
 
 -- a desk that was not asked for anything yet, and tells no file
 abbrev pub new_desk : DeskSeen

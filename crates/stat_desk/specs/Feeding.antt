@@ -1,7 +1,7 @@
 -- What is fed to a value by a read in pieces. Feeding bytes, however they are cut, turns the value into another.
-use Rattle.std.specs.Prelude.{◌≡◌, ℕ, ◌+◌, ◌^◌, ◌<◌, ◌≤◌, List, ◌++◌, length, Option, IfSome, Result, Ok, Err}
+use Rattle.std.specs.Prelude.{◌≡◌, ℕ, ◌+◌, ◌^◌, ◌<◌, ◌≤◌, List, ◌++◌, length, Option, Result, Ok, Err}
 use Rattle.stat_desk.specs.Change.{Change}
-use Rattle.stat_desk.specs.Desk.{Bytes, DeskSeen, HasGiven}
+use Rattle.stat_desk.specs.Desk.{Bytes, DeskSeen, HasGiven, IsFront, ReadResult, TooLong}
 use Rattle.stat_desk.specs.declared.desk.DeskError.{DeskError}
 use Rattle.stat_desk.specs.declared.desk.DeskError.TheVariants.{OutOfMemory}
 
@@ -22,8 +22,12 @@ FeedsFile feeds old new desk name max = (bytes : List ℕ) × (feeds old bytes n
 -- the first bytes of a file were fed, at most max
 abbrev pub FeedsPrefix : {F : Type 0} → (F → List ℕ → F → Type 0) → F → F → Option (List ℕ) → ℕ → Type 0
 FeedsPrefix feeds old new contents max =
-    (bytes : List ℕ) × (feeds old bytes new
-    × ((length bytes ≤ max) × IfSome contents (λ file. (rest : List ℕ) × (file ≡ bytes ++ rest))))
+    (bytes : List ℕ) × (feeds old bytes new × ((length bytes ≤ max) × IsFront contents bytes))
+
+-- where a file gave all its bytes, these were fed
+abbrev pub FeedsGiven : {F : Type 0} → (F → List ℕ → F → Type 0) → F → F → ReadResult → Type 0
+FeedsGiven feeds old new (Bytes bytes) = feeds old bytes new
+FeedsGiven feeds old new (TooLong bytes) = Unit {0}
 
 -- What a read in pieces does, where a whole read would return this: it feeds those bytes, or returns that error, or
 -- runs out of memory.

@@ -6,7 +6,7 @@ use Rattle.stat_desk.specs.declared.given.Given.TheVariants.{Bytes as GivenBytes
 
 abbrev pub result_of : Given → ReadResult
 result_of (GivenBytes history) = Bytes history.bytes
-result_of GivenTooLong = TooLong
+result_of (GivenTooLong history) = TooLong history.bytes
 
 abbrev pub results_of : List Given → List ReadResult
 results_of = map result_of

@@ -35,6 +35,11 @@ file_of (file ∷ files) name = if bytes_eq file.0 name then Some file.1 else fi
 abbrev pub desk_seen : MemDeskView → DeskSeen
 desk_seen d = record { faults = d.faults; last_fault = d.last_fault; reads = d.reads; gave = d.gave; contents = file_of d.files }
 
+-- the bytes of a file, none where there is no file
+abbrev pub bytes_in : Option (List ℕ) → List ℕ
+bytes_in None = []
+bytes_in (Some bytes) = bytes
+
 -- a file read whole: it fails where there is none, and is refused where it has more than max bytes
 abbrev pub whole_file : Option (List ℕ) → ℕ → Result (List ℕ) DeskError
 whole_file None max = Err Failed
@@ -51,11 +56,12 @@ Gives answer (Ok bytes) = answer ≡ Ok bytes.items
 Gives answer (Err OutOfMemory) = Unit {0}
 Gives answer (Err e) = answer ≡ Err e
 
--- the desk after a read to which this is the answer: the name is the last of its reads, and what the file gave, or the
--- fault, is noted with it
+-- the desk after a read to which this is the answer: the name is the last of its reads, and what the file gave, which is
+-- all its bytes, or the fault, is noted with it
 abbrev pub after_answer : MemDeskView → List ℕ → Result (List ℕ) DeskError → MemDeskView
 after_answer d name (Ok bytes) = record d { reads = d.reads ++ name ∷ []; gave = d.gave ++ Bytes bytes ∷ [] }
-after_answer d name (Err TooLong) = record d { reads = d.reads ++ name ∷ []; gave = d.gave ++ GaveTooLong ∷ [] }
+after_answer d name (Err TooLong) =
+    record d { reads = d.reads ++ name ∷ []; gave = d.gave ++ GaveTooLong (bytes_in (file_of d.files name)) ∷ [] }
 after_answer d name (Err Failed) =
     record d { reads = d.reads ++ name ∷ []; faults = next_count d.faults; last_fault = Some name }
 after_answer d name (Err OutOfMemory) = d

@@ -6,6 +6,6 @@ use crate::history::History;
 pub enum Given {
     /// All its bytes, which contracts alone can read.
     Bytes(History),
-    /// More bytes than the caller allowed.
-    TooLong,
+    /// The first of its bytes, which are more than the caller allowed.
+    TooLong(History),
 }

@@ -5,7 +5,7 @@ ghost use Rattle.std.specs.declared.alloc.Global.{Global};
 ghost use Rattle.stat_desk.specs.Change.{change};
 ghost use Rattle.stat_desk.specs.Desk.{Bytes, HasGiven, HasNotRead, IsLonger, IsWhole};
 ghost use Rattle.stat_desk.specs.Feeding.{FeedsAs, FeedsFile, FeedsPrefix};
-ghost use Rattle.stat_desk.specs.MemDesk.{Gives, after_read, desk_seen, entries_of, file_of, read_answer};
+ghost use Rattle.stat_desk.specs.MemDesk.{Gives, after_read, bytes_in, desk_seen, entries_of, file_of, read_answer};
 
 use crate::given::Given;
 use crate::history::History;
@@ -110,7 +110,8 @@ impl MemDesk {
     fn answer(&self, name: &str, max: u64) -> Result<Vec<u8>, DeskError>
         ensures exactly { Gives (read_answer self.now name.now max) result }
         ensures whole { IfOk result (λ bytes. IsWhole (file_of self.now.files name.now) max bytes.items) }
-        ensures too_long { IsErrOf result DeskError.TooLong → IsLonger (file_of self.now.files name.now) max }
+        ensures too_long { IsErrOf result DeskError.TooLong → IsLonger (file_of self.now.files name.now) max
+            (bytes_in (file_of self.now.files name.now)) }
     {
         if self.failing.contains(&(self.reads.len() as u64 + 1)) {
             return Err(DeskError::Failed);
@@ -125,6 +126,16 @@ impl MemDesk {
             return Err(DeskError::OutOfMemory);
         };
         Ok(copy)
+    }
+
+    // The bytes of a name, for contracts alone.
+    fn history_of(&self, name: &str) -> History
+        ensures { result.bytes ≡ bytes_in (file_of self.now.files name.now) }
+    {
+        match bytes_of(self.files.as_slice(), name) {
+            Some(bytes) => History::of(bytes),
+            None => History::new(),
+        }
     }
 }
 
@@ -168,7 +179,10 @@ impl Desk for MemDesk {
                 }
                 let noted = match &answer {
                     Ok(bytes) => self.gave.push(Given::Bytes(History::of(bytes))),
-                    Err(DeskError::TooLong) => self.gave.push(Given::TooLong),
+                    Err(DeskError::TooLong) => {
+                        let first = self.history_of(name);
+                        self.gave.push(Given::TooLong(first))
+                    }
                     Err(_) => Ok(()),
                 };
                 if noted.is_err() {

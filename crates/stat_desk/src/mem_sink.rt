@@ -1,5 +1,5 @@
 //! The sink in memory.
-ghost use Rattle.std.specs.Prelude.{◌≡◌, ◌≤◌, ◌<◌, ◌^◌, ◌∷◌, ◌++◌, [], Some, OnOk, OnErr, IfOk};
+ghost use Rattle.std.specs.Prelude.{◌≡◌, ◌≤◌, ◌<◌, ◌^◌, ◌∷◌, ◌++◌, [], OnOk, OnErr, IfOk};
 ghost use Rattle.stat_desk.specs.Faults.{next_count};
 ghost use Rattle.stat_desk.specs.MemSink.{after_write, new_sink, sink_seen, write_answer};
 ghost use Rattle.stat_desk.specs.Change.{change};

@@ -1,5 +1,5 @@
 //! A sink takes bytes, perhaps fewer than it is offered.
-ghost use Rattle.std.specs.Prelude.{◌≡◌, ◌<◌, ◌^◌, [], ℕ, IfOk, OnErr, OnOk};
+ghost use Rattle.std.specs.Prelude.{◌≡◌, ◌<◌, ◌^◌, [], IfOk, OnErr, OnOk};
 ghost use Rattle.stat_desk.specs.Change.{change};
 ghost use Rattle.stat_desk.specs.Sink.{HasNotTaken, SinkSeen, TookFirst, TookPrefix, TookWhole};
 

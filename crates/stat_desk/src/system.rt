@@ -1,7 +1,8 @@
 //! The real desk and sinks. No contract says what the system contains; they count each of its errors.
-ghost use Rattle.std.specs.Prelude.{◌≡◌, ◌<◌, ◌≤◌, ◌+◌, ◌^◌, ◌∷◌, ◌++◌, [], ℕ, List, length, map, None, IfOk, IfSome, OnErr, OnOk, vec_len, option_map, string_bytes};
-ghost use Rattle.stat_desk.specs.Desk.{after_asking, after_error, after_noting, new_desk};
-ghost use Rattle.stat_desk.specs.Feeding.{FeedsPrefix};
+ghost use Rattle.std.specs.Prelude.{◌≡◌, ◌<◌, ◌≤◌, ◌+◌, ◌^◌, [], length, map, None, IfOk, IfSome, OnErr, OnOk, vec_len, option_map, string_bytes};
+ghost use Rattle.stat_desk.specs.Change.{change};
+ghost use Rattle.stat_desk.specs.Desk.{Agrees, IsNotedLong, after_asking, after_fault, after_noting, new_desk};
+ghost use Rattle.stat_desk.specs.Feeding.{FeedsGiven, FeedsPrefix};
 ghost use Rattle.stat_desk.specs.Given.{result_of, results_of};
 ghost use Rattle.stat_desk.specs.Sink.{new_sink_seen};
 
@@ -68,25 +69,27 @@ impl<'a, R: Files> FileDesk<'a, R> {
         Ok(())
     }
 
-    // Notes why a read of this name, which was asked for, returns no bytes.
-    fn refuse(&mut self, name: String, error: DeskError) -> DeskError
-        ensures noted { ⟦<FileDesk<'a, R> as Desk>⟧.seen self.new
-            ≡ after_error (⟦<FileDesk<'a, R> as Desk>⟧.seen self.old) (string_bytes name) result }
+    // Notes the first bytes of a file that is too long.
+    fn note_long(&mut self, first: History) -> DeskError
+        ensures noted { IsNotedLong (change (⟦<FileDesk<'a, R> as Desk>⟧.seen) self.old self.new) first.bytes result }
         ensures fits_u64 { self.new.faults < 2 ^ 64 }
     {
-        match error {
-            DeskError::Failed => {
-                self.faults = self.faults.saturating_add(1);
-                self.last_fault = Some(name);
-            }
-            DeskError::TooLong => {
-                if self.note(Given::TooLong).is_err() {
-                    return DeskError::OutOfMemory;
-                }
-            }
-            DeskError::OutOfMemory => {}
+        match self.note(Given::TooLong(first)) {
+            Ok(()) => DeskError::TooLong,
+            Err(_) => DeskError::OutOfMemory,
         }
-        error
+    }
+
+    // Counts a fault at this name.
+    fn fail(&mut self, name: String) -> DeskError
+        ensures failed { result ≡ DeskError.Failed }
+        ensures counted { ⟦<FileDesk<'a, R> as Desk>⟧.seen self.new
+            ≡ after_fault (⟦<FileDesk<'a, R> as Desk>⟧.seen self.old) (string_bytes name) }
+        ensures fits_u64 { self.new.faults < 2 ^ 64 }
+    {
+        self.faults = self.faults.saturating_add(1);
+        self.last_fault = Some(name);
+        DeskError::Failed
     }
 }
 
@@ -120,66 +123,64 @@ fn make_room(bytes: &mut Vec<u8>, count: usize) -> Result<(), AllocError>
     Ok(())
 }
 
-// All bytes that a file gives, if they are at most `max`. It takes at most one more from the file.
-fn read_up_to<F: Read>(alloc: Global, file: &mut F, max: u64) -> Result<Vec<u8>, DeskError>
-    ensures { IfOk result (λ bytes. vec_len bytes ≤ max) }
-{
+// All bytes that a file gives, or the first of them, one more than `max`. None where the file fails.
+fn read_up_to<F: Read>(
+    alloc: Global,
+    file: &mut F,
+    max: u64,
+) -> Result<Option<Vec<u8>>, AllocError> {
     let mut bytes = Vec::new(alloc);
     let mut filled = 0;
     while filled as u64 <= max {
         let wanted = (max - filled as u64)
             .saturating_add(1)
             .min(room_of(&bytes) as u64) as usize;
-        if make_room(&mut bytes, wanted).is_err() {
-            return Err(DeskError::OutOfMemory);
-        }
+        make_room(&mut bytes, wanted)?;
         let Ok(count) = file.read(&mut bytes[filled..]) else {
-            return Err(DeskError::Failed);
+            return Ok(None);
         };
         filled += count;
         bytes.truncate(filled);
         if count == 0 {
-            return Ok(bytes);
+            break;
         }
     }
-    Err(DeskError::TooLong)
+    Ok(Some(bytes))
 }
 
 // How many bytes are fed at once.
 const PIECE: usize = 65_536;
 
-// Feeds all bytes that a file gives, if they are at most `max`, and returns them. It takes at most a piece more from the
-// file.
+// Feeds all bytes that a file gives, if they are at most `max`, and returns what it gave, which may be a piece more. None
+// where the file fails.
 fn feed_up_to<I: Read, F: Feed>(
     alloc: Global,
     file: &mut I,
     max: u64,
     fed: &mut F,
-) -> Result<History, DeskError>
+) -> Result<Option<Given>, AllocError>
     requires nothing_fed { F.feeds fed.old [] fed.old }
-    ensures given { IfOk result (λ given. F.feeds fed.old given.bytes fed.new) }
-    ensures within { IfOk result (λ given. length given.bytes ≤ max) }
+    ensures fed { IfOk result (λ found. IfSome found (λ given. FeedsGiven F.feeds fed.old fed.new (result_of given))) }
+    ensures given { IfOk result (λ found. IfSome found (λ given. Agrees None max (result_of given))) }
     ensures prefix { FeedsPrefix F.feeds fed.old fed.new None max }
 {
     let mut given = History::new();
     let mut piece = Vec::new(alloc);
-    if make_room(&mut piece, PIECE).is_err() {
-        return Err(DeskError::OutOfMemory);
-    }
+    make_room(&mut piece, PIECE)?;
     let mut left = max;
     loop {
         let Ok(count) = file.read(&mut piece[..]) else {
-            return Err(DeskError::Failed);
+            return Ok(None);
         };
         if count == 0 {
-            return Ok(given);
-        }
-        if count as u64 > left {
-            return Err(DeskError::TooLong);
+            return Ok(Some(Given::Bytes(given)));
         }
         let (bytes, _) = piece.as_slice().split_at(count);
-        fed.feed(bytes);
         given.note(bytes);
+        if count as u64 > left {
+            return Ok(Some(Given::TooLong(given)));
+        }
+        fed.feed(bytes);
         left -= count as u64;
     }
 }
@@ -198,14 +199,21 @@ impl<R: Files> Desk for FileDesk<'_, R> {
             return Err(DeskError::OutOfMemory);
         };
         let Ok(mut file) = fs::open(self.rt, name) else {
-            return Err(self.refuse(asked, DeskError::Failed));
+            return Err(self.fail(asked));
         };
-        match read_up_to(self.alloc, &mut file, max) {
-            Ok(bytes) => match self.note(Given::Bytes(History::of(&bytes))) {
-                Ok(()) => Ok(bytes),
-                Err(_) => Err(DeskError::OutOfMemory),
-            },
-            Err(error) => Err(self.refuse(asked, error)),
+        let Ok(found) = read_up_to(self.alloc, &mut file, max) else {
+            return Err(DeskError::OutOfMemory);
+        };
+        let Some(bytes) = found else {
+            return Err(self.fail(asked));
+        };
+        let history = History::of(&bytes);
+        if bytes.len() as u64 > max {
+            return Err(self.note_long(history));
+        }
+        match self.note(Given::Bytes(history)) {
+            Ok(()) => Ok(bytes),
+            Err(_) => Err(DeskError::OutOfMemory),
         }
     }
 
@@ -214,14 +222,18 @@ impl<R: Files> Desk for FileDesk<'_, R> {
             return Err(DeskError::OutOfMemory);
         };
         let Ok(mut file) = fs::open(self.rt, name) else {
-            return Err(self.refuse(asked, DeskError::Failed));
+            return Err(self.fail(asked));
         };
-        match feed_up_to(self.alloc, &mut file, max, fed) {
-            Ok(bytes) => match self.note(Given::Bytes(bytes)) {
+        let Ok(found) = feed_up_to(self.alloc, &mut file, max, fed) else {
+            return Err(DeskError::OutOfMemory);
+        };
+        match found {
+            None => Err(self.fail(asked)),
+            Some(Given::TooLong(first)) => Err(self.note_long(first)),
+            Some(given) => match self.note(given) {
                 Ok(()) => Ok(()),
                 Err(_) => Err(DeskError::OutOfMemory),
             },
-            Err(error) => Err(self.refuse(asked, error)),
         }
     }
 }

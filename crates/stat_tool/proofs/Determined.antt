@@ -2,6 +2,7 @@
 use Rattle.std.proofs.Common.{◌≡◌, ◌≤◌, inl, inr, ℕ, Bool, List, [], ◌∷◌, Option, Some, None, Ok, Err, length, refl, sym, ap, subst, ◌∙◌, arith}
 use Rattle.std.specs.Prelude.{Result, if◌then◌else◌}
 use Rattle.std.proofs.lemmas.Bool.{le-leb, lt-leb}
+use Rattle.std.proofs.lemmas.List.{length-append}
 use Rattle.overlay_setup.specs.Scripts.{Scripted}
 use Rattle.overlay_setup.specs.Topologies.{Nodes}
 use Rattle.stat_desk.specs.Change.{Change}
@@ -29,16 +30,34 @@ use Rattle.stat_tool.specs.declared.status.Status.TheVariants.{Done, BadWords, D
 
 -- ---- the texts that the desk can tell determine what is read
 
-same_result : (text : List ℕ) (limit : ℕ) (g : ReadResult) → Agrees (Some text) limit g → g ≡ given limit text
-same_result text limit (Bytes bytes) agrees =
-    ap Bytes agrees.whole ∙ sym (ap (λ (b : Bool). if b then Bytes text else TooLong) (le-leb (length text) limit (subst (λ (b : List ℕ). length b ≤ limit) agrees.whole agrees.within)))
-same_result text limit TooLong agrees = sym (ap (λ (b : Bool). if b then Bytes text else TooLong) (lt-leb (length text) limit agrees))
+-- reads that lead on alike: the same bytes, or both of a text that is too long
+abbrev AreAlike : ReadResult → ReadResult → Type 0
+AreAlike (Bytes bytes) (Bytes others) = bytes ≡ others
+AreAlike (TooLong bytes) (TooLong others) = Unit {0}
+AreAlike (Bytes bytes) (TooLong others) = ⊥
+AreAlike (TooLong bytes) (Bytes others) = ⊥
 
--- one list is the first part of another
+alike_given : (text : List ℕ) (limit : ℕ) (g : ReadResult) → Agrees (Some text) limit g → AreAlike g (given limit text)
+alike_given text limit (Bytes bytes) agrees =
+    let within = le-leb (length text) limit (subst (λ (b : List ℕ). length b ≤ limit) agrees.whole agrees.within) in
+    subst (λ (b : Bool). AreAlike (Bytes bytes) (if b then Bytes text else TooLong text)) (sym within) agrees.whole
+alike_given text limit (TooLong bytes) agrees =
+    let all = ap length agrees.front.1 ∙ length-append bytes agrees.front.0 in
+    let over = lt-leb (length text) limit (omega (arith, agrees.more, all)) in
+    subst (λ (b : Bool). AreAlike (TooLong bytes) (if b then Bytes text else TooLong text)) (sym over) tt
+
+-- a step that rests on no byte of a text that is too long is the same
+alike_first : (next : ReadResult → Step) → ((bytes others : List ℕ) → next (TooLong bytes) ≡ next (TooLong others)) → (g h : ReadResult) → AreAlike g h → next h ≡ next g
+alike_first next long (Bytes bytes) (Bytes others) same = ap (λ (b : List ℕ). next (Bytes b)) (sym same)
+alike_first next long (TooLong bytes) (TooLong others) same = long others bytes
+alike_first next long (Bytes bytes) (TooLong others) same = absurd same
+alike_first next long (TooLong bytes) (Bytes others) same = absurd same
+
+-- one list begins as another
 abbrev BeginsAs : List ReadResult → List ReadResult → Type 0
 BeginsAs [] all = Unit {0}
 BeginsAs (g ∷ results) [] = ⊥
-BeginsAs (g ∷ results) (h ∷ all) = (g ≡ h) × BeginsAs results all
+BeginsAs (g ∷ results) (h ∷ all) = AreAlike g h × BeginsAs results all
 
 given_first : (contents : List ℕ → Option (List ℕ)) (f : NamedFile) (files : List NamedFile) (text : List ℕ) → contents f.1 ≡ Some text
     → all_given contents (f ∷ files) ≡ given (limit_of f.0) text ∷ all_given contents files
@@ -52,7 +71,7 @@ results_begin contents [] (g ∷ results) told read = absurd read
 results_begin contents (f ∷ files) (g ∷ results) told read =
     let text = told f (inl refl) in
     subst (BeginsAs (g ∷ results)) (sym (given_first contents f files text.0 text.1)) (
-      same_result text.0 (limit_of f.0) g (subst (λ (o : Option (List ℕ)). Agrees o (limit_of f.0) g) text.1 read.0),
+      alike_given text.0 (limit_of f.0) g (subst (λ (o : Option (List ℕ)). Agrees o (limit_of f.0) g) text.1 read.0),
       results_begin contents files results (λ h there. told h (inr there)) read.1,
     )
 
@@ -78,66 +97,66 @@ module _ (after : AfterPlan) (stable : IsStable after) where
   by_script_stays t s (Ok c) rest all front settled = limit_stays (plan_of t s c) (first_over (plan_of t s c)) rest all front settled
 
   same_script : (t : Nodes) (s : Sampled) (g : ReadResult) (rest all : List ReadResult) → BeginsAs rest all → IsSettled (at_script t s (g ∷ rest) after) → at_script t s (g ∷ all) after ≡ at_script t s (g ∷ rest) after
-  same_script t s TooLong rest all front settled = refl
+  same_script t s (TooLong bytes) rest all front settled = refl
   same_script t s (Bytes bytes) rest all front settled = by_script_stays t s (script_of t bytes) rest all front settled
 
   script_stays : (t : Nodes) (s : Sampled) (rest all : List ReadResult) → BeginsAs rest all → IsSettled (at_script t s rest after) → at_script t s all after ≡ at_script t s rest after
   script_stays t s [] all front settled = absurd settled
   script_stays t s (g ∷ rest) [] front settled = absurd front
-  script_stays t s (g ∷ rest) (h ∷ all) front settled = ap (λ (x : ReadResult). at_script t s (x ∷ all) after) (sym front.0) ∙ same_script t s g rest all front.1 settled
+  script_stays t s (g ∷ rest) (h ∷ all) front settled = alike_first (λ x. at_script t s (x ∷ all) after) (λ bytes others. refl) g h front.0 ∙ same_script t s g rest all front.1 settled
 
   by_samples_stays : (t : Nodes) (s : Result Sampled TextError) (rest all : List ReadResult) → BeginsAs rest all → IsSettled (by_samples t s rest after) → by_samples t s all after ≡ by_samples t s rest after
   by_samples_stays t (Err e) rest all front settled = refl
   by_samples_stays t (Ok s) rest all front settled = script_stays t s rest all front settled
 
   same_samples : (t : Nodes) (g : ReadResult) (rest all : List ReadResult) → BeginsAs rest all → IsSettled (at_samples t (g ∷ rest) after) → at_samples t (g ∷ all) after ≡ at_samples t (g ∷ rest) after
-  same_samples t TooLong rest all front settled = refl
+  same_samples t (TooLong bytes) rest all front settled = refl
   same_samples t (Bytes bytes) rest all front settled = by_samples_stays t (samples_of_text t bytes) rest all front settled
 
   samples_stay : (t : Nodes) (rest all : List ReadResult) → BeginsAs rest all → IsSettled (at_samples t rest after) → at_samples t all after ≡ at_samples t rest after
   samples_stay t [] all front settled = absurd settled
   samples_stay t (g ∷ rest) [] front settled = absurd front
-  samples_stay t (g ∷ rest) (h ∷ all) front settled = ap (λ (x : ReadResult). at_samples t (x ∷ all) after) (sym front.0) ∙ same_samples t g rest all front.1 settled
+  samples_stay t (g ∷ rest) (h ∷ all) front settled = alike_first (λ x. at_samples t (x ∷ all) after) (λ bytes others. refl) g h front.0 ∙ same_samples t g rest all front.1 settled
 
   by_topology_stays : (t : Result Nodes TextError) (rest all : List ReadResult) → BeginsAs rest all → IsSettled (by_topology t rest after) → by_topology t all after ≡ by_topology t rest after
   by_topology_stays (Err e) rest all front settled = refl
   by_topology_stays (Ok t) rest all front settled = samples_stay t rest all front settled
 
   same_topology : (g : ReadResult) (rest all : List ReadResult) → BeginsAs rest all → IsSettled (plan_step (g ∷ rest) after) → plan_step (g ∷ all) after ≡ plan_step (g ∷ rest) after
-  same_topology TooLong rest all front settled = refl
+  same_topology (TooLong bytes) rest all front settled = refl
   same_topology (Bytes bytes) rest all front settled = by_topology_stays (topology_of bytes) rest all front settled
 
   plan_stays : (rest all : List ReadResult) → BeginsAs rest all → IsSettled (plan_step rest after) → plan_step all after ≡ plan_step rest after
   plan_stays [] all front settled = absurd settled
   plan_stays (g ∷ rest) [] front settled = absurd front
-  plan_stays (g ∷ rest) (h ∷ all) front settled = ap (λ (x : ReadResult). plan_step (x ∷ all) after) (sym front.0) ∙ same_topology g rest all front.1 settled
+  plan_stays (g ∷ rest) (h ∷ all) front settled = alike_first (λ x. plan_step (x ∷ all) after) (λ bytes others. refl) g h front.0 ∙ same_topology g rest all front.1 settled
 
 same_journal : (wanted : RunReport) (p : Plan) (g : ReadResult) (rest all : List ReadResult) → at_journal wanted p (g ∷ all) ≡ at_journal wanted p (g ∷ rest)
-same_journal wanted p TooLong rest all = refl
+same_journal wanted p (TooLong bytes) rest all = refl
 same_journal wanted p (Bytes bytes) rest all = refl
 
 journal_stays : (wanted : RunReport) → IsStable (at_journal wanted)
 journal_stays wanted p [] all front settled = absurd settled
 journal_stays wanted p (g ∷ rest) [] front settled = absurd front
-journal_stays wanted p (g ∷ rest) (h ∷ all) front settled = ap (λ (x : ReadResult). at_journal wanted p (x ∷ all)) (sym front.0) ∙ same_journal wanted p g rest all
+journal_stays wanted p (g ∷ rest) (h ∷ all) front settled = alike_first (λ x. at_journal wanted p (x ∷ all)) (λ bytes others. refl) g h front.0 ∙ same_journal wanted p g rest all
 
 same_values : (seed : ℕ) (wanted : AskedSums) (p : Plan) (g : ReadResult) (rest all : List ReadResult) → at_values seed wanted p (g ∷ all) ≡ at_values seed wanted p (g ∷ rest)
-same_values seed wanted p TooLong rest all = refl
+same_values seed wanted p (TooLong bytes) rest all = refl
 same_values seed wanted p (Bytes bytes) rest all = refl
 
 values_stay : (seed : ℕ) (wanted : AskedSums) → IsStable (at_values seed wanted)
 values_stay seed wanted p [] all front settled = absurd settled
 values_stay seed wanted p (g ∷ rest) [] front settled = absurd front
-values_stay seed wanted p (g ∷ rest) (h ∷ all) front settled = ap (λ (x : ReadResult). at_values seed wanted p (x ∷ all)) (sym front.0) ∙ same_values seed wanted p g rest all
+values_stay seed wanted p (g ∷ rest) (h ∷ all) front settled = alike_first (λ x. at_values seed wanted p (x ∷ all)) (λ bytes others. refl) g h front.0 ∙ same_values seed wanted p g rest all
 
 same_capture : (g : ReadResult) (rest all : List ReadResult) → at_capture (g ∷ all) ≡ at_capture (g ∷ rest)
-same_capture TooLong rest all = refl
+same_capture (TooLong bytes) rest all = refl
 same_capture (Bytes bytes) rest all = refl
 
 capture_stays : (rest all : List ReadResult) → BeginsAs rest all → IsSettled (at_capture rest) → at_capture all ≡ at_capture rest
 capture_stays [] all front settled = absurd settled
 capture_stays (g ∷ rest) [] front settled = absurd front
-capture_stays (g ∷ rest) (h ∷ all) front settled = ap (λ (x : ReadResult). at_capture (x ∷ all)) (sym front.0) ∙ same_capture g rest all
+capture_stays (g ∷ rest) (h ∷ all) front settled = alike_first (λ x. at_capture (x ∷ all)) (λ bytes others. refl) g h front.0 ∙ same_capture g rest all
 
 step_stays : (asked : Asked) (results all : List ReadResult) → BeginsAs results all → IsSettled (next_step asked results) → next_step asked all ≡ next_step asked results
 step_stays (Run names workers wanted) results all front settled = plan_stays (λ p rest. Does (RunJob p wanted)) (λ p rest all front settled. refl) results all front settled

@@ -1,6 +1,6 @@
 -- From a plan and the output of its job to what the files of a mode lead to.
 use Rattle.std.proofs.Common.{◌≡◌, ◌<◌, ◌≤◌, inl, inr, ℕ, zero, suc, List, [], ◌∷◌, ◌++◌, Option, Err, length, refl, sym, ap, subst, ◌∙◌, arith, append-nil}
-use Rattle.std.specs.Prelude.{Result, take}
+use Rattle.std.specs.Prelude.{Result, Some, slice_get, take}
 use Rattle.stat_plan.specs.Plans.{Plan}
 use Rattle.stat_plan.proofs.InLists.{append_left}
 use Rattle.overlay_event.specs.declared.event.Event.{Event}
@@ -12,7 +12,7 @@ use Rattle.stat_words.specs.Words.{Replay, Sums, Frames}
 use Rattle.stat_words.specs.declared.words.RunReport.{RunReport}
 use Rattle.stat_desk.specs.Change.{Change}
 use Rattle.stat_desk.specs.Desk.{Bytes, DeskSeen, HasGiven, ReadResult, TooLong}
-use Rattle.stat_tool.specs.Call.{HasJournal, HasNoJournal, HasRead, IsCaptureRefusal, IsJobRefusal, IsPlanned, IsStopped, IsWhyItStops, LeadsTo, Prepared, Prevented, Prevents, Refuses, StopsAt, Tells}
+use Rattle.stat_tool.specs.Call.{HasJournal, HasNoJournal, HasRead, IsCaptureRefusal, IsJobRefusal, IsPlanned, IsStopped, IsWhyItStops, LeadsTo, Prepared, Prevented, Prevents, Refuses, StopsAt, Tells, WantsFile}
 use Rattle.stat_tool.specs.Files.{NamedFile, limit_of, names_in, plan_files}
 use Rattle.stat_tool.specs.Jobs.{Job, ReplayJob, SumsJob, CaptureJob, RunOutput}
 use Rattle.stat_tool.specs.NextStep.{AfterPlan, Answers, AreReadResults, Does, Step, Wants, at_capture, at_journal, at_values, by_capture, by_values, plan_step, replay_step, too_long, values_of}
@@ -66,6 +66,13 @@ take_less (suc n) (name ∷ names) more =
       (omega (arith, less.1.0), (ap (λ (all : List (List ℕ)). name ∷ all) less.1.1.0, λ k below within. not_more k less.0 n (length names) less.1.1.1 below within)),
     )
 
+-- a file among some files, where there are more
+get_left : (files more : List NamedFile) (i : ℕ) (f : NamedFile) → slice_get files i ≡ Some f → slice_get (files ++ more) i ≡ Some f
+get_left [] more zero f is = absurd (cc)
+get_left [] more (suc i) f is = absurd (cc)
+get_left (g ∷ files) more zero f is = is
+get_left (g ∷ files) more (suc i) f is = get_left files more i f is
+
 -- ---- where there is no plan, whatever the mode
 
 -- of a mode that reads the files of a plan alone
@@ -96,7 +103,7 @@ last_stops names role name after desk status s =
             less.1.1.1 (length s.0) read.each_gave.0 (no_more_than_files desk.before.contents (plan_files names) s.0 read.contents),
             omega (arith, less.1.0, read.each_gave.1),
           );
-          in_turn = λ i lt. read.in_turn i (omega (arith, lt, less.1.0));
+          in_turn = λ i lt. let turn = read.in_turn i (omega (arith, lt, less.1.0)) in (turn.0, (get_left (plan_files names) ((role, name) ∷ []) i turn.0 turn.1.0, turn.1.1));
         },
         prevents_less (plan_files names) ((role, name) ∷ []) desk (plan_step s.0 after) status (s.1 after).1,
       ),
@@ -132,7 +139,7 @@ job_no_memory names job desk p planned = (Bytes planned.topology ∷ Bytes plann
 
 -- ---- the file behind those of a plan
 
-module _ (names : Names) (role : FileRole) (name : List ℕ) (after : AfterPlan) (wants : (p : Plan) → after p [] ≡ Wants role) (long : (p : Plan) → after p (TooLong ∷ []) ≡ Answers (too_long role))
+module _ (names : Names) (role : FileRole) (name : List ℕ) (after : AfterPlan) (wants : (p : Plan) → after p [] ≡ Wants role) (long : (p : Plan) (bytes : List ℕ) → after p (TooLong bytes ∷ []) ≡ Answers (too_long role))
     (first mid now : DeskSeen) (p : Plan) (planned : IsPlanned names (from first mid) p) where
   abbrev steps : Unit {0} → List ReadResult → Step
   steps i results = plan_step results after
@@ -140,11 +147,11 @@ module _ (names : Names) (role : FileRole) (name : List ℕ) (after : AfterPlan)
   abbrev before : List ReadResult
   before = Bytes planned.topology ∷ Bytes planned.samples ∷ Bytes planned.script ∷ []
 
-  last_turn : (i : Unit {0}) (n : ℕ) → n < 4 → (role : FileRole) × (plan_step (take n before) after ≡ Wants role)
+  last_turn : (i : Unit {0}) (n : ℕ) → n < 4 → WantsFile (files_and names role name) n (plan_step (take n before) after)
   last_turn i zero lt = planned.in_turn after 0 (omega (arith))
   last_turn i (suc zero) lt = planned.in_turn after 1 (omega (arith))
   last_turn i (suc (suc zero)) lt = planned.in_turn after 2 (omega (arith))
-  last_turn i (suc (suc (suc zero))) lt = (role, planned.step [] after ∙ wants p)
+  last_turn i (suc (suc (suc zero))) lt = ((role, name), (refl, planned.step [] after ∙ wants p))
   last_turn i (suc (suc (suc (suc n)))) lt = absurd (omega (arith, lt))
 
   last_next : IsNext steps (files_and names role name) first mid role name before
@@ -164,7 +171,7 @@ module _ (names : Names) (role : FileRole) (name : List ℕ) (after : AfterPlan)
   -- where it was not read
   pub last_unread : (status : Status) → Refuses role name (from mid now) status → StopsLast names role name after (from first now) status
   last_unread status r =
-      let s = unread steps (files_and names role name) first mid now role name before last_next (λ i. planned.step (TooLong ∷ []) after ∙ long p) status r in
+      let s = unread steps (files_and names role name) first mid now role name before last_next (λ bytes i. planned.step (TooLong bytes ∷ []) after ∙ long p bytes) status r in
       (s.0, s.1 tt)
 
   -- where it was read
@@ -176,7 +183,7 @@ module _ (names : Names) (role : FileRole) (name : List ℕ) (after : AfterPlan)
   pub last_refused : {A : Type 0} (read_as : List ℕ → Result A TextError) → ((bytes : List ℕ) (e : TextError) → read_as bytes ≡ Err e → after p (Bytes bytes ∷ []) ≡ Answers (refusal_of role e))
       → (status : Status) → StopsAt read_as role name (from mid now) status → StopsLast names role name after (from first now) status
   last_refused read_as bad status r =
-      let s = stops steps (files_and names role name) first mid now role name before last_next (λ i. planned.step (TooLong ∷ []) after ∙ long p)
+      let s = stops steps (files_and names role name) first mid now role name before last_next (λ bytes i. planned.step (TooLong bytes ∷ []) after ∙ long p bytes)
       read_as (λ bytes e is i. planned.step (Bytes bytes ∷ []) after ∙ bad bytes e is) status r in
       (s.0, s.1 tt)
 
@@ -201,22 +208,22 @@ module _ (names : Names) (role : FileRole) (name : List ℕ) (after : AfterPlan)
 module _ (names : Names) (journal : List ℕ) (wanted : RunReport) (first mid now : DeskSeen) (p : Plan) (planned : IsPlanned names (from first mid) p) where
   -- where the journal was not read
   pub journal_stops : (status : Status) → HasNoJournal (from mid now) journal status → Prevented (Replay names journal wanted) (from first now) status
-  journal_stops status (inl r) = last_unread names Journal journal (at_journal wanted) (λ p. refl) (λ p. refl) first mid now p planned status r
+  journal_stops status (inl r) = last_unread names Journal journal (at_journal wanted) (λ p. refl) (λ p bytes. refl) first mid now p planned status r
   journal_stops status (inr r) = subst (Prevented (Replay names journal wanted) (from first now)) (sym r.0)
-      (last_no_memory names Journal journal (at_journal wanted) (λ p. refl) (λ p. refl) first mid now p planned r.1.0 r.1.1)
+      (last_no_memory names Journal journal (at_journal wanted) (λ p. refl) (λ p bytes. refl) first mid now p planned r.1.0 r.1.1)
 
   module _ (events_read : ReadJournal) (has : HasJournal (from mid now) journal p events_read) where
     pub replay_prepared : (events : List Event) (output : RunOutput) → replay_step p wanted events_read ≡ Does (ReplayJob p events wanted) → HasOutput (ReplayJob p events wanted) output → Prepared (Replay names journal wanted) (from first now) output
     replay_prepared events output leads is =
-        last_prepared names Journal journal (at_journal wanted) (λ p. refl) (λ p. refl) first mid now p planned has.0 (ReplayJob p events wanted) output has.1.0 (ap (replay_step p wanted) has.1.1 ∙ leads) is
+        last_prepared names Journal journal (at_journal wanted) (λ p. refl) (λ p bytes. refl) first mid now p planned has.0 (ReplayJob p events wanted) output has.1.0 (ap (replay_step p wanted) has.1.1 ∙ leads) is
 
     -- why it is not replayed to its end
     pub replay_refused : (status : Status) → IsJobRefusal (replay_step p wanted events_read) status → Prevented (Replay names journal wanted) (from first now) status
-    replay_refused OutOfMemory r = last_no_memory names Journal journal (at_journal wanted) (λ p. refl) (λ p. refl) first mid now p planned has.0 has.1.0
+    replay_refused OutOfMemory r = last_no_memory names Journal journal (at_journal wanted) (λ p. refl) (λ p bytes. refl) first mid now p planned has.0 has.1.0
     replay_refused (BadJournal i) r = (
       Bytes planned.topology ∷ Bytes planned.samples ∷ Bytes planned.script ∷ Bytes has.0 ∷ [],
       (
-        last_read names Journal journal (at_journal wanted) (λ p. refl) (λ p. refl) first mid now p planned has.0 has.1.0,
+        last_read names Journal journal (at_journal wanted) (λ p. refl) (λ p bytes. refl) first mid now p planned has.0 has.1.0,
         planned.step (Bytes has.0 ∷ []) (at_journal wanted) ∙ ap (replay_step p wanted) has.1.1 ∙ r,
       ),
     )
@@ -235,15 +242,15 @@ module _ (names : Names) (seed : ℕ) (wanted : AskedSums) (first mid now : Desk
   -- where they were not read, or have an error
   pub values_stop : (status : Status) → StopsAt (values_of p) Values wanted.values (from mid now) status → Prevented (Sums names seed wanted) (from first now) status
   values_stop status r =
-      last_refused names Values wanted.values (at_values seed wanted) (λ p. refl) (λ p. refl) first mid now p planned (values_of p) (λ bytes e is. ap (by_values p seed wanted) is) status r
+      last_refused names Values wanted.values (at_values seed wanted) (λ p. refl) (λ p bytes. refl) first mid now p planned (values_of p) (λ bytes e is. ap (by_values p seed wanted) is) status r
 
   module _ (v : Numbers) (has : Tells (from mid now) wanted.values (limit_of Values) (values_of p) v) where
     pub sums_prepared : (output : RunOutput) → HasOutput (SumsJob p v seed wanted.fold wanted.form) output → Prepared (Sums names seed wanted) (from first now) output
     sums_prepared output is =
-        last_prepared names Values wanted.values (at_values seed wanted) (λ p. refl) (λ p. refl) first mid now p planned has.0 (SumsJob p v seed wanted.fold wanted.form) output has.1.0 (ap (by_values p seed wanted) has.1.1) is
+        last_prepared names Values wanted.values (at_values seed wanted) (λ p. refl) (λ p bytes. refl) first mid now p planned has.0 (SumsJob p v seed wanted.fold wanted.form) output has.1.0 (ap (by_values p seed wanted) has.1.1) is
 
     pub sums_no_memory : Prevented (Sums names seed wanted) (from first now) OutOfMemory
-    sums_no_memory = last_no_memory names Values wanted.values (at_values seed wanted) (λ p. refl) (λ p. refl) first mid now p planned has.0 has.1.0
+    sums_no_memory = last_no_memory names Values wanted.values (at_values seed wanted) (λ p. refl) (λ p bytes. refl) first mid now p planned has.0 has.1.0
 
 -- ---- the capture
 
@@ -251,8 +258,8 @@ module _ (capture : List ℕ) (first now : DeskSeen) where
   abbrev captures : Unit {0} → List ReadResult → Step
   captures i = at_capture
 
-  capture_turn : (i : Unit {0}) (n : ℕ) → n < 1 → (role : FileRole) × (at_capture (take n []) ≡ Wants role)
-  capture_turn i zero lt = (Capture, refl)
+  capture_turn : (i : Unit {0}) (n : ℕ) → n < 1 → WantsFile ((Capture, capture) ∷ []) n (at_capture (take n []))
+  capture_turn i zero lt = ((Capture, capture), (refl, refl))
   capture_turn i (suc n) lt = absurd (omega (arith, lt))
 
   capture_next : IsNext captures ((Capture, capture) ∷ []) first first Capture capture []
@@ -272,7 +279,7 @@ module _ (capture : List ℕ) (first now : DeskSeen) where
   -- where it was not read
   pub capture_stops : (status : Status) → Refuses Capture capture (from first now) status → Prevented (Frames capture) (from first now) status
   capture_stops status r =
-      let s = unread captures ((Capture, capture) ∷ []) first first now Capture capture [] capture_next (λ i. refl) status r in
+      let s = unread captures ((Capture, capture) ∷ []) first first now Capture capture [] capture_next (λ bytes i. refl) status r in
       (s.0, s.1 tt)
 
   module _ (bytes : List ℕ) (given : HasGiven (from first now) capture (limit_of Capture) (Bytes bytes)) where

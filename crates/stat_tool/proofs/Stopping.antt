@@ -18,7 +18,7 @@ use Rattle.script_text.specs.Whole.{script_of}
 use Rattle.overlay_event.specs.declared.event.Event.{Event}
 use Rattle.stat_words.specs.Words.{Asked, Names}
 use Rattle.stat_words.specs.declared.words.WordFault.{WordFault}
-use Rattle.stat_tool.specs.Call.{Answered, Explains, HasRead, IsBadText, IsPlanRefusal, IsPlanned, IsStopped, Prepared, Prevents, Refuses, StopsAt, Tells, Written}
+use Rattle.stat_tool.specs.Call.{Answered, Explains, HasRead, IsBadText, IsPlanRefusal, IsPlanned, IsStopped, Prepared, Prevents, Refuses, StopsAt, Tells, WantsFile, Written}
 use Rattle.stat_tool.specs.Files.{NamedFile, files_of, limit_of, names_in, plan_files}
 use Rattle.stat_tool.specs.Jobs.{RunOutput}
 use Rattle.stat_tool.specs.NextStep.{AfterPlan, Answers, AreReadResults, Step, Wants, at_samples, at_script, by_samples, by_script, by_topology, next_step, plan_step, with_plan, too_long}
@@ -73,7 +73,7 @@ pub record IsNext {I : Type 0} (next : I → List ReadResult → Step) (files : 
   pub asked : now.reads ≡ first.reads ++ take (length before) (names_in files)
   pub is_named : In (role, name) files
   pub is_next : take (suc (length before)) (names_in files) ≡ take (length before) (names_in files) ++ name ∷ []
-  pub in_turn : (after : I) (i : ℕ) → i < suc (length before) → (role : FileRole) × (next after (take i before) ≡ Wants role)
+  pub in_turn : (after : I) (i : ℕ) → i < suc (length before) → WantsFile files i (next after (take i before))
   pub wants : (after : I) → next after before ≡ Wants role
   pub contents : AreReadResults first.contents files before
   pub more : (g : ReadResult) → Agrees (first.contents name) (limit_of role) g → AreReadResults first.contents files (before ++ g ∷ [])
@@ -127,10 +127,10 @@ module _ {I : Type 0} (next : I → List ReadResult → Step) (files : List Name
       count = suc (length before);
       asked = given_asked;
       each_gave = (omega (arith, length-append before (g ∷ [])), omega (arith, length-append before (g ∷ [])));
-      in_turn = λ i lt. let turn = is.in_turn after i lt in (turn.0, ap (next after) (take_front i before (g ∷ []) (omega (arith, lt))) ∙ turn.1);
+      in_turn = λ i lt. let turn = is.in_turn after i lt in (turn.0, (turn.1.0, ap (next after) (take_front i before (g ∷ []) (omega (arith, lt))) ∙ turn.1.1));
     }
 
-  module _ (long : (after : I) → next after (before ++ TooLong ∷ []) ≡ Answers (too_long role)) where
+  module _ (long : (bytes : List ℕ) (after : I) → next after (before ++ TooLong bytes ∷ []) ≡ Answers (too_long role)) where
     -- the call stops where the file can't be read
     pub unread : (status : Status) → Refuses role name (from mid now) status → IsStoppedBy next files (from first now) status
     unread OutOfMemory (inl same) = (before, λ after. (read_no_more same after, tt))
@@ -150,7 +150,8 @@ module _ {I : Type 0} (next : I → List ReadResult → Step) (files : List Name
         ),
       ),
     )
-    unread (OverLimit file line what most) r = (before ++ TooLong ∷ [], λ after. (read_one_more TooLong r.1 after, long after ∙ ap Answers (sym r.0)))
+    unread (OverLimit file line what most) r =
+        (before ++ TooLong r.1.0 ∷ [], λ after. (read_one_more (TooLong r.1.0) r.1.1 after, long r.1.0 after ∙ ap Answers (sym r.0)))
     unread Done r = absurd r
     unread (BadWords fault) r = absurd r
     unread (BadInput file line reason) r = absurd r
@@ -177,9 +178,9 @@ module _ {I : Type 0} (next : I → List ReadResult → Step) (files : List Name
 abbrev by_plan : AfterPlan → List ReadResult → Step
 by_plan after results = plan_step results after
 
-topology_turn : (after : AfterPlan) (i : ℕ) → i < 1 → (role : FileRole) × (plan_step (take i []) after ≡ Wants role)
-topology_turn after zero lt = (Topology, refl)
-topology_turn after (suc i) lt = absurd (omega (arith, lt))
+topology_turn : (names : Names) (after : AfterPlan) (i : ℕ) → i < 1 → WantsFile (plan_files names) i (plan_step (take i []) after)
+topology_turn names after zero lt = ((Topology, names.topology), (refl, refl))
+topology_turn names after (suc i) lt = absurd (omega (arith, lt))
 
 topology_next : (names : Names) (first : DeskSeen) → IsNext by_plan (plan_files names) first first Topology names.topology []
 topology_next names first = record {
@@ -189,7 +190,7 @@ topology_next names first = record {
   asked = sym (append-nil first.reads);
   is_named = inl refl;
   is_next = refl;
-  in_turn = topology_turn;
+  in_turn = topology_turn names;
   wants = λ after. refl;
   contents = tt;
   more = λ g agrees. (agrees, tt);
@@ -198,7 +199,7 @@ topology_next names first = record {
 -- where the topology was not read
 pub stops_topology : (names : Names) (first now : DeskSeen) (status : Status) → StopsAt topology_of Topology names.topology (from first now) status → IsStopped (plan_files names) (from first now) status
 stops_topology names first now status r =
-    stops by_plan (plan_files names) first first now Topology names.topology [] (topology_next names first) (λ after. refl)
+    stops by_plan (plan_files names) first first now Topology names.topology [] (topology_next names first) (λ bytes after. refl)
     topology_of (λ bytes e is after. ap (λ o. by_topology o [] after) is) status r
 
 module _ (names : Names) (first one : DeskSeen) (t : Nodes) (topology : Tells (from first one) names.topology (limit_of Topology) topology_of t) where
@@ -206,9 +207,9 @@ module _ (names : Names) (first one : DeskSeen) (t : Nodes) (topology : Tells (f
   with_nodes : (rest : List ReadResult) (after : AfterPlan) → plan_step (Bytes topology.0 ∷ rest) after ≡ at_samples t rest after
   with_nodes rest after = ap (λ o. by_topology o rest after) topology.1.1
 
-  samples_turn : (after : AfterPlan) (i : ℕ) → i < 2 → (role : FileRole) × (plan_step (take i (Bytes topology.0 ∷ [])) after ≡ Wants role)
-  samples_turn after zero lt = (Topology, refl)
-  samples_turn after (suc zero) lt = (Samples, with_nodes [] after)
+  samples_turn : (after : AfterPlan) (i : ℕ) → i < 2 → WantsFile (plan_files names) i (plan_step (take i (Bytes topology.0 ∷ [])) after)
+  samples_turn after zero lt = ((Topology, names.topology), (refl, refl))
+  samples_turn after (suc zero) lt = ((Samples, names.samples), (refl, with_nodes [] after))
   samples_turn after (suc (suc i)) lt = absurd (omega (arith, lt))
 
   samples_next : IsNext by_plan (plan_files names) first one Samples names.samples (Bytes topology.0 ∷ [])
@@ -230,7 +231,7 @@ module _ (names : Names) (first one : DeskSeen) (t : Nodes) (topology : Tells (f
   -- where the samples were not read
   pub stops_samples : (now : DeskSeen) (status : Status) → StopsAt (samples_of_text t) Samples names.samples (from one now) status → IsStopped (plan_files names) (from first now) status
   stops_samples now status r =
-      stops by_plan (plan_files names) first one now Samples names.samples (Bytes topology.0 ∷ []) samples_next (with_nodes (TooLong ∷ []))
+      stops by_plan (plan_files names) first one now Samples names.samples (Bytes topology.0 ∷ []) samples_next (λ bytes. with_nodes (TooLong bytes ∷ []))
       (samples_of_text t) (λ bytes e is after. with_nodes (Bytes bytes ∷ []) after ∙ ap (λ o. by_samples t o [] after) is) status r
 
   module _ (two : DeskSeen) (s : Sampled) (samples : Tells (from one two) names.samples (limit_of Samples) (samples_of_text t) s) where
@@ -238,10 +239,10 @@ module _ (names : Names) (first one : DeskSeen) (t : Nodes) (topology : Tells (f
     with_samples : (rest : List ReadResult) (after : AfterPlan) → plan_step (Bytes topology.0 ∷ Bytes samples.0 ∷ rest) after ≡ at_script t s rest after
     with_samples rest after = with_nodes (Bytes samples.0 ∷ rest) after ∙ ap (λ o. by_samples t o rest after) samples.1.1
 
-    script_turn : (after : AfterPlan) (i : ℕ) → i < 3 → (role : FileRole) × (plan_step (take i (Bytes topology.0 ∷ Bytes samples.0 ∷ [])) after ≡ Wants role)
-    script_turn after zero lt = (Topology, refl)
-    script_turn after (suc zero) lt = (Samples, with_nodes [] after)
-    script_turn after (suc (suc zero)) lt = (Script, with_samples [] after)
+    script_turn : (after : AfterPlan) (i : ℕ) → i < 3 → WantsFile (plan_files names) i (plan_step (take i (Bytes topology.0 ∷ Bytes samples.0 ∷ [])) after)
+    script_turn after zero lt = ((Topology, names.topology), (refl, refl))
+    script_turn after (suc zero) lt = ((Samples, names.samples), (refl, with_nodes [] after))
+    script_turn after (suc (suc zero)) lt = ((Script, names.script), (refl, with_samples [] after))
     script_turn after (suc (suc (suc i))) lt = absurd (omega (arith, lt))
 
     script_next : IsNext by_plan (plan_files names) first two Script names.script (Bytes topology.0 ∷ Bytes samples.0 ∷ [])
@@ -264,7 +265,7 @@ module _ (names : Names) (first one : DeskSeen) (t : Nodes) (topology : Tells (f
     -- where the script was not read
     pub stops_script : (now : DeskSeen) (status : Status) → StopsAt (script_of t) Script names.script (from two now) status → IsStopped (plan_files names) (from first now) status
     stops_script now status r =
-        stops by_plan (plan_files names) first two now Script names.script (Bytes topology.0 ∷ Bytes samples.0 ∷ []) script_next (with_samples (TooLong ∷ []))
+        stops by_plan (plan_files names) first two now Script names.script (Bytes topology.0 ∷ Bytes samples.0 ∷ []) script_next (λ bytes. with_samples (TooLong bytes ∷ []))
         (script_of t) (λ bytes e is after. with_samples (Bytes bytes ∷ []) after ∙ ap (λ o. by_script t s o [] after) is) status r
 
     module _ (three : DeskSeen) (c : Scripted) (script : Tells (from two three) names.script (limit_of Script) (script_of t) c) where
@@ -292,10 +293,10 @@ module _ (names : Names) (first one : DeskSeen) (t : Nodes) (topology : Tells (f
       stops_plan (Unfinished e) r = absurd r
       stops_plan (BadFrames at reason) r = absurd r
 
-      plan_turn : (after : AfterPlan) (i : ℕ) → i < 3 → (role : FileRole) × (plan_step (take i all_results) after ≡ Wants role)
-      plan_turn after zero lt = (Topology, refl)
-      plan_turn after (suc zero) lt = (Samples, with_nodes [] after)
-      plan_turn after (suc (suc zero)) lt = (Script, with_samples [] after)
+      plan_turn : (after : AfterPlan) (i : ℕ) → i < 3 → WantsFile (plan_files names) i (plan_step (take i all_results) after)
+      plan_turn after zero lt = ((Topology, names.topology), (refl, refl))
+      plan_turn after (suc zero) lt = ((Samples, names.samples), (refl, with_nodes [] after))
+      plan_turn after (suc (suc zero)) lt = ((Script, names.script), (refl, with_samples [] after))
       plan_turn after (suc (suc (suc i))) lt = absurd (omega (arith, lt))
 
       -- the plan that is run

@@ -8,7 +8,7 @@ use Rattle.stat_desk.specs.Change.{Change}
 use Rattle.stat_desk.specs.Desk.{Bytes, DeskSeen, HasGiven, HasNotRead, MayHaveAsked, ReadResult, TooLong}
 use Rattle.stat_desk.specs.Faults.{Rose, next_count}
 use Rattle.stat_desk.specs.Sink.{SinkSeen, TookNothing, TookPrefix, TookWhole}
-use Rattle.stat_desk.specs.declared.desk.DeskError.TheVariants.{Failed}
+use Rattle.stat_desk.specs.declared.desk.DeskError.TheVariants.{Failed, TooLong as IsTooLong}
 use Rattle.overlay_event.specs.declared.event.Event.{Event}
 use Rattle.stat_plan.specs.Plans.{Plan}
 use Rattle.text_lines.specs.declared.text_error.TextError.{TextError}
@@ -30,6 +30,10 @@ use Rattle.stat_tool.specs.declared.status.Status.TheVariants.{Done, BadWords, D
 abbrev pub asked_by : List (String Global) → Result Asked WordFault
 asked_by words = asked (map string_bytes words)
 
+-- this step reads the file of this number among these
+abbrev pub WantsFile : List NamedFile → ℕ → Step → Type 0
+WantsFile files i step = (f : NamedFile) × ((slice_get files i ≡ Some f) × (step ≡ Wants f.0))
+
 -- Files were asked for in turn, from the first of these on: each where what the files before it gave leads to reading it. They
 -- gave just these results, which are what the desk has, where it can tell its files; the last one may have given nothing.
 pub record HasRead (files : List NamedFile) (next : List ReadResult → Step) (desk : Change DeskSeen) (results : List ReadResult) : Type 0 where
@@ -38,7 +42,7 @@ pub record HasRead (files : List NamedFile) (next : List ReadResult → Step) (d
   pub count : ℕ
   pub asked : desk.now.reads ≡ desk.before.reads ++ take count (names_in files)
   pub each_gave : (length results ≤ count) × (count ≤ length results + 1)
-  pub in_turn : (i : ℕ) → i < count → (role : FileRole) × (next (take i results) ≡ Wants role)
+  pub in_turn : (i : ℕ) → i < count → WantsFile files i (next (take i results))
 
 -- all these names were asked for, each once, in order
 abbrev pub AreAllRead : List (List ℕ) → Change DeskSeen → Type 0
@@ -102,9 +106,10 @@ Answered (Ok asked) desk out journal events status =
 
 -- ---- what the texts determine
 
--- what a read of a text returns, where nothing fails
+-- What a read of a text gives, where nothing fails. Of a text that is too long a desk may give fewer bytes; no step rests on
+-- how many.
 abbrev pub given : ℕ → List ℕ → ReadResult
-given limit text = if nat_le (length text) limit then Bytes text else TooLong
+given limit text = if nat_le (length text) limit then Bytes text else TooLong text
 
 -- what reads of all these files return, where the desk can tell them and nothing fails
 abbrev pub all_given : (List ℕ → Option (List ℕ)) → List NamedFile → List ReadResult
@@ -167,7 +172,7 @@ abbrev pub Refuses : FileRole → List ℕ → Change DeskSeen → Status → Ty
 Refuses role name desk OutOfMemory = MayHaveAsked desk name
 Refuses role name desk (DeskFault r) = (r ≡ role) × HasNotRead desk name (limit_of role) Failed
 Refuses role name desk (OverLimit file line what most) =
-    (OverLimit file line what most ≡ too_long role) × HasGiven desk name (limit_of role) TooLong
+    (OverLimit file line what most ≡ too_long role) × HasNotRead desk name (limit_of role) IsTooLong
 Refuses role name desk status = ⊥
 
 -- the file of this name was read as this
@@ -215,7 +220,7 @@ pub record IsPlanned (names : Names) (desk : Change DeskSeen) (p : Plan) : Type 
   pub asked : desk.now.reads ≡ desk.before.reads ++ names_in (plan_files names)
   pub contents : AreReadResults desk.before.contents (plan_files names) (Bytes topology ∷ Bytes samples ∷ Bytes script ∷ [])
   pub in_turn : (after : AfterPlan) (i : ℕ) → i < 3
-      → (role : FileRole) × (plan_step (take i (Bytes topology ∷ Bytes samples ∷ Bytes script ∷ [])) after ≡ Wants role)
+      → WantsFile (plan_files names) i (plan_step (take i (Bytes topology ∷ Bytes samples ∷ Bytes script ∷ [])) after)
   pub step : (rest : List ReadResult) (after : AfterPlan)
       → plan_step (Bytes topology ∷ Bytes samples ∷ Bytes script ∷ rest) after ≡ after p rest
 

@@ -62,7 +62,7 @@ by_script t s (Ok c) rest after = with_plan (plan_of t s c) rest after
 
 abbrev pub at_script : Nodes → Sampled → List ReadResult → AfterPlan → Step
 at_script t s [] after = Wants Script
-at_script t s (TooLong ∷ rest) after = Answers (too_long Script)
+at_script t s (TooLong bytes ∷ rest) after = Answers (too_long Script)
 at_script t s (Bytes script ∷ rest) after = by_script t s (script_of t script) rest after
 
 -- by what the samples were read as
@@ -72,7 +72,7 @@ by_samples t (Ok s) rest after = at_script t s rest after
 
 abbrev pub at_samples : Nodes → List ReadResult → AfterPlan → Step
 at_samples t [] after = Wants Samples
-at_samples t (TooLong ∷ rest) after = Answers (too_long Samples)
+at_samples t (TooLong bytes ∷ rest) after = Answers (too_long Samples)
 at_samples t (Bytes samples ∷ rest) after = by_samples t (samples_of_text t samples) rest after
 
 -- by what the topology was read as
@@ -83,7 +83,7 @@ by_topology (Ok t) rest after = at_samples t rest after
 -- the topology, the samples, the script: each file is tested before the next one is read
 abbrev pub plan_step : List ReadResult → AfterPlan → Step
 plan_step [] after = Wants Topology
-plan_step (TooLong ∷ rest) after = Answers (too_long Topology)
+plan_step (TooLong bytes ∷ rest) after = Answers (too_long Topology)
 plan_step (Bytes topology ∷ rest) after = by_topology (topology_of topology) rest after
 
 -- ---- the journal
@@ -109,7 +109,7 @@ replay_step p wanted read = by_refused p wanted read (first_refused p (start p) 
 
 abbrev pub at_journal : RunReport → AfterPlan
 at_journal wanted p [] = Wants Journal
-at_journal wanted p (TooLong ∷ rest) = Answers (too_long Journal)
+at_journal wanted p (TooLong bytes ∷ rest) = Answers (too_long Journal)
 at_journal wanted p (Bytes journal ∷ rest) = replay_step p wanted (journal_of p journal)
 
 -- ---- the numbers of the ranks
@@ -125,7 +125,7 @@ by_values p seed wanted (Ok v) = Does (SumsJob p v seed wanted.fold wanted.form)
 
 abbrev pub at_values : ℕ → AskedSums → AfterPlan
 at_values seed wanted p [] = Wants Values
-at_values seed wanted p (TooLong ∷ rest) = Answers (too_long Values)
+at_values seed wanted p (TooLong bytes ∷ rest) = Answers (too_long Values)
 at_values seed wanted p (Bytes text ∷ rest) = by_values p seed wanted (values_of p text)
 
 -- ---- the capture
@@ -137,7 +137,7 @@ by_capture bytes (Err refusal) = Answers (BadFrames refusal.at refusal.reason)
 
 abbrev pub at_capture : List ReadResult → Step
 at_capture [] = Wants Capture
-at_capture (TooLong ∷ rest) = Answers (too_long Capture)
+at_capture (TooLong bytes ∷ rest) = Answers (too_long Capture)
 at_capture (Bytes bytes ∷ rest) = by_capture bytes (capture_of bytes)
 
 -- ---- the modes

@@ -23,14 +23,15 @@ use std::thread::Threads;
 
 /// Does what the words ask for: reads the files that they name, runs the overlay on their samples, and writes the
 /// report, or the frames that went over the overlay's links, to `out` and the journal to `journal`. `T` is how the
-/// overlay keeps its trees. A run's events are done by at most as many threads of `rt` as its words say, and each passes
-/// the gate; a small job has one thread, where the gate never waits. A direct merge is made by at most as many threads,
-/// and its parts pass the gate where there is more than one. The same threads write the releases. No other call makes a
-/// thread or passes the gate.
+/// overlay keeps its trees. A run's events are done by at most as many threads of `rt` as its words say, and each
+/// passes the gate; a small job has one thread, where the gate never waits. A direct merge is made by at most as many
+/// threads, and its parts pass the gate where there is more than one. The same threads write the releases. No other
+/// call makes a thread or passes the gate.
 ///
 /// The files are read each once, in the order topology, samples, script, journal or values, and each is tested before
-/// the next is asked for; a capture is read alone. The report and the journal's text are built whole before their first byte
-/// is written. What else was made for them stays allocated, for the system to take back when the program ends.
+/// the next is asked for; a capture is read alone. The report and the journal's text are built whole before their
+/// first byte is written. What else was made for them stays allocated, for the system to take back when the program
+/// ends.
 ///
 /// `answered` has the headline: where the status is Done, the files lead to a job, and the journal and the report are
 /// an output of it, `HasOutput`. The bytes of the files are those that the desk's reads gave, each file in its turn,

@@ -1,5 +1,5 @@
 //! Commands to the nodes of a plan, in an order that a seed picks.
-ghost use Rattle.std.specs.Prelude.{◌≡◌, ◌≤◌, IfOk};
+ghost use Rattle.std.specs.Prelude.{◌≤◌, IfOk};
 ghost use Rattle.stat_tool.specs.Jobs.{CastJob};
 ghost use Rattle.stat_tool.specs.Outputs.{HasOutput};
 ghost use Rattle.stat_tool.specs.Views.{output_view};

@@ -25,7 +25,7 @@ use journal_text::{JournalRead, write_journal};
 use overlay_core::Release;
 use overlay_event::{Event, Gate, Journal};
 use overlay_net::{Net, NetError};
-use overlay_run::{Ran, workers_for};
+use overlay_run::{LARGE_DIRECT, LARGE_RUN, Ran, workers_for};
 use packet_frame::FrameError;
 use prefix_tree::PrefixTree;
 use stat_plan::Plan;
@@ -85,7 +85,7 @@ pub fn run_output<R: Threads + Sync, T: PrefixTree, G: Gate>(
         plan,
         shows_faults: true,
         lost: &lost,
-        workers: workers_for(host.rt, plan, u32::from(workers), host.gate),
+        workers: workers_for(host.rt, plan, u32::from(workers), host.gate, LARGE_RUN),
     };
     let report = run_text(host.rt, &wide, releases, &journal, wanted)?;
     let journal_text = write_journal(host.alloc, plan, &journal)?;
@@ -247,7 +247,7 @@ fn direct_workers<R: Threads, G: Gate>(rt: &R, plan: &Plan, workers: u32, gate: 
     if has_one_wave(plan) && !gate.may_wait() {
         return 1;
     }
-    workers_for(rt, plan, workers, gate)
+    workers_for(rt, plan, workers, gate, LARGE_DIRECT)
 }
 
 // Whether the streams of a plan have one wave in all.

@@ -1,5 +1,5 @@
 //! What the numbers of the ranks come to, at each release of a run whose events a seed picks.
-ghost use Rattle.std.specs.Prelude.{◌≡◌, [], IfOk};
+ghost use Rattle.std.specs.Prelude.{[], IfOk};
 ghost use Rattle.overlay_core.specs.TreeReleases.{AreNumberedInOrder, releases_view};
 ghost use Rattle.front_end.specs.SumsReport.{SayNumbers, tree_value};
 ghost use Rattle.stat_tool.specs.Jobs.{SumsJob};
