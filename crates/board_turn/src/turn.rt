@@ -367,8 +367,8 @@ impl<B: Board> Turn<B> {
         seat.badge = table_seat.into_badge();
     }
 
-    /// Sleeps while `count` events were committed, for at most ten milliseconds. It may also return sooner for no reason,
-    /// and says nothing of the board.
+    /// Sleeps while `count` events were committed, for at most ten milliseconds. It may also return sooner for no
+    /// reason, and says nothing of the board.
     pub fn wait_for_commit<R: Wait>(&self, rt: &R, count: u64) {
         let low_half = (count % (1 << 32)) as u32;
         self.table

@@ -29,6 +29,9 @@ pub const FRAME_LIMIT: usize = 128;
 /// The most bytes of a frame.
 pub const FRAME_BYTES: usize = 1_023;
 
+/// The most distinct prefixes that the samples of a wave may have, and so the most rows of a tree besides the root.
+pub const PREFIX_LIMIT: usize = 2_048;
+
 /// A call stack: 1 to 128 frames, root first.
 #[derive(Drop)]
 pub struct CallPath {
@@ -181,6 +184,17 @@ impl CallPath {
         out.extend_from_slice(self.frames.text().as_bytes())?;
         Ok(())
     }
+}
+
+/// The paths of the functions of some paths, in the order of these.
+pub fn functions_of(alloc: Global, paths: &[CallPath]) -> Result<Vec<CallPath>, AllocError>
+    ensures { IfOk result (λ all. all.items ≡ map (map func) paths.now) }
+{
+    let mut all = Vec::with_capacity(alloc, paths.len())?;
+    for path in paths {
+        all.push(path.functions()?)?;
+    }
+    Ok(all)
 }
 
 /// The frames of a path that is being built, root first: 0 to 128.

@@ -1,6 +1,6 @@
 //! The errors in the text of a call path.
 
-ghost use Rattle.std.specs.Prelude.{◌≡◌, ◌<◌, ◌≤◌, ◌+◌, ◌^◌, true, false, length, position, IfSome, IfNone, IfOk, IfErr, OnOk, None, Some};
+ghost use Rattle.std.specs.Prelude.{◌≡◌, ◌<◌, ◌+◌, ◌^◌, true, false, length, position, IfSome, IfNone, IfOk, IfErr, OnOk, None, Some};
 ghost use Rattle.std.specs.List.{list_any};
 ghost use Rattle.call_path.specs.Reading.{frames, first_error, frame_error, is_control};
 

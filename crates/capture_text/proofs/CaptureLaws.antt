@@ -85,7 +85,7 @@ stops_behind (m ∷ ms) bytes rest at reason h goes_on refused =
     ∙ refused_at (m.1 + (taken ms + at)) (m.1 + taken ms + at) reason (omega arith)
 
 pub stopped_capture : (bytes : List ℕ) (fault : Refusal) → StopsAt bytes fault → capture_of bytes ≡ Err fault
-stopped_capture bytes fault s = stops_behind s.frames bytes s.rest s.at fault.reason s.whole s.goes_on s.refused ∙ refused_at (taken s.frames + s.at) fault.at fault.reason (sym s.place)
+stopped_capture bytes fault s = stops_behind s.frames bytes s.rest s.at fault.reason s.whole s.goes_on s.refused ∙ refused_at (taken s.frames + s.at) fault.at fault.reason (sym s.offset)
 
 -- ---- every capture is one or the other
 
@@ -107,7 +107,7 @@ parts_behind bytes m whole (inr p) = inr (
     whole = (whole, p.1.whole);
     goes_on = p.1.goes_on;
     refused = p.1.refused;
-    place = (let e = p.1.place in omega (arith, e));
+    offset = (let e = p.1.offset in omega (arith, e));
   },
 )
 
@@ -120,7 +120,7 @@ parts_within zero (b ∷ bytes) le = absurd (omega (arith, le))
 parts_within (suc n) (b ∷ bytes) le =
     elim (result_case (first_of (b ∷ bytes))) [
       | inl k ↦ parts_behind (b ∷ bytes) k.0 k.1 (parts_within n (drop k.0.1 (b ∷ bytes)) (shorter n (b ∷ bytes) k.0 le k.1))
-      | inr k ↦ inr (k.0, record { frames = []; rest = b ∷ bytes; at = k.0.at; whole = refl; goes_on = not_empty b bytes; refused = k.1; place = omega arith })
+      | inr k ↦ inr (k.0, record { frames = []; rest = b ∷ bytes; at = k.0.at; whole = refl; goes_on = not_empty b bytes; refused = k.1; offset = omega arith })
     ]
 
 parts_of : (bytes : List ℕ) → Parts bytes

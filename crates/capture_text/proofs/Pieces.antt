@@ -34,7 +34,7 @@ pub record HasRead (bytes left : List ℕ) (fed : Fed) (text : List ℕ) (at fra
   pub total : fed.before + length fed.rest ≡ length front
   pub passed : fed.before ≡ taken messages
   pub printed : text ≡ packets_text 0 (packets_from messages)
-  pub place : at ≡ taken messages
+  pub offset : at ≡ taken messages
   pub count : frames ≡ length messages
 
 -- ---- frames behind frames
@@ -96,13 +96,13 @@ packet_count fed piece packets new gave = ap length gave.2 ∙ length-map gave.0
 pub place_fits : (bytes left piece : List ℕ) (fed : Fed) (text : List ℕ) (at frames : ℕ) (packets : List (Packet Tree × ℕ)) (new : Fed) → HasRead bytes left fed text at frames → GivesPackets fed piece packets new → new.before + length new.rest ≡ fed.before + length fed.rest + length piece → at + bytes_of packets ≤ fed.before + length fed.rest + length piece
 place_fits bytes left piece fed text at frames packets new read gave total =
     let some = packet_bytes fed piece packets new gave in
-    let passed = gave.1.place in
-    omega (arith, some, passed, read.passed, read.place, total)
+    let passed = gave.1.offset in
+    omega (arith, some, passed, read.passed, read.offset, total)
 
 pub count_fits : (bytes left piece : List ℕ) (fed : Fed) (text : List ℕ) (at frames : ℕ) (packets : List (Packet Tree × ℕ)) (new : Fed) → HasRead bytes left fed text at frames → GivesPackets fed piece packets new → new.before + length new.rest ≡ fed.before + length fed.rest + length piece → frames + length packets ≤ fed.before + length fed.rest + length piece
 count_fits bytes left piece fed text at frames packets new read gave total =
     let some = packet_count fed piece packets new gave in
-    let passed = gave.1.place in
+    let passed = gave.1.offset in
     let before = few_frames read.messages read.front fed.rest read.whole in
     let now = few_frames gave.0 (fed.rest ++ piece) new.rest gave.1.whole in
     omega (arith, some, passed, before, now, read.passed, read.count, total)
@@ -119,12 +119,12 @@ reads_piece bytes left piece behind fed text at frames packets new new_text new_
       going = gave.1.open_after;
       whole = stream_laws.joins ms ns read.front fed.rest piece new.rest read.whole gave.1.whole;
       total = (let e = length-append read.front piece in omega (arith, e, total, read.total));
-      passed = (let e = gave.1.place in omega (arith, e, both, read.passed));
+      passed = (let e = gave.1.offset in omega (arith, e, both, read.passed));
       printed = text_is ∙ ap (λ ys. ys ++ packets_text at packets) read.printed
-          ∙ ap (λ n. packets_text 0 (packets_from ms) ++ packets_text n packets) (read.place ∙ zero_more (taken ms))
+          ∙ ap (λ n. packets_text 0 (packets_from ms) ++ packets_text n packets) (read.offset ∙ zero_more (taken ms))
           ∙ ap (λ ps. packets_text 0 (packets_from ms) ++ packets_text (0 + taken ms) ps) gave.2
           ∙ sym (text_append ms ns 0);
-      place = (let e = packet_bytes fed piece packets new gave in omega (arith, e, at_is, both, read.place));
+      offset = (let e = packet_bytes fed piece packets new gave in omega (arith, e, at_is, both, read.offset));
       count = (let e = packet_count fed piece packets new gave in let f = length-append ms ns in omega (arith, e, f, frames_is, read.count));
     }
 
@@ -147,26 +147,26 @@ breaks_stops bytes fault b = record {
   whole = b.whole;
   goes_on = broken_some b.rest b.at fault.reason b.refused b.lasting;
   refused = b.refused;
-  place = b.place;
+  offset = b.offset;
 }
 
-breaks_behind : (ms : List (Message × ℕ)) (front rest piece : List ℕ) (at place : ℕ) (reason : FrameReason) → Begins ms front rest → Breaks (rest ++ piece) (refused_at at reason) → place ≡ taken ms + at → Breaks (front ++ piece) (refused_at place reason)
-breaks_behind ms front rest piece at place reason h b place_is = record {
+breaks_behind : (ms : List (Message × ℕ)) (front rest piece : List ℕ) (at offset : ℕ) (reason : FrameReason) → Begins ms front rest → Breaks (rest ++ piece) (refused_at at reason) → offset ≡ taken ms + at → Breaks (front ++ piece) (refused_at offset reason)
+breaks_behind ms front rest piece at offset reason h b offset_is = record {
   messages = ms ++ b.messages;
   rest = b.rest;
   at = b.at;
   whole = stream_laws.joins ms b.messages front rest piece b.rest h b.whole;
   refused = b.refused;
   lasting = b.lasting;
-  place = (let e = taken_append ms b.messages in let f = b.place in omega (arith, e, f, place_is));
+  offset = (let e = taken_append ms b.messages in let f = b.offset in omega (arith, e, f, offset_is));
 }
 
 pub refused_piece : (bytes left piece behind : List ℕ) (fed : Fed) (text : List ℕ) (at frames : ℕ) (new : Fed) (e : FrameError) → HasRead bytes left fed text at frames → left ≡ piece ++ behind → Feeds fed piece (Err e) new → IsRefused bytes e
-refused_piece bytes left piece behind fed text at frames new (errors.Refused place reason) read parts (inl old) = absurd (not_both (refused_at place reason) fed.refusal old.0 read.going)
-refused_piece bytes left piece behind fed text at frames new (errors.Refused place reason) read parts (inr now) =
-    let b = breaks_behind read.messages read.front fed.rest piece now.breaks.0 place reason read.whole now.breaks.2 (now.breaks.1 ∙ ap (λ n. n + now.breaks.0) read.passed) in
+refused_piece bytes left piece behind fed text at frames new (errors.Refused offset reason) read parts (inl old) = absurd (not_both (refused_at offset reason) fed.refusal old.0 read.going)
+refused_piece bytes left piece behind fed text at frames new (errors.Refused offset reason) read parts (inr now) =
+    let b = breaks_behind read.messages read.front fed.rest piece now.breaks.0 offset reason read.whole now.breaks.2 (now.breaks.1 ∙ ap (λ n. n + now.breaks.0) read.passed) in
     let all : bytes ≡ (read.front ++ piece) ++ behind = read.cut ∙ ap (λ ys. read.front ++ ys) parts ∙ sym (append_assoc read.front piece behind) in
-    stopped_capture bytes (refused_at place reason) (breaks_stops bytes (refused_at place reason) (subst (λ bs. Breaks bs (refused_at place reason)) (sym all) (stream_laws.lasts (read.front ++ piece) behind (refused_at place reason) b)))
+    stopped_capture bytes (refused_at offset reason) (breaks_stops bytes (refused_at offset reason) (subst (λ bs. Breaks bs (refused_at offset reason)) (sym all) (stream_laws.lasts (read.front ++ piece) behind (refused_at offset reason) b)))
 refused_piece bytes left piece behind fed text at frames new errors.OutOfMemory read parts feeds = tt
 
 -- ---- the end
@@ -183,16 +183,16 @@ reads_all bytes left fed text at frames last read none ended is =
     ∙ ap Ok (sym (is ∙ ap (λ ys. ys ++ codes "end " ++ decimal frames ++ codes " frames\n") read.printed ∙ ap (λ n. packets_text 0 (packets_from read.messages) ++ codes "end " ++ decimal n ++ codes " frames\n") read.count))
 
 pub ends_short : (bytes left : List ℕ) (fed : Fed) (text : List ℕ) (at frames : ℕ) (e : FrameError) → HasRead bytes left fed text at frames → left ≡ [] → Ends fed (Err e) → IsRefused bytes e
-ends_short bytes left fed text at frames (errors.Refused place reason) read none (inl old) = absurd (not_both (refused_at place reason) fed.refusal old read.going)
-ends_short bytes left fed text at frames (errors.Refused place reason) read none (inr now) =
-    stopped_capture bytes (refused_at place reason) (record {
+ends_short bytes left fed text at frames (errors.Refused offset reason) read none (inl old) = absurd (not_both (refused_at offset reason) fed.refusal old read.going)
+ends_short bytes left fed text at frames (errors.Refused offset reason) read none (inr now) =
+    stopped_capture bytes (refused_at offset reason) (record {
       frames = read.messages;
       rest = fed.rest;
       at = now.3.0;
       whole = read_all bytes left fed text at frames read none;
       goes_on = now.1;
       refused = now.3.1 ∙ ap (λ r. Err (refused_at now.3.0 r)) (sym now.2);
-      place = now.3.2 ∙ ap (λ n. n + now.3.0) read.passed;
+      offset = now.3.2 ∙ ap (λ n. n + now.3.0) read.passed;
     })
 ends_short bytes left fed text at frames errors.OutOfMemory read none ends = tt
 

@@ -1,4 +1,4 @@
--- The text of a capture: a line for each frame with the place of its first byte, and below it the rows of its tree.
+-- The text of a capture: a line for each frame with the offset of its first byte, and below it the rows of its tree.
 use Rattle.std.specs.Prelude.{ℕ, ◌+◌, List, [], ◌∷◌, ◌++◌, codes, length, map}
 use Rattle.std.specs.Fmt.{decimal}
 use Rattle.rank_set.specs.Text.{text_of}
@@ -23,7 +23,7 @@ packet_text (Done stream wave) = codes " done" ++ wave_text stream wave ++ 10 �
 packet_text Attach = codes " attach\n"
 packet_text Down = codes " down\n"
 
--- the texts of packets, each with its frame's length, behind a place
+-- the texts of packets, each with its frame's length, behind an offset
 abbrev pub packets_text : ℕ → List (Packet Tree × ℕ) → List ℕ
 packets_text at [] = []
 packets_text at (p ∷ ps) = decimal at ++ packet_text p.0 ++ packets_text (at + p.1) ps

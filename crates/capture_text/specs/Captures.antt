@@ -36,7 +36,7 @@ abbrev pub IsRefused : List ℕ → FrameError → Type 0
 IsRefused bytes (errors.Refused at reason) = capture_of bytes ≡ Err (record { at = at; reason = reason })
 IsRefused bytes errors.OutOfMemory = Unit {0}
 
--- Whole frames fill the bytes up to a place. There the bytes go on, and what follows is refused as no frame: the input ends
+-- Whole frames fill the bytes up to an offset. There the bytes go on, and what follows is refused as no frame: the input ends
 -- in it, or a rule is broken.
 pub record StopsAt (bytes : List ℕ) (fault : Refusal) : Type 0 where
   pub frames : List (Message × ℕ)
@@ -45,7 +45,7 @@ pub record StopsAt (bytes : List ℕ) (fault : Refusal) : Type 0 where
   pub whole : Begins frames bytes rest
   pub goes_on : rest ≢ []
   pub refused : first_of rest ≡ Err (record { at = at; reason = fault.reason })
-  pub place : fault.at ≡ taken frames + at
+  pub offset : fault.at ≡ taken frames + at
 
 -- what a capture is: whole frames and nothing else, or whole frames up to what is refused
 pub record CaptureLaws : Type 0 where

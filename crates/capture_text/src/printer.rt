@@ -14,7 +14,7 @@ use tree_text::{write_number, write_numbered};
 #[derive(Drop)]
 pub struct Printer {
     text: Vec<u8>,
-    // How many bytes the frames took: the place of the next one.
+    // How many bytes the frames took: the offset of the next one.
     at: usize,
     frames: usize,
 }
@@ -23,7 +23,7 @@ impl Printer {
     /// No frame so far.
     pub fn new(alloc: Global) -> Printer
         ensures text { result.text.items ≡ [] }
-        ensures place { result.at ≡ 0 }
+        ensures offset { result.at ≡ 0 }
         ensures count { result.frames ≡ 0 }
     {
         Printer {
@@ -38,11 +38,11 @@ impl Printer {
         &mut self,
         packets: Vec<(Packet<T>, usize)>,
     ) -> Result<(), AllocError>
-        requires place { self.old.at + bytes_of (packet_views T.tree packets.items) < 2 ^ 64 }
+        requires offset { self.old.at + bytes_of (packet_views T.tree packets.items) < 2 ^ 64 }
         requires count { self.old.frames + length packets.items < 2 ^ 64 }
         ensures text { OnOk result (self.new.text.items
             ≡ self.old.text.items ++ packets_text self.old.at (packet_views T.tree packets.items)) }
-        ensures place { OnOk result (self.new.at
+        ensures offset { OnOk result (self.new.at
             ≡ self.old.at + bytes_of (packet_views T.tree packets.items)) }
         ensures count { OnOk result (self.new.frames ≡ self.old.frames + length packets.items) }
     {

@@ -52,8 +52,8 @@ fn write_event(plan: &Plan, event: CastEvent, out: &mut Vec<u8>) -> Result<(), A
     Ok(())
 }
 
-/// The text of a journal: a line for each event, in order, `issue NODE`, `recv NODE FROM` or `lose NODE`, with the nodes'
-/// names.
+/// The text of a journal: a line for each event, in order, `issue NODE`, `recv NODE FROM` or `lose NODE`, with the
+/// nodes' names.
 ///
 /// # Errors
 ///

@@ -1,7 +1,7 @@
 //! The report of a cast and its journal, as texts.
 //!
-//! The report says of each command which ranks obeyed it, lost ones too, and of each daemon how many commands it obeyed;
-//! the journal has one line for each event:
+//! The report says of each command which ranks obeyed it, lost ones too, and of each daemon how many commands it
+//! obeyed; the journal has one line for each event:
 //!
 //! ```text
 //! command 1 ranks 4:[0-3]         issue fe:0

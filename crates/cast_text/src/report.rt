@@ -149,8 +149,8 @@ fn write_daemons(net: &CastNet<'_>, daemons: &[u32], out: &mut Vec<u8>) -> Resul
     Ok(())
 }
 
-/// The report of a cast: for each command `command I ranks SET`, with the ranks of all daemons that obeyed it, lost ones
-/// too; for each daemon, by number, `daemon NAME obeyed SEEN`, and behind it ` lost` where it is lost; and `end`.
+/// The report of a cast: for each command `command I ranks SET`, with the ranks of all daemons that obeyed it, lost
+/// ones too; for each daemon, by number, `daemon NAME obeyed SEEN`, and behind it ` lost` where it is lost; and `end`.
 ///
 /// # Errors
 ///

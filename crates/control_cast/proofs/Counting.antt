@@ -11,7 +11,7 @@ use Rattle.stat_plan.specs.Machine.Overlays.{is_pending, is_spent}
 use Rattle.stat_plan.proofs.Filters.{filter_same}
 use Rattle.stat_plan.proofs.FirstOver.{node_below}
 use Rattle.stat_plan.proofs.InLists.{in_append, in_from_map, in_member, up_to_in}
-use Rattle.stat_plan.proofs.TableLemmas.{length-up_to, up_to_at}
+use Rattle.overlay_setup.proofs.UpTo.{length-up_to, up_to_at}
 use Rattle.count_tree.specs.Places.{place_of}
 use Rattle.count_tree.proofs.Counted.{all_stale, counted_all, counted_more, found_thing, no_thing, place_below}
 use Rattle.control_cast.specs.declared.event.CastEvent.{CastEvent}

@@ -1,10 +1,10 @@
-//! Commands that go down the overlay to the daemons: each node obeys each command once and in order, whatever inner nodes
-//! are lost.
+//! Commands that go down the overlay to the daemons: each node obeys each command once and in order, whatever inner
+//! nodes are lost.
 //!
 //! The front end issues the commands, which are numbered from 1, and each node that obeys one passes it on to its
-//! children. A node whose parent is lost attaches to the nearest ancestor that it doesn't know to be lost, with the number
-//! of commands that it has obeyed, and gets those after it. A contract sees a [`CastNet`] as the plan, the number of
-//! commands and the state of the cast machine.
+//! children. A node whose parent is lost attaches to the nearest ancestor that it doesn't know to be lost, with the
+//! number of commands that it has obeyed, and gets those after it. A contract sees a [`CastNet`] as the plan, the
+//! number of commands and the state of the cast machine.
 //!
 //! ```text
 //! let mut net = CastNet::new(alloc, &plan, 2)?;
@@ -15,12 +15,12 @@
 //! }
 //! ```
 //!
-//! The machine is in `specs/Machine.antt`: links, kin and losses are those of `stat_plan`, and what a node obeys stands on
-//! them. `specs/Casts.antt` says what a legal journal has done, and the functions of this file with empty bodies are laws
-//! of the machine: what a law says is its contract. `specs/Rows.antt` has small jobs as examples.
+//! The machine is in `specs/Machine.antt`: links, kin and losses are those of `stat_plan`, and what a node obeys stands
+//! on them. `specs/Casts.antt` says what a legal journal has done, and the functions of this file with empty bodies are
+//! laws of the machine: what a law says is its contract. `specs/Rows.antt` has small jobs as examples.
 //!
-//! The net counts how many events of each node may come next. After an event the counts of its node and of the receivers
-//! are made anew, so that an event costs what it touches; only a loss counts all nodes.
+//! The net counts how many events of each node may come next. After an event the counts of its node and of the
+//! receivers are made anew, so that an event costs what it touches; only a loss counts all nodes.
 #![tactic(auto)]
 
 ghost use Rattle.control_cast.specs.Bound.{bound};

@@ -1,5 +1,19 @@
-//! Classes: the groups of ranks that were seen in just the same call paths. A debugger is attached to one
-//! rank of each.
+//! Classes: the groups of ranks that were seen in just the same call paths. A debugger is attached to one rank of each.
+//!
+//! [`classes`] reads the rows of a tree once, and costs what the rows' sets list. Its two steps are [`seen_paths`] and
+//! [`classes_of_seen`], so that the paths can be had before the classes, and the classes of some of the ranks alone.
+//!
+//! ```text
+//! // ranks 0 and 2 were seen in main;recv, and rank 1 in main;send
+//! let found = classes(alloc, &tree)?;
+//! found.seen    // main;recv with 0 and 2, main;send with 1
+//! found.all     // the class of 0 and 2 with path 0, and the class of 1 with path 1
+//! ```
+//!
+//! The classes are found by refinement: all covered ranks begin in one state, and each path that ranks were seen in
+//! parts these from the others of their state. A contract sees the classes as those of the pairs and the coverage that
+//! the tree is of: `classes_of` in `specs/Classes.antt`, which says when two ranks are equivalent. `specs/Rows.antt`
+//! has examples.
 #![tactic(auto)]
 
 ghost use Rattle.std.specs.Prelude.{◌≡◌, ◌++◌, ◌<◌, ℕ, true, false, List, [], IfOk, OnOk, length, map};

@@ -1,4 +1,14 @@
 //! The log of a run: what goes over its links, as bytes.
+//!
+//! [`frame_log`] does the events of a journal once more, on a net of its own, and notes the frame that each of them
+//! receives. So the log is a capture of the run, which `capture_text` can print.
+//!
+//! ```text
+//! let log = frame_log::<OwnedTree>(alloc, &plan, &journal)?;
+//! ```
+//!
+//! A contract sees the log as the frames that a journal's events receive, one after another: `frame_log` in
+//! `specs/FrameLog.antt`. `specs/Rows.antt` has the first bytes of a small job's log.
 #![tactic(auto)]
 
 ghost use Rattle.std.specs.Prelude.{◌≡◌, ◌++◌, false, IfOk, OnOk};

@@ -65,7 +65,8 @@ fn write_viewed<T: PrefixTree>(
 ) -> Result<(), AllocError>
     ensures { OnOk result
         (out.new ≡ out.old ++ value_tokens (list_of
-        (map (λ r. viewed_data (tree_view view.now) argument.now (own_pairs r) r) (shown_releases T.tree releases.now)))) }
+        (map (λ r. viewed_data (tree_view view.now) argument.now (own_pairs r) r)
+        (shown_releases T.tree releases.now)))) }
 {
     out.begin_list()?;
     for release in releases {

@@ -43,8 +43,8 @@ pub fn classes_of_a_tree()
 {}
 
 /// A law: where every stream waits for all its daemons and loses none of them, the report of a run shows the releases
-/// of the direct merge, whatever its journal is; and so does its report as JSON. Nodes between the daemons and the front
-/// end may be lost.
+/// of the direct merge, whatever its journal is; and so does its report as JSON. Nodes between the daemons and the
+/// front end may be lost.
 pub fn waiting_reports_are_direct()
     ensures text { WaitingIsDirect IsReport }
     ensures json { WaitingIsDirect IsJsonReport }

@@ -1,5 +1,17 @@
 //! Writes reports: the releases of a run, each with its merged tree and the classes of ranks of like behaviour, and
 //! what came of the faults of the script.
+//!
+//! [`report_text`] writes the report of a run, [`direct_text`] that of direct releases, [`view_text`] what a view keeps
+//! of each release, and [`sums_text`] what numbers of the ranks come to. Each has its like for JSON.
+//!
+//! ```text
+//! let text = report_text(alloc, &plan, net.releases(), &lost)?;
+//! ```
+//!
+//! The releases may be given in any order; they are written by stream, wave and number. A contract sees a text as a
+//! report of releases (`IsReport` in `specs/Report.antt`, `IsJsonReport` in `specs/JsonReport.antt`). What a release's
+//! text is stands in `specs/ReleaseText.antt`, and its JSON in `specs/JsonValues.antt`. That the releases of a run have
+//! one report, and that it is the report of the direct merge where all streams wait, are the laws of `laws.rt`.
 #![tactic(auto)]
 
 mod class_text;

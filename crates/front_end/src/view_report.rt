@@ -15,11 +15,11 @@ use std::alloc::{AllocError, Global};
 use tree_view::{View, view_tree};
 
 /// The report of a view of some releases: by stream, wave and number, each with the ranks that it covers, the view, the
-/// ranks that the view keeps, and the tree and the classes of what it keeps. The releases may be given in any order. The
-/// argument is that of the view, as it was given. Each line ends with a line feed.
+/// ranks that the view keeps, and the tree and the classes of what it keeps. The releases may be given in any order.
+/// The argument is that of the view, as it was given. Each line ends with a line feed.
 ///
-/// `own` says it of the pairs that the releases' trees give back, and `pairs` of any pairs that the trees are of, as the
-/// samples of their waves.
+/// `own` says it of the pairs that the releases' trees give back, and `pairs` of any pairs that the trees are of, as
+/// the samples of their waves.
 pub fn view_text<T: PrefixTree>(
     alloc: Global,
     releases: &[Release<T>],

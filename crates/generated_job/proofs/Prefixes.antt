@@ -15,13 +15,13 @@ use Rattle.call_path.specs.Path.{Path, is_path, is_prefix, path_cmp_total}
 use Rattle.call_path.proofs.PathLemmas.{is_path-itself}
 use Rattle.prefix_tree.proofs.PairLemmas.{any-flat_map}
 use Rattle.prefix_tree.proofs.GoodPaths.{same_frame}
-use Rattle.overlay_setup.specs.Scripts.{Scripted, Stream}
+use Rattle.overlay_setup.specs.Scripts.{Scripted, Stream, is_in_wave}
 use Rattle.overlay_setup.specs.Topologies.{Nodes}
 use Rattle.overlay_setup.specs.declared.script.Grain.{Grain}
 use Rattle.overlay_setup.specs.declared.script.Grain.TheVariants.{Line}
 use Rattle.stat_plan.specs.Limits.{wave_is_within, first_over, RefusesAt}
 use Rattle.stat_plan.specs.Plans.{Sampled, plan_of, samples, stream_of, stream_ranks, sample_count, grain}
-use Rattle.stat_plan.specs.Samples.{SampleLine, samples_of, wave_lines, is_in_wave, path_by, seen_by, prefix_count}
+use Rattle.stat_plan.specs.Samples.{SampleLine, samples_of, wave_lines, path_by, seen_by, prefix_count}
 use Rattle.stat_plan.specs.declared.plan_error.PlanError.{PlanError}
 use Rattle.stat_plan.specs.declared.plan_error.PlanError.TheVariants.{TooManyPrefixes}
 use Rattle.stat_plan.proofs.Counting.{dedup}

@@ -16,6 +16,7 @@ use text_lines::TextError;
 fn out_of_memory(error: TextError) -> AllocError
     requires { error ≡ OutOfMemory }
 {
+    // for the proof: what the error is
     let _ = error;
     AllocError
 }

@@ -13,7 +13,8 @@ use Rattle.prefix_tree.specs.Tree.{Tree, tree_of, count_below}
 use Rattle.prefix_tree.proofs.PairLemmas.{pair_from_passes, passes-from_pair}
 use Rattle.prefix_tree.proofs.TreeLaws.{tree_of-same_pairs}
 use Rattle.overlay_setup.specs.NodeSets.{In}
-use Rattle.stat_plan.specs.Samples.{SampleLine, is_in_wave, samples_of, wave_lines}
+use Rattle.stat_plan.specs.Samples.{SampleLine, samples_of, wave_lines}
+use Rattle.overlay_setup.specs.Scripts.{is_in_wave}
 use Rattle.stat_plan.specs.StackLines.{line_of, lines_of}
 use Rattle.stat_plan.specs.declared.samples.StackLine.{StackLine}
 use Rattle.stat_plan.proofs.FirstOver.{all_in}

@@ -16,7 +16,8 @@ use Rattle.stat_plan.specs.Invariants.{IsPlan, IsSampleLine}
 use Rattle.overlay_setup.specs.NodeSets.{In}
 use Rattle.stat_plan.specs.OwnLines.{AreWaveLines, is_seen}
 use Rattle.stat_plan.specs.Plans.{Plan, grain, sample_count, samples, stream_ranks}
-use Rattle.stat_plan.specs.Samples.{SampleLine, is_in_wave, path_by, samples_of, seen_by, wave_lines}
+use Rattle.stat_plan.specs.Samples.{SampleLine, path_by, samples_of, seen_by, wave_lines}
+use Rattle.overlay_setup.specs.Scripts.{is_in_wave}
 use Rattle.stat_plan.specs.StackLines.{PathIndicesInRange, line_of, lines_of}
 use Rattle.stat_plan.specs.declared.samples.StackLine.{StackLine}
 use Rattle.overlay_setup.specs.declared.script.Grain.{Grain}

@@ -17,11 +17,11 @@ ghost use Rattle.merge_filter.specs.Contributions.{HasWave, IsPartialMerge, cont
 
 mod own_tree;
 
-use overlay_setup::Grain;
+use overlay_setup::{Grain, WaveTimes};
 use own_tree::own_tree;
 use prefix_tree::{PrefixTree, TreeError};
 use rank_set::RankSet;
-use stat_plan::{Plan, Wanted, WaveTimes};
+use stat_plan::{Plan, Wanted};
 use std::alloc::{AllocError, Global};
 use std::marker::Model;
 

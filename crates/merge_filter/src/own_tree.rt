@@ -10,9 +10,10 @@ ghost use Rattle.stat_plan.specs.StackLines.{PathIndicesInRange, line_of, lines_
 ghost use Rattle.merge_filter.specs.Gathering.{HasRoomFor, TakesLine, with_pending};
 
 use call_path::CallPath;
+use overlay_setup::WaveTimes;
 use prefix_tree::{PrefixTree, TreeError};
 use rank_set::RankSet;
-use stat_plan::{StackLine, WaveTimes};
+use stat_plan::StackLine;
 use std::alloc::{AllocError, Global};
 
 // Ranks that are still to be added to a tree, with a path.

@@ -1,4 +1,5 @@
-// Slots that fill from the first on. They are made once, and no value moves to another slot.
+//! Slots that fill from the first on. They are made once, and no value moves to another slot.
+
 ghost use Rattle.std.specs.Prelude.{◌≡◌, ◌<◌, [], ◌∷◌, ◌++◌, length, slice_get, Some, IfOk};
 ghost use Rattle.std.specs.Borrow.{sem};
 ghost use Rattle.node_arena.specs.Filled.{IsFilledTo};

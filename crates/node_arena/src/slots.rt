@@ -1,8 +1,9 @@
-// Slots side by side in one block of raw memory, each with a value or empty.
-//
-// All raw memory of the crate is here: two functions that get and give back a block, and four that
-// go to one slot. A value comes into a slot by `write` alone, which needs an empty slot, and out of
-// it by `take` alone; a block is given back only when every slot is empty.
+//! Slots side by side in one block of raw memory, each with a value or empty.
+//!
+//! All raw memory of the crate is here: two functions that get and give back a block, and four that
+//! go to one slot. A value comes into a slot by `write` alone, which needs an empty slot, and out of
+//! it by `take` alone; a block is given back only when every slot is empty.
+
 ghost use Rattle.std.specs.Prelude.{◌≡◌, ◌^◌, ◌<◌, List, Option, Some, None, length, slice_index_or, slice_set, IsSome};
 ghost use Rattle.std.specs.Prelude.{IfOk, replicate};
 ghost use Rattle.std_alloc.specs.Vec.Ownership.{FitsInBlock};

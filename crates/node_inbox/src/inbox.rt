@@ -50,11 +50,12 @@ impl<T> Inbox<T> {
         }
     }
 
-    /// For proofs: the senders are strictly increasing, and each has items waiting. It does nothing when it runs.
+    /// The invariant of an inbox, for the prover: the senders are strictly increasing, and each has items waiting. It
+    /// does nothing.
     pub fn invariant(&self)
         ensures { IsInbox self.now.waiting }
     {
-        // To read a field gives the invariant.
+        // for the proof: the invariant of the value
         let _ = &self.senders;
     }
 

@@ -1,4 +1,5 @@
-// The senders with something waiting, in ascending order.
+//! The senders with something waiting, in ascending order.
+
 ghost use Rattle.std.specs.Prelude.{◌≡◌, ◌≤◌, ◌<◌};
 ghost use Rattle.std.specs.Vec.{vec_len, vec_capacity};
 ghost use Rattle.std.specs.List.Sorted.{IsStrictlySortedBy};

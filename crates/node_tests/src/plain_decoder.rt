@@ -1,5 +1,5 @@
-//! A second reader of frames, to judge `decode`: it reads the fields from the front, one after another, as the tables of
-//! docs/FORMATS.md have them, and knows nothing else of the crate.
+//! A second reader of frames, to judge `decode`: it reads the fields from the front, one after another, as the tables
+//! of docs/FORMATS.md have them, and knows nothing else of the crate.
 
 use packet_frame::{FrameError, FrameReason};
 use std::alloc::Global;

@@ -135,8 +135,8 @@ pub fn independent_events_commute()
         → is_enabled p st e ≡ true → KeepsOutcome p e st (run p st fs) }
 {}
 
-/// A law: what was sampled changes no run. Two plans that differ in their lines of samples alone have the same states, the
-/// same enabled events and the same legal and picked journals.
+/// A law: what was sampled changes no run. Two plans that differ in their lines of samples alone have the same states,
+/// the same enabled events and the same legal and picked journals.
 pub fn samples_change_no_run()
     ensures state { (p : Plan) (lines : List SampleLine) (journal : List Event)
         → after (with_lines p lines) journal ≡ after p journal }

@@ -2,9 +2,9 @@
 
 use crate::Event;
 
-/// A gate that each event of a run passes once: after a worker has claimed it, and before it is worked on and committed.
-/// The workers pass it side by side, and none has the turn there. It may wait. It changes nothing of the run, and has no
-/// errors.
+/// A gate that each event of a run passes once: after a worker has claimed it, and before it is worked on and
+/// committed. The workers pass it side by side, and none has the turn there. It may wait. It changes nothing of the
+/// run, and has no errors.
 pub trait Gate: Sync {
     /// Lets the event pass.
     fn pass(&self, event: &Event);

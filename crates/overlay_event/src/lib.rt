@@ -1,5 +1,5 @@
-//! The events of the overlay's machine; the journal, which lists those of a run in order; and the gate, which each event
-//! of a run passes once.
+//! The events of the overlay's machine; the journal, which lists those of a run in order; and the gate, which each
+//! event of a run passes once.
 //!
 //! Contracts see a [`Journal`] as the list of its events. A caller:
 //!

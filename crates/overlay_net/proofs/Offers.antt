@@ -35,7 +35,7 @@ use Rattle.overlay_net.specs.Events.{AreCounted, AreParts, IsNth, may_come, samp
 use Rattle.overlay_net.specs.declared.events.Nth.{Nth}
 use Rattle.count_tree.specs.Places.{place_of}
 use Rattle.count_tree.proofs.Counted.{counted_all, found_thing, no_thing, place_below, thing_within}
-use Rattle.stat_plan.proofs.TableLemmas.{length-up_to, up_to_at}
+use Rattle.overlay_setup.proofs.UpTo.{length-up_to, up_to_at}
 use Rattle.stat_plan.proofs.Filters.{filter_mapped, filter_none, filter_same, filter_up_to}
 use Rattle.stat_plan.proofs.Ascending.{increasing_from_sorted}
 use Rattle.stat_plan.proofs.LookupLemmas.{stream_of_wave, wave_is_of}

@@ -11,7 +11,7 @@ use Rattle.overlay_setup.specs.Scripts.{IsMode, IsStream, Stream}
 use Rattle.overlay_setup.specs.NodeSets.{In, IsStrictlyIncreasing, up_to}
 use Rattle.stat_plan.specs.Plans.{Plan, nodes, waves_of}
 use Rattle.stat_plan.specs.Machine.Waves.{ticks}
-use Rattle.stat_plan.proofs.TableLemmas.{length-up_to}
+use Rattle.overlay_setup.proofs.UpTo.{length-up_to}
 use Rattle.overlay_event.specs.declared.event.Event.{Event}
 use Rattle.overlay_event.specs.declared.event.Event.TheVariants.{Sample, Recv, Tick, Lose}
 use Rattle.overlay_core.specs.Bound.{bound, bound_of, longest}

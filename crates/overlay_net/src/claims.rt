@@ -101,8 +101,8 @@ impl<T: PrefixTree> NetState<T> {
         self.releases.reserve(effects.releases.as_slice().len())
     }
 
-    /// Brings a claim's node home: what it sends is delivered, and what it releases is added to the releases. It takes no
-    /// memory.
+    /// Brings a claim's node home: what it sends is delivered, and what it releases is added to the releases. It takes
+    /// no memory.
     pub fn commit(&mut self, plan: &Plan, claim: Claimed<T>)
         requires net { IsNetState T.tree plan.now self.old }
         requires fits { FitsNet (net_at T.tree plan.now self.old) claim }

@@ -218,8 +218,8 @@ impl<T: PrefixTree> NetState<T> {
         }
     }
 
-    /// Whether an event may come next, where no node is out. Events of nodes, streams and waves that the plan doesn't have
-    /// may be asked for too.
+    /// Whether an event may come next, where no node is out. Events of nodes, streams and waves that the plan doesn't
+    /// have may be asked for too.
     pub fn is_enabled(&self, plan: &Plan, event: Event) -> bool
         requires net { IsNetState T.tree plan.now self.now }
         requires home { AllHome (net_at T.tree plan.now self.now) }

@@ -75,9 +75,9 @@ impl<'p, T: PrefixTree> Net<'p, T> {
         })
     }
 
-    /// Does an event, where no node is out. It may be any event, even one of nodes, streams or waves that the plan doesn't
-    /// have; one that may not come next changes nothing. After running out of memory, each later call returns that error,
-    /// and the net must not be read any more.
+    /// Does an event, where no node is out. It may be any event, even one of nodes, streams or waves that the plan
+    /// doesn't have; one that may not come next changes nothing. After running out of memory, each later call returns
+    /// that error, and the net must not be read any more.
     pub fn apply(&mut self, event: Event) -> Result<(), NetError>
         requires { self.old.failed ≡ false → AllHome self.old }
         ensures home { self.new.failed ≡ false → AllHome self.new }
@@ -125,8 +125,8 @@ impl<'p, T: PrefixTree> Net<'p, T> {
         self.state.claimable(self.plan, i)
     }
 
-    /// The first frame on the link from `m` to `n`, where no node is out; none if the link is empty. A number that is no
-    /// node's has no links. It takes no memory.
+    /// The first frame on the link from `m` to `n`, where no node is out; none if the link is empty. A number that is
+    /// no node's has no links. It takes no memory.
     pub fn first_frame(&self, n: u32, m: u32) -> Option<&Frame>
         requires usable { self.now.failed ≡ false }
         requires home { AllHome self.now }
@@ -226,12 +226,13 @@ impl<'p, T: PrefixTree> Net<'p, T> {
         length_bound(self.plan)
     }
 
-    /// For the proof: a net that has not run out of memory is reached by a journal.
+    /// The invariant of a net, for the prover: one that has not run out of memory is reached by a journal. It does
+    /// nothing.
     pub fn invariant(&self)
         requires { self.now.failed ≡ false }
         ensures { (journal : List Event) × IsReachedBy self.now journal }
     {
-        // for the proof: reading a field gives the net's invariant
+        // for the proof: the invariant of the value
         let _ = &self.state;
     }
 

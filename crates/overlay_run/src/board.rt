@@ -100,11 +100,11 @@ impl<'p, T: PrefixTree> NetBoard<'p, T> {
         })
     }
 
-    /// For the proof: the invariant of a board.
+    /// The invariant of a board, for the prover. It does nothing.
     pub fn invariant(&self)
         ensures { IsBoard self.now }
     {
-        // for the proof: reading a field gives the board's invariant
+        // for the proof: the invariant of the value
         let _ = &self.plan;
     }
 

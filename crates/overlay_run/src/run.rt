@@ -66,8 +66,8 @@ fn finish<'p, R: Wait, T: PrefixTree, G: Gate>(
 }
 
 /// Runs a plan on 1 to 32 workers, each in a thread of its own. All are joined; if a thread can't be made, its part is
-/// done by the one that would have made it. Then the caller does what is left. Each event passes the gate once. There are
-/// fewer workers where [`workers_for`] says so.
+/// done by the one that would have made it. Then the caller does what is left. Each event passes the gate once. There
+/// are fewer workers where [`workers_for`] says so.
 ///
 /// Fails only if memory runs out.
 pub fn run_workers<R: Threads + Wait + Sync, T: PrefixTree, G: Gate>(

@@ -3,23 +3,23 @@
 ghost use Rattle.std.specs.Prelude.{◌≤◌};
 
 use overlay_event::Gate;
-use overlay_setup::StreamDef;
-use stat_plan::{Plan, WaveTimes};
+use overlay_setup::{StreamDef, WaveTimes};
+use stat_plan::Plan;
 use std::thread::{Threads, available_parallelism};
 
 // What an event takes beside its samples: as much as so many lines of samples.
 const EVENT: u64 = 10;
 
-/// From which size on several workers were seen to run a plan faster than one. 256 daemons with some twenty paths each in
-/// one wave come to 7,600, and gain; 511 daemons with one path each come to 5,600, and don't.
+/// From which size on several workers were seen to run a plan faster than one. 256 daemons with some twenty paths each
+/// in one wave come to 7,600, and gain; 511 daemons with one path each come to 5,600, and don't.
 pub const LARGE_RUN: u64 = 7_000;
 
 /// From which size on they were seen to merge it directly faster than one. 256 daemons with some fifty paths each in
 /// sixteen waves come to 288,000, and gain; 16 daemons in 36 waves come to 8,000, and don't.
 pub const LARGE_DIRECT: u64 = 50_000;
 
-// What a plan has to do, counted in lines of samples. A node's events of a wave are taken to cost as much as those of the
-// stream's middle daemon do in the first wave.
+// What a plan has to do, counted in lines of samples. A node's events of a wave are taken to cost as much as those of
+// the stream's middle daemon do in the first wave.
 fn plan_size(plan: &Plan) -> u64 {
     let mut size: u64 = 0;
     for stream in plan.streams() {
@@ -51,9 +51,9 @@ fn first_lines(plan: &Plan, daemon: u32, samples: u8) -> u64 {
     }
 }
 
-/// How many workers a plan is worth, of those that it may have. At a gate that may wait these are all, since it may hold
-/// one until others come. At any other it is one where the plan is smaller than `large`, by an estimate from its nodes, its
-/// waves and one daemon's lines, and no more than the machine has processors.
+/// How many workers a plan is worth, of those that it may have. At a gate that may wait these are all, since it may
+/// hold one until others come. At any other it is one where the plan is smaller than `large`, by an estimate from its
+/// nodes, its waves and one daemon's lines, and no more than the machine has processors.
 pub fn workers_for<R: Threads, G: Gate>(
     rt: &R,
     plan: &Plan,

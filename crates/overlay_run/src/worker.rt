@@ -225,8 +225,8 @@ fn do_claim<'p, R: Wait, T: PrefixTree, G: Gate>(
     }
 }
 
-/// Does events until the run is done or stopped, and returns the board that it gave back then. If memory runs out, it stops
-/// the run, and returns the stopped board that it gave back; the seat may then have a node out.
+/// Does events until the run is done or stopped, and returns the board that it gave back then. If memory runs out, it
+/// stops the run, and returns the stopped board that it gave back; the seat may then have a node out.
 pub fn work<'p, R: Wait, T: PrefixTree, G: Gate>(
     rt: &R,
     context: &WorkContext<'_, G>,

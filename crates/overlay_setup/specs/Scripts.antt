@@ -1,5 +1,5 @@
 -- What a script says: the streams of a job, and the nodes that are to be lost.
-use Rattle.std.specs.Prelude.{◌≡◌, ◌≢◌, ◌≤◌, ◌<◌, ⊤, ℕ, true, List, [], length, map}
+use Rattle.std.specs.Prelude.{◌≡◌, ◌≢◌, ◌≤◌, ◌<◌, ◌+◌, ◌*◌, ◌&&◌, ⊤, ℕ, Bool, true, List, [], length, map, nat_le, nat_lt}
 use Rattle.std.specs.List.{AllByRecursion}
 use Rattle.overlay_setup.specs.NodeSets.{IsStrictlyIncreasing}
 use Rattle.overlay_setup.specs.Topologies.{Nodes}
@@ -30,6 +30,10 @@ stream number mode waves samples grain daemons = record {
   grain = grain;
   daemons = daemons;
 }
+
+-- whether a time is one of a wave's: wave w of k sample times has the times w * k to w * k + k - 1
+abbrev pub is_in_wave : ℕ → ℕ → ℕ → Bool
+is_in_wave k w time = nat_le (w * k) time && nat_lt time (w * k + k)
 
 -- what a script says: the streams, ascending, and the nodes that are to be lost, ascending
 pub record Scripted : Type 0 where

@@ -1,7 +1,7 @@
 //! What a script says: the streams of a job, and the nodes that are to be lost.
 
-ghost use Rattle.std.specs.Prelude.{◌≡◌, []};
-ghost use Rattle.overlay_setup.specs.Scripts.{Scripted, Stream, IsScript, IsStream};
+ghost use Rattle.std.specs.Prelude.{◌≡◌, ◌<◌, ◌*◌, ◌==◌, true, MatchOption, None, [], find, length, slice_get};
+ghost use Rattle.overlay_setup.specs.Scripts.{Scripted, Stream, IsScript, IsStream, is_in_wave};
 
 use std::marker::Model;
 
@@ -138,6 +138,46 @@ impl StreamDef {
         ensures { result.now ≡ self.now.daemons }
     {
         self.daemons.as_slice()
+    }
+}
+
+/// The index of the stream with a number, if there is one.
+pub fn stream_index(streams: &[StreamDef], s: u8) -> Option<usize>
+    ensures { MatchOption result (find (λ x. x.number == s) streams.now ≡ None)
+        (λ i. (i < length streams.now) × (find (λ x. x.number == s) streams.now ≡ slice_get streams.now i)) }
+{
+    for (i, x) in streams.iter().enumerate() {
+        if x.number() == s {
+            return Some(i);
+        }
+    }
+    None
+}
+
+/// The sample times of a wave.
+#[derive(Clone, Copy)]
+pub struct WaveTimes {
+    /// How many sample times each wave of the stream has.
+    pub samples: u8,
+    /// The number of the wave, from 0.
+    pub wave: u8,
+}
+
+impl WaveTimes {
+    /// The first of the times.
+    pub fn first(self) -> u32
+        ensures value { result ≡ self.wave * self.samples }
+        ensures of_wave { 0 < self.samples → is_in_wave self.samples self.wave result ≡ true }
+    {
+        u32::from(self.wave) * u32::from(self.samples)
+    }
+
+    /// Whether a time is one of them.
+    pub fn contains(self, time: u32) -> bool
+        ensures { result ≡ is_in_wave self.samples self.wave time }
+    {
+        let first = self.first();
+        first <= time && time < first + u32::from(self.samples)
     }
 }
 

@@ -57,10 +57,11 @@ impl Topology {
         })
     }
 
-    /// What every topology is.
+    /// The invariant of a topology, for the prover. It does nothing.
     pub fn invariant(&self)
         ensures { IsTopology self.now }
     {
+        // for the proof: the invariant of the value
         let _ = &self.parents;
     }
 

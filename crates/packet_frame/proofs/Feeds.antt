@@ -14,7 +14,7 @@ use Rattle.packet_frame.specs.Frame.{Message, frame_form, version_form}
 use Rattle.packet_frame.specs.Sent.{packet_map, tree_from, as_packet}
 use Rattle.packet_frame.specs.Reading.{first_of, IsOn, Waits}
 use Rattle.packet_frame.specs.Scanning.{packet_read}
-use Rattle.packet_frame.specs.Streams.{Begins, taken, Fed, Gave}
+use Rattle.packet_frame.specs.Streams.{Begins, taken, Fed, Yields}
 use Rattle.packet_frame.specs.Feeding.{packets_from, refused_at, IsFed, Ends, FramesOf}
 use Rattle.packet_frame.proofs.FormLaws.{read-spelled}
 
@@ -111,17 +111,17 @@ abbrev pub fed : ℕ → List ℕ → Option (ℕ × FrameReason) → Fed
 fed before rest refused = record { before = before; rest = rest; refusal = option_map (λ r. refused_at r.0 r.1) refused }
 
 -- frames became whole
-pub gave : {X : Type 0} (old : Fed) (before : ℕ) (rest piece bytes new_rest : List ℕ) (t : ℕ) (refused : Option (ℕ × FrameReason)) (reader : Reader X) (packets : List (Packet Tree × ℕ)) → old ≡ fed before rest refused → refused ≡ None → bytes ≡ rest ++ piece → new_rest ≡ drop t bytes → FramesOf bytes (Ok (packets, t)) reader → (messages : List (Message × ℕ)) × Gave old piece (fed (before + t) new_rest refused) messages × (packets ≡ packets_from messages)
+pub gave : {X : Type 0} (old : Fed) (before : ℕ) (rest piece bytes new_rest : List ℕ) (t : ℕ) (refused : Option (ℕ × FrameReason)) (reader : Reader X) (packets : List (Packet Tree × ℕ)) → old ≡ fed before rest refused → refused ≡ None → bytes ≡ rest ++ piece → new_rest ≡ drop t bytes → FramesOf bytes (Ok (packets, t)) reader → (messages : List (Message × ℕ)) × Yields old piece (fed (before + t) new_rest refused) messages × (packets ≡ packets_from messages)
 gave old before rest piece bytes new_rest t refused reader packets is open_now bytes_is rest_is frames =
     let ms = frames.0 in
     let closed = ap (option_map (λ r. refused_at r.0 r.1)) open_now in (
       ms,
-      subst (λ f. Gave f piece (fed (before + t) new_rest refused) ms) (sym is) (record {
+      subst (λ f. Yields f piece (fed (before + t) new_rest refused) ms) (sym is) (record {
         open_before = closed;
         open_after = closed;
         whole = subst (λ b. Begins ms b new_rest) bytes_is (subst (Begins ms bytes) (sym rest_is) frames.1);
         waiting = (reader.at, subst (λ b. Waits b reader.at) (sym rest_is) frames.5);
-        place = ap (λ (n : ℕ). before + n) frames.2;
+        offset = ap (λ (n : ℕ). before + n) frames.2;
       }),
       frames.3,
     )

@@ -40,7 +40,7 @@ breaks_lasts bytes more fault b = record {
   whole = begins_more b.messages bytes b.rest more b.whole;
   refused = stays b.rest more _ b.refused (settled_by fault.reason b.at b.lasting);
   lasting = b.lasting;
-  place = b.place;
+  offset = b.offset;
 }
 
 message_is : (m n : Message × ℕ) (r : Result (Message × ℕ) Refusal) → r ≡ Ok m → r ≡ Ok n → m ≡ n
@@ -69,7 +69,7 @@ breaks_once : (bytes : List ℕ) (fault other : Refusal) → Breaks bytes fault 
 breaks_once bytes fault other b c =
     let cut = one_cut b.messages c.messages bytes b.rest c.rest _ _ b.whole b.refused c.whole c.refused in
     let same = refusal_is _ _ (first_of b.rest) b.refused (ap first_of cut.1 ∙ c.refused) in
-    same_fault fault other (b.place ∙ ap (λ ms. taken ms + b.at) cut.0 ∙ ap (λ (r : Refusal). taken c.messages + r.at) same ∙ sym c.place) (ap (λ (r : Refusal). r.reason) same)
+    same_fault fault other (b.offset ∙ ap (λ ms. taken ms + b.at) cut.0 ∙ ap (λ (r : Refusal). taken c.messages + r.at) same ∙ sym c.offset) (ap (λ (r : Refusal). r.reason) same)
 
 waits_whole : (ms : List (Message × ℕ)) (bytes rest : List ℕ) (fault : Refusal) → Begins ms bytes rest → IsWaiting rest → Breaks bytes fault → ⊥
 waits_whole ms bytes rest fault h w b =

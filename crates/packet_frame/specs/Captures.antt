@@ -20,11 +20,11 @@ hex (c ∷ []) = []
 hex (c ∷ d ∷ cs) = (16 * digit c + digit d) ∷ hex cs
 
 abbrev pub refusal : ℕ → FrameReason → Refusal
-refusal place why = record { at = place; reason = why }
+refusal offset why = record { at = offset; reason = why }
 
--- the bytes are refused at a place
+-- the bytes are refused at an offset
 abbrev pub Refused : List ℕ → ℕ → FrameReason → Type 0
-Refused bytes place why = first_of bytes ≡ Err (refusal place why)
+Refused bytes offset why = first_of bytes ≡ Err (refusal offset why)
 
 -- one rank
 abbrev pub only : ℕ → Ranks

@@ -12,7 +12,7 @@ use Rattle.packet_frame.specs.Fields.{Refusal}
 use Rattle.packet_frame.specs.Frame.{Message}
 use Rattle.packet_frame.specs.Sent.{packet_map, tree_from}
 use Rattle.packet_frame.specs.Reading.{IsOn, Waits}
-use Rattle.packet_frame.specs.Streams.{Begins, taken, Breaks, Fed, Gave, Refuses}
+use Rattle.packet_frame.specs.Streams.{Begins, taken, Breaks, Fed, Yields, Refuses}
 
 abbrev pub refused_at : ℕ → FrameReason → Refusal
 refused_at at reason = record { at = at; reason = reason }
@@ -24,11 +24,11 @@ packets_from messages = map (λ m. (packet_map tree_from m.0, m.1)) messages
 -- The packets of the frames that became whole. A refusal is new, or was there before, and then nothing changes. Out of
 -- memory comes only without a refusal, and then nothing changes.
 abbrev pub Feeds : Fed → List ℕ → Result (List (Packet Tree × ℕ)) FrameError → Fed → Type 0
-Feeds old piece (Ok packets) new = (messages : List (Message × ℕ)) × Gave old piece new messages × (packets ≡ packets_from messages)
+Feeds old piece (Ok packets) new = (messages : List (Message × ℕ)) × Yields old piece new messages × (packets ≡ packets_from messages)
 Feeds old piece (Err (errors.Refused at reason)) new = ((old.refusal ≡ Some (refused_at at reason)) × (new ≡ old)) ⊎ Refuses old piece new (refused_at at reason)
 Feeds old piece (Err errors.OutOfMemory) new = (old.refusal ≡ None) × (new ≡ old)
 
--- The stream may end here: no refusal was given and no byte waits. Else it is the refusal, or `Short` at the place at which
+-- The stream may end here: no refusal was given and no byte waits. Else it is the refusal, or `Short` at the offset at which
 -- the bytes that wait end.
 abbrev pub Ends : Fed → Result (Unit {0}) FrameError → Type 0
 Ends fed (Ok x) = (fed.refusal ≡ None) × (fed.rest ≡ [])
@@ -41,7 +41,7 @@ FramesOf bytes (Ok x) reader = (messages : List (Message × ℕ)) × Begins mess
 FramesOf bytes (Err (errors.Refused at reason)) reader = Breaks bytes (refused_at at reason)
 FramesOf bytes (Err errors.OutOfMemory) reader = Unit {0}
 
--- a refusal's place is in the bytes
+-- a refusal's offset is in the bytes
 abbrev pub IsWithin : List ℕ → FrameError → Type 0
 IsWithin bytes (errors.Refused at reason) = at ≤ length bytes
 IsWithin bytes errors.OutOfMemory = Unit {0}

@@ -4,7 +4,7 @@ use Rattle.std.specs.Int.{Width, byte_len, from_be_bytes}
 use Rattle.packet_frame.specs.declared.error.FrameReason.{FrameReason}
 use Rattle.packet_frame.specs.declared.error.FrameReason.TheVariants.{Short, BadKind, BadLength, NotCanonical, OverLimit}
 
--- what is wrong, and the place of the first byte of the field
+-- what is wrong, and the offset of the first byte of the field
 pub record Refusal : Type 0 where
   pub at : ℕ
   pub reason : FrameReason
@@ -29,8 +29,8 @@ Spells (field width rule next) bytes x = (length (take width bytes) ≡ width) �
 abbrev pub piece : List ℕ → ℕ → ℕ → List ℕ
 piece bytes at width = take width (drop at bytes)
 
--- Fields from the front, from a place on. The first that is whole and breaks its rule gives its refusal at its first
--- byte. Where the input ends before, the answer is Short there. Else it is the value, and the place behind it.
+-- Fields from the front, from an offset on. The first that is whole and breaks its rule gives its refusal at its first
+-- byte. Where the input ends before, the answer is Short there. Else it is the value, and the offset behind it.
 abbrev pub read : {A : Type 0} → Form A → List ℕ → ℕ → Result (A × ℕ) Refusal
 read (whole a) bytes at = Ok (a, at)
 read (field width rule next) bytes at =

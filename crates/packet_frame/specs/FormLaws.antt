@@ -10,7 +10,7 @@ Stays form = (bytes more : List ℕ) (at : ℕ) → is_settled (read form bytes 
 abbrev pub IsReadAgain : {A : Type 0} → Form A → Type 0
 IsReadAgain {A} form = (front text more : List ℕ) (x : A) → Spells form text x → read form (front ++ (text ++ more)) (length front) ≡ Ok (x, length front + length text)
 
--- what is read is spelled by the bytes up to the place behind it
+-- what is read is spelled by the bytes up to the offset behind it
 abbrev pub IsSpelled : {A : Type 0} → Form A → Type 0
 IsSpelled {A} form = (front bytes : List ℕ) (x : A) (end : ℕ) → read form (front ++ bytes) (length front) ≡ Ok (x, end) → (text rest : List ℕ) × (bytes ≡ text ++ rest) × (end ≡ length front + length text) × Spells form text x
 
@@ -18,7 +18,7 @@ IsSpelled {A} form = (front bytes : List ℕ) (x : A) (end : ℕ) → read form 
 abbrev pub IsPrefixFree : {A : Type 0} → Form A → Type 0
 IsPrefixFree {A} form = (text more : List ℕ) (x y : A) → Spells form text x → Spells form (text ++ more) y → (more ≡ []) × (x ≡ y)
 
--- bytes before the place change nothing but the places
+-- bytes before the offset change nothing but the offsets
 abbrev pub IsMoved : {A : Type 0} → Form A → Type 0
 IsMoved form = (front bytes : List ℕ) (at : ℕ) → read form (front ++ bytes) (length front + at) ≡ later (length front) (read form bytes at)
 

@@ -21,7 +21,7 @@ pub record IsOn {X : Type 0} (r : Reader X) (bytes : List ℕ) : Type 0 where
   pub within : r.at ≤ length bytes
   pub goes_on : (more : List ℕ) → read (left r.scan) (bytes ++ more) r.at ≡ as_packet (first_of (bytes ++ more))
 
--- the input ends in the field at this place
+-- the input ends in the field at this offset
 abbrev pub Waits : List ℕ → ℕ → Type 0
 Waits bytes at = first_of bytes ≡ Err (record { at = at; reason = Short })
 
@@ -29,12 +29,12 @@ Waits bytes at = first_of bytes ≡ Err (record { at = at; reason = Short })
 abbrev pub IsWhole : {X : Type 0} → Reader X → List ℕ → Type 0
 IsWhole r bytes = as_packet (first_of bytes) ≡ Ok (packet_read r.scan, r.at)
 
--- a field's fault, at its place
+-- a field's fault, at its offset
 abbrev pub refusal_at : ℕ → FieldError → FrameError
 refusal_at at (faults.Broken reason) = errors.Refused at reason
 refusal_at at faults.OutOfMemory = errors.OutOfMemory
 
--- a rule is broken at a place of the bytes; out of memory may come instead
+-- a rule is broken at an offset of the bytes; out of memory may come instead
 abbrev pub Fails : List ℕ → FrameError → Type 0
 Fails bytes (errors.Refused at reason) = (first_of bytes ≡ Err (record { at = at; reason = reason })) × (is_short reason ≡ false) × (at ≤ length bytes)
 Fails bytes errors.OutOfMemory = Unit {0}

@@ -15,11 +15,11 @@ abbrev pub taken : List (Message × ℕ) → ℕ
 taken [] = 0
 taken (m ∷ ms) = m.1 + taken ms
 
--- no frame begins the bytes, but with more bytes one may: they end in the field at this place
+-- no frame begins the bytes, but with more bytes one may: they end in the field at this offset
 abbrev pub IsWaiting : List ℕ → Type 0
 IsWaiting rest = (at : ℕ) × (first_of rest ≡ Err (record { at = at; reason = Short }))
 
--- the first fault behind whole frames, at its place among all of the bytes
+-- the first fault behind whole frames, at its offset among all of the bytes
 pub record Breaks (bytes : List ℕ) (fault : Refusal) : Type 0 where
   pub messages : List (Message × ℕ)
   pub rest : List ℕ
@@ -27,7 +27,7 @@ pub record Breaks (bytes : List ℕ) (fault : Refusal) : Type 0 where
   pub whole : Begins messages bytes rest
   pub refused : first_of rest ≡ Err (record { at = at; reason = fault.reason })
   pub lasting : is_short fault.reason ≡ false
-  pub place : fault.at ≡ taken messages + at
+  pub offset : fault.at ≡ taken messages + at
 
 -- What is kept of a stream: how many bytes its frames so far took, the bytes that wait behind them, and the refusal.
 pub record Fed : Type 0 where
@@ -35,13 +35,13 @@ pub record Fed : Type 0 where
   pub rest : List ℕ
   pub refusal : Option Refusal
 
--- more bytes came, and gave messages
-pub record Gave (old : Fed) (bytes : List ℕ) (new : Fed) (messages : List (Message × ℕ)) : Type 0 where
+-- more bytes came, and yielded messages
+pub record Yields (old : Fed) (bytes : List ℕ) (new : Fed) (messages : List (Message × ℕ)) : Type 0 where
   pub open_before : old.refusal ≡ None
   pub open_after : new.refusal ≡ None
   pub whole : Begins messages (old.rest ++ bytes) new.rest
   pub waiting : IsWaiting new.rest
-  pub place : new.before ≡ old.before + taken messages
+  pub offset : new.before ≡ old.before + taken messages
 
 -- more bytes came, and were refused
 pub record Refuses (old : Fed) (bytes : List ℕ) (new : Fed) (fault : Refusal) : Type 0 where
@@ -55,7 +55,7 @@ pub record StreamLaws : Type 0 where
   pub more : (ms : List (Message × ℕ)) (bytes rest more : List ℕ) → Begins ms bytes rest → Begins ms (bytes ++ more) (rest ++ more)
   -- one piece after another is both at once
   pub joins : (ms ns : List (Message × ℕ)) (bytes rest more last : List ℕ) → Begins ms bytes rest → Begins ns (rest ++ more) last → Begins (ms ++ ns) (bytes ++ more) last
-  -- a fault stays at its place
+  -- a fault stays at its offset
   pub lasts : (bytes more : List ℕ) (fault : Refusal) → Breaks bytes fault → Breaks (bytes ++ more) fault
   -- no other frames are there
   pub only : (ms ns : List (Message × ℕ)) (bytes rest last : List ℕ) → Begins ms bytes rest → IsWaiting rest → Begins ns bytes last → IsWaiting last → (ms ≡ ns) × (rest ≡ last)

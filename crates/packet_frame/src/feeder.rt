@@ -57,7 +57,7 @@ fn packets_at<T: PrefixTree>(
     ensures frames { FramesOf bytes.now
         (result_map (λ x. (map (λ p. (packet_map T.tree p.0, p.1)) x.0.items, x.1)) result) reader.new }
     ensures within { IfOk result (λ x. x.1 ≤ length bytes.now) }
-    ensures place { IfErr result (IsWithin bytes.now) }
+    ensures offset { IfErr result (IsWithin bytes.now) }
 {
     let mut packets = Vec::new(alloc);
     let mut taken = 0;
@@ -92,7 +92,7 @@ fn packets_in<T: PrefixTree>(
         (result_map (λ x. (map (λ p. (packet_map T.tree p.0, p.1)) x.0.items, x.1)) result) reader.new }
     ensures rest { IfOk result (λ x. rest.new.items ≡ drop x.1 rest.old.items) }
     ensures within { IfOk result (λ x. x.1 ≤ length rest.old.items) }
-    ensures place { IfErr result (IsWithin rest.old.items) }
+    ensures offset { IfErr result (IsWithin rest.old.items) }
     ensures err { OnErr result (rest.new.items ≡ rest.old.items) }
 {
     let (packets, taken) = packets_at(alloc, reader, rest.as_slice())?;

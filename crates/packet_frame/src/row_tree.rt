@@ -5,8 +5,8 @@ ghost use Rattle.rank_set.specs.Ranks.{none, is_subset};
 ghost use Rattle.prefix_tree.specs.Tree.{tree_of, count_below};
 ghost use Rattle.packet_frame.specs.FrameRows.{grown};
 
-use call_path::PathBuilder;
-use prefix_tree::{PREFIX_LIMIT, PrefixTree, TreeError};
+use call_path::{PREFIX_LIMIT, PathBuilder};
+use prefix_tree::{PrefixTree, TreeError};
 use rank_set::RankSet;
 use std::alloc::{AllocError, Global};
 use std::marker::Model;

@@ -11,8 +11,8 @@ ghost use Rattle.packet_frame.specs.Scanning.{left, left_at, Takes, IsReady, IsB
 use crate::error::{FieldError, FrameReason};
 use crate::number::{u8_of, u16_of};
 use crate::scan::{Field, Part, Scan};
-use call_path::{FRAME_BYTES, FRAME_LIMIT};
-use prefix_tree::{PREFIX_LIMIT, PrefixTree};
+use call_path::{FRAME_BYTES, FRAME_LIMIT, PREFIX_LIMIT};
+use prefix_tree::PrefixTree;
 use rank_set::RankSet;
 use std::alloc::Global;
 use std::cmp::Ordering;

@@ -17,15 +17,12 @@ ghost use Rattle.prefix_tree.specs.Walk.{Follows};
 ghost use Rattle.prefix_tree.specs.Chains.{rows_shown, chain_rows, IsGoodChain};
 ghost use Rattle.prefix_tree.specs.declared.Cursor.{Cursor};
 
-use call_path::CallPath;
+use call_path::{CallPath, PREFIX_LIMIT};
 pub use owned::OwnedTree;
 use rank_set::RankSet;
 use std::alloc::{AllocError, Global};
 
 mod owned;
-
-/// The most rows of a tree besides the root.
-pub const PREFIX_LIMIT: usize = 2_048;
 
 /// Why a tree was not changed.
 #[derive(Debug, PartialEq, Eq, Clone, Copy)]
@@ -191,8 +188,8 @@ pub trait PrefixTree: Sized + Drop + Send {
         ensures stays { result ≡ None → at.new.row ≡ at.old.row }
         ensures cursor { is_cursor self.now at.new };
 
-    /// Returns the rows from the one before which the cursor stands up to the end of a chain, at least that one, and moves
-    /// the cursor behind them. None past the last row. It takes no memory.
+    /// Returns the rows from the one before which the cursor stands up to the end of a chain, at least that one, and
+    /// moves the cursor behind them. None past the last row. It takes no memory.
     fn next_chain(&self, at: &mut Cursor) -> Option<Chain<'_>>
         requires cursor { is_cursor self.now at.old }
         requires below_root { 0 < at.old.row }

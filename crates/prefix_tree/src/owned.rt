@@ -9,8 +9,8 @@ ghost use Rattle.prefix_tree.specs.Chains.{shown, chain_rows, IsGoodChain};
 ghost use Rattle.prefix_tree.specs.Owned.{HasIncreasingPaths, entries_view, below_in, place_of};
 ghost use Rattle.prefix_tree.specs.Changes.{changed, is_new, new_among, inserted};
 
-use crate::{Chain, Cursor, PREFIX_LIMIT, PrefixTree, Row, TreeError};
-use call_path::CallPath;
+use crate::{Chain, Cursor, PrefixTree, Row, TreeError};
+use call_path::{CallPath, PREFIX_LIMIT};
 use rank_set::RankSet;
 use std::alloc::{AllocError, Global};
 use std::cmp::Ordering;

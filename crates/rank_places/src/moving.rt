@@ -77,7 +77,8 @@ fn moved_words(set: &RankSet, run: Shift) -> Result<RankSet, AllocError>
     set.at_word(run.target / 64 + (set.word_offset() - run.first / 64))
 }
 
-/// What the numbers of a set become: places of the ranks of the cover, or ranks at places. It goes by the runs of the set where it has no words, or where what they become is scattered.
+/// What the numbers of a set become: places of the ranks of the cover, or ranks at places. It goes by the runs of the
+/// set where it has no words, or where what they become is scattered.
 pub(crate) fn moved(
     alloc: Global,
     way: Way<'_>,

@@ -92,7 +92,7 @@ impl RankSet {
         }
     }
 
-    /// For the proof: each rank is below `RANK_LIMIT`.
+    /// The invariant of a set, for the prover: each rank is below `RANK_LIMIT`. It does nothing.
     pub fn invariant(&self)
         ensures { (r : ℕ) → Has r self.now → r < RANK_LIMIT }
     {
@@ -208,8 +208,8 @@ impl RankSet {
         })
     }
 
-    /// Adds the ranks of a run, as `insert_run` does. It serves to collect ranks in order: the form of the set is chosen by
-    /// [`RankSet::settle`], after the last of them. On failure the set is unchanged.
+    /// Adds the ranks of a run, as `insert_run` does. It serves to collect ranks in order: the form of the set is
+    /// chosen by [`RankSet::settle`], after the last of them. On failure the set is unchanged.
     #[inline(always)]
     pub fn collect_run(&mut self, first: u32, last: u32) -> Result<(), AllocError>
         requires not_empty { first ≤ last }
@@ -391,7 +391,8 @@ impl RankSet {
         self.next_run_near(from, &mut 0)
     }
 
-    /// The run that `next_run` returns. The hint is what an earlier call left in it, 0 at first, and makes the search short.
+    /// The run that `next_run` returns. The hint is what an earlier call left in it, 0 at first, and makes the search
+    /// short.
     pub fn next_run_near(&self, from: u32, hint: &mut usize) -> Option<Run>
         ensures none { IfNone result ((q : ℕ) → from ≤ q → has self.now q ≡ false) }
         ensures run { IfSome result (λ run. IsRun self.now from run.first run.last) }

@@ -72,10 +72,11 @@ impl RunSet {
         }
     }
 
-    /// For the proof: each rank is below `RANK_LIMIT`.
+    /// The invariant of a set, for the prover: each rank is below `RANK_LIMIT`. It does nothing.
     pub(crate) fn invariant(&self)
         ensures { (r : ℕ) → Has r self.now → r < RANK_LIMIT }
     {
+        // for the proof: the invariant of the value
         let _runs = &self.runs;
     }
 

@@ -47,10 +47,11 @@ impl WordSet {
         }
     }
 
-    /// For the proof: each rank is below `RANK_LIMIT`.
+    /// The invariant of a set, for the prover: each rank is below `RANK_LIMIT`. It does nothing.
     pub(crate) fn invariant(&self)
         ensures { (r : ℕ) → Has r self.now → r < RANK_LIMIT }
     {
+        // for the proof: the invariant of the value
         let _offset = self.offset;
     }
 

@@ -159,7 +159,8 @@ fn or_words(words: &mut [u64], offset: u32, other_offset: u32, others: &[u64])
     or_each(&mut words[at..at + others.len()], others);
 }
 
-// Sets in each word the bits of the other word at its place. There are as many others, so that several are done at once.
+// Sets in each word the bits of the other word at its place. There are as many others, so that several are done at
+// once.
 #[inline(always)]
 fn or_each(words: &mut [u64], others: &[u64])
     requires { length words.old ≡ length others.now }
@@ -509,8 +510,8 @@ fn are_equal(xs: &[u64], ys: &[u64]) -> bool
     xs.len() == ys.len() && have_same_words(xs, ys)
 }
 
-// The same for so many words. It gathers the bits that differ in all of them, since a loop that goes to its end compares
-// several at once.
+// The same for so many words. It gathers the bits that differ in all of them, since a loop that goes to its end
+// compares several at once.
 fn have_same_words(xs: &[u64], ys: &[u64]) -> bool
     requires { length xs.now ≡ length ys.now }
     ensures { (result ≡ true) ↔ (xs.now ≡ ys.now) }
@@ -566,8 +567,8 @@ pub(crate) fn words_in(alloc: Global, offset: u32, words: &[u64]) -> Result<Vec<
     Ok(all)
 }
 
-// The first number from the given one on, within the words, that is a rank, or with `gap` is not. The number is in one of
-// the words or behind them.
+// The first number from the given one on, within the words, that is a rank, or with `gap` is not. The number is in one
+// of the words or behind them.
 #[inline(always)]
 fn next_bit(offset: u32, words: &[u64], from: u32, gap: bool) -> Option<u32>
     requires within { offset + length words.now ≤ WORD_LIMIT }

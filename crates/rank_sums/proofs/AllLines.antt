@@ -14,7 +14,7 @@ use Rattle.stat_plan.specs.Plans.{Plan, nodes, daemons, sample_count, stream_of,
 use Rattle.stat_plan.specs.Invariants.{IsJob, IsPlan}
 use Rattle.stat_plan.specs.StackLines.{lines_of}
 use Rattle.stat_plan.specs.declared.samples.StackLine.{StackLine}
-use Rattle.stat_plan.proofs.TableLemmas.{at_table, length-up_to}
+use Rattle.overlay_setup.proofs.UpTo.{length-up_to, at_table}
 use Rattle.stat_plan.proofs.FirstOver.{stream_found}
 use Rattle.stat_plan.proofs.InLists.{place_of}
 use Rattle.stat_plan.proofs.LookupLemmas.{daemons_at}

@@ -19,9 +19,9 @@ use Rattle.prefix_tree.proofs.PairLemmas.{any-flat_map, any-pairs_of_set}
 use Rattle.overlay_setup.specs.NodeSets.{In}
 use Rattle.overlay_setup.specs.declared.script.Grain.{Grain}
 use Rattle.overlay_setup.specs.declared.script.Grain.TheVariants.{Line, Function}
-use Rattle.overlay_setup.specs.Scripts.{Stream, IsStream}
+use Rattle.overlay_setup.specs.Scripts.{Stream, IsStream, is_in_wave}
 use Rattle.stat_plan.specs.Plans.{Plan, daemons, ranks, grain, sample_count, samples, stream_of, stream_ranks, waves_of, seen_lines}
-use Rattle.stat_plan.specs.Samples.{SampleLine, samples_of, seen_by, wave_lines, is_in_wave, path_by, ranks_with}
+use Rattle.stat_plan.specs.Samples.{SampleLine, samples_of, seen_by, wave_lines, path_by, ranks_with}
 use Rattle.stat_plan.specs.Invariants.{IsPlan}
 use Rattle.stat_plan.proofs.FirstOver.{all_in, found_in}
 use Rattle.stat_plan.proofs.WavePrefixes.{in_flat_map, in_from_flat_map}

@@ -13,9 +13,9 @@ use crate::fold::Fold;
 use crate::parts::parts_of;
 use call_path::{CallPath, PathBuilder};
 use itoa::Buffer;
-use overlay_setup::StreamDef;
+use overlay_setup::{StreamDef, WaveTimes};
 use rank_set::RANK_LIMIT;
-use stat_plan::{LineList, Plan, WaveTimes};
+use stat_plan::{LineList, Plan};
 use std::alloc::{AllocError, Global};
 use value_text::Values;
 

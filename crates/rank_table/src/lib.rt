@@ -102,8 +102,8 @@ impl RankTable {
         run_in(self.words.as_slice(), first, end)
     }
 
-    /// Gives the ranks from `first` to before `end` a number. All others keep theirs. Where memory runs out, some of the
-    /// given ranks may have the number and the rest not.
+    /// Gives the ranks from `first` to before `end` a number. All others keep theirs. Where memory runs out, some of
+    /// the given ranks may have the number and the rest not.
     pub fn set_run(&mut self, first: u32, end: u32, number: u32) -> Result<(), AllocError>
         requires order { first ≤ end }
         requires in_table { end ≤ length self.old }

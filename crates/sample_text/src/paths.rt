@@ -49,8 +49,8 @@ impl Paths {
         }
     }
 
-    /// The number that was given last, and what is left of a text whose first line is the text of that path, with a line
-    /// feed behind it. None where the text begins otherwise.
+    /// The number that was given last, and what is left of a text whose first line is the text of that path, with a
+    /// line feed behind it. None where the text begins otherwise.
     #[inline(always)]
     pub fn cut_last<'t>(&self, text: &'t str) -> Option<(u32, &'t str)>
         requires { HoldsPaths self.now }

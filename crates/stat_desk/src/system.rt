@@ -151,8 +151,8 @@ fn read_up_to<F: Read>(
 // How many bytes are fed at once.
 const PIECE: usize = 65_536;
 
-// Feeds all bytes that a file gives, if they are at most `max`, and returns what it gave, which may be a piece more. None
-// where the file fails.
+// Feeds all bytes that a file gives, if they are at most `max`, and returns what it gave, which may be a piece more.
+// None where the file fails.
 fn feed_up_to<I: Read, F: Feed>(
     alloc: Global,
     file: &mut I,

@@ -9,7 +9,7 @@ use Rattle.stat_plan.specs.Samples.{ranks_with, all_ranks}
 use Rattle.stat_plan.specs.Plans.{Plan, nodes, ranks, ancestors, is_under, is_within, those_within, ranks_on}
 use Rattle.stat_plan.specs.Tables.{GainRanks, AreExpected}
 use Rattle.stat_plan.proofs.InLists.{member-append, eqb_self}
-use Rattle.stat_plan.proofs.TableLemmas.{length-up_to, at_table}
+use Rattle.overlay_setup.proofs.UpTo.{length-up_to, at_table}
 
 or_twice : (a b : Bool) → ((a || b) || b) ≡ (a || b)
 or_twice true b = refl

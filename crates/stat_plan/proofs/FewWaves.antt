@@ -7,7 +7,7 @@ use Rattle.overlay_setup.specs.Scripts.{IsStream, Stream}
 use Rattle.stat_plan.specs.Invariants.{IsPlan}
 use Rattle.stat_plan.specs.Plans.{Plan, waves_of}
 use Rattle.stat_plan.proofs.Ascending.{ascending_within_limit}
-use Rattle.stat_plan.proofs.TableLemmas.{length-up_to}
+use Rattle.overlay_setup.proofs.UpTo.{length-up_to}
 
 -- the numbers of streams are below 8
 numbers_below : (xs : List Stream) → AllByRecursion IsStream xs → (n : ℕ) → In n (map (λ (x : Stream). x.number) xs) → n < 8

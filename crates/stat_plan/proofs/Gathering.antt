@@ -10,7 +10,7 @@ use Rattle.std.proofs.lemmas.List.Folds.{list_any-append}
 use Rattle.rank_set.specs.Ranks.{Ranks, none, has, IsSubset, has-none, has-those, is_empty, is_subset, none_from_size, size, subset_has, those}
 use Rattle.overlay_setup.specs.NodeSets.{In}
 use Rattle.stat_plan.specs.OwnLines.{AreLinesOf, AreRanksSeen, AreUnited, GainRanksSeen, is_in, line_sees, lists, ranks_at, row_at, sees}
-use Rattle.stat_plan.specs.Samples.{is_in_wave}
+use Rattle.overlay_setup.specs.Scripts.{is_in_wave}
 use Rattle.stat_plan.specs.declared.samples.StackLine.{StackLine}
 use Rattle.stat_plan.proofs.FirstOver.{all_in}
 use Rattle.stat_plan.proofs.InLists.{in_from_any}

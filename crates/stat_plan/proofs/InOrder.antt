@@ -9,7 +9,7 @@ use Rattle.call_path.specs.Path.{Path, path_cmp}
 use Rattle.overlay_setup.specs.NodeSets.{In, up_to}
 use Rattle.stat_plan.specs.PathOrder.{AreInOrder, IsOrderOf, numbered}
 use Rattle.stat_plan.proofs.InLists.{in_from_map, in_map, in_permuted, up_to_below, up_to_in}
-use Rattle.stat_plan.proofs.TableLemmas.{length-up_to}
+use Rattle.overlay_setup.proofs.UpTo.{length-up_to}
 
 -- a list that is sorted by what f gives is sorted where f gave it
 pub sorted_map : {X Y : Type 0} (f : X → Y) (lt : Y → Y → Bool) (xs : List X) → IsSortedBy (λ x y. lt (f x) (f y)) xs → IsSortedBy lt (map f xs)

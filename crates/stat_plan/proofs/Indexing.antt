@@ -7,7 +7,8 @@ use Rattle.stat_plan.specs.Invariants.{ArePlacedOnce}
 use Rattle.stat_plan.specs.Samples.{ranks_with, all_ranks}
 use Rattle.stat_plan.specs.OwnLines.{HasRankOn}
 use Rattle.stat_plan.specs.Plans.{Plan, ranks, ranks_on}
-use Rattle.stat_plan.specs.Tables.{AreRankNodes, rows_view}
+use Rattle.stat_plan.specs.Tables.{AreRankNodes}
+use Rattle.overlay_setup.specs.Tables.{rows_view}
 use Rattle.stat_plan.proofs.InLists.{in_at}
 
 -- a node of the ranks of some sets

@@ -1,5 +1,5 @@
 -- Looking things up.
-use Rattle.std.proofs.Common.{◌≡◌, ◌≢◌, ℕ, zero, suc, ◌+◌, ◌<◌, Bool, true, false, cond, unwrap_or, ◌||◌, ◌==◌, List, [], ◌∷◌, ◌++◌, length, get_or, take, drop, map, Option, Some, None, refl, sym, ap, subst, ◌∙◌, arith, inl, inr}
+use Rattle.std.proofs.Common.{◌≡◌, ◌≢◌, ℕ, ◌+◌, ◌<◌, Bool, true, false, cond, unwrap_or, ◌||◌, ◌==◌, List, [], ◌∷◌, ◌++◌, length, get_or, take, map, Option, Some, None, refl, sym, ap, subst, ◌∙◌, arith, inl, inr}
 use Rattle.std.specs.Prelude.{find, slice_get, nat_le, not, IfNone, IfSome, is_some}
 use Rattle.std.proofs.Common.{◌⊎◌}
 use Rattle.std.specs.List.{list_any, AllByRecursion}
@@ -31,20 +31,10 @@ has_first C r e =
     let parts = first_of (in_order C) r e in
     has-in_order C r ∙ ap (list_any (eq_by_cmp nat_cmp r)) parts.1 ∙ ap (λ o. is_eq o || list_any (eq_by_cmp nat_cmp r) parts.0) (tied_itself nat_cmp_total r)
 
--- what is found from a place on
-pub find-from : {X : Type 0} (test : X → Bool) (xs : List X) (i : ℕ) (d : X) → i < length xs → find test (drop i xs) ≡ cond (test (get_or xs i d)) (Some (get_or xs i d)) (find test (drop (i + 1) xs))
-find-from test [] i d lt = absurd (omega arith)
-find-from test (x ∷ xs) zero d lt = refl
-find-from test (x ∷ xs) (suc i) d lt = let e : suc i + 1 ≡ suc (i + 1) = omega arith in find-from test xs i d (omega arith) ∙ ap (λ k. cond (test (get_or xs i d)) (Some (get_or xs i d)) (find test (drop k (x ∷ xs)))) (sym e)
-
 -- whether a list contains a number, by tests one after another
 pub member-contains : (n : ℕ) (ms : List ℕ) → list_any (λ m. m == n) ms ≡ member n ms
 member-contains n [] = refl
 member-contains n (m ∷ ms) = λ i. nat_eq_equiv.symm m n i || member-contains n ms i
-
--- what is found at a place where the test passes
-pub find-here : {X : Type 0} (test : X → Bool) (xs : List X) (i : ℕ) (d : X) → i < length xs → find test (drop i xs) ≡ find test xs → test (get_or xs i d) ≡ true → find test xs ≡ Some (get_or xs i d)
-find-here test xs i d lt so_far passes = sym so_far ∙ find-from test xs i d lt ∙ ap (λ b. cond b (Some (get_or xs i d)) (find test (drop (i + 1) xs))) passes
 
 in_ranks : (C : Ranks) (Ds : List Ranks) (r : ℕ) → Has r (ranks_with C Ds) → (Has r C) ⊎ ((D : Ranks) × (In D Ds × Has r D))
 in_ranks C [] r there = inl there

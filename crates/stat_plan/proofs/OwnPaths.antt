@@ -9,7 +9,8 @@ use Rattle.stat_plan.specs.Invariants.{AreSamples, IsSampleLine}
 use Rattle.overlay_setup.specs.NodeSets.{In}
 use Rattle.stat_plan.specs.OwnLines.{AreParted, AreWaveLines, AreWaveRows, ListPlacedRanks, is_in, is_seen, line_sees, lists, ranks_at, row_at, sees}
 use Rattle.stat_plan.specs.Plans.{sampled}
-use Rattle.stat_plan.specs.Samples.{SampleLine, is_in_wave}
+use Rattle.stat_plan.specs.Samples.{SampleLine}
+use Rattle.overlay_setup.specs.Scripts.{is_in_wave}
 use Rattle.stat_plan.specs.StackLines.{PathIndicesInRange, line_of, lines_of}
 use Rattle.stat_plan.specs.declared.samples.StackLine.{StackLine}
 use Rattle.stat_plan.proofs.Elements.{all_from}

@@ -7,8 +7,6 @@ use Rattle.rank_set.proofs.RankSet.TheSendSync as ranks
 use Rattle.overlay_setup.proofs.script.Script.TheSendSync as script
 use Rattle.overlay_setup.proofs.topology.Topology.TheSendSync as topology
 use Rattle.stat_plan.proofs.parted_lines.PartedLines.TheSendSync as parted
-use Rattle.stat_plan.specs.contracts.job.Job as Job
-use Rattle.stat_plan.specs.contracts.job.Job.TheInside as job
 use Rattle.stat_plan.specs.contracts.plan.Plan as Plan
 use Rattle.stat_plan.specs.contracts.plan.Plan.TheInside as plan
 use Rattle.stat_plan.specs.contracts.samples.Samples as Samples
@@ -38,23 +36,23 @@ samples_sync =
       ),
     )))
 
-job_sync : IsSync Job.the_row
-job_sync =
-    view_sync job.the_row _ _ _ _
-    (recorded_sync job.the_field.row _ _ job.the_type.to_one
-    (struct_sync (shape job.the_type) (topology.the_sync, (samples_sync, (script.the_sync, tt)))))
-
 pub plan_sync : IsSync Plan.the_row
 plan_sync =
     view_sync plan.the_row _ _ _ _
     (recorded_sync plan.the_field.row _ _ plan.the_type.to_one
     (struct_sync (shape plan.the_type) (
-      job_sync,
+      topology.the_sync,
       (
-        search (sendable, crosses) depth 20,
+        samples_sync,
         (
-          search (sendable, crosses, ranks.the_sync) depth 20,
-          (search (sendable, crosses) depth 20, tt),
+          script.the_sync,
+          (
+            search (sendable, crosses) depth 20,
+            (
+              search (sendable, crosses, ranks.the_sync) depth 20,
+              (search (sendable, crosses) depth 20, tt),
+            ),
+          ),
         ),
       ),
     )))

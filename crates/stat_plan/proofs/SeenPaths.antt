@@ -9,7 +9,7 @@ use Rattle.rank_set.proofs.Spanning.{any_member, member_from_any}
 use Rattle.overlay_setup.specs.NodeSets.{In}
 use Rattle.stat_plan.specs.OwnLines.{AreParted, AreRanksSeen, HasRankOn, line_sees, ranks_at, sees}
 use Rattle.stat_plan.specs.PathOrder.{AreSeen, has_rank, share_rank}
-use Rattle.stat_plan.specs.Samples.{is_in_wave}
+use Rattle.overlay_setup.specs.Scripts.{is_in_wave}
 use Rattle.stat_plan.specs.declared.samples.StackLine.{StackLine}
 use Rattle.stat_plan.proofs.InLists.{any_from_in, in_from_any}
 use Rattle.stat_plan.proofs.Sharing.{both_ways}

@@ -15,13 +15,13 @@ use Rattle.stat_plan.specs.Invariants.{ArePlacedOnce}
 use Rattle.stat_plan.specs.OwnLines.{AreKeysOf, AreNotEmpty, AreParted, AreReordered, GainParts, GainsRanks, ListPlacedRanks, TakesLine, is_in, key_of, lists, ranks_at, row_at}
 use Rattle.stat_plan.specs.Samples.{all_ranks}
 use Rattle.overlay_setup.specs.NodeSets.{up_to}
-use Rattle.stat_plan.specs.Tables.{rows_view}
+use Rattle.overlay_setup.specs.Tables.{rows_view}
 use Rattle.stat_plan.specs.declared.samples.StackLine.{StackLine}
 use Rattle.stat_plan.proofs.Elements.{all_from}
 use Rattle.stat_plan.proofs.FirstOver.{all_in}
 use Rattle.stat_plan.proofs.Indexing.{other_row, row_here, rows_changed, same_row}
 use Rattle.stat_plan.proofs.InLists.{any_from_in, in_from_any, in_permuted}
-use Rattle.stat_plan.proofs.TableLemmas.{at_table, length-up_to}
+use Rattle.overlay_setup.proofs.UpTo.{length-up_to, at_table}
 
 pub both_ways : (a b : Bool) → (a ≡ true → b ≡ true) → (b ≡ true → a ≡ true) → a ≡ b
 both_ways true b there back = sym (there refl)

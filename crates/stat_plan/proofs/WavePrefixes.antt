@@ -19,7 +19,8 @@ use Rattle.stat_plan.specs.Limits.{first_over, is_over, is_within_limit, wave_is
 use Rattle.overlay_setup.specs.NodeSets.{In}
 use Rattle.stat_plan.specs.PathOrder.{AreSeen, IsOrderOf, numbered, seen_paths, share_rank}
 use Rattle.stat_plan.specs.Plans.{Plan, grain, sample_count, samples, stream_ranks, waves_of}
-use Rattle.stat_plan.specs.Samples.{SampleLine, is_in_wave, path_by, prefix_count, samples_of, seen_by, wave_lines}
+use Rattle.stat_plan.specs.Samples.{SampleLine, path_by, prefix_count, samples_of, seen_by, wave_lines}
+use Rattle.overlay_setup.specs.Scripts.{is_in_wave}
 use Rattle.stat_plan.specs.StackLines.{PathIndicesInRange, line_of, lines_of}
 use Rattle.stat_plan.specs.declared.samples.StackLine.{StackLine}
 use Rattle.overlay_setup.specs.declared.script.Grain.{Grain}

@@ -11,7 +11,7 @@ use Rattle.std.proofs.lemmas.List.Folds.{list_any-append}
 use Rattle.rank_set.specs.Ranks.{Ranks, has, Has, IsSubset, has-none, is_empty, none_from_size, size}
 use Rattle.overlay_setup.specs.NodeSets.{In}
 use Rattle.stat_plan.specs.OwnLines.{AreNodeLines, AreParted, AreUnited, AreWaveRows, GainSeen, HasRankOn, is_in, line_sees, lists, ranks_at, ranks_of_lines, row_at, sees}
-use Rattle.stat_plan.specs.Samples.{is_in_wave}
+use Rattle.overlay_setup.specs.Scripts.{is_in_wave}
 use Rattle.stat_plan.specs.declared.samples.StackLine.{StackLine}
 use Rattle.stat_plan.proofs.FirstOver.{all_in}
 use Rattle.stat_plan.proofs.InLists.{any_from_in, in_from_any}

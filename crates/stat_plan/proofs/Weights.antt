@@ -6,7 +6,7 @@ use Rattle.overlay_setup.specs.NodeSets.{up_to}
 use Rattle.stat_plan.specs.Plans.{Plan, nodes, is_related, fault}
 use Rattle.stat_plan.specs.Machine.Kin.{Kin}
 use Rattle.stat_plan.proofs.InLists.{up_to_below}
-use Rattle.stat_plan.proofs.TableLemmas.{length-up_to}
+use Rattle.overlay_setup.proofs.UpTo.{length-up_to}
 use Rattle.stat_plan.proofs.Totals.{total, total_append, total_le, total_bound, total_at}
 use Rattle.stat_plan.specs.Machine.Overlays.{Overlay, start_overlay, to, with_link, with_event, with_loss, keep_of}
 

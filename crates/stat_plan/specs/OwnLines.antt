@@ -5,7 +5,8 @@ use Rattle.std.specs.List.Sorted.{IsPermutation}
 use Rattle.rank_set.specs.Ranks.{Ranks, none, has, Has, IsSubset}
 use Rattle.call_path.specs.Path.{Path, is_path}
 use Rattle.overlay_setup.specs.NodeSets.{In}
-use Rattle.stat_plan.specs.Samples.{SampleLine, all_ranks, is_in_wave}
+use Rattle.stat_plan.specs.Samples.{SampleLine, all_ranks}
+use Rattle.overlay_setup.specs.Scripts.{is_in_wave}
 use Rattle.stat_plan.specs.declared.samples.StackLine.{StackLine}
 
 -- whether some line lists a rank in a path, at a time of wave w of k sample times

@@ -7,7 +7,7 @@ use Rattle.std.specs.Ordering.{is_lt}
 use Rattle.rank_set.specs.Ranks.{Ranks, has, in_order, is_empty}
 use Rattle.call_path.specs.Path.{Path, path_cmp}
 use Rattle.overlay_setup.specs.NodeSets.{In}
-use Rattle.stat_plan.specs.Samples.{is_in_wave}
+use Rattle.overlay_setup.specs.Scripts.{is_in_wave}
 use Rattle.stat_plan.specs.declared.samples.StackLine.{StackLine}
 
 -- the paths of some numbers, each with its number

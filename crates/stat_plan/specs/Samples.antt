@@ -1,11 +1,12 @@
 -- The samples of a job: which rank was seen in which path, at which time.
-use Rattle.std.specs.Prelude.{ℕ, ◌<◌, ◌≤◌, ◌*◌, ◌+◌, Bool, ◌&&◌, nat_le, nat_lt, List, [], ◌∷◌, filter, length, map}
+use Rattle.std.specs.Prelude.{ℕ, ◌<◌, ◌≤◌, List, [], ◌∷◌, filter, length, map}
 use Rattle.std.specs.List.{flat_map, AllByRecursion}
 use Rattle.std.specs.Set.{distinct_count}
 use Rattle.rank_set.specs.Ranks.{Ranks, has, in_order, none, those, union}
 use Rattle.call_path.specs.Functions.{func}
 use Rattle.call_path.specs.Pairs.{Pairs, pairs_at, prefixes_of}
 use Rattle.call_path.specs.Path.{Path, is_path}
+use Rattle.overlay_setup.specs.Scripts.{is_in_wave}
 use Rattle.overlay_setup.specs.declared.script.Grain.{Grain}
 use Rattle.overlay_setup.specs.declared.script.Grain.TheVariants.{Line, Function}
 
@@ -18,10 +19,6 @@ pub record SampleLine : Type 0 where
 -- each line's ranks, each with the line's path
 abbrev pub samples_of : List SampleLine → Pairs
 samples_of lines = flat_map (λ line. pairs_at (in_order line.ranks) line.path) lines
-
--- whether a time is one of a wave's: wave w of k sample times has the times w * k to w * k + k - 1
-abbrev pub is_in_wave : ℕ → ℕ → ℕ → Bool
-is_in_wave k w time = nat_le (w * k) time && nat_lt time (w * k + k)
 
 -- the lines at the times of a wave
 abbrev pub wave_lines : ℕ → ℕ → List SampleLine → List SampleLine

@@ -3,7 +3,7 @@ use Rattle.std.specs.Prelude.{◌≡◌, ℕ, List, map, Option, Some, None}
 use Rattle.call_path.specs.Functions.{func}
 use Rattle.stat_plan.specs.OwnLines.{AreParted}
 use Rattle.stat_plan.specs.Samples.{SampleLine}
-use Rattle.stat_plan.specs.Tables.{rows_view}
+use Rattle.overlay_setup.specs.Tables.{rows_view}
 use Rattle.std.specs.Borrow.{Bor}
 use Rattle.stat_plan.specs.Plans.{Plan, stream_of}
 use Rattle.overlay_setup.specs.Scripts.{Stream}

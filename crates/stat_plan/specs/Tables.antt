@@ -1,19 +1,11 @@
 -- Tables by node number.
-use Rattle.std.specs.Prelude.{ℕ, ◌≡◌, ◌<◌, cond, List, [], map, get_or, slice_get, slice_index_or, Vec, length, Option, Some, None}
+use Rattle.std.specs.Prelude.{ℕ, ◌≡◌, ◌<◌, cond, List, [], get_or, slice_get, slice_index_or, length, Option, Some, None}
 use Rattle.rank_set.specs.Ranks.{Ranks, none, union, Has}
-use Rattle.overlay_setup.specs.NodeSets.{member, up_to}
+use Rattle.overlay_setup.specs.NodeSets.{member}
 use Rattle.stat_plan.specs.Plans.{Plan, nodes, fault, ranks_on, those_within}
 use Rattle.overlay_setup.specs.Scripts.{Stream}
-use Rattle.overlay_setup.specs.Trees.{climb}
+use Rattle.overlay_setup.specs.Tables.{ancestors_table}
 use Rattle.overlay_setup.specs.declared.script.Fault.{Fault}
-
--- the rows of a table
-abbrev pub rows_view : {X A : Type 0} → List (Vec X A) → List (List X)
-rows_view table = map (λ row. row.items) table
-
--- each node's ancestors, nearest first, by node number
-abbrev pub ancestors_table : List (Option ℕ) → List (List ℕ)
-ancestors_table parents = map (climb parents (length parents)) (up_to (length parents))
 
 -- by node number, the ranks of those of some daemons that are the node or stand under it
 pub record AreExpected (p : Plan) (daemons : List ℕ) (sets : List Ranks) : Type 0 where

@@ -3,10 +3,12 @@
 ghost use Rattle.std.specs.Prelude.{◌≡◌, ◌<◌, ℕ, IfOk, OnOk, [], ◌∷◌, length, map};
 ghost use Rattle.rank_set.specs.Ranks.{none};
 ghost use Rattle.overlay_setup.specs.NodeSets.{In, up_to};
+ghost use Rattle.stat_plan.specs.Files.{DoFit, plan_in};
 ghost use Rattle.stat_plan.specs.Plans.{nodes};
-ghost use Rattle.stat_plan.specs.Tables.{AreExpected, GainRanks, ancestors_table, rows_view};
+ghost use Rattle.stat_plan.specs.Tables.{AreExpected, GainRanks};
+ghost use Rattle.overlay_setup.specs.Tables.{rows_view, ancestors_table};
 
-use crate::job::Job;
+use crate::files::Files;
 use rank_set::RankSet;
 use std::alloc::{AllocError, Global};
 
@@ -27,27 +29,6 @@ fn add_upwards(
     Ok(())
 }
 
-// Adds the ranks of each daemon to its set and to those of its ancestors, where the sets are empty.
-fn add_daemons(
-    sets: &mut [RankSet],
-    job: &Job,
-    above: &[Vec<u32>],
-    daemons: &[u32],
-) -> Result<(), AllocError>
-    requires above { rows_view above.now ≡ ancestors_table job.now.parents }
-    requires daemons { (d : ℕ) → In d daemons.now → d < nodes job.now }
-    requires empty { AreExpected job.now [] sets.old }
-    ensures { OnOk result (AreExpected job.now daemons.now sets.new) }
-{
-    job.invariant();
-    let placed = job.placed();
-    for d in daemons {
-        let row = &above[*d as usize];
-        add_upwards(sets, *d, row.as_slice(), &placed[*d as usize])?;
-    }
-    Ok(())
-}
-
 /// `n` empty sets.
 pub fn empty_sets(alloc: Global, n: usize) -> Result<Vec<RankSet>, AllocError>
     ensures { IfOk result (λ sets. sets.items ≡ map (λ _. none) (up_to n)) }
@@ -63,15 +44,21 @@ pub fn empty_sets(alloc: Global, n: usize) -> Result<Vec<RankSet>, AllocError>
 /// node's ancestors.
 pub fn expected_sets(
     alloc: Global,
-    job: &Job,
+    files: Files<'_>,
     above: &[Vec<u32>],
     daemons: &[u32],
 ) -> Result<Vec<RankSet>, AllocError>
-    requires above { rows_view above.now ≡ ancestors_table job.now.parents }
-    requires daemons { (d : ℕ) → In d daemons.now → d < nodes job.now }
-    ensures { IfOk result (λ sets. AreExpected job.now daemons.now sets.items) }
+    requires files { DoFit files }
+    requires above { rows_view above.now ≡ ancestors_table files.topology.now.parents }
+    requires daemons { (d : ℕ) → In d daemons.now → d < nodes (plan_in files) }
+    ensures { IfOk result (λ sets. AreExpected (plan_in files.entry) daemons.now sets.items) }
 {
-    let mut sets = empty_sets(alloc, job.topology().nodes() as usize)?;
-    add_daemons(&mut sets, job, above, daemons)?;
+    files.invariant();
+    let placed = files.samples.placed();
+    let mut sets = empty_sets(alloc, files.topology.nodes() as usize)?;
+    for d in daemons {
+        let row = &above[*d as usize];
+        add_upwards(&mut sets, *d, row.as_slice(), &placed[*d as usize])?;
+    }
     Ok(sets)
 }

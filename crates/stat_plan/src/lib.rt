@@ -8,10 +8,8 @@
 //! `specs/Machine/`.
 #![tactic(auto)]
 
-mod ancestors;
 mod expected;
-mod find;
-mod job;
+mod files;
 mod limit;
 mod line_index;
 mod line_list;
@@ -27,5 +25,5 @@ pub use line_list::{LineList, LineRanks, ListedLine};
 pub use machine::{Act, Timer};
 pub use plan::Plan;
 pub use plan_error::PlanError;
-pub use samples::{LINE_LIMIT, Samples, StackLine, TIME_LIMIT, WaveLines, WaveTimes};
+pub use samples::{LINE_LIMIT, Samples, StackLine, TIME_LIMIT, WaveLines};
 pub use wave_lines::Wanted;

@@ -11,9 +11,10 @@ ghost use Rattle.rank_set.specs.Ranks.{Has};
 ghost use Rattle.call_path.specs.Functions.{func};
 ghost use Rattle.call_path.specs.Pairs.{prefixes};
 ghost use Rattle.call_path.specs.Path.{is_path, shared_len};
+ghost use Rattle.stat_plan.specs.Files.{DoFit, plan_in};
 ghost use Rattle.stat_plan.specs.Limits.{RefusesAt, first_over, is_over, is_within_limit, stream_waves};
 ghost use Rattle.overlay_setup.specs.NodeSets.{In};
-ghost use Rattle.stat_plan.specs.PathOrder.{IsOrderOf, has_rank, last_path, numbered, seen_paths};
+ghost use Rattle.stat_plan.specs.PathOrder.{IsOrderOf, last_path, numbered, seen_paths};
 ghost use Rattle.stat_plan.specs.Plans.{nodes, ranks_on, stream_of};
 ghost use Rattle.stat_plan.specs.OwnLines.{HasRankOn};
 ghost use Rattle.stat_plan.specs.Samples.{path_by};
@@ -21,18 +22,15 @@ ghost use Rattle.stat_plan.specs.Shown.{AreLinesParted, lines_view};
 ghost use Rattle.stat_plan.specs.StackLines.{PathIndicesInRange};
 ghost use Rattle.stat_plan.specs.Wanted.{samples_wanted};
 
-use crate::job::Job;
+use crate::files::Files;
 use crate::path_order::in_order;
 use crate::plan_error::PlanError;
-use crate::samples::{Lines, WaveTimes};
+use crate::samples::Lines;
 use crate::wave_lines::{Wanted, ranks_seen};
-use call_path::CallPath;
-use overlay_setup::{Grain, StreamDef};
+use call_path::{CallPath, PREFIX_LIMIT};
+use overlay_setup::{Grain, StreamDef, WaveTimes};
 use rank_set::RankSet;
 use std::alloc::{AllocError, Global};
-
-/// The most distinct prefixes that the samples of a wave may have.
-pub const PREFIX_LIMIT: usize = 2_048;
 
 // How many first frames a path shares with the last one before it.
 fn shared_with(path: &CallPath, last: Option<&CallPath>) -> usize
@@ -52,7 +50,7 @@ fn is_within(paths: &[CallPath], order: &[usize], seen: &[bool]) -> bool
     ensures { result
         ≡ nat_le
         (distinct_count is_path (flat_map prefixes (seen_paths (numbered paths.now order.now) seen.now)))
-        2048 }
+        PREFIX_LIMIT }
 {
     let mut count = 0;
     let mut last: Option<&CallPath> = None;
@@ -69,19 +67,8 @@ fn is_within(paths: &[CallPath], order: &[usize], seen: &[bool]) -> bool
     true
 }
 
-// Which of some sets have a rank.
-fn which_have_ranks(alloc: Global, sets: &[RankSet]) -> Result<Vec<bool>, AllocError>
-    ensures { IfOk result (λ seen. seen.items ≡ map has_rank sets.now) }
-{
-    let mut seen = Vec::with_capacity(alloc, sets.len())?;
-    for ranks in sets {
-        seen.push(!ranks.is_empty())?;
-    }
-    Ok(seen)
-}
-
-// Whether the wanted samples have at most 2,048 distinct prefixes, as a stream of some grain sees them. The order of the
-// paths that it sees is given.
+// Whether the wanted samples have at most 2,048 distinct prefixes, as a stream of some grain sees them. The order of
+// the paths that it sees is given.
 fn wave_is_within(
     alloc: Global,
     all: Lines<'_>,
@@ -100,26 +87,21 @@ fn wave_is_within(
 {
     let paths = all.paths_by(grain);
     let sets = ranks_seen(alloc, all.parted, paths.len(), wanted)?;
-    let seen = which_have_ranks(alloc, &sets)?;
-    Ok(is_within(paths, order, &seen))
-}
-
-// Whether all paths together have at most 2,048 distinct prefixes. Their order is given.
-fn all_are_within(alloc: Global, paths: &[CallPath], order: &[usize]) -> Result<bool, AllocError>
-    requires { IsOrderOf paths.now order.now }
-    ensures { IfOk result (λ within. within ≡ nat_le (distinct_count is_path (flat_map prefixes paths.now)) 2048) }
-{
-    let seen = vec![in alloc; true; paths.len()]?;
+    let mut seen = Vec::with_capacity(alloc, sets.len())?;
+    for ranks in &sets {
+        seen.push(!ranks.is_empty())?;
+    }
     Ok(is_within(paths, order, &seen))
 }
 
 // The ranks of some daemons.
-fn ranks_of(alloc: Global, job: &Job, daemons: &[u32]) -> Result<RankSet, AllocError>
-    requires { (d : ℕ) → In d daemons.now → d < nodes job.now }
-    ensures { IfOk result (λ ranks. ranks ≡ ranks_on job.now daemons.now) }
+fn ranks_of(alloc: Global, files: Files<'_>, daemons: &[u32]) -> Result<RankSet, AllocError>
+    requires files { DoFit files }
+    requires daemons { (d : ℕ) → In d daemons.now → d < nodes (plan_in files) }
+    ensures { IfOk result (λ ranks. ranks ≡ ranks_on (plan_in files.entry) daemons.now) }
 {
-    job.invariant();
-    let placed = job.placed();
+    files.invariant();
+    let placed = files.samples.placed();
     let mut ranks = RankSet::new(alloc);
     for d in daemons {
         ranks.union_into(&placed[*d as usize])?;
@@ -130,25 +112,26 @@ fn ranks_of(alloc: Global, job: &Job, daemons: &[u32]) -> Result<RankSet, AllocE
 // Tests the waves of a stream. The order of the paths as the stream sees them is given.
 fn check_stream(
     alloc: Global,
-    job: &Job,
+    files: Files<'_>,
     all: Lines<'_>,
     order: &[usize],
     stream: &StreamDef,
 ) -> Result<(), PlanError>
-    requires lines { lines_view all ≡ job.now.lines }
+    requires files { DoFit files }
+    requires lines { lines_view all ≡ files.samples.now.lines }
     requires numbered { PathIndicesInRange all.paths.now all.lines.now.value }
     requires functions { all.functions.now ≡ map (map func) all.paths.now }
     requires order { IsOrderOf (map (path_by stream.now.grain) all.paths.now) order.now }
     requires parted { AreLinesParted all }
-    requires placed { all.placed.now ≡ job.now.placed }
-    requires stream { stream_of job.now stream.now.number ≡ Some stream.now }
-    requires daemons { (d : ℕ) → In d stream.now.daemons → d < nodes job.now }
-    ensures ok { OnOk result (find (is_over job.now) (stream_waves stream.now) ≡ None) }
-    ensures err { IfErr result (RefusesAt (find (is_over job.now) (stream_waves stream.now))) }
+    requires placed { all.placed.now ≡ files.samples.now.placed }
+    requires stream { stream_of (plan_in files) stream.now.number ≡ Some stream.now }
+    requires daemons { (d : ℕ) → In d stream.now.daemons → d < nodes (plan_in files) }
+    ensures ok { OnOk result (find (is_over (plan_in files.entry)) (stream_waves stream.now) ≡ None) }
+    ensures err { IfErr result (RefusesAt (find (is_over (plan_in files.entry)) (stream_waves stream.now))) }
 {
-    job.invariant();
+    files.invariant();
     let daemons = stream.daemons();
-    let ranks = ranks_of(alloc, job, daemons)?;
+    let ranks = ranks_of(alloc, files, daemons)?;
     for wave in 0..stream.waves() {
         let times = WaveTimes {
             samples: stream.samples(),
@@ -172,27 +155,28 @@ fn check_stream(
 // Tests all waves, by stream and wave. The order of the functions of the paths is given.
 fn check_streams(
     alloc: Global,
-    job: &Job,
+    files: Files<'_>,
     all: Lines<'_>,
     by_function: &[usize],
 ) -> Result<(), PlanError>
-    requires lines { lines_view all ≡ job.now.lines }
+    requires files { DoFit files }
+    requires lines { lines_view all ≡ files.samples.now.lines }
     requires numbered { PathIndicesInRange all.paths.now all.lines.now.value }
     requires functions { all.functions.now ≡ map (map func) all.paths.now }
     requires order { IsOrderOf all.paths.now all.order.now }
     requires by_function { IsOrderOf all.functions.now by_function.now }
     requires parted { AreLinesParted all }
-    requires placed { all.placed.now ≡ job.now.placed }
-    ensures ok { OnOk result (first_over job.now ≡ None) }
-    ensures err { IfErr result (RefusesAt (first_over job.now)) }
+    requires placed { all.placed.now ≡ files.samples.now.placed }
+    ensures ok { OnOk result (first_over (plan_in files.entry) ≡ None) }
+    ensures err { IfErr result (RefusesAt (first_over (plan_in files.entry))) }
 {
-    job.invariant();
-    for stream in job.streams() {
+    files.invariant();
+    for stream in files.script.streams() {
         let order = match stream.grain() {
             Grain::Line => all.order,
             Grain::Function => by_function,
         };
-        match check_stream(alloc, job, all, order, stream) {
+        match check_stream(alloc, files, all, order, stream) {
             Ok(()) => {}
             Err(e) => return Err(e),
         }
@@ -202,14 +186,16 @@ fn check_streams(
 
 /// Tests all waves, by stream and wave. Where all paths together are within the limit, so is each wave; that is nearly
 /// always so, and no wave is looked at.
-pub fn check_limit(alloc: Global, job: &Job) -> Result<(), PlanError>
-    ensures ok { OnOk result (first_over job.now ≡ None) }
-    ensures err { IfErr result (RefusesAt (first_over job.now)) }
+pub fn check_limit(alloc: Global, files: Files<'_>) -> Result<(), PlanError>
+    requires { DoFit files }
+    ensures ok { OnOk result (first_over (plan_in files.entry) ≡ None) }
+    ensures err { IfErr result (RefusesAt (first_over (plan_in files.entry))) }
 {
-    let all = job.lines();
-    if all_are_within(alloc, all.paths, all.order)? {
+    let all = files.samples.lines();
+    let every_path = vec![in alloc; true; all.paths.len()]?;
+    if is_within(all.paths, all.order, &every_path) {
         return Ok(());
     }
     let by_function = in_order(alloc, all.functions)?;
-    check_streams(alloc, job, all, &by_function)
+    check_streams(alloc, files, all, &by_function)
 }

@@ -71,28 +71,6 @@ fn mark_nodes(
     Ok(())
 }
 
-// Marks each node that has one of some ranks with the numbers of these lines. It costs as much as there are nodes, or
-// ranks, whichever are fewer.
-fn mark_lines(
-    numbers: &mut [RankSet],
-    rank_to_node: &RankTable,
-    placed: &[RankSet],
-    ranks: &RankSet,
-    lines: Run,
-) -> Result<(), AllocError>
-    requires rank_to_node { AreRankNodes placed.now rank_to_node.now }
-    requires same_length { length numbers.old ≡ length placed.now }
-    requires placed { IsSubset ranks.now (all_ranks placed.now) }
-    ensures { OnOk result (AreMarked placed.now (λ r. Has r ranks.now) (ranks_between lines.first lines.last)
-        numbers.old numbers.new) }
-{
-    if placed.len() <= ranks.count() as usize {
-        mark_each(numbers, placed, ranks, lines)
-    } else {
-        mark_nodes(numbers, rank_to_node, placed, ranks, lines)
-    }
-}
-
 // The end of the lines that follow each other from `first` on and list the same ranks.
 fn end_of_same(lines: &[StackLine], first: u32, count: u32) -> u32
     requires count { count ≡ length lines.now }
@@ -132,13 +110,13 @@ pub fn line_numbers(
             first,
             last: end - 1,
         };
-        mark_lines(
-            &mut numbers,
-            rank_to_node,
-            placed,
-            &lines[first as usize].ranks,
-            run,
-        )?;
+        let ranks = &lines[first as usize].ranks;
+        // This costs as much as there are nodes, or ranks, whichever are fewer.
+        if placed.len() <= ranks.count() as usize {
+            mark_each(&mut numbers, placed, ranks, run)?;
+        } else {
+            mark_nodes(&mut numbers, rank_to_node, placed, ranks, run)?;
+        }
         first = end;
     }
     Ok(numbers)

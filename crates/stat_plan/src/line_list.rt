@@ -1,7 +1,7 @@
 //! Lines of samples in the order of their text, packed.
 //!
-//! Nearly always a line lists one rank, which stands in the line's entry, of 16 bytes. The ranks of other lines are kept
-//! beside the entries.
+//! Nearly always a line lists one rank, which stands in the line's entry, of 16 bytes. The ranks of other lines are
+//! kept beside the entries.
 
 ghost use Rattle.std.specs.Prelude.{◌≡◌, ◌<◌, ◌++◌, ◌∷◌, [], Some, OnErr, OnOk, length, slice_get};
 ghost use Rattle.rank_set.specs.Ranks.{none, union};

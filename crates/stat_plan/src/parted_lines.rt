@@ -1,20 +1,22 @@
 //! The lines of samples, parted by the nodes whose ranks they list.
 //!
-//! Nearly always all ranks of a line are one node's, which then gets the line: a line of its own, or none where its last
-//! one is at the same time in the same path, and takes these ranks up. Other lines list ranks of several nodes. They are
+//! Nearly always all ranks of a line are one node's, which then gets the line: a line of its own, or none where its
+//! last one is at the same time in the same path, and takes these ranks up. Other lines list ranks of several nodes.
+//! They are
 //! *spread*: those of one path and time are united, and each node has the numbers of those that list its ranks. What a
 //! spread line lists of a node is cut out of it when it is asked for ([`wave_lines`](crate::wave_lines)), so that all
 //! lines together take memory as the text does, however many nodes they are spread over.
 
-ghost use Rattle.std.specs.Prelude.{◌≡◌, ◌≢◌, ◌<◌, ◌≤◌, ◌&&◌, ℕ, false, nat_eq, IfOk, IfSome, OnOk, [], length, map, get_or, slice_index_or};
+ghost use Rattle.std.specs.Prelude.{◌≡◌, ◌≢◌, ◌<◌, ◌&&◌, ℕ, false, nat_eq, IfOk, IfSome, OnOk, [], length, map, get_or};
 ghost use Rattle.std.specs.List.Sorted.{IsPermutation};
 ghost use Rattle.rank_set.specs.Ranks.{none, has, Has, IsSubset};
 ghost use Rattle.stat_plan.specs.Invariants.{ArePlacedOnce};
 ghost use Rattle.stat_plan.specs.LineLists.{AreBelowLimit, line_view, one_rank, ranks_view};
-ghost use Rattle.stat_plan.specs.OwnLines.{AreKeysOf, AreParted, AreIndexed, AreReordered, GainsRanks, ListPlacedRanks, TakesLine, ranks_at, ranks_of_lines};
+ghost use Rattle.stat_plan.specs.OwnLines.{AreKeysOf, AreParted, AreIndexed, GainsRanks, ListPlacedRanks, TakesLine, ranks_at, ranks_of_lines};
 ghost use Rattle.overlay_setup.specs.NodeSets.{up_to};
 ghost use Rattle.stat_plan.specs.Samples.{all_ranks};
-ghost use Rattle.stat_plan.specs.Tables.{AreRankNodes, rows_view};
+ghost use Rattle.stat_plan.specs.Tables.{AreRankNodes};
+ghost use Rattle.overlay_setup.specs.Tables.{rows_view};
 
 use crate::line_index::line_numbers;
 use crate::line_list::{LineList, LineRanks, ListedLine};
@@ -23,17 +25,6 @@ use indexmap::IndexSet;
 use rank_set::{RANK_LIMIT, RankSet};
 use rank_table::RankTable;
 use std::alloc::{AllocError, Global};
-
-// A number above each placed rank, at most the limit of ranks.
-fn end_of_all(placed: &[RankSet]) -> u32
-    ensures { (n r : ℕ) → Has r (slice_index_or placed.now n none) → r < result }
-{
-    let mut end = 0;
-    for ranks in placed {
-        end = end.max(ranks.end());
-    }
-    end
-}
 
 // Notes the node of some ranks.
 fn assign(rank_to_node: &mut RankTable, ranks: &RankSet, node: u32) -> Result<(), AllocError>
@@ -52,29 +43,23 @@ fn assign(rank_to_node: &mut RankTable, ranks: &RankSet, node: u32) -> Result<()
     Ok(())
 }
 
-// Notes the node of each placed rank. Nodes past the last that a number stands for are as if there were no memory for
-// them.
-fn assign_all(rank_to_node: &mut RankTable, placed: &[RankSet]) -> Result<(), AllocError>
-    requires within { (n r : ℕ) → Has r (slice_index_or placed.now n none) → r < length rank_to_node.old }
-    requires once { ArePlacedOnce placed.now }
-    ensures { OnOk result (AreRankNodes placed.now rank_to_node.new) }
-{
-    for (n, ranks) in placed.iter().enumerate() {
-        match u32::try_from(n) {
-            Ok(node) => assign(rank_to_node, ranks, node)?,
-            Err(_) => return Err(AllocError),
-        }
-    }
-    Ok(())
-}
-
-// The node of each placed rank, by rank. The entries of other ranks mean nothing.
+// The node of each placed rank, by rank. The entries of other ranks mean nothing. Nodes past the last that a number
+// stands for are as if there were no memory for them.
 fn rank_to_node_of(alloc: Global, placed: &[RankSet]) -> Result<RankTable, AllocError>
     requires once { ArePlacedOnce placed.now }
     ensures { IfOk result (λ rank_to_node. AreRankNodes placed.now rank_to_node) }
 {
-    let mut rank_to_node = RankTable::new(alloc, end_of_all(placed))?;
-    assign_all(&mut rank_to_node, placed)?;
+    let mut end = 0;
+    for ranks in placed {
+        end = end.max(ranks.end());
+    }
+    let mut rank_to_node = RankTable::new(alloc, end)?;
+    for (n, ranks) in placed.iter().enumerate() {
+        match u32::try_from(n) {
+            Ok(node) => assign(&mut rank_to_node, ranks, node)?,
+            Err(_) => return Err(AllocError),
+        }
+    }
     Ok(rank_to_node)
 }
 
@@ -262,29 +247,14 @@ fn empty_rows(alloc: Global, n: usize) -> Result<Vec<Vec<StackLine>>, AllocError
     Ok(rows)
 }
 
-// Sorts the lines of each row by the places of their paths.
-fn sort_rows(rows: &mut [Vec<StackLine>], places: &[usize]) -> Result<(), AllocError>
-    ensures { OnOk result (AreReordered (rows_view rows.old) (rows_view rows.new)) }
-{
-    for n in 0..rows.len() {
-        sort_row(&mut rows[n], places)?;
-    }
-    Ok(())
-}
-
 /// Sorts lines by the places of their paths. Lines of one path stay in their order.
 pub fn sort_row(row: &mut Vec<StackLine>, places: &[usize]) -> Result<(), AllocError>
     ensures { IsPermutation row.old.items row.new.items }
 {
-    row.sort_by_key(|line| place_of(places, line.path))
-}
-
-// The place of a path among all paths.
-fn place_of(places: &[usize], path: u32) -> usize {
-    match places.get(path as usize) {
+    row.sort_by_key(|line| match places.get(line.path as usize) {
         Some(place) => *place,
         None => 0,
-    }
+    })
 }
 
 /// Lines, parted by the nodes whose ranks they list.
@@ -298,8 +268,8 @@ pub struct PartedLines {
     pub numbers: Vec<RankSet>,
 }
 
-/// The lines, parted. Each node's, and those that are spread, come in the order of their paths, which have these places:
-/// so rows of a tree are appended at its end. That order is for speed alone, and no clause fixes it.
+/// The lines, parted. Each node's, and those that are spread, come in the order of their paths, which have these
+/// places: so rows of a tree are appended at its end. That order is for speed alone, and no clause fixes it.
 pub fn parted_lines(
     alloc: Global,
     placed: &[RankSet],
@@ -314,7 +284,9 @@ pub fn parted_lines(
     let rank_to_node = rank_to_node_of(alloc, placed)?;
     let mut rows = empty_rows(alloc, placed.len())?;
     let mut spread = part_lines(alloc, &mut rows, &rank_to_node, placed, lines)?;
-    sort_rows(&mut rows, places)?;
+    for n in 0..rows.len() {
+        sort_row(&mut rows[n], places)?;
+    }
     sort_row(&mut spread, places)?;
     let numbers = line_numbers(alloc, placed, &rank_to_node, &spread)?;
     Ok(PartedLines {

@@ -1,7 +1,7 @@
 //! A plan: what the three files of a job say together, with tables for its look-ups.
 
-ghost use Rattle.std.specs.Prelude.{◌≡◌, ◌<◌, ℕ, IfErr, IfOk, IsSome, None, Some, [], length, map, slice_index_or};
-ghost use Rattle.rank_set.specs.Ranks.{none};
+ghost use Rattle.std.specs.Prelude.{◌≡◌, ◌<◌, ℕ, IfErr, IfOk, IsSome, None, Some, []};
+ghost use Rattle.stat_plan.specs.Files.{DoFit, plan_in};
 ghost use Rattle.stat_plan.specs.Invariants.{IsPlan, SamplesFit};
 ghost use Rattle.overlay_setup.specs.Scripts.{ScriptFits};
 ghost use Rattle.stat_plan.specs.Limits.{RefusesAt, first_over};
@@ -11,20 +11,19 @@ ghost use Rattle.stat_plan.specs.OwnLines.{AreWaveLines};
 ghost use Rattle.stat_plan.specs.Plans.{ancestors, expected, fault, front, is_under, nodes, plan_of, ranks, ranks_on, serves, stream_of, with_lines};
 ghost use Rattle.stat_plan.specs.StackLines.{PathIndicesInRange, lines_of};
 ghost use Rattle.stat_plan.specs.Shown.{AreNumbered, IsStreamOf, wave_lines_view};
-ghost use Rattle.stat_plan.specs.Tables.{AreAllExpected, AreFaults, ancestors_table, rows_view};
+ghost use Rattle.stat_plan.specs.Tables.{AreAllExpected, AreFaults};
+ghost use Rattle.overlay_setup.specs.Tables.{rows_view, ancestors_table};
 ghost use Rattle.overlay_setup.specs.Trees.{is_daemon};
 
-use crate::ancestors::ancestors_table;
 use crate::expected::expected_sets;
-use crate::find::stream_index;
-use crate::job::Job;
+use crate::files::Files;
 use crate::limit::check_limit;
 use crate::line_list::LineList;
 use crate::plan_error::PlanError;
-use crate::samples::{Samples, WaveLines, WaveTimes};
+use crate::samples::{Samples, WaveLines};
 use crate::wave_lines::Wanted;
 use call_path::CallPath;
-use overlay_setup::{Fault, Script, StreamDef, Topology};
+use overlay_setup::{Fault, Script, StreamDef, Topology, WaveTimes, ancestors_table, stream_index};
 use rank_set::RankSet;
 use std::alloc::{AllocError, Global};
 use std::marker::Model;
@@ -32,7 +31,9 @@ use std::marker::Model;
 /// What the three files of a job say together.
 #[derive(Drop)]
 pub struct Plan {
-    job: Job,
+    topology: Topology,
+    samples: Samples,
+    script: Script,
     // By node number, nearest first.
     ancestors: Vec<Vec<u32>>,
     // By index of the stream, then by node number.
@@ -42,7 +43,7 @@ pub struct Plan {
 }
 
 impl Model for Plan {
-    ghost use Rattle.stat_plan.specs.Plans.{Plan};
+    ghost use Rattle.stat_plan.specs.Plans.{Plan, plan_of};
     ghost use Rattle.stat_plan.specs.Codes.{coded_plan};
 
     ghost Value = { Plan };
@@ -50,59 +51,47 @@ impl Model for Plan {
     ghost coded = { coded_plan };
 
     ghost use Rattle.stat_plan.specs.Invariants.{IsPlan};
-    ghost use Rattle.stat_plan.specs.Tables.{AreTables, rows_view};
+    ghost use Rattle.stat_plan.specs.Tables.{AreTables};
+    ghost use Rattle.overlay_setup.specs.Tables.{rows_view};
 
-    ghost view = { λ a. a.job };
+    ghost view = { λ a. plan_of a.topology a.samples a.script };
 
     ghost invariant = { λ a.
-        IsPlan a.job × AreTables a.job (rows_view a.ancestors.items) (rows_view a.expected.items) a.faults.items };
+        IsPlan (plan_of a.topology a.samples a.script)
+        × AreTables (plan_of a.topology a.samples a.script)
+        (rows_view a.ancestors.items) (rows_view a.expected.items) a.faults.items };
 }
 
 // By index of the stream, the ranks that each node expects of it.
 fn expected_tables(
     alloc: Global,
-    job: &Job,
+    files: Files<'_>,
     above: &[Vec<u32>],
 ) -> Result<Vec<Vec<RankSet>>, AllocError>
-    requires { rows_view above.now ≡ ancestors_table job.now.parents }
-    ensures { IfOk result (λ tables. AreAllExpected job.now job.now.streams (rows_view tables.items)) }
+    requires files { DoFit files }
+    requires above { rows_view above.now ≡ ancestors_table files.topology.now.parents }
+    ensures { IfOk result (λ tables.
+        AreAllExpected (plan_in files.entry) files.entry.script.now.streams (rows_view tables.items)) }
 {
-    job.invariant();
+    files.invariant();
     let mut tables = Vec::new(alloc);
-    for stream in job.streams() {
-        tables.push(expected_sets(alloc, job, above, stream.daemons())?)?;
+    for stream in files.script.streams() {
+        tables.push(expected_sets(alloc, files, above, stream.daemons())?)?;
     }
     Ok(tables)
 }
 
 // By node number, the fault of each node that is to be lost.
-fn fault_table(alloc: Global, job: &Job) -> Result<Vec<Option<Fault>>, AllocError>
-    ensures { IfOk result (λ table. AreFaults job.now table.items) }
+fn fault_table(alloc: Global, files: Files<'_>) -> Result<Vec<Option<Fault>>, AllocError>
+    requires { DoFit files }
+    ensures { IfOk result (λ table. AreFaults (plan_in files.entry) table.items) }
 {
-    job.invariant();
-    let mut table = vec![in alloc; None; job.topology().nodes() as usize]?;
-    for f in job.faults() {
+    files.invariant();
+    let mut table = vec![in alloc; None; files.topology.nodes() as usize]?;
+    for f in files.script.faults() {
         table[f.node as usize] = Some(*f);
     }
     Ok(table)
-}
-
-// A row of a table of numbers.
-fn row_at(table: &[Vec<u32>], n: u32) -> &[u32]
-    requires { n < length table.now }
-    ensures { result.now ≡ slice_index_or (rows_view table.now) n [] }
-{
-    table[n as usize].as_slice()
-}
-
-// A set of a table of sets.
-fn set_at(tables: &[Vec<RankSet>], i: usize, n: u32) -> &RankSet
-    requires table { i < length tables.now }
-    requires set { n < length (slice_index_or (rows_view tables.now) i []) }
-    ensures { result.now ≡ slice_index_or (slice_index_or (rows_view tables.now) i []) n none }
-{
-    let table = &tables[i];
-    &table[n as usize]
 }
 
 impl Plan {
@@ -124,17 +113,23 @@ impl Plan {
         ensures within { IfOk result (λ p. first_over p ≡ None) }
         ensures err { IfErr result (RefusesAt (first_over (plan_of topology samples script))) }
     {
-        let job = Job::new(topology, samples, script);
-        job.invariant();
-        match check_limit(alloc, &job) {
+        let files = Files {
+            topology: &topology,
+            samples: &samples,
+            script: &script,
+        };
+        files.invariant();
+        match check_limit(alloc, files) {
             Ok(()) => {}
             Err(e) => return Err(e),
         }
-        let ancestors = ancestors_table(alloc, job.topology())?;
-        let expected = expected_tables(alloc, &job, &ancestors)?;
-        let faults = fault_table(alloc, &job)?;
+        let ancestors = ancestors_table(alloc, &topology)?;
+        let expected = expected_tables(alloc, files, &ancestors)?;
+        let faults = fault_table(alloc, files)?;
         Ok(Plan {
-            job,
+            topology,
+            samples,
+            script,
             ancestors,
             expected,
             faults,
@@ -153,14 +148,18 @@ impl Plan {
         ensures { IfOk result (λ plan. plan ≡ with_lines self (lines_of paths.items lines)) }
     {
         let Plan {
-            job,
+            topology,
+            samples,
+            script,
             ancestors,
             expected,
             faults,
         } = self;
-        let job = job.with_lines(alloc, paths, lines)?;
+        let samples = samples.with_lines(alloc, paths, lines)?;
         Ok(Plan {
-            job,
+            topology,
+            samples,
+            script,
             ancestors,
             expected,
             faults,
@@ -171,15 +170,15 @@ impl Plan {
     pub fn invariant(&self)
         ensures { IsPlan self.now }
     {
-        // for the proof: the invariant of the field
-        let _ = &self.job;
+        // for the proof: the invariant of the value
+        let _ = &self.topology;
     }
 
     /// How many nodes there are: 2 to `NODE_LIMIT`.
     pub fn nodes(&self) -> u32
         ensures { result ≡ nodes self.now }
     {
-        self.job.topology().nodes()
+        self.topology.nodes()
     }
 
     /// The front end: the one node without a parent.
@@ -187,7 +186,7 @@ impl Plan {
         ensures value { result ≡ front self.now }
         ensures node { result < nodes self.now }
     {
-        self.job.topology().front()
+        self.topology.front()
     }
 
     /// The name of a node.
@@ -195,14 +194,14 @@ impl Plan {
         requires { n < nodes self.now }
         ensures { result.now ≡ name_of self.now.names n }
     {
-        self.job.topology().name(n)
+        self.topology.name(n)
     }
 
     /// The number of the node with this name.
     pub fn number_of(&self, name: &[u8]) -> Option<u32>
         ensures { result ≡ number_of name.now self.now.names }
     {
-        self.job.topology().number_of(name)
+        self.topology.number_of(name)
     }
 
     /// Whether a node is a daemon: it has no children.
@@ -210,7 +209,7 @@ impl Plan {
         requires { n < nodes self.now }
         ensures { result ≡ is_daemon self.now.parents n }
     {
-        self.job.topology().is_daemon(n)
+        self.topology.is_daemon(n)
     }
 
     /// A node's ancestors, nearest first: at most `DEPTH_LIMIT`, the last of them the front end.
@@ -218,7 +217,7 @@ impl Plan {
         requires { n < nodes self.now }
         ensures { result.now ≡ ancestors self.now n }
     {
-        row_at(&self.ancestors, n)
+        self.ancestors[n as usize].as_slice()
     }
 
     /// Whether node `m` is an ancestor of node `n`.
@@ -234,15 +233,15 @@ impl Plan {
         requires { n < nodes self.now }
         ensures { result.now ≡ ranks self.now n }
     {
-        self.job.invariant();
-        &self.job.placed()[n as usize]
+        self.invariant();
+        &self.samples.placed()[n as usize]
     }
 
     /// The streams, ascending by number.
     pub fn streams(&self) -> &[StreamDef]
         ensures { result.now ≡ self.now.streams }
     {
-        self.job.streams()
+        self.script.streams()
     }
 
     /// The stream of this number, where the plan has one.
@@ -272,8 +271,8 @@ impl Plan {
         requires stream { IsSome (stream_of self.now s) }
         ensures { result.now ≡ expected self.now n s }
     {
-        match stream_index(self.job.streams(), s) {
-            Some(i) => set_at(&self.expected, i, n),
+        match stream_index(self.script.streams(), s) {
+            Some(i) => &self.expected[i][n as usize],
             None => unreachable!(),
         }
     }
@@ -294,7 +293,7 @@ impl Plan {
     pub fn faults(&self) -> &[Fault]
         ensures { result.now ≡ self.now.faults }
     {
-        self.job.faults()
+        self.script.faults()
     }
 
     /// When a node is to be lost, if it is.
@@ -315,8 +314,8 @@ impl Plan {
             (wave_lines_view own)) }
         ensures numbered { IfOk result AreNumbered }
     {
-        self.job.invariant();
-        self.job.own_lines(n, times)
+        self.invariant();
+        self.samples.own_lines(n, times)
     }
 
     /// The wanted samples, one line for each path in which ranks were seen, in the order of the paths.
@@ -328,7 +327,7 @@ impl Plan {
             wanted.entry.ranks.now self.now.lines (wave_lines_view all)) }
         ensures numbered { IfOk result AreNumbered }
     {
-        self.job.invariant();
-        self.job.wave_lines(alloc, wanted)
+        self.invariant();
+        self.samples.wave_lines(alloc, wanted)
     }
 }

@@ -1,10 +1,10 @@
 //! What a samples text says: where the ranks are, and the paths that they were seen in.
 
-ghost use Rattle.std.specs.Prelude.{◌≡◌, ◌<◌, ◌*◌, ℕ, true, IfOk, length, map, slice_index_or};
+ghost use Rattle.std.specs.Prelude.{◌≡◌, ◌<◌, ℕ, IfOk, length, map, slice_index_or};
 ghost use Rattle.rank_set.specs.Ranks.{Has, none};
 ghost use Rattle.overlay_setup.specs.NodeSets.{In};
 ghost use Rattle.call_path.specs.Functions.{func};
-ghost use Rattle.stat_plan.specs.Samples.{is_in_wave, path_by};
+ghost use Rattle.stat_plan.specs.Samples.{path_by};
 ghost use Rattle.stat_plan.specs.Shown.{AreLinesParted, AreNumbered, held_lines, lines_view, wave_lines_view};
 ghost use Rattle.stat_plan.specs.Invariants.{AreSamples};
 ghost use Rattle.stat_plan.specs.OwnLines.{AreWaveLines, HasRankOn};
@@ -15,8 +15,8 @@ use crate::line_list::LineList;
 use crate::parted_lines::{PartedLines, parted_lines};
 use crate::path_order::{in_order, path_places};
 use crate::wave_lines::{HeldLines, Wanted, node_lines, united_lines};
-use call_path::CallPath;
-use overlay_setup::Grain;
+use call_path::{CallPath, functions_of};
+use overlay_setup::{Grain, WaveTimes};
 use rank_set::RankSet;
 use std::alloc::{AllocError, Global};
 use std::marker::Model;
@@ -67,44 +67,6 @@ impl<'a> Lines<'a> {
             Grain::Line => self.paths,
             Grain::Function => self.functions,
         }
-    }
-}
-
-// The functions of some paths.
-fn functions_of(alloc: Global, paths: &[CallPath]) -> Result<Vec<CallPath>, AllocError>
-    ensures { IfOk result (λ all. all.items ≡ map (map func) paths.now) }
-{
-    let mut all = Vec::with_capacity(alloc, paths.len())?;
-    for path in paths {
-        all.push(path.functions()?)?;
-    }
-    Ok(all)
-}
-
-/// The sample times of a wave.
-#[derive(Clone, Copy)]
-pub struct WaveTimes {
-    /// How many sample times each wave of the stream has.
-    pub samples: u8,
-    /// The number of the wave, from 0.
-    pub wave: u8,
-}
-
-impl WaveTimes {
-    /// The first of the times.
-    pub fn first(self) -> u32
-        ensures value { result ≡ self.wave * self.samples }
-        ensures of_wave { 0 < self.samples → is_in_wave self.samples self.wave result ≡ true }
-    {
-        u32::from(self.wave) * u32::from(self.samples)
-    }
-
-    /// Whether a time is one of them.
-    pub fn contains(self, time: u32) -> bool
-        ensures { result ≡ is_in_wave self.samples self.wave time }
-    {
-        let first = self.first();
-        first <= time && time < first + u32::from(self.samples)
     }
 }
 
@@ -172,7 +134,7 @@ impl Model for Samples {
     ghost use Rattle.stat_plan.specs.Invariants.{AreSamples};
     ghost use Rattle.stat_plan.specs.OwnLines.{AreIndexed, AreParted, ranks_of_lines};
     ghost use Rattle.stat_plan.specs.PathOrder.{IsOrderOf};
-    ghost use Rattle.stat_plan.specs.Tables.{rows_view};
+    ghost use Rattle.overlay_setup.specs.Tables.{rows_view};
 
     ghost view = { λ a. sampled a.placed.items (lines_of a.paths.items a.lines.value) };
 
@@ -186,10 +148,10 @@ impl Model for Samples {
 }
 
 impl Samples {
-    ghost use Rattle.stat_plan.specs.StackLines.{lines_of, PathIndicesInRange, line_of};
+    ghost use Rattle.stat_plan.specs.StackLines.{lines_of, PathIndicesInRange};
 
-    /// The samples of these ranks by node number, and these lines, whose paths stand by their numbers. The lines are kept
-    /// parted alone: their list is let go.
+    /// The samples of these ranks by node number, and these lines, whose paths stand by their numbers. The lines are
+    /// kept parted alone: their list is let go.
     pub fn new(
         alloc: Global,
         placed: Vec<RankSet>,

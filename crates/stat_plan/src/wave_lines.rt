@@ -6,12 +6,13 @@ ghost use Rattle.rank_set.specs.Ranks.{Has, IsSubset, has};
 ghost use Rattle.overlay_setup.specs.NodeSets.{In};
 ghost use Rattle.stat_plan.specs.OwnLines.{AreLinesOf, AreNodeLines, GainRanksSeen, GainSeen, ranks_at, ranks_of_lines, row_at};
 ghost use Rattle.stat_plan.specs.Shown.{held_lines};
-ghost use Rattle.stat_plan.specs.Tables.{rows_view};
+ghost use Rattle.overlay_setup.specs.Tables.{rows_view};
 ghost use Rattle.stat_plan.specs.Wanted.{AreWantedLines, AreWantedRanks};
 
 use crate::expected::empty_sets;
 use crate::parted_lines::{PartedLines, sort_row};
-use crate::samples::{StackLine, WaveTimes};
+use crate::samples::StackLine;
+use overlay_setup::WaveTimes;
 use rank_set::RankSet;
 use std::alloc::{AllocError, Global};
 
@@ -206,8 +207,8 @@ pub enum HeldLines<'a> {
     Made(Vec<StackLine>),
 }
 
-/// The samples of a node at the times of a wave, in the order of their paths. Where the node has no part of a spread line
-/// they are its row, which also has lines at other times.
+/// The samples of a node at the times of a wave, in the order of their paths. Where the node has no part of a spread
+/// line they are its row, which also has lines at other times.
 pub fn node_lines<'a>(
     parted: &'a PartedLines,
     places: &[usize],

@@ -9,7 +9,7 @@ use Rattle.packet_frame.specs.Frame.{Message}
 use Rattle.capture_text.specs.Captures.{CaptureLaws, IsRefused, capture_of}
 use Rattle.capture_text.specs.CaptureText.{text_of_capture}
 use Rattle.stat_tool.specs.Call.{IsCaptureRefusal}
-use Rattle.stat_tool.specs.Jobs.{CaptureJob, RunOutput}
+use Rattle.stat_tool.specs.Tasks.{CaptureTask, RunOutput}
 use Rattle.stat_tool.specs.NextStep.{Does, by_capture}
 use Rattle.stat_tool.specs.Outputs.{HasCapture}
 use Rattle.stat_tool.specs.Status.{refusal_of_capture}
@@ -22,7 +22,7 @@ text_in (Err e) = []
 -- bytes that are read as frames are printed, and are these frames to the last byte
 pub printed : (bytes text : List ℕ) (output : RunOutput) (frames : Result (List (Message × ℕ)) Refusal) → CaptureLaws → capture_of bytes ≡ frames → result_map text_of_capture frames ≡ Ok text
     → output.report ≡ text → output.journal ≡ [] → output.unfinished ≡ None → output.journal_text ≡ []
-    → (by_capture bytes (capture_of bytes) ≡ Does (CaptureJob bytes)) × HasCapture bytes output
+    → (by_capture bytes (capture_of bytes) ≡ Does (CaptureTask bytes)) × HasCapture bytes output
 printed bytes text output (Err e) laws is made report journal finished unwritten = absurd (cc)
 printed bytes text output (Ok frames) laws is made report journal finished unwritten = (
   ap (by_capture bytes) is,

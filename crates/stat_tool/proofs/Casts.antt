@@ -7,7 +7,7 @@ use Rattle.control_cast.specs.Casts.{ObeysAll, ObeysInOrder}
 use Rattle.control_cast.specs.Machine.{State, after, IsLegal, IsQuiet}
 use Rattle.control_cast.specs.Picked.{picked}
 use Rattle.cast_text.specs.CastText.{journal_text, report_text}
-use Rattle.stat_tool.specs.Jobs.{RunOutput}
+use Rattle.stat_tool.specs.Tasks.{RunOutput}
 use Rattle.stat_tool.specs.Outputs.{HasCast}
 
 -- the laws of the journal that a seed picks

@@ -19,9 +19,9 @@ use Rattle.stat_words.specs.declared.words.WordFault.{WordFault}
 use Rattle.topology_text.specs.Whole.{topology_of}
 use Rattle.sample_text.specs.Whole.{samples_of_text}
 use Rattle.script_text.specs.Whole.{script_of}
-use Rattle.stat_tool.specs.Call.{Answered, AreTold, Finishes, IsDetermined, all_given, answer_of, answer_of_job, end_of, given}
+use Rattle.stat_tool.specs.Call.{Answered, AreKnown, Finishes, IsDetermined, all_given, answer_of, answer_of_task, end_of, given}
 use Rattle.stat_tool.specs.Files.{NamedFile, files_of, limit_of}
-use Rattle.stat_tool.specs.Jobs.{Job, RunJob, SimJob, ReplayJob, DirectJob, GenJob, CastJob, SumsJob, ViewJob, CaptureJob, RunOutput}
+use Rattle.stat_tool.specs.Tasks.{Task, RunTask, SimTask, ReplayTask, DirectTask, GenTask, CastTask, SumsTask, ViewTask, CaptureTask, RunOutput}
 use Rattle.stat_tool.specs.NextStep.{AfterPlan, Answers, Does, AreReadResults, Step, Wants, at_capture, at_journal, at_samples, at_script, at_values, by_limit, by_samples, by_script, by_topology, next_step, plan_step}
 use Rattle.stat_tool.specs.Outputs.{HasOutput}
 use Rattle.stat_tool.specs.declared.status.Target.TheVariants.{Report, Journal}
@@ -65,7 +65,7 @@ given_first contents f files text is =
     ap (λ (o : Option (List ℕ)). elim o [ None ↦ [] | Some text ↦ given (limit_of f.0) text ∷ all_given contents files ]) is
 
 -- what is read is the first part of what the texts give
-results_begin : (contents : List ℕ → Option (List ℕ)) (files : List NamedFile) (results : List ReadResult) → AreTold contents files → AreReadResults contents files results → BeginsAs results (all_given contents files)
+results_begin : (contents : List ℕ → Option (List ℕ)) (files : List NamedFile) (results : List ReadResult) → AreKnown contents files → AreReadResults contents files results → BeginsAs results (all_given contents files)
 results_begin contents files [] told read = tt
 results_begin contents [] (g ∷ results) told read = absurd read
 results_begin contents (f ∷ files) (g ∷ results) told read =
@@ -81,7 +81,7 @@ results_begin contents (f ∷ files) (g ∷ results) told read =
 abbrev IsSettled : Step → Type 0
 IsSettled (Wants role) = ⊥
 IsSettled (Answers status) = Unit {0}
-IsSettled (Does job) = Unit {0}
+IsSettled (Does task) = Unit {0}
 
 -- after a plan, too
 abbrev IsStable : AfterPlan → Type 0
@@ -159,31 +159,31 @@ capture_stays (g ∷ rest) [] front settled = absurd front
 capture_stays (g ∷ rest) (h ∷ all) front settled = alike_first (λ x. at_capture (x ∷ all)) (λ bytes others. refl) g h front.0 ∙ same_capture g rest all
 
 step_stays : (asked : Asked) (results all : List ReadResult) → BeginsAs results all → IsSettled (next_step asked results) → next_step asked all ≡ next_step asked results
-step_stays (Run names workers wanted) results all front settled = plan_stays (λ p rest. Does (RunJob p wanted)) (λ p rest all front settled. refl) results all front settled
-step_stays (Sim names seed wanted) results all front settled = plan_stays (λ p rest. Does (SimJob p seed wanted)) (λ p rest all front settled. refl) results all front settled
+step_stays (Run names workers wanted) results all front settled = plan_stays (λ p rest. Does (RunTask p wanted)) (λ p rest all front settled. refl) results all front settled
+step_stays (Sim names seed wanted) results all front settled = plan_stays (λ p rest. Does (SimTask p seed wanted)) (λ p rest all front settled. refl) results all front settled
 step_stays (Replay names journal wanted) results all front settled = plan_stays (at_journal wanted) (journal_stays wanted) results all front settled
-step_stays (Direct names workers form) results all front settled = plan_stays (λ p rest. Does (DirectJob p form)) (λ p rest all front settled. refl) results all front settled
+step_stays (Direct names workers form) results all front settled = plan_stays (λ p rest. Does (DirectTask p form)) (λ p rest all front settled. refl) results all front settled
 step_stays (Gen size seed) results all front settled = refl
-step_stays (Cast names seed commands) results all front settled = plan_stays (λ p rest. Does (CastJob p seed commands)) (λ p rest all front settled. refl) results all front settled
+step_stays (Cast names seed commands) results all front settled = plan_stays (λ p rest. Does (CastTask p seed commands)) (λ p rest all front settled. refl) results all front settled
 step_stays (Sums names seed wanted) results all front settled = plan_stays (at_values seed wanted) (values_stay seed wanted) results all front settled
-step_stays (View names seed wanted) results all front settled = plan_stays (λ p rest. Does (ViewJob p seed wanted)) (λ p rest all front settled. refl) results all front settled
+step_stays (View names seed wanted) results all front settled = plan_stays (λ p rest. Does (ViewTask p seed wanted)) (λ p rest all front settled. refl) results all front settled
 step_stays (Frames capture) results all front settled = capture_stays results all front settled
 
 -- ---- the answers
 
 -- a job ends as its output says
-end_of_job : (job : Job) (output : RunOutput) → HasOutput job output → end_of output.unfinished ≡ answer_of_job job
-end_of_job (RunJob p wanted) output has = ap end_of has.finished
-end_of_job (SimJob p seed wanted) output has = ap end_of has.0.finished
-end_of_job (ReplayJob p events wanted) output has = ap end_of has.unfinished
-end_of_job (DirectJob p form) output has = ap end_of has.finished
-end_of_job (GenJob size seed) output has = ap end_of has.finished
-end_of_job (CastJob p seed commands) output has = ap end_of has.finished
-end_of_job (SumsJob p v seed f form) output has = ap end_of has.finished
-end_of_job (ViewJob p seed wanted) output has = ap end_of has.finished
-end_of_job (CaptureJob bytes) output has = ap end_of has.finished
+end_of_task : (task : Task) (output : RunOutput) → HasOutput task output → end_of output.unfinished ≡ answer_of_task task
+end_of_task (RunTask p wanted) output has = ap end_of has.finished
+end_of_task (SimTask p seed wanted) output has = ap end_of has.0.finished
+end_of_task (ReplayTask p events wanted) output has = ap end_of has.unfinished
+end_of_task (DirectTask p form) output has = ap end_of has.finished
+end_of_task (GenTask size seed) output has = ap end_of has.finished
+end_of_task (CastTask p seed commands) output has = ap end_of has.finished
+end_of_task (SumsTask p v seed f form) output has = ap end_of has.finished
+end_of_task (ViewTask p seed wanted) output has = ap end_of has.finished
+end_of_task (CaptureTask bytes) output has = ap end_of has.finished
 
-module _ (asked : Asked) (contents : List ℕ → Option (List ℕ)) (told : AreTold contents (files_of asked)) where
+module _ (asked : Asked) (contents : List ℕ → Option (List ℕ)) (told : AreKnown contents (files_of asked)) where
   answers : (results : List ReadResult) (next : Step) → AreReadResults contents (files_of asked) results → next_step asked results ≡ next → IsSettled next → answer_of next ≡ answer_of (next_step asked (all_given contents (files_of asked)))
   answers results next read is settled =
       ap answer_of (sym is)
@@ -191,7 +191,7 @@ module _ (asked : Asked) (contents : List ℕ → Option (List ℕ)) (told : Are
 
   finishes : (results : List ReadResult) (out journal : Change SinkSeen) (events : List Event) (status : Status) (f : Finishes (next_step asked results) out journal events status) → AreReadResults contents (files_of asked) results → status ≡ end_of f.output.unfinished
       → status ≡ answer_of (next_step asked (all_given contents (files_of asked)))
-  finishes results out journal events status f read ends = ends ∙ end_of_job f.job f.output f.is_output ∙ answers results (Does f.job) read f.step tt
+  finishes results out journal events status f read ends = ends ∙ end_of_task f.task f.output f.is_output ∙ answers results (Does f.task) read f.step tt
 
 -- the texts determine the answer, where nothing fails
 pub determined : (asked : Asked) (desk : Change DeskSeen) (out journal : Change SinkSeen) (events : List Event) (status : Status) → Answered (Ok asked) desk out journal events status → IsDetermined (Ok asked) desk out journal status

@@ -36,7 +36,7 @@ use Rattle.stat_words.specs.Words.{AskedView}
 use Rattle.stat_words.specs.declared.words.ReportForm.{ReportForm}
 use Rattle.stat_words.specs.declared.words.RunReport.{RunReport}
 use Rattle.stat_words.specs.declared.words.RunReport.TheVariants.{Releases, Frames}
-use Rattle.stat_tool.specs.Jobs.{RunOutput, ReplayJob}
+use Rattle.stat_tool.specs.Tasks.{RunOutput, ReplayTask}
 use Rattle.stat_tool.specs.Call.{IsEventRefusal, IsJobRefusal}
 use Rattle.stat_tool.specs.NextStep.{Answers, Does, by_bad_line, by_refused, first_refused, replay_step}
 use Rattle.stat_tool.specs.Outputs.{HasRun, HasSummary, HasSums, HasView, IsReplay, IsReplayed}
@@ -166,7 +166,7 @@ pub picked_is_quiet : (q p : Plan) (seed : ℕ) (journal : List Event) → IsPla
 picked_is_quiet q p seed journal plan same is = subst (λ (es : List Event). IsQuiet p (after p es)) (sym (is ∙ ap (λ (p : Plan). picked p seed) same)) (picked_is_whole p seed (plan_facts p plan)).1
 
 -- where a journal is read to its end and no event is refused, it is replayed
-pub replay_accepted : (p : Plan) (wanted : RunReport) (read : ReadJournal) → first_refused p (start p) read.events ≡ None → read.bad ≡ None → replay_step p wanted read ≡ Does (ReplayJob p read.events wanted)
+pub replay_accepted : (p : Plan) (wanted : RunReport) (read : ReadJournal) → first_refused p (start p) read.events ≡ None → read.bad ≡ None → replay_step p wanted read ≡ Does (ReplayTask p read.events wanted)
 replay_accepted p wanted read accepted whole = ap (by_refused p wanted read) accepted ∙ ap (by_bad_line p wanted read.events) whole
 
 -- at a bad line it isn't
@@ -197,9 +197,9 @@ no_bad_line (Some i) other = absurd (other i refl)
 
 -- a replay that has come to its end
 pub replay_made : (p : Plan) (wanted : RunReport) (read : ReadJournal) (output : RunOutput) → first_refused p (start p) read.events ≡ None → read.bad ≡ None → output.journal ≡ read.events → IsReplay p read.events wanted output
-    → (replay_step p wanted read ≡ Does (ReplayJob p output.journal wanted)) × IsReplay p output.journal wanted output
+    → (replay_step p wanted read ≡ Does (ReplayTask p output.journal wanted)) × IsReplay p output.journal wanted output
 replay_made p wanted read output accepted whole same is = (
-  replay_accepted p wanted read accepted whole ∙ ap (λ (es : List Event). Does (ReplayJob p es wanted)) (sym same),
+  replay_accepted p wanted read accepted whole ∙ ap (λ (es : List Event). Does (ReplayTask p es wanted)) (sym same),
   subst (λ (es : List Event). IsReplay p es wanted output) (sym same) is,
 )
 

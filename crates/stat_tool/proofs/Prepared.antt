@@ -12,9 +12,9 @@ use Rattle.stat_words.specs.Words.{Replay, Sums, Frames}
 use Rattle.stat_words.specs.declared.words.RunReport.{RunReport}
 use Rattle.stat_desk.specs.Change.{Change}
 use Rattle.stat_desk.specs.Desk.{Bytes, DeskSeen, HasGiven, ReadResult, TooLong}
-use Rattle.stat_tool.specs.Call.{HasJournal, HasNoJournal, HasRead, IsCaptureRefusal, IsJobRefusal, IsPlanned, IsStopped, IsWhyItStops, LeadsTo, Prepared, Prevented, Prevents, Refuses, StopsAt, Tells, WantsFile}
+use Rattle.stat_tool.specs.Call.{HasJournal, HasNoJournal, HasRead, IsCaptureRefusal, IsJobRefusal, IsPlanned, IsStopped, IsWhyItStops, LeadsTo, Prepared, Prevented, Prevents, Refuses, StopsAt, ReadsAs, WantsFile}
 use Rattle.stat_tool.specs.Files.{NamedFile, limit_of, names_in, plan_files}
-use Rattle.stat_tool.specs.Jobs.{Job, ReplayJob, SumsJob, CaptureJob, RunOutput}
+use Rattle.stat_tool.specs.Tasks.{Task, ReplayTask, SumsTask, CaptureTask, RunOutput}
 use Rattle.stat_tool.specs.NextStep.{AfterPlan, Answers, AreReadResults, Does, Step, Wants, at_capture, at_journal, at_values, by_capture, by_values, plan_step, replay_step, too_long, values_of}
 use Rattle.stat_tool.specs.Outputs.{HasOutput}
 use Rattle.stat_tool.specs.Status.{refusal_of}
@@ -76,9 +76,9 @@ get_left (g ∷ files) more (suc i) f is = get_left files more i f is
 -- ---- where there is no plan, whatever the mode
 
 -- of a mode that reads the files of a plan alone
-pub job_stops : (names : Names) (job : Plan → Job) (desk : Change DeskSeen) (status : Status) → IsStopped (plan_files names) desk status
-    → IsWhyItStops (plan_files names) (λ results. plan_step results (λ p rest. Does (job p))) desk status
-job_stops names job desk status s = (s.0, s.1 (λ p rest. Does (job p)))
+pub task_stops : (names : Names) (task : Plan → Task) (desk : Change DeskSeen) (status : Status) → IsStopped (plan_files names) desk status
+    → IsWhyItStops (plan_files names) (λ results. plan_step results (λ p rest. Does (task p))) desk status
+task_stops names task desk status s = (s.0, s.1 (λ p rest. Does (task p)))
 
 -- of a mode that reads one file more
 abbrev pub files_and : Names → FileRole → List ℕ → List NamedFile
@@ -121,21 +121,21 @@ pub all_read : (names : Names) (after : AfterPlan) (desk : Change DeskSeen) (p :
 all_read names after desk p planned = record { gave = planned.gave; contents = planned.contents; count = 3; asked = planned.asked; each_gave = (omega (arith), omega (arith)); in_turn = planned.in_turn after }
 
 -- of a mode that reads the files of a plan alone
-pub job_prepared : (names : Names) (job : Plan → Job) (desk : Change DeskSeen) (p : Plan) (output : RunOutput) → IsPlanned names desk p → HasOutput (job p) output
-    → LeadsTo (plan_files names) (λ results. plan_step results (λ p rest. Does (job p))) desk output
-job_prepared names job desk p output planned has = record {
+pub task_prepared : (names : Names) (task : Plan → Task) (desk : Change DeskSeen) (p : Plan) (output : RunOutput) → IsPlanned names desk p → HasOutput (task p) output
+    → LeadsTo (plan_files names) (λ results. plan_step results (λ p rest. Does (task p))) desk output
+task_prepared names task desk p output planned has = record {
   results = Bytes planned.topology ∷ Bytes planned.samples ∷ Bytes planned.script ∷ [];
-  read = all_read names (λ p rest. Does (job p)) desk p planned;
+  read = all_read names (λ p rest. Does (task p)) desk p planned;
   all_read = planned.asked;
-  job = job p;
-  step = step_at names desk p planned (λ p rest. Does (job p));
+  task = task p;
+  step = step_at names desk p planned (λ p rest. Does (task p));
   is_output = has;
 }
 
 -- the same, where memory runs out then
-pub job_no_memory : (names : Names) (job : Plan → Job) (desk : Change DeskSeen) (p : Plan) → IsPlanned names desk p
-    → IsWhyItStops (plan_files names) (λ results. plan_step results (λ p rest. Does (job p))) desk OutOfMemory
-job_no_memory names job desk p planned = (Bytes planned.topology ∷ Bytes planned.samples ∷ Bytes planned.script ∷ [], (all_read names (λ p rest. Does (job p)) desk p planned, tt))
+pub task_no_memory : (names : Names) (task : Plan → Task) (desk : Change DeskSeen) (p : Plan) → IsPlanned names desk p
+    → IsWhyItStops (plan_files names) (λ results. plan_step results (λ p rest. Does (task p))) desk OutOfMemory
+task_no_memory names task desk p planned = (Bytes planned.topology ∷ Bytes planned.samples ∷ Bytes planned.script ∷ [], (all_read names (λ p rest. Does (task p)) desk p planned, tt))
 
 -- ---- the file behind those of a plan
 
@@ -192,13 +192,13 @@ module _ (names : Names) (role : FileRole) (name : List ℕ) (after : AfterPlan)
   last_no_memory bytes given = (before ++ Bytes bytes ∷ [], (last_read bytes given, tt))
 
   -- the job that it leads to
-  pub last_prepared : (bytes : List ℕ) (job : Job) (output : RunOutput) → HasGiven (from mid now) name (limit_of role) (Bytes bytes) → after p (Bytes bytes ∷ []) ≡ Does job → HasOutput job output
+  pub last_prepared : (bytes : List ℕ) (task : Task) (output : RunOutput) → HasGiven (from mid now) name (limit_of role) (Bytes bytes) → after p (Bytes bytes ∷ []) ≡ Does task → HasOutput task output
       → LeadsTo (files_and names role name) (λ results. plan_step results after) (from first now) output
-  last_prepared bytes job output given leads has = record {
+  last_prepared bytes task output given leads has = record {
     results = before ++ Bytes bytes ∷ [];
     read = last_read bytes given;
     all_read = given_asked steps (files_and names role name) first mid now role name before last_next (Bytes bytes) given;
-    job = job;
+    task = task;
     step = planned.step (Bytes bytes ∷ []) after ∙ leads;
     is_output = has;
   }
@@ -213,9 +213,9 @@ module _ (names : Names) (journal : List ℕ) (wanted : RunReport) (first mid no
       (last_no_memory names Journal journal (at_journal wanted) (λ p. refl) (λ p bytes. refl) first mid now p planned r.1.0 r.1.1)
 
   module _ (events_read : ReadJournal) (has : HasJournal (from mid now) journal p events_read) where
-    pub replay_prepared : (events : List Event) (output : RunOutput) → replay_step p wanted events_read ≡ Does (ReplayJob p events wanted) → HasOutput (ReplayJob p events wanted) output → Prepared (Replay names journal wanted) (from first now) output
+    pub replay_prepared : (events : List Event) (output : RunOutput) → replay_step p wanted events_read ≡ Does (ReplayTask p events wanted) → HasOutput (ReplayTask p events wanted) output → Prepared (Replay names journal wanted) (from first now) output
     replay_prepared events output leads is =
-        last_prepared names Journal journal (at_journal wanted) (λ p. refl) (λ p bytes. refl) first mid now p planned has.0 (ReplayJob p events wanted) output has.1.0 (ap (replay_step p wanted) has.1.1 ∙ leads) is
+        last_prepared names Journal journal (at_journal wanted) (λ p. refl) (λ p bytes. refl) first mid now p planned has.0 (ReplayTask p events wanted) output has.1.0 (ap (replay_step p wanted) has.1.1 ∙ leads) is
 
     -- why it is not replayed to its end
     pub replay_refused : (status : Status) → IsJobRefusal (replay_step p wanted events_read) status → Prevented (Replay names journal wanted) (from first now) status
@@ -244,10 +244,10 @@ module _ (names : Names) (seed : ℕ) (wanted : AskedSums) (first mid now : Desk
   values_stop status r =
       last_refused names Values wanted.values (at_values seed wanted) (λ p. refl) (λ p bytes. refl) first mid now p planned (values_of p) (λ bytes e is. ap (by_values p seed wanted) is) status r
 
-  module _ (v : Numbers) (has : Tells (from mid now) wanted.values (limit_of Values) (values_of p) v) where
-    pub sums_prepared : (output : RunOutput) → HasOutput (SumsJob p v seed wanted.fold wanted.form) output → Prepared (Sums names seed wanted) (from first now) output
+  module _ (v : Numbers) (has : ReadsAs (from mid now) wanted.values (limit_of Values) (values_of p) v) where
+    pub sums_prepared : (output : RunOutput) → HasOutput (SumsTask p v seed wanted.fold wanted.form) output → Prepared (Sums names seed wanted) (from first now) output
     sums_prepared output is =
-        last_prepared names Values wanted.values (at_values seed wanted) (λ p. refl) (λ p bytes. refl) first mid now p planned has.0 (SumsJob p v seed wanted.fold wanted.form) output has.1.0 (ap (by_values p seed wanted) has.1.1) is
+        last_prepared names Values wanted.values (at_values seed wanted) (λ p. refl) (λ p bytes. refl) first mid now p planned has.0 (SumsTask p v seed wanted.fold wanted.form) output has.1.0 (ap (by_values p seed wanted) has.1.1) is
 
     pub sums_no_memory : Prevented (Sums names seed wanted) (from first now) OutOfMemory
     sums_no_memory = last_no_memory names Values wanted.values (at_values seed wanted) (λ p. refl) (λ p bytes. refl) first mid now p planned has.0 has.1.0
@@ -286,12 +286,12 @@ module _ (capture : List ℕ) (first now : DeskSeen) where
     capture_read : HasRead ((Capture, capture) ∷ []) at_capture (from first now) (Bytes bytes ∷ [])
     capture_read = read_one_more captures ((Capture, capture) ∷ []) first first now Capture capture [] capture_next (Bytes bytes) given tt
 
-    pub capture_prepared : (output : RunOutput) → by_capture bytes (capture_of bytes) ≡ Does (CaptureJob bytes) → HasOutput (CaptureJob bytes) output → Prepared (Frames capture) (from first now) output
+    pub capture_prepared : (output : RunOutput) → by_capture bytes (capture_of bytes) ≡ Does (CaptureTask bytes) → HasOutput (CaptureTask bytes) output → Prepared (Frames capture) (from first now) output
     capture_prepared output leads is = record {
       results = Bytes bytes ∷ [];
       read = capture_read;
       all_read = given_asked captures ((Capture, capture) ∷ []) first first now Capture capture [] capture_next (Bytes bytes) given;
-      job = CaptureJob bytes;
+      task = CaptureTask bytes;
       step = leads;
       is_output = is;
     }

@@ -18,9 +18,9 @@ use Rattle.script_text.specs.Whole.{script_of}
 use Rattle.overlay_event.specs.declared.event.Event.{Event}
 use Rattle.stat_words.specs.Words.{Asked, Names}
 use Rattle.stat_words.specs.declared.words.WordFault.{WordFault}
-use Rattle.stat_tool.specs.Call.{Answered, Explains, HasRead, IsBadText, IsPlanRefusal, IsPlanned, IsStopped, Prepared, Prevents, Refuses, StopsAt, Tells, WantsFile, Written}
+use Rattle.stat_tool.specs.Call.{Answered, Explains, HasRead, IsBadText, IsPlanRefusal, IsPlanned, IsStopped, Prepared, Prevents, Refuses, StopsAt, ReadsAs, WantsFile, Written}
 use Rattle.stat_tool.specs.Files.{NamedFile, files_of, limit_of, names_in, plan_files}
-use Rattle.stat_tool.specs.Jobs.{RunOutput}
+use Rattle.stat_tool.specs.Tasks.{RunOutput}
 use Rattle.stat_tool.specs.NextStep.{AfterPlan, Answers, AreReadResults, Step, Wants, at_samples, at_script, by_samples, by_script, by_topology, next_step, plan_step, with_plan, too_long}
 use Rattle.stat_tool.specs.Status.{refusal_of}
 use Rattle.stat_tool.specs.declared.status.FileRole.{FileRole}
@@ -202,7 +202,7 @@ stops_topology names first now status r =
     stops by_plan (plan_files names) first first now Topology names.topology [] (topology_next names first) (λ bytes after. refl)
     topology_of (λ bytes e is after. ap (λ o. by_topology o [] after) is) status r
 
-module _ (names : Names) (first one : DeskSeen) (t : Nodes) (topology : Tells (from first one) names.topology (limit_of Topology) topology_of t) where
+module _ (names : Names) (first one : DeskSeen) (t : Nodes) (topology : ReadsAs (from first one) names.topology (limit_of Topology) topology_of t) where
   -- the steps from the samples on
   with_nodes : (rest : List ReadResult) (after : AfterPlan) → plan_step (Bytes topology.0 ∷ rest) after ≡ at_samples t rest after
   with_nodes rest after = ap (λ o. by_topology o rest after) topology.1.1
@@ -234,7 +234,7 @@ module _ (names : Names) (first one : DeskSeen) (t : Nodes) (topology : Tells (f
       stops by_plan (plan_files names) first one now Samples names.samples (Bytes topology.0 ∷ []) samples_next (λ bytes. with_nodes (TooLong bytes ∷ []))
       (samples_of_text t) (λ bytes e is after. with_nodes (Bytes bytes ∷ []) after ∙ ap (λ o. by_samples t o [] after) is) status r
 
-  module _ (two : DeskSeen) (s : Sampled) (samples : Tells (from one two) names.samples (limit_of Samples) (samples_of_text t) s) where
+  module _ (two : DeskSeen) (s : Sampled) (samples : ReadsAs (from one two) names.samples (limit_of Samples) (samples_of_text t) s) where
     -- the steps from the script on
     with_samples : (rest : List ReadResult) (after : AfterPlan) → plan_step (Bytes topology.0 ∷ Bytes samples.0 ∷ rest) after ≡ at_script t s rest after
     with_samples rest after = with_nodes (Bytes samples.0 ∷ rest) after ∙ ap (λ o. by_samples t o rest after) samples.1.1
@@ -268,7 +268,7 @@ module _ (names : Names) (first one : DeskSeen) (t : Nodes) (topology : Tells (f
         stops by_plan (plan_files names) first two now Script names.script (Bytes topology.0 ∷ Bytes samples.0 ∷ []) script_next (λ bytes. with_samples (TooLong bytes ∷ []))
         (script_of t) (λ bytes e is after. with_samples (Bytes bytes ∷ []) after ∙ ap (λ o. by_script t s o [] after) is) status r
 
-    module _ (three : DeskSeen) (c : Scripted) (script : Tells (from two three) names.script (limit_of Script) (script_of t) c) where
+    module _ (three : DeskSeen) (c : Scripted) (script : ReadsAs (from two three) names.script (limit_of Script) (script_of t) c) where
       -- what the three files gave
       abbrev all_results : List ReadResult
       all_results = Bytes topology.0 ∷ Bytes samples.0 ∷ Bytes script.0 ∷ []
@@ -318,11 +318,11 @@ module _ (names : Names) (first one : DeskSeen) (t : Nodes) (topology : Tells (f
 pub explained : (asked : Asked) (desk : Change DeskSeen) (out journal : Change SinkSeen) (events : List Event) (output : RunOutput) (status : Status)
     → Prepared asked desk output → Written output out journal status → events ≡ output.journal → Answered (Ok asked) desk out journal events status
 explained asked desk out journal events output Done p w same =
-    (p.results, (p.read, record { job = p.job; output = output; step = p.step; is_output = p.is_output; given = same; written = w }))
+    (p.results, (p.read, record { task = p.task; output = output; step = p.step; is_output = p.is_output; given = same; written = w }))
 explained asked desk out journal events output (Unfinished e) p w same =
-    (p.results, (p.read, record { job = p.job; output = output; step = p.step; is_output = p.is_output; given = same; written = w }))
+    (p.results, (p.read, record { task = p.task; output = output; step = p.step; is_output = p.is_output; given = same; written = w }))
 explained asked desk out journal events output (SinkFault target) p w same =
-    (p.results, (p.read, record { job = p.job; output = output; step = p.step; is_output = p.is_output; given = same; written = w }))
+    (p.results, (p.read, record { task = p.task; output = output; step = p.step; is_output = p.is_output; given = same; written = w }))
 explained asked desk out journal events output OutOfMemory p w same = absurd w
 explained asked desk out journal events output (BadWords fault) p w same = absurd w
 explained asked desk out journal events output (DeskFault role) p w same = absurd w

@@ -16,7 +16,7 @@ use Rattle.journal_text.specs.Reading.{ReadJournal, journal_of}
 use Rattle.stat_words.specs.Words.{Asked, Names, Run, Sim, Cast, asked}
 use Rattle.stat_words.specs.declared.words.WordFault.{WordFault}
 use Rattle.stat_tool.specs.Files.{NamedFile, files_of, limit_of, names_in, plan_files}
-use Rattle.stat_tool.specs.Jobs.{Job, RunJob, SimJob, ReplayJob, DirectJob, GenJob, CastJob, SumsJob, ViewJob, CaptureJob, RunOutput}
+use Rattle.stat_tool.specs.Tasks.{Task, RunTask, SimTask, ReplayTask, DirectTask, GenTask, CastTask, SumsTask, ViewTask, CaptureTask, RunOutput}
 use Rattle.stat_tool.specs.NextStep.{AfterPlan, Answers, AreReadResults, Does, Step, Wants, next_step, plan_step, too_long}
 use Rattle.stat_tool.specs.Outputs.{HasOutput}
 use Rattle.stat_tool.specs.Status.{refusal_of}
@@ -35,7 +35,7 @@ abbrev pub WantsFile : List NamedFile → ℕ → Step → Type 0
 WantsFile files i step = (f : NamedFile) × ((slice_get files i ≡ Some f) × (step ≡ Wants f.0))
 
 -- Files were asked for in turn, from the first of these on: each where what the files before it gave leads to reading it. They
--- gave just these results, which are what the desk has, where it can tell its files; the last one may have given nothing.
+-- gave just these results, which are the files' contents, where these are known; the last one may have given nothing.
 pub record HasRead (files : List NamedFile) (next : List ReadResult → Step) (desk : Change DeskSeen) (results : List ReadResult) : Type 0 where
   pub gave : desk.now.gave ≡ desk.before.gave ++ results
   pub contents : AreReadResults desk.before.contents files results
@@ -56,13 +56,13 @@ Written output out journal (SinkFault Report) = TookPrefix out output.report × 
 Written output out journal (SinkFault Journal) = TookWhole out output.report × TookPrefix journal output.journal_text
 Written output out journal status = ⊥
 
--- The job was run: the files lead to it, and its output is the journal that is returned and what was written. What the
--- output of each job is says `HasOutput`.
+-- The task was done: the files lead to it, and its output is the journal that is returned and what was written. What the
+-- output of each task is says `HasOutput`.
 pub record Finishes (next : Step) (out journal : Change SinkSeen) (events : List Event) (status : Status) : Type 0 where
-  pub job : Job
+  pub task : Task
   pub output : RunOutput
-  pub step : next ≡ Does job
-  pub is_output : HasOutput job output
+  pub step : next ≡ Does task
+  pub is_output : HasOutput task output
   pub given : events ≡ output.journal
   pub written : Written output out journal status
 
@@ -90,7 +90,7 @@ Prevents files desk next (BadJournal i) = next ≡ Answers (BadJournal i)
 Prevents files desk next (BadFrames at reason) = next ≡ Answers (BadFrames at reason)
 Prevents files desk next status = ⊥
 
--- Why a call has a status and returns events, and what it leaves in the sinks: it ran the job, or it stopped before it wrote.
+-- Why a call has a status and returns events, and what it leaves in the sinks: it did the task, or it stopped before it wrote.
 abbrev pub Explains : List NamedFile → Change DeskSeen → Change SinkSeen → Change SinkSeen → Step → List Event → Status → Type 0
 Explains files desk out journal next events Done = Finishes next out journal events Done
 Explains files desk out journal next events (Unfinished e) = Finishes next out journal events (Unfinished e)
@@ -111,42 +111,42 @@ Answered (Ok asked) desk out journal events status =
 abbrev pub given : ℕ → List ℕ → ReadResult
 given limit text = if nat_le (length text) limit then Bytes text else TooLong text
 
--- what reads of all these files return, where the desk can tell them and nothing fails
+-- what reads of all these files return, where their contents are known and nothing fails
 abbrev pub all_given : (List ℕ → Option (List ℕ)) → List NamedFile → List ReadResult
 all_given contents [] = []
 all_given contents (f ∷ files) = elim (contents f.1) [ None ↦ [] | Some text ↦ given (limit_of f.0) text ∷ all_given contents files ]
 
--- the desk can tell all these files
-abbrev pub AreTold : (List ℕ → Option (List ℕ)) → List NamedFile → Type 0
-AreTold contents files = (f : NamedFile) → In f files → (text : List ℕ) × (contents f.1 ≡ Some text)
+-- the contents of all these files are known
+abbrev pub AreKnown : (List ℕ → Option (List ℕ)) → List NamedFile → Type 0
+AreKnown contents files = (f : NamedFile) → In f files → (text : List ℕ) × (contents f.1 ≡ Some text)
 
 -- a replay that ends early says which event may come next
 abbrev pub end_of : Option Event → Status
 end_of None = Done
 end_of (Some e) = Unfinished e
 
--- the answer of a job, where nothing fails
-abbrev pub answer_of_job : Job → Status
-answer_of_job (RunJob p wanted) = Done
-answer_of_job (SimJob p seed wanted) = Done
-answer_of_job (ReplayJob p events wanted) = end_of (slice_get (enabled_events p (after p events)) 0)
-answer_of_job (DirectJob p form) = Done
-answer_of_job (GenJob size seed) = Done
-answer_of_job (CastJob p seed commands) = Done
-answer_of_job (SumsJob p v seed f form) = Done
-answer_of_job (ViewJob p seed wanted) = Done
-answer_of_job (CaptureJob bytes) = Done
+-- the answer of a task, where nothing fails
+abbrev pub answer_of_task : Task → Status
+answer_of_task (RunTask p wanted) = Done
+answer_of_task (SimTask p seed wanted) = Done
+answer_of_task (ReplayTask p events wanted) = end_of (slice_get (enabled_events p (after p events)) 0)
+answer_of_task (DirectTask p form) = Done
+answer_of_task (GenTask size seed) = Done
+answer_of_task (CastTask p seed commands) = Done
+answer_of_task (SumsTask p v seed f form) = Done
+answer_of_task (ViewTask p seed wanted) = Done
+answer_of_task (CaptureTask bytes) = Done
 
 -- the answer that a step leads to, where nothing fails
 abbrev pub answer_of : Step → Status
-answer_of (Does job) = answer_of_job job
+answer_of (Does task) = answer_of_task task
 answer_of (Answers status) = status
 answer_of (Wants role) = OutOfMemory
 
--- Where the desk can tell the files and nothing fails, they determine the answer, running out of memory aside.
+-- Where the contents of the files are known and nothing fails, they determine the answer, running out of memory aside.
 abbrev pub IsDetermined : Result Asked WordFault → Change DeskSeen → Change SinkSeen → Change SinkSeen → Status → Type 0
 IsDetermined (Err fault) desk out journal status = Unit {0}
-IsDetermined (Ok asked) desk out journal status = AreTold desk.before.contents (files_of asked)
+IsDetermined (Ok asked) desk out journal status = AreKnown desk.before.contents (files_of asked)
     → ¬ Rose desk.before.faults desk.now.faults → ¬ Rose out.before.faults out.now.faults
     → ¬ Rose journal.before.faults journal.now.faults
     → (status ≡ answer_of (next_step asked (all_given desk.before.contents (files_of asked)))) ⊎ (status ≡ OutOfMemory)
@@ -176,8 +176,8 @@ Refuses role name desk (OverLimit file line what most) =
 Refuses role name desk status = ⊥
 
 -- the file of this name was read as this
-abbrev pub Tells : {A : Type 0} → Change DeskSeen → List ℕ → ℕ → (List ℕ → Result A TextError) → A → Type 0
-Tells desk name limit read x = (bytes : List ℕ) × (HasGiven desk name limit (Bytes bytes) × (read bytes ≡ Ok x))
+abbrev pub ReadsAs : {A : Type 0} → Change DeskSeen → List ℕ → ℕ → (List ℕ → Result A TextError) → A → Type 0
+ReadsAs desk name limit read x = (bytes : List ℕ) × (HasGiven desk name limit (Bytes bytes) × (read bytes ≡ Ok x))
 
 -- why a text that was read has no value: memory ran out, or its first error makes this status
 abbrev pub IsBadText : {A : Type 0} → (List ℕ → Result A TextError) → FileRole → List ℕ → Status → Type 0
@@ -193,9 +193,9 @@ pub record LeadsTo (files : List NamedFile) (next : List ReadResult → Step) (d
   pub results : List ReadResult
   pub read : HasRead files next desk results
   pub all_read : AreAllRead (names_in files) desk
-  pub job : Job
-  pub step : next results ≡ Does job
-  pub is_output : HasOutput job output
+  pub task : Task
+  pub step : next results ≡ Does task
+  pub is_output : HasOutput task output
 
 -- what these files gave is why the call stops
 abbrev pub IsWhyItStops : List NamedFile → (List ReadResult → Step) → Change DeskSeen → Status → Type 0
@@ -235,7 +235,7 @@ IsPlanRefusal next OutOfMemory = Unit {0}
 IsPlanRefusal next (OverLimit file line what most) = (after : AfterPlan) → next after ≡ Answers (OverLimit file line what most)
 IsPlanRefusal next status = ⊥
 
--- why a job that the files lead to has no output: memory is out, or the journal is refused
+-- why a task that the files lead to has no output: memory is out, or the journal is refused
 abbrev pub IsJobRefusal : Step → Status → Type 0
 IsJobRefusal next OutOfMemory = Unit {0}
 IsJobRefusal next (BadJournal i) = next ≡ Answers (BadJournal i)

@@ -1,6 +1,6 @@
 pub mod Status
 pub mod Files
-pub mod Jobs
+pub mod Tasks
 pub mod NextStep
 pub mod Reports
 pub mod Outputs

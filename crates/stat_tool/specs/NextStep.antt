@@ -23,18 +23,18 @@ use Rattle.stat_words.specs.Words.{Asked, AskedSums}
 use Rattle.stat_words.specs.Words.{Run, Sim, Replay, Direct, Gen, Cast, Sums, View, Frames}
 use Rattle.stat_words.specs.declared.words.RunReport.{RunReport}
 use Rattle.stat_tool.specs.Files.{NamedFile, limit_of}
-use Rattle.stat_tool.specs.Jobs.{Job, RunJob, SimJob, ReplayJob, DirectJob, GenJob, CastJob, SumsJob, ViewJob, CaptureJob}
+use Rattle.stat_tool.specs.Tasks.{Task, RunTask, SimTask, ReplayTask, DirectTask, GenTask, CastTask, SumsTask, ViewTask, CaptureTask}
 use Rattle.stat_tool.specs.Status.{refusal_of}
 use Rattle.stat_tool.specs.declared.status.FileRole.{FileRole}
 use Rattle.stat_tool.specs.declared.status.FileRole.TheVariants.{Topology, Samples, Script, Journal, Capture, Values}
 use Rattle.stat_tool.specs.declared.status.Status.{Status}
 use Rattle.stat_tool.specs.declared.status.Status.TheVariants.{OverLimit, BadJournal, BadFrames}
 
--- what comes next: this file is read, this is the answer, or this job is run
+-- what comes next: this file is read, this is the answer, or this task is done
 pub data Step : Type 0 where
   Wants : FileRole → Step
   Answers : Status → Step
-  Does : Job → Step
+  Does : Task → Step
 
 -- what comes after a plan, by what was read after its three files
 abbrev pub AfterPlan : Type 0
@@ -95,7 +95,7 @@ first_refused p st (e ∷ es) = if is_enabled p st e then option_map suc (first_
 
 -- events that may all come: they are replayed, where no line was bad
 abbrev pub by_bad_line : Plan → RunReport → List Event → Option ℕ → Step
-by_bad_line p wanted events None = Does (ReplayJob p events wanted)
+by_bad_line p wanted events None = Does (ReplayTask p events wanted)
 by_bad_line p wanted events (Some i) = Answers (BadJournal i)
 
 -- an event that may not come comes before the bad line
@@ -121,7 +121,7 @@ values_of p text = values_of_text (all_ranks p.placed) text
 -- by what the numbers were read as
 abbrev pub by_values : Plan → ℕ → AskedSums → Result Numbers TextError → Step
 by_values p seed wanted (Err e) = Answers (refusal_of Values e)
-by_values p seed wanted (Ok v) = Does (SumsJob p v seed wanted.fold wanted.form)
+by_values p seed wanted (Ok v) = Does (SumsTask p v seed wanted.fold wanted.form)
 
 abbrev pub at_values : ℕ → AskedSums → AfterPlan
 at_values seed wanted p [] = Wants Values
@@ -132,7 +132,7 @@ at_values seed wanted p (Bytes text ∷ rest) = by_values p seed wanted (values_
 
 -- the bytes are printed, where they are frames to the last byte
 abbrev pub by_capture : List ℕ → Result (List (Message × ℕ)) Refusal → Step
-by_capture bytes (Ok frames) = Does (CaptureJob bytes)
+by_capture bytes (Ok frames) = Does (CaptureTask bytes)
 by_capture bytes (Err refusal) = Answers (BadFrames refusal.at refusal.reason)
 
 abbrev pub at_capture : List ReadResult → Step
@@ -144,19 +144,19 @@ at_capture (Bytes bytes ∷ rest) = by_capture bytes (capture_of bytes)
 
 -- what is asked for, by what the files gave
 abbrev pub next_step : Asked → List ReadResult → Step
-next_step (Run names workers wanted) results = plan_step results (λ p rest. Does (RunJob p wanted))
-next_step (Sim names seed wanted) results = plan_step results (λ p rest. Does (SimJob p seed wanted))
+next_step (Run names workers wanted) results = plan_step results (λ p rest. Does (RunTask p wanted))
+next_step (Sim names seed wanted) results = plan_step results (λ p rest. Does (SimTask p seed wanted))
 next_step (Replay names journal wanted) results = plan_step results (at_journal wanted)
-next_step (Direct names workers form) results = plan_step results (λ p rest. Does (DirectJob p form))
-next_step (Gen size seed) results = Does (GenJob size seed)
-next_step (Cast names seed commands) results = plan_step results (λ p rest. Does (CastJob p seed commands))
+next_step (Direct names workers form) results = plan_step results (λ p rest. Does (DirectTask p form))
+next_step (Gen size seed) results = Does (GenTask size seed)
+next_step (Cast names seed commands) results = plan_step results (λ p rest. Does (CastTask p seed commands))
 next_step (Sums names seed wanted) results = plan_step results (at_values seed wanted)
-next_step (View names seed wanted) results = plan_step results (λ p rest. Does (ViewJob p seed wanted))
+next_step (View names seed wanted) results = plan_step results (λ p rest. Does (ViewTask p seed wanted))
 next_step (Frames capture) results = at_capture results
 
 -- ---- what the files gave
 
--- these are what the first of these files gave, where the desk can tell them
+-- these are what the first of these files gave, where their contents are known
 abbrev pub AreReadResults : (List ℕ → Option (List ℕ)) → List NamedFile → List ReadResult → Type 0
 AreReadResults contents files [] = Unit {0}
 AreReadResults contents [] (g ∷ gs) = ⊥

@@ -1,4 +1,4 @@
--- What the output of a job may be.
+-- What the output of a task may be.
 use Rattle.std.specs.Prelude.{◌≡◌, ℕ, List, [], slice_get, None}
 use Rattle.stat_plan.specs.Invariants.{IsPlan}
 use Rattle.stat_plan.specs.Plans.{Plan}
@@ -24,7 +24,7 @@ use Rattle.rank_sums.specs.declared.fold.Fold.{Fold}
 use Rattle.stat_words.specs.Words.{AskedView}
 use Rattle.stat_words.specs.declared.words.ReportForm.{ReportForm}
 use Rattle.stat_words.specs.declared.words.RunReport.{RunReport}
-use Rattle.stat_tool.specs.Jobs.{Job, RunJob, SimJob, ReplayJob, DirectJob, GenJob, CastJob, SumsJob, ViewJob, CaptureJob, RunOutput}
+use Rattle.stat_tool.specs.Tasks.{Task, RunTask, SimTask, ReplayTask, DirectTask, GenTask, CastTask, SumsTask, ViewTask, CaptureTask, RunOutput}
 use Rattle.stat_tool.specs.NextStep.{Does, replay_step}
 use Rattle.stat_tool.specs.Reports.{EndsWaves, IsDirectIn, IsReportIn, IsSumsOf, IsViewOf, IsWrittenOf}
 
@@ -42,7 +42,7 @@ pub record IsReplay (p : Plan) (events : List Event) (wanted : RunReport) (outpu
 -- its events may come, and whatever the replay's output is, it is finished and its report is the same, byte for byte.
 pub record IsReplayed (p : Plan) (wanted : RunReport) (output : RunOutput) : Type 0 where
   pub read_back : journal_of p output.journal_text ≡ record { events = output.journal; bad = None }
-  pub accepted : replay_step p wanted (journal_of p output.journal_text) ≡ Does (ReplayJob p output.journal wanted)
+  pub accepted : replay_step p wanted (journal_of p output.journal_text) ≡ Does (ReplayTask p output.journal wanted)
   pub same : (replay : RunOutput) → IsReplay p output.journal wanted replay → (replay.unfinished ≡ None) × (replay.report ≡ output.report)
 
 -- The headline: what a run of a plan returns, on however many workers, and in whatever order they have done its events.
@@ -119,17 +119,17 @@ pub record HasCapture (bytes : List ℕ) (output : RunOutput) : Type 0 where
   pub unwritten : output.journal_text ≡ []
 
 -- The table of the modes. In a simulation the seed picks the events.
-abbrev pub HasOutput : Job → RunOutput → Type 0
-HasOutput (RunJob p wanted) output = HasRun p wanted output
-HasOutput (SimJob p seed wanted) output = HasRun p wanted output × (output.journal ≡ picked p seed)
-HasOutput (ReplayJob p events wanted) output = IsReplay p events wanted output
-HasOutput (DirectJob p form) output = HasDirect p form output
-HasOutput (GenJob size seed) output = HasSummary size seed output
-HasOutput (CastJob p seed commands) output = HasCast p seed commands output
-HasOutput (SumsJob p v seed f form) output = HasSums p v seed f form output
-HasOutput (ViewJob p seed wanted) output = HasView p seed wanted output
-HasOutput (CaptureJob bytes) output = HasCapture bytes output
+abbrev pub HasOutput : Task → RunOutput → Type 0
+HasOutput (RunTask p wanted) output = HasRun p wanted output
+HasOutput (SimTask p seed wanted) output = HasRun p wanted output × (output.journal ≡ picked p seed)
+HasOutput (ReplayTask p events wanted) output = IsReplay p events wanted output
+HasOutput (DirectTask p form) output = HasDirect p form output
+HasOutput (GenTask size seed) output = HasSummary size seed output
+HasOutput (CastTask p seed commands) output = HasCast p seed commands output
+HasOutput (SumsTask p v seed f form) output = HasSums p v seed f form output
+HasOutput (ViewTask p seed wanted) output = HasView p seed wanted output
+HasOutput (CaptureTask bytes) output = HasCapture bytes output
 
 -- what was read of a journal leads to its replay, and this is that replay's output
 abbrev pub ReplaysAs : Plan → RunReport → ReadJournal → RunOutput → Type 0
-ReplaysAs p wanted read output = (replay_step p wanted read ≡ Does (ReplayJob p output.journal wanted)) × HasOutput (ReplayJob p output.journal wanted) output
+ReplaysAs p wanted read output = (replay_step p wanted read ≡ Does (ReplayTask p output.journal wanted)) × HasOutput (ReplayTask p output.journal wanted) output

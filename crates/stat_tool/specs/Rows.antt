@@ -22,7 +22,7 @@ use Rattle.stat_words.specs.declared.words.ReportForm.TheVariants.{Text}
 use Rattle.stat_words.specs.declared.words.RunReport.{RunReport}
 use Rattle.stat_tool.specs.Call.{IsDetermined, Written}
 use Rattle.stat_tool.specs.Files.{limit_of}
-use Rattle.stat_tool.specs.Jobs.{RunOutput}
+use Rattle.stat_tool.specs.Tasks.{RunOutput}
 use Rattle.stat_tool.specs.Outputs.{IsReplay, IsReplayed}
 use Rattle.stat_tool.specs.Reports.{CoveragesGrow, EndsWithAll, IsReportOf}
 use Rattle.stat_tool.specs.declared.status.FileRole.TheVariants.{Capture, Journal, Topology}

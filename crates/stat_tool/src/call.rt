@@ -33,7 +33,7 @@ use std::thread::Threads;
 /// first byte is written. What else was made for them stays allocated, for the system to take back when the program
 /// ends.
 ///
-/// `answered` has the headline: where the status is Done, the files lead to a job, and the journal and the report are
+/// `answered` has the headline: where the status is Done, the files lead to a task, and the journal and the report are
 /// an output of it, `HasOutput`. The bytes of the files are those that the desk's reads gave, each file in its turn,
 /// `HasRead`, and the sinks took just those of the output. Every other status has its cause there, too.
 pub fn stat<R: Threads + Wait + Sync, T: PrefixTree, D: Desk, O: Sink, J: Sink, G: Gate>(

@@ -1,6 +1,6 @@
 //! Commands to the nodes of a plan, in an order that a seed picks.
 ghost use Rattle.std.specs.Prelude.{◌≤◌, IfOk};
-ghost use Rattle.stat_tool.specs.Jobs.{CastJob};
+ghost use Rattle.stat_tool.specs.Tasks.{CastTask};
 ghost use Rattle.stat_tool.specs.Outputs.{HasOutput};
 ghost use Rattle.stat_tool.specs.Views.{output_view};
 
@@ -17,7 +17,7 @@ use std::alloc::{AllocError, Global};
 /// Sends commands down to the nodes of a plan, with the events that a seed picks, until none is enabled.
 pub fn cast_plan(alloc: Global, plan: &Plan, seed: u64, commands: u32) -> Result<Output, AllocError>
     requires commands { commands ≤ 1000 }
-    ensures { IfOk result (λ output. HasOutput (CastJob plan.now seed commands) (output_view output)) }
+    ensures { IfOk result (λ output. HasOutput (CastTask plan.now seed commands) (output_view output)) }
 {
     plan.invariant();
     seeds_pick_one_journal();

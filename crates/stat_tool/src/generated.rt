@@ -1,6 +1,6 @@
 //! A generated job, run with events that its seed picks.
 ghost use Rattle.std.specs.Prelude.{◌≤◌, IfOk};
-ghost use Rattle.stat_tool.specs.Jobs.{GenJob};
+ghost use Rattle.stat_tool.specs.Tasks.{GenTask};
 ghost use Rattle.stat_tool.specs.Outputs.{HasOutput};
 ghost use Rattle.stat_tool.specs.Views.{output_view};
 
@@ -13,7 +13,7 @@ use std::alloc::{AllocError, Global};
 /// Makes the job of a size and a seed, runs it with events that the seed picks, and sums the run up.
 pub fn gen_job<T: PrefixTree>(alloc: Global, size: u16, seed: u64) -> Result<Output, AllocError>
     requires { (1 ≤ size) × (size ≤ 256) }
-    ensures { IfOk result (λ output. HasOutput (GenJob size seed) (output_view output)) }
+    ensures { IfOk result (λ output. HasOutput (GenTask size seed) (output_view output)) }
 {
     let size = u32::from(size);
     let plan = generated_plan(alloc, seed, size)?;

@@ -1,4 +1,20 @@
 //! The top call: from words and files to a report.
+//!
+//! [`stat`] does what the words of the command line ask for. It knows no file, no thread and no tree of its own: a desk
+//! gives the files by name, two sinks take the report and the journal, `rt` makes the threads, and `T` says how trees
+//! are kept. [`run_words`] also tells how the program ends after the call, and [`run_program`] is the program itself,
+//! over the real files and standard output.
+//!
+//! ```text
+//! let outcome = stat::<R, ArenaTree, _, _, _, _>(rt, alloc, &words, &mut desk, &mut out, &mut journal, &gate);
+//! outcome.status     // Done, or what kept the call from it
+//! outcome.journal    // the events of the run, in order
+//! ```
+//!
+//! A contract sees the desk and the sinks by what the call changed: which files were asked for and what they gave, and
+//! which bytes were taken. `Answered` in `specs/Call.antt` is the headline, and can be read aloud. Below it,
+//! `specs/NextStep.antt` says which file is read next, `specs/Files.antt` what each file comes to, `specs/Tasks.antt`
+//! what there is to do then, `specs/Outputs.antt` what may be written, and `specs/Status.antt` what a refusal says.
 #![tactic(auto)]
 
 mod call;

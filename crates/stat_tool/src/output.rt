@@ -1,4 +1,4 @@
-//! The outputs of the jobs: a journal, a report, and what is written of the journal.
+//! The outputs of the tasks: a journal, a report, and what is written of the journal.
 ghost use Rattle.std.specs.Prelude.{◌≡◌, ◌≤◌, [], None, true, false, IfErr, IfOk, OnOk};
 ghost use Rattle.front_end.specs.Report.{AreDistinct};
 ghost use Rattle.journal_text.specs.Reading.{read_view};
@@ -9,7 +9,7 @@ ghost use Rattle.overlay_core.specs.TreeReleases.{AreNumberedInOrder, releases_v
 ghost use Rattle.overlay_net.specs.Nets.{AllHome, IsReachedBy};
 ghost use Rattle.overlay_run.specs.Boards.{IsWholeRun};
 ghost use Rattle.stat_tool.specs.Call.{IsCaptureRefusal, IsEventRefusal, IsJobRefusal};
-ghost use Rattle.stat_tool.specs.Jobs.{CaptureJob, DirectJob, ReplayJob, RunJob, SimJob};
+ghost use Rattle.stat_tool.specs.Tasks.{CaptureTask, DirectTask, ReplayTask, RunTask, SimTask};
 ghost use Rattle.stat_tool.specs.NextStep.{Does, by_capture, first_refused, replay_step};
 ghost use Rattle.stat_tool.specs.Outputs.{HasOutput, HasRun, ReplaysAs};
 ghost use Rattle.stat_tool.specs.Reports.{IsReportIn, IsWrittenIn, losses_of};
@@ -35,7 +35,7 @@ use std::mem;
 use std::thread::Threads;
 use wide_report::{WideDirect, WideReport, wide_direct, wide_json, wide_text};
 
-/// What a job has made.
+/// What a task has made.
 #[derive(Drop)]
 pub struct Output {
     /// The event that may come next, where a replayed journal ends early.
@@ -48,8 +48,8 @@ pub struct Output {
     pub journal_text: Vec<u8>,
 }
 
-/// Leaves a value's memory to the system, which takes all memory back at once when the program ends. To give it back piece
-/// by piece would cost a fiftieth of a run.
+/// Leaves a value's memory to the system, which takes all memory back at once when the program ends. To give it back
+/// piece by piece would cost a fiftieth of a run.
 pub fn leave<X: Drop>(value: X) {
     mem::forget(value);
 }
@@ -75,7 +75,7 @@ pub fn run_output<R: Threads + Sync, T: PrefixTree, G: Gate>(
 ) -> Result<Output, AllocError>
     requires workers { 1 ≤ workers }
     requires whole { IsWholeRun plan.now ran.journal (releases_view T.tree ran.releases.items) }
-    ensures { IfOk result (λ output. HasOutput (RunJob plan.now wanted) (output_view output)) }
+    ensures { IfOk result (λ output. HasOutput (RunTask plan.now wanted) (output_view output)) }
 {
     plan.invariant();
     let Ran { journal, releases } = ran;
@@ -149,7 +149,7 @@ pub fn sim_plan<T: PrefixTree>(
     seed: u64,
     wanted: RunReport,
 ) -> Result<Output, AllocError>
-    ensures { IfOk result (λ output. HasOutput (SimJob plan.now seed wanted) (output_view output)) }
+    ensures { IfOk result (λ output. HasOutput (SimTask plan.now seed wanted) (output_view output)) }
 {
     plan.invariant();
     let mut net: Net<'_, T> = Net::new(alloc, plan)?;
@@ -224,7 +224,7 @@ fn replayed<T: PrefixTree>(
     requires usable { net.now.failed ≡ false }
     requires reached { IsReachedBy net.now journal }
     requires home { AllHome net.now }
-    ensures replay { IfOk result (λ output. HasOutput (ReplayJob plan.now journal wanted) (output_view output)) }
+    ensures replay { IfOk result (λ output. HasOutput (ReplayTask plan.now journal wanted) (output_view output)) }
     ensures journal { IfOk result (λ output. output.journal ≡ journal) }
 {
     plan.invariant();
@@ -238,8 +238,8 @@ fn replayed<T: PrefixTree>(
     })
 }
 
-// How many workers a direct merge is worth, of those that it may have. One wave is for one, unless a gate may hold it until
-// others come.
+// How many workers a direct merge is worth, of those that it may have. One wave is for one, unless a gate may hold it
+// until others come.
 fn direct_workers<R: Threads, G: Gate>(rt: &R, plan: &Plan, workers: u32, gate: &G) -> u32
     requires { 1 ≤ workers }
     ensures { (1 ≤ result) × (result ≤ workers) }
@@ -266,7 +266,7 @@ pub fn direct_plan<R: Threads + Sync, T: PrefixTree, G: Gate>(
     form: ReportForm,
 ) -> Result<Output, AllocError>
     requires workers { (1 ≤ workers) × (workers ≤ 32) }
-    ensures { IfOk result (λ output. HasOutput (DirectJob plan.now form) (output_view output)) }
+    ensures { IfOk result (λ output. HasOutput (DirectTask plan.now form) (output_view output)) }
 {
     plan.invariant();
     let number = direct_workers(host.rt, plan, u32::from(workers), host.gate);
@@ -306,8 +306,8 @@ fn losses_of(alloc: Global, journal: &Journal) -> Result<Vec<u32>, AllocError>
     Ok(lost)
 }
 
-// What is wanted of a journal with these releases: their report, or the frames that its events receive. For the frames its
-// events are done once more.
+// What is wanted of a journal with these releases: their report, or the frames that its events receive. For the frames
+// its events are done once more.
 fn text_of<T: PrefixTree>(
     alloc: Global,
     plan: &Plan,
@@ -348,8 +348,8 @@ fn report_of<T: PrefixTree>(
 
 /// The frames of a capture's bytes, printed. Refused with `BadFrames` where they are not whole frames to the last byte.
 pub fn capture_output<T: PrefixTree>(alloc: Global, bytes: &[u8]) -> Result<Output, Status>
-    ensures ok { IfOk result (λ output. (by_capture bytes.now (capture_of bytes.now) ≡ Does (CaptureJob bytes.now))
-        × HasOutput (CaptureJob bytes.now) (output_view output)) }
+    ensures ok { IfOk result (λ output. (by_capture bytes.now (capture_of bytes.now) ≡ Does (CaptureTask bytes.now))
+        × HasOutput (CaptureTask bytes.now) (output_view output)) }
     ensures err { IfErr result (IsCaptureRefusal (by_capture bytes.now (capture_of bytes.now))) }
 {
     captures_are_frames();

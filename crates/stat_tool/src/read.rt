@@ -11,14 +11,14 @@ ghost use Rattle.stat_words.specs.Words.{names_of};
 ghost use Rattle.stat_desk.specs.Change.{change};
 ghost use Rattle.stat_desk.specs.Desk.{Bytes, HasGiven, ReadResult};
 ghost use Rattle.stat_desk.specs.Feeding.{FeedsFile};
-ghost use Rattle.stat_tool.specs.Call.{IsPlanned, IsPlanRefusal, IsStopped, Refuses, StopsAt, Tells};
+ghost use Rattle.stat_tool.specs.Call.{IsPlanned, IsPlanRefusal, IsStopped, Refuses, StopsAt, ReadsAs};
 ghost use Rattle.stat_tool.specs.Files.{limit_of, plan_files};
 ghost use Rattle.stat_tool.specs.NextStep.{AfterPlan, values_of, with_plan};
 ghost use Rattle.stat_tool.specs.Status.{refusal_of};
 
 use crate::status::{FileRole, Status};
+use call_path::PREFIX_LIMIT;
 use overlay_setup::{Script, Topology};
-use prefix_tree::PREFIX_LIMIT;
 use sample_text::Feeder;
 use stat_desk::{Desk, DeskError, Feed};
 use stat_plan::{Plan, PlanError, Samples};
@@ -105,7 +105,7 @@ fn refusal(role: FileRole, error: TextError) -> Status
 
 /// The nodes, from the topology's file.
 fn read_topology<D: Desk>(alloc: Global, desk: &mut D, name: &str) -> Result<Topology, Status>
-    ensures ok { IfOk result (λ t. Tells (change D.seen desk.old desk.new)
+    ensures ok { IfOk result (λ t. ReadsAs (change D.seen desk.old desk.new)
         name.now (limit_of FileRole.Topology) topology_of t) }
     ensures err { IfErr result (StopsAt topology_of FileRole.Topology name.now
         (change D.seen desk.old desk.new)) }
@@ -127,7 +127,7 @@ fn read_samples<D: Desk>(
     name: &str,
     topology: &Topology,
 ) -> Result<Samples, Status>
-    ensures ok { IfOk result (λ s. Tells (change D.seen desk.old desk.new)
+    ensures ok { IfOk result (λ s. ReadsAs (change D.seen desk.old desk.new)
         name.now (limit_of FileRole.Samples) (samples_of_text topology.now) s) }
     ensures fits { IfOk result (λ s. SamplesFit topology.now s) }
     ensures err { IfErr result (StopsAt (samples_of_text topology.now) FileRole.Samples name.now
@@ -154,7 +154,7 @@ fn read_script<D: Desk>(
     name: &str,
     topology: &Topology,
 ) -> Result<Script, Status>
-    ensures ok { IfOk result (λ c. Tells (change D.seen desk.old desk.new)
+    ensures ok { IfOk result (λ c. ReadsAs (change D.seen desk.old desk.new)
         name.now (limit_of FileRole.Script) (script_of topology.now) c) }
     ensures fits { IfOk result (λ c. ScriptFits topology.now c) }
     ensures err { IfErr result (StopsAt (script_of topology.now) FileRole.Script name.now
@@ -177,7 +177,7 @@ pub fn read_values<D: Desk>(
     name: &str,
     plan: &Plan,
 ) -> Result<Values, Status>
-    ensures ok { IfOk result (λ v. Tells (change D.seen desk.old desk.new)
+    ensures ok { IfOk result (λ v. ReadsAs (change D.seen desk.old desk.new)
         name.now (limit_of FileRole.Values) (values_of plan.now) v) }
     ensures err { IfErr result (StopsAt (values_of plan.now) FileRole.Values name.now
         (change D.seen desk.old desk.new)) }

@@ -65,8 +65,8 @@ pub enum Status {
     BadJournal(u64),
     /// The journal to be replayed ends where this event, and perhaps others, may still come. The report was written.
     Unfinished(Event),
-    /// The capture is not a sequence of whole frames: the first field behind its whole frames that breaks its rule, or in
-    /// which the capture ends, by the offset of that field's first byte.
+    /// The capture is not a sequence of whole frames: the first field behind its whole frames that breaks its rule, or
+    /// in which the capture ends, by the offset of that field's first byte.
     BadFrames {
         at: u64,
         reason: FrameReason,

@@ -2,7 +2,7 @@
 ghost use Rattle.std.specs.Prelude.{[], IfOk};
 ghost use Rattle.overlay_core.specs.TreeReleases.{AreNumberedInOrder, releases_view};
 ghost use Rattle.front_end.specs.SumsReport.{SayNumbers, tree_value};
-ghost use Rattle.stat_tool.specs.Jobs.{SumsJob};
+ghost use Rattle.stat_tool.specs.Tasks.{SumsTask};
 ghost use Rattle.stat_tool.specs.Outputs.{HasOutput};
 ghost use Rattle.stat_tool.specs.Reports.{IsSumsReportIn};
 ghost use Rattle.stat_tool.specs.Views.{output_view};
@@ -28,7 +28,7 @@ pub fn sums_plan<T: PrefixTree>(
     wanted: SumsReport<'_>,
 ) -> Result<Output, AllocError>
     ensures { IfOk result
-        (λ output. HasOutput (SumsJob plan values.now seed wanted.entry.fold wanted.entry.form) (output_view output)) }
+        (λ output. HasOutput (SumsTask plan values.now seed wanted.entry.fold wanted.entry.form) (output_view output)) }
 {
     samples_change_no_run();
     sums_are_exact();

@@ -1,7 +1,7 @@
 //! A view of each release of a run whose events a seed picks.
 ghost use Rattle.std.specs.Prelude.{◌≡◌, [], IfOk, Some};
 ghost use Rattle.overlay_core.specs.TreeReleases.{AreNumberedInOrder, releases_view};
-ghost use Rattle.stat_tool.specs.Jobs.{ViewJob};
+ghost use Rattle.stat_tool.specs.Tasks.{ViewTask};
 ghost use Rattle.stat_tool.specs.Outputs.{HasOutput};
 ghost use Rattle.stat_tool.specs.Reports.{ViewsSamples};
 ghost use Rattle.stat_tool.specs.Views.{output_view};
@@ -28,7 +28,7 @@ pub fn view_plan<T: PrefixTree>(
 ) -> Result<Output, AllocError>
     requires argument { (view : TreeView) × (view_of wanted.by wanted.argument.now ≡ Some view) }
     ensures { IfOk result
-        (λ output. HasOutput (ViewJob plan.now seed (view_asked wanted.entry)) (output_view output)) }
+        (λ output. HasOutput (ViewTask plan.now seed (view_asked wanted.entry)) (output_view output)) }
 {
     plan.invariant();
     let view = match View::read(alloc, wanted.by, wanted.argument) {

@@ -170,7 +170,8 @@ pub enum Command<'a> {
         size: u16,
         seed: u64,
     },
-    /// Commands from the front end down to the daemons, in an order that is drawn from a seed; `commands` is 1 to 1,000.
+    /// Commands from the front end down to the daemons, in an order that is drawn from a seed; `commands` is 1 to
+    /// 1,000.
     Cast {
         files: Files<'a>,
         seed: u64,

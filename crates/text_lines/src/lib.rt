@@ -1,11 +1,11 @@
-//! What the readers of the job's texts share: lines, the words of a line, the numbers and ranks that words write, and why
-//! a text was refused.
+//! What the readers of the job's texts share: lines, the words of a line, the numbers and ranks that words write, and
+//! why a text was refused.
 //!
 //! All readers have one shape: a parser with `new`, `take`, which takes the next line or token with its line's number,
 //! and `finish`, which checks the whole text. A reader that goes line by line implements [`LineParser`], whose `take`
 //! moves the parser, so that none is left after a refusal; [`read_lines`] is the loop. The first error is a
-//! [`TextError`]. `specs/Lines.antt` says what the lines, words and numbers of a text are, `specs/RanksWords.antt` which
-//! ranks a word writes, and `specs/Parsing.antt` what a parser makes of lines.
+//! [`TextError`]. `specs/Lines.antt` says what the lines, words and numbers of a text are, `specs/RanksWords.antt`
+//! which ranks a word writes, and `specs/Parsing.antt` what a parser makes of lines.
 #![tactic(auto)]
 
 mod line_parser;

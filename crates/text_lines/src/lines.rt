@@ -128,8 +128,8 @@ pub fn next_word(line: &[u8]) -> Option<(&[u8], &[u8])>
     Some(rest.split_at(word_len(rest)))
 }
 
-/// The word that a line begins with, and what is left after the one blank behind it. It is none exactly if the line does
-/// not begin with a word that a blank follows: if it is empty, begins with a blank, or has no blank.
+/// The word that a line begins with, and what is left after the one blank behind it. It is none exactly if the line
+/// does not begin with a word that a blank follows: if it is empty, begins with a blank, or has no blank.
 pub fn cut_word(line: &[u8]) -> Option<(&[u8], &[u8])>
     ensures words { IfSome result (λ cut. words line.now ≡ cut.0.now ∷ words cut.1.now) }
     ensures rest { IfSome result (λ cut. after_blanks (after_word line.now) ≡ after_blanks cut.1.now) }

@@ -1,10 +1,10 @@
 //! What no clause says: texts as they are written, and that each call succeeds with ample memory.
 
 use call_path::CallPath;
-use overlay_setup::{Grain, Topology};
+use overlay_setup::{Grain, Topology, WaveTimes};
 use sample_text::{Feeder, read};
 use stat_desk::Feed;
-use stat_plan::{Samples, StackLine, WaveTimes};
+use stat_plan::{Samples, StackLine};
 use std::alloc::{AllocError, Global};
 use std::process::Abort;
 use text_lines::{Quantity, Reason, TextError};
@@ -66,8 +66,8 @@ fn text_of(rt: &impl Abort, alloc: Global, samples: &Samples) -> Vec<u8> {
     text
 }
 
-// `stack` lines in the usual form and in others, behind lines that place the ranks 0 and 1 on the one daemon and 2 on the
-// other, and the samples that they give, by daemon.
+// `stack` lines in the usual form and in others, behind lines that place the ranks 0 and 1 on the one daemon and 2 on
+// the other, and the samples that they give, by daemon.
 const FORMS: [(&str, &str); 16] = [
     ("stack 7 0-1 main;a", "7 2:[0-1] 0 main;a\n"),
     ("stack  7 0-1 main;a", "7 2:[0-1] 0 main;a\n"),
@@ -392,8 +392,8 @@ fn read_in_two(
     feeder.finish()
 }
 
-// Texts and their samples by daemon: lines that end in both ways, the last one with and without a line feed, and characters of
-// two and of three bytes.
+// Texts and their samples by daemon: lines that end in both ways, the last one with and without a line feed, and
+// characters of two and of three bytes.
 const WHOLE_OR_CUT: [(&str, &str); 3] = [
     (
         "daemon a:0 0\r\ndaemon b:0 1-2\r\n\r\nstack 7 0-2 m\r\nstack 8 1 m;n\r\n",

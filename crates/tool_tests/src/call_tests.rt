@@ -3,7 +3,7 @@ use crate::calls::{
     Called, assert_job, assert_refused, assert_report, call, call_into, call_over, report_of,
     run_on, script_of,
 };
-use crate::shy_tree::ShyTree;
+use crate::limited_tree::LimitedTree;
 use overlay_event::{Event, OpenGate};
 use packet_frame::FrameReason;
 use prefix_tree::OwnedTree;
@@ -15,14 +15,14 @@ use std::fs;
 use std::process::Abort;
 use std::sync::Wait;
 use std::thread::Threads;
-use text_lines::{Quantity, Reason};
-use worked_jobs::desks::{
+use test_jobs::desks::{
     REPLAY_WORDS, SIM_WORDS, WORDS, desk_of, desk_of_bytes, put, recv, sample, words_of,
 };
-use worked_jobs::jobs::{
+use test_jobs::jobs::{
     ALL_SCR, DONT_WAIT_SCR, FOUR_SMP, INNER_TOP, ONE_TOP, SOLVER_SMP, TWO_INNER_TOP, TWO_TOP,
     WORKED,
 };
+use text_lines::{Quantity, Reason};
 
 // A text of each file, and its first fault: its line and its reason. The other files are good.
 const BAD_TOPOLOGY: [(&[u8], u64, Reason); 9] = [
@@ -130,7 +130,7 @@ fn bad(file: FileRole, line: u64, reason: Reason) -> Status {
 }
 
 // A call over the tree that won't merge many ranks.
-fn call_shy<R: Threads + Wait + Sync + Abort>(
+fn call_limited<R: Threads + Wait + Sync + Abort>(
     rt: &R,
     alloc: Global,
     desk: &mut MemDesk,
@@ -138,11 +138,11 @@ fn call_shy<R: Threads + Wait + Sync + Abort>(
 ) -> Called {
     let report = MemSink::new(alloc, 16, 20_000).expect(rt, "memory");
     let journal = MemSink::new(alloc, 16, 20_000).expect(rt, "memory");
-    call_over::<R, ShyTree>(rt, alloc, desk, texts, report, journal)
+    call_over::<R, LimitedTree>(rt, alloc, desk, texts, report, journal)
 }
 
-// In a run, a simulation and a replay of the run's journal, the front end merges the parts of two inner nodes, of 32 ranks
-// each. A program that merged the daemons' samples at the end would never merge as many at once.
+// In a run, a simulation and a replay of the run's journal, the front end merges the parts of two inner nodes, of 32
+// ranks each. A program that merged the daemons' samples at the end would never merge as many at once.
 #[test]
 fn merges_the_parts_of_inner_nodes(rt: HostRuntime) {
     let alloc = rt.alloc();
@@ -154,7 +154,7 @@ fn merges_the_parts_of_inner_nodes(rt: HostRuntime) {
         SIM_WORDS.as_slice(),
         REPLAY_WORDS.as_slice(),
     ] {
-        let called = call_shy(&rt, alloc, &mut desk, texts);
+        let called = call_limited(&rt, alloc, &mut desk, texts);
         assert!(rt; called.status == Status::OutOfMemory);
         assert!(rt; called.report.bytes().is_empty() && called.journal.bytes().is_empty());
     }

@@ -9,8 +9,8 @@ use std::alloc::Global;
 use std::process::Abort;
 use std::sync::Wait;
 use std::thread::Threads;
-use worked_jobs::desks::{WORDS, desk_of, words_of};
-use worked_jobs::gates::BusyGate;
+use test_jobs::desks::{WORDS, desk_of, words_of};
+use test_jobs::gates::BusyGate;
 
 /// What a call leaves: its status and its events, and what it wrote to the sinks of the report and of the journal.
 #[derive(Drop)]

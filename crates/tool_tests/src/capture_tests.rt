@@ -8,8 +8,8 @@ use std::alloc::Global;
 use std::process::Abort;
 use std::sync::Wait;
 use std::thread::Threads;
-use worked_jobs::desks::{desk_of, lines_of, put};
-use worked_jobs::jobs::{
+use test_jobs::desks::{desk_of, lines_of, put};
+use test_jobs::jobs::{
     ALL_SCR, DONT_WAIT_SCR, FOUR_SMP, INNER_TOP, LOST_JOURNAL, LOST_SCR, STORM_SMP, STORM_TOP,
     TWO_TOP,
 };

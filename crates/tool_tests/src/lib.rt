@@ -8,14 +8,14 @@ mod calls;
 #[cfg(test)]
 mod capture_tests;
 #[cfg(test)]
-mod hostile_tests;
+mod io_fault_tests;
+#[cfg(test)]
+mod limited_tree;
 #[cfg(test)]
 mod long_tests;
 #[cfg(test)]
 mod mode_tests;
 #[cfg(test)]
 mod net_tests;
-#[cfg(test)]
-mod shy_tree;
 #[cfg(test)]
 mod sums_tests;

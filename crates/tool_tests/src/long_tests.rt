@@ -6,8 +6,8 @@ use std::alloc::Global;
 use std::process::Abort;
 use std::sync::Wait;
 use std::thread::Threads;
-use worked_jobs::desks::{REPLAY_WORDS, WORDS, desk_of, put};
-use worked_jobs::jobs::ONE_TOP;
+use test_jobs::desks::{REPLAY_WORDS, WORDS, desk_of, put};
+use test_jobs::jobs::ONE_TOP;
 
 // ---- JSON
 

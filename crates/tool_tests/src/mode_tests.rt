@@ -5,8 +5,8 @@ use stat_desk::MemDesk;
 use stat_tool::Status;
 use std::alloc::Global;
 use std::process::Abort;
-use worked_jobs::desks::{REPLAY_WORDS, WORDS, desk_of, put};
-use worked_jobs::jobs::{
+use test_jobs::desks::{REPLAY_WORDS, WORDS, desk_of, put};
+use test_jobs::jobs::{
     ALL_SCR, DONT_WAIT_SCR, FOUR_RELEASE, FOUR_SMP, INNER_TOP, LOST_JOURNAL, LOST_SCR, ONE_TOP,
     SOLVER_SMP, TWO_INNER_TOP, TWO_TOP, WORKED,
 };

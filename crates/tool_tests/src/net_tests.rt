@@ -1,9 +1,9 @@
-//! The bound of a net's journals, and in what order a plan's lines are gone through.
+//! The bound of a net's journals, when a net is quiet, and in what order a plan's lines are gone through.
 use crate::calls::plan_of;
 use overlay_net::Net;
+use overlay_setup::WaveTimes;
 use prefix_tree::OwnedTree;
-use stat_plan::WaveTimes;
-use worked_jobs::jobs::{FOUR_SMP, TWO_TOP};
+use test_jobs::jobs::{FOUR_SMP, TWO_TOP};
 
 const SCRIPT: &str = "stream 0 time-out 1 waves 1 samples 1 on all\n";
 
@@ -14,6 +14,17 @@ fn journals_are_bounded(rt: HostRuntime) {
     let net: Net<'_, OwnedTree> = Net::new(alloc, &plan).expect(&rt, "a net");
     // 3 nodes, 1 wave, 1 tick: 3 * 3 + 9 * 3 + 3 * 3 * 1 * (3 + 9) * (1 + 1)
     assert!(rt; net.length_bound() == 252);
+}
+
+#[test]
+fn is_quiet_once_its_events_are_done(rt: HostRuntime) {
+    let alloc = rt.alloc();
+    let plan = plan_of(alloc, TWO_TOP, FOUR_SMP, SCRIPT).expect(&rt, "a plan");
+    let mut net: Net<'_, OwnedTree> = Net::new(alloc, &plan).expect(&rt, "a net");
+    assert!(rt; !net.is_quiet());
+    let journal = net.run_picked(7).expect(&rt, "a journal");
+    assert!(rt; !journal.is_empty());
+    assert!(rt; net.is_quiet());
 }
 
 // Of the daemon a's lines, the fourth has the least path: `a;b` comes before `a!`.

@@ -16,10 +16,10 @@ use std::alloc::{AllocError, Global};
 use std::process::Abort;
 use std::sync::Wait;
 use std::thread::Threads;
+use test_jobs::desks::{desk_of, put};
+use test_jobs::jobs::{ALL_SCR, FOUR_SMP, INNER_TOP, LOST_JOURNAL, LOST_SCR, TWO_TOP};
 use text_lines::{Quantity, Reason};
 use value_text::{Values, read_values};
-use worked_jobs::desks::{desk_of, put};
-use worked_jobs::jobs::{ALL_SCR, FOUR_SMP, INNER_TOP, LOST_JOURNAL, LOST_SCR, TWO_TOP};
 
 const VALUES: &str = "value 0 5\nvalue 1-2 -3\n";
 
@@ -237,8 +237,8 @@ fn redo<T: PrefixTree>(net: &mut Net<'_, T>, journal: &Journal) -> Result<(), Ne
     Ok(())
 }
 
-// The sums of what a journal releases, where the parts of a plan's daemons are sampled; none where an event of it may not
-// come.
+// The sums of what a journal releases, where the parts of a plan's daemons are sampled; none where an event of it may
+// not come.
 fn sums_after<T: PrefixTree>(
     alloc: Global,
     plan: Plan,

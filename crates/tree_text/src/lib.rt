@@ -1,7 +1,7 @@
 //! Numbers and trees as text, for reports and for captures.
 //!
-//! A tree is written as a line for each row, in order: the row's depth as an indent, the ranks that pass there, those of
-//! which a path ends there or a dash, and the frame. A caller:
+//! A tree is written as a line for each row, in order: the row's depth as an indent, the ranks that pass there, those
+//! of which a path ends there or a dash, and the frame. A caller:
 //!
 //! ```text
 //! write_numbered(b"rows ", tree.rows(), &mut out)?;   // `rows 12`

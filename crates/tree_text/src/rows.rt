@@ -1,5 +1,5 @@
-//! The text of a tree. Mostly the ranks of a row are those of the row before it, and the ranks that end there are all of
-//! them. So the text of the last label is kept, and written again where it is the text of the next ranks.
+//! The text of a tree. Mostly the ranks of a row are those of the row before it, and the ranks that end there are all
+//! of them. So the text of the last label is kept, and written again where it is the text of the next ranks.
 ghost use Rattle.std.specs.Prelude.{◌≡◌, ◌++◌, OnErr, OnOk};
 ghost use Rattle.rank_set.specs.Text.{text_of};
 ghost use Rattle.prefix_tree.specs.Chains.{IsGoodChain};

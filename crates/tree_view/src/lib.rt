@@ -1,10 +1,10 @@
-//! Views of a tree: the tree of some ranks alone, of the paths that have a frame, of the paths cut at a frame, or of a few
-//! ranks of each class.
+//! Views of a tree: the tree of some ranks alone, of the paths that have a frame, of the paths cut at a frame, or of a
+//! few ranks of each class.
 //!
 //! A contract sees a view as what it keeps of pairs of a rank and a path, and of a coverage: `viewed_pairs` and
-//! `viewed_ranks`. The answer is the tree of what is kept, whatever pairs the given tree is of. So a view of a merged tree is
-//! the tree of the viewed samples. No view changes a path but by a cut, and none has more rows than its tree: each call fails
-//! only when it is out of memory.
+//! `viewed_ranks`. The answer is the tree of what is kept, whatever pairs the given tree is of. So a view of a merged
+//! tree is the tree of the viewed samples. No view changes a path but by a cut, and none has more rows than its tree:
+//! each call fails only when it is out of memory.
 //!
 //! ```text
 //! let waiting = view_frame(alloc, &tree, "MPI_Barrier")?;
@@ -14,8 +14,9 @@
 //! let few = view_tree(alloc, &tree, &wanted)?;
 //! ```
 //!
-//! A view walks the tree's rows once, and adds to a new tree at each row where paths end in the view. The definitions are in
-//! `specs/Views.antt`, and worked examples in `specs/Rows.antt`; `specs/Selections.antt` says what ends at each row.
+//! A view walks the tree's rows once, and adds to a new tree at each row where paths end in the view. The definitions
+//! are in `specs/Views.antt`, and worked examples in `specs/Rows.antt`; `specs/Selections.antt` says what ends at each
+//! row.
 #![tactic(auto)]
 
 ghost use Rattle.std.specs.Prelude.{◌≡◌, IfOk};
@@ -83,8 +84,8 @@ pub fn view_reps<T: PrefixTree>(alloc: Global, tree: &T, count: u32) -> Result<T
     view_ranks(alloc, tree, &ranks)
 }
 
-/// The tree of what a view keeps. `own` says it of the pairs that the tree's rows give, and `pairs` of any pairs that the
-/// tree is of.
+/// The tree of what a view keeps. `own` says it of the pairs that the tree's rows give, and `pairs` of any pairs that
+/// the tree is of.
 pub fn view_tree<T: PrefixTree>(alloc: Global, tree: &T, view: &View<'_>) -> Result<T, AllocError>
     ensures own { IfOk result (λ kept. T.tree kept
         ≡ viewed_tree (tree_view view.now) (pairs_of (T.tree tree.now)) (T.tree tree.now).coverage) }
@@ -92,6 +93,7 @@ pub fn view_tree<T: PrefixTree>(alloc: Global, tree: &T, view: &View<'_>) -> Res
         (λ kept. (P : Pairs) (C : Ranks) → HasNoEmptyPath P → T.tree tree.now ≡ tree_of P C
         → T.tree kept ≡ viewed_tree (tree_view view.now) P C) }
 {
+    // for the proof: the trait's law of rows
     let _lawful = tree.rows();
     viewed(alloc, tree, view)
 }

@@ -80,9 +80,9 @@ impl ViewBy {
 }
 
 impl<'a> View<'a> {
-    /// The view by this of an argument: by ranks, a text of ranks as `7,0-2`; by a frame or folded at one, the frame; by
-    /// representatives, a number of 1 to 20 digits from 1 to 1,000. Refused with `BadArgument` exactly where the argument is
-    /// none of these.
+    /// The view by this of an argument: by ranks, a text of ranks as `7,0-2`; by a frame or folded at one, the frame;
+    /// by representatives, a number of 1 to 20 digits from 1 to 1,000. Refused with `BadArgument` exactly where the
+    /// argument is none of these.
     pub fn read(alloc: Global, by: ViewBy, argument: &'a str) -> Result<View<'a>, ViewError>
         ensures ok { IfOk result (λ view. view_of by argument.entry.now ≡ Some (tree_view view)) }
         ensures err { result ≡ Err BadArgument → view_of by argument.entry.now ≡ None }

@@ -15,7 +15,8 @@ use std::alloc::{AllocError, Global};
 // Adds the least of some ranks, so many, or all where there are fewer.
 fn add_least(all: &mut RankSet, ranks: &RankSet, count: u32) -> Result<(), AllocError>
     ensures { OnOk result
-        ((r : ℕ) → has all.new r ≡ (has all.old r || list_any (eq_by_cmp nat_cmp r) (take count (in_order ranks.now)))) }
+        ((r : ℕ) → has all.new r
+        ≡ (has all.old r || list_any (eq_by_cmp nat_cmp r) (take count (in_order ranks.now)))) }
 {
     let mut from = 0;
     let mut hint = 0;

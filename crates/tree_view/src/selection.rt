@@ -9,8 +9,8 @@ ghost use Rattle.prefix_tree.specs.Tree.{IsTree, added, count_below, tree_of};
 ghost use Rattle.tree_view.specs.Views.{ranks_with};
 ghost use Rattle.tree_view.specs.Selections.{LieIn, edited, ends_in, place_in, place_of, with_ends};
 
-use call_path::{CallPath, PathBuilder};
-use prefix_tree::{PREFIX_LIMIT, PrefixTree, Row, TreeError};
+use call_path::{CallPath, PREFIX_LIMIT, PathBuilder};
+use prefix_tree::{PrefixTree, Row, TreeError};
 use rank_set::RankSet;
 use std::alloc::{AllocError, Global};
 use std::mem;
@@ -22,13 +22,13 @@ pub(crate) enum Selection<'a> {
     Ranks(&'a RankSet),
     // Those that ended there before, if the row's path has the frame.
     Frame(&'a str),
-    // All that pass the row, if its path ends with its first such frame; none, if it has the frame above; and else those
-    // that ended there before.
+    // All that pass the row, if its path ends with its first such frame; none, if it has the frame above; and else
+    // those that ended there before.
     Fold(&'a str),
 }
 
-// How many frames come before the first that is `wanted`, in a path of `depth` frames that ends with this one; `depth` if
-// none is. Before, it was that number in a path that the others are the first of.
+// How many frames come before the first that is `wanted`, in a path of `depth` frames that ends with this one; `depth`
+// if none is. Before, it was that number in a path that the others are the first of.
 fn place_after(before: usize, depth: usize, frame: &str, wanted: &str) -> usize
     requires { 0 < depth }
     ensures { (p : Path) → depth ≤ length p + 1 → before ≡ place_of wanted.now p
@@ -44,8 +44,8 @@ fn place_after(before: usize, depth: usize, frame: &str, wanted: &str) -> usize
 }
 
 impl Selection<'_> {
-    // How many frames come before the first that is sought, in the path of a row; all of them if none is. Before, it was
-    // that number in the path of the row above, or of one that goes on from it.
+    // How many frames come before the first that is sought, in the path of a row; all of them if none is. Before, it
+    // was that number in the path of the row above, or of one that goes on from it.
     fn place_after(&self, before: usize, row: &Row<'_>) -> usize
         requires { 0 < row.now.depth }
         ensures { (p : Path) → row.now.depth ≤ length p + 1 → before ≡ place_in self.now p

@@ -31,10 +31,10 @@ pub struct WideDirect<'a, G: Gate> {
     pub workers: u32,
 }
 
-/// One final release for each wave of the plan, with all ranks of its stream: that of the direct merge. The waves are cut
-/// in halves, and each half again, as long as there is a thread for each part. One thread merges a wave: parts by daemons
-/// would each have most of the wave's paths, and were seen to cost more than they gain. Only where the gate may wait, and
-/// there are more threads than waves, several merge one, since it may hold one part until another comes.
+/// One final release for each wave of the plan, with all ranks of its stream: that of the direct merge. The waves are
+/// cut in halves, and each half again, as long as there is a thread for each part. One thread merges a wave: parts by
+/// daemons would each have most of the wave's paths, and were seen to cost more than they gain. Only where the gate may
+/// wait, and there are more threads than waves, several merge one, since it may hold one part until another comes.
 pub fn wide_direct<R: Threads + Sync, T: PrefixTree, G: Gate>(
     rt: &R,
     job: &WideDirect<'_, G>,

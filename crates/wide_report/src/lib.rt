@@ -1,9 +1,9 @@
 //! Direct releases that several threads merge, and reports of which several threads write the releases.
 //!
 //! [`wide_direct`] gives the direct release of each wave of a plan. [`wide_text`] and [`wide_json`] give the reports of
-//! `front_end`, byte for byte. In both the waves or the releases are cut in halves, and each half again, as long as there
-//! is a thread for each part. One thread makes a part, and two parts are joined where both threads have ended. Where no
-//! thread can be made, one thread makes both halves, one after the other.
+//! `front_end`, byte for byte. In both the waves or the releases are cut in halves, and each half again, as long as
+//! there is a thread for each part. One thread makes a part, and two parts are joined where both threads have ended.
+//! Where no thread can be made, one thread makes both halves, one after the other.
 //!
 //! ```text
 //! let job = WideDirect { alloc, plan: &plan, gate: &OpenGate, workers: 4 };

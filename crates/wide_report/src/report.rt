@@ -27,8 +27,8 @@ pub struct WideReport<'a> {
     pub workers: u32,
 }
 
-/// The report of some releases as text: what `front_end::report_text` gives, or `front_end::direct_text` where no fault is
-/// shown. The releases may be given in any order. Once written they are not given back to the allocator, since the
+/// The report of some releases as text: what `front_end::report_text` gives, or `front_end::direct_text` where no fault
+/// is shown. The releases may be given in any order. Once written they are not given back to the allocator, since the
 /// program ends after its report.
 pub fn wide_text<R: Threads + Sync, T: PrefixTree>(
     rt: &R,
@@ -43,8 +43,8 @@ pub fn wide_text<R: Threads + Sync, T: PrefixTree>(
     text_before_end::<T>(report, text)
 }
 
-/// The report of some releases as JSON: what `front_end::report_json` gives, or `front_end::direct_json` where no fault is
-/// shown. Else it is as `wide_text`.
+/// The report of some releases as JSON: what `front_end::report_json` gives, or `front_end::direct_json` where no fault
+/// is shown. Else it is as `wide_text`.
 pub fn wide_json<R: Threads + Sync, T: PrefixTree>(
     rt: &R,
     report: &WideReport<'_>,

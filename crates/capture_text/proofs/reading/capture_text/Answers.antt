@@ -9,8 +9,8 @@ returns-in_err-packets-clause-refusal g c =
     let refused = refused_piece c.args.bytes.now c.loop-left.left.now c.split_at.result.0.now c.split_at.result.1.now c.loop-left.feeder c.loop-left.printer.text.items c.loop-left.printer.at c.loop-left.printer.frames c.feed.new.self c.in_err-packets.field-0.0 c.loop-left.invariant parts c.in_err-packets.ensures.feeds in
     error_is c.from_residual.result c.in_err-packets.field-0.0 c.args.bytes.now c.from_residual.ensures.1 refused
 
-pub write-requires-clause-place : goal.write-requires-clause-place
-write-requires-clause-place g c κs within =
+pub write-requires-clause-offset : goal.write-requires-clause-offset
+write-requires-clause-offset g c κs within =
     let read = c.loop-left.invariant in
     let parts = cut_in_two c.loop-left.left.now c.split_at.result.0.now c.split_at.result.1.now c.min.result c.split_at.ensures.front c.split_at.ensures.back in
     let fits = place_fits c.args.bytes.now c.loop-left.left.now c.split_at.result.0.now c.loop-left.feeder c.loop-left.printer.text.items c.loop-left.printer.at c.loop-left.printer.frames (packet_views g.T.PrefixTree.tree c.in_ok-packets.packets.items) c.feed.new.self read c.in_ok-packets.ensures.feeds c.in_ok-packets.ensures.total in
@@ -30,7 +30,7 @@ loop-left-preserved g c =
     let parts = cut_in_two c.loop-left.left.now c.split_at.result.0.now c.split_at.result.1.now c.min.result c.split_at.ensures.front c.split_at.ensures.back in
     reads_piece c.args.bytes.now c.loop-left.left.now c.split_at.result.0.now c.split_at.result.1.now c.loop-left.feeder c.loop-left.printer.text.items c.loop-left.printer.at c.loop-left.printer.frames
     (packet_views g.T.PrefixTree.tree c.in_ok-packets.packets.items) c.feed.new.self c.write.new.self.text.items c.write.new.self.at c.write.new.self.frames
-    c.loop-left.invariant parts c.in_ok-packets.ensures.feeds c.in_ok-packets.ensures.total c.in_ok-write.ensures.text c.in_ok-write.ensures.place (count_views g.T.PrefixTree.tree c.in_ok-packets.packets.items c.loop-left.printer.frames c.write.new.self.frames c.in_ok-write.ensures.count)
+    c.loop-left.invariant parts c.in_ok-packets.ensures.feeds c.in_ok-packets.ensures.total c.in_ok-write.ensures.text c.in_ok-write.ensures.offset (count_views g.T.PrefixTree.tree c.in_ok-packets.packets.items c.loop-left.printer.frames c.write.new.self.frames c.in_ok-write.ensures.count)
 
 pub returns-in_err-finish-clause-refusal : goal.returns-in_err-finish-clause-refusal
 returns-in_err-finish-clause-refusal g c =

@@ -1,6 +1,6 @@
 use Rattle.std.proofs.Common.{◌≡◌, [], map}
 use Rattle.overlay_setup.specs.NodeSets.{up_to}
-use Rattle.stat_plan.specs.Tables.{rows_view}
+use Rattle.overlay_setup.specs.Tables.{rows_view}
 use Rattle.stat_plan.proofs.parted_lines.empty_rows.Given as goal
 
 abbrev pub invariant-loop : goal.invariant-loop

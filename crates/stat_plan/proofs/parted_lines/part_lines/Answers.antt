@@ -5,7 +5,7 @@ use Rattle.std.proofs.lemmas.Option.{get_or_from_slice_get}
 use Rattle.overlay_setup.specs.NodeSets.{In}
 use Rattle.stat_plan.specs.LineLists.{line_view}
 use Rattle.stat_plan.specs.OwnLines.{AreParted}
-use Rattle.stat_plan.specs.Tables.{rows_view}
+use Rattle.overlay_setup.specs.Tables.{rows_view}
 use Rattle.stat_plan.specs.declared.samples.StackLine.{StackLine}
 use Rattle.stat_plan.proofs.FirstOver.{all_in}
 use Rattle.stat_plan.proofs.InLists.{in_at}

@@ -1,6 +1,6 @@
 use Rattle.std.proofs.Common.{take}
 use Rattle.stat_plan.specs.OwnLines.{AreKeysOf, AreParted}
-use Rattle.stat_plan.specs.Tables.{rows_view}
+use Rattle.overlay_setup.specs.Tables.{rows_view}
 use Rattle.stat_plan.proofs.parted_lines.part_lines.Given as goal
 
 abbrev pub invariant-loop-i : goal.invariant-loop-i

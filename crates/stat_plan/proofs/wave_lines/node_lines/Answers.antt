@@ -2,7 +2,7 @@ use Rattle.std.proofs.Common.{◌≡◌, [], sym, ap, subst, ◌∙◌, Vec, Glo
 use Rattle.std.proofs.lemmas.List.{get_or_default}
 use Rattle.rank_set.specs.Ranks.{Has, is_empty, none}
 use Rattle.stat_plan.specs.OwnLines.{AreNodeLines, GainSeen, ranks_at, ranks_of_lines, row_at}
-use Rattle.stat_plan.specs.Tables.{rows_view}
+use Rattle.overlay_setup.specs.Tables.{rows_view}
 use Rattle.stat_plan.specs.declared.samples.StackLine.{StackLine}
 use Rattle.stat_plan.proofs.Indexing.{row_here}
 use Rattle.stat_plan.proofs.WaveRows.{node_lines_kept, node_lines_made, node_lines_sorted, none_spread}

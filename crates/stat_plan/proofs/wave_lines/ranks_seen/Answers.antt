@@ -4,12 +4,12 @@ use Rattle.std.proofs.lemmas.List.{get_or_default, length-map, with_items_is}
 use Rattle.rank_set.specs.Ranks.{none}
 use Rattle.overlay_setup.specs.NodeSets.{In, up_to}
 use Rattle.stat_plan.specs.OwnLines.{GainRanksSeen, ranks_at, row_at}
-use Rattle.stat_plan.specs.Tables.{rows_view}
+use Rattle.overlay_setup.specs.Tables.{rows_view}
 use Rattle.stat_plan.specs.declared.samples.StackLine.{StackLine}
 use Rattle.stat_plan.proofs.Gathering.{AreRowsSeen, rows_seen_more, rows_seen_none}
 use Rattle.stat_plan.proofs.Indexing.{row_here}
 use Rattle.stat_plan.proofs.InLists.{in_at}
-use Rattle.stat_plan.proofs.TableLemmas.{at_table, length-up_to}
+use Rattle.overlay_setup.proofs.UpTo.{length-up_to, at_table}
 use Rattle.stat_plan.proofs.wave_lines.ranks_seen.Goals as goal
 
 pub loop-d-init : goal.loop-d-init

@@ -1,5 +1,5 @@
 use Rattle.std.proofs.Common.{take}
-use Rattle.stat_plan.specs.Tables.{rows_view}
+use Rattle.overlay_setup.specs.Tables.{rows_view}
 use Rattle.stat_plan.proofs.Gathering.{AreRowsSeen}
 use Rattle.stat_plan.proofs.wave_lines.ranks_seen.Given as goal
 

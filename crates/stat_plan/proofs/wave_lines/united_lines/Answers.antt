@@ -1,4 +1,4 @@
-use Rattle.stat_plan.specs.Tables.{rows_view}
+use Rattle.overlay_setup.specs.Tables.{rows_view}
 use Rattle.stat_plan.proofs.Gathering.{united}
 use Rattle.stat_plan.proofs.wave_lines.united_lines.Goals as goal
 

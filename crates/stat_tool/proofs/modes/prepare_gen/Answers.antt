@@ -1,6 +1,6 @@
 use Rattle.std.proofs.Common.{[], refl, sym, append-nil}
 use Rattle.stat_words.specs.Words.{Gen}
-use Rattle.stat_tool.specs.Jobs.{GenJob}
+use Rattle.stat_tool.specs.Tasks.{GenTask}
 use Rattle.stat_tool.specs.NextStep.{next_step}
 use Rattle.stat_tool.proofs.Prepared.{not_asked}
 use Rattle.stat_tool.proofs.modes.prepare_gen.Goals as goal
@@ -10,7 +10,7 @@ returns-in-Ok-clause-ok g c = record {
   results = [];
   read = not_asked (next_step (Gen c.args.size c.args.seed)) (g.D.Desk.seen c.args.desk.now);
   all_read = sym (append-nil (g.D.Desk.seen c.args.desk.now).reads);
-  job = GenJob c.args.size c.args.seed;
+  task = GenTask c.args.size c.args.seed;
   step = refl;
   is_output = c.in-Ok.ensures;
 }

@@ -7,7 +7,7 @@ pub overflow_add-at : goal.overflow_add-at
 overflow_add-at g c =
     let len : length c.extend_from_slice.new.self.items ≡ length c.self.inside.rest.items + length c.args.piece.now = ap length c.in_ok-extend_from_slice.ensures.items ∙ length-append c.self.inside.rest.items c.args.piece.now in
     let room = subst (λ f. f.before + length f.rest + length c.args.piece.now < 2 ^ 64) (sym c.self.view_is) c.requires in
-    let within : c.in-Err-Refused.at ≤ length c.extend_from_slice.new.self.items = subst (IsWithin c.extend_from_slice.new.self.items) c.in-Err-Refused.field-0-is c.in-Err-Refused.ensures.place in
+    let within : c.in-Err-Refused.at ≤ length c.extend_from_slice.new.self.items = subst (IsWithin c.extend_from_slice.new.self.items) c.in-Err-Refused.field-0-is c.in-Err-Refused.ensures.offset in
     let lt : c.self.inside.before + c.in-Err-Refused.at < 2 ^ 64 = omega (arith, len, room, within) in
     search rules
 

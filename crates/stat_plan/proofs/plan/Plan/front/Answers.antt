@@ -5,4 +5,4 @@ use Rattle.stat_plan.proofs.plan.Plan.front.Goals as goal
 
 pub returns-clause-value : goal.returns-clause-value
 unfolding front
-returns-clause-value c = c.front.ensures.value ∙ ap root_of (c.topology.ensures.parents ∙ ap (λ (p : Plan). p.parents) c.self.view_is)
+returns-clause-value c = c.front.ensures.value ∙ ap (λ (p : Plan). root_of p.parents) c.self.view_is

@@ -7,7 +7,7 @@ use Rattle.stat_plan.specs.OwnLines.{AreNodeLines, AreWaveLines, ranks_at, row_a
 use Rattle.stat_plan.specs.Plans.{Sampled}
 use Rattle.stat_plan.specs.Shown.{held_lines}
 use Rattle.stat_plan.specs.StackLines.{PathIndicesInRange, lines_of}
-use Rattle.stat_plan.specs.Tables.{rows_view}
+use Rattle.overlay_setup.specs.Tables.{rows_view}
 use Rattle.stat_plan.proofs.OwnPaths.{row_in_range, row_within, spread_in_range, wave_lines_are}
 use Rattle.stat_plan.proofs.WaveRows.{node_samples}
 use Rattle.stat_plan.proofs.samples.Samples.own_lines.Goals as goal

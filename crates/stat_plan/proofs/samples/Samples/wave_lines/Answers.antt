@@ -4,7 +4,7 @@ use Rattle.call_path.specs.Functions.{func}
 use Rattle.stat_plan.specs.OwnLines.{AreWaveLines, row_at}
 use Rattle.stat_plan.specs.Plans.{Sampled}
 use Rattle.stat_plan.specs.StackLines.{PathIndicesInRange, lines_of}
-use Rattle.stat_plan.specs.Tables.{rows_view}
+use Rattle.overlay_setup.specs.Tables.{rows_view}
 use Rattle.stat_plan.specs.declared.samples.StackLine.{StackLine}
 use Rattle.stat_plan.specs.OwnLines.{HasRankOn}
 use Rattle.stat_plan.proofs.OwnPaths.{row_in_range, spread_in_range, wave_lines_are}

@@ -1,7 +1,0 @@
-use Rattle.std.proofs.Common.{◌≡◌, ◌==◌, drop}
-use Rattle.std.specs.Prelude.{find}
-use Rattle.overlay_setup.specs.Scripts.{Stream}
-use Rattle.stat_plan.proofs.find.stream_index.Given as goal
-
-abbrev pub invariant-loop-i : goal.invariant-loop-i
-invariant-loop-i l = find (λ (x : Stream). x.number == l.s) (drop l.i l.streams) ≡ find (λ (x : Stream). x.number == l.s) l.streams
