@@ -22,7 +22,9 @@ fn is_quiet_once_its_events_are_done(rt: HostRuntime) {
     let plan = plan_of(alloc, TWO_TOP, FOUR_SMP, SCRIPT).expect(&rt, "a plan");
     let mut net: Net<'_, OwnedTree> = Net::new(alloc, &plan).expect(&rt, "a net");
     assert!(rt; !net.is_quiet());
-    let journal = net.run_picked(7).expect(&rt, "a journal");
+    let Ok(journal) = net.run_picked(7) else {
+        panic!(rt; "a journal");
+    };
     assert!(rt; !journal.is_empty());
     assert!(rt; net.is_quiet());
 }
