@@ -37,8 +37,10 @@ use Rattle.stat_plan.proofs.LookupLemmas.{daemon_lies, stream_of_wave}
 use Rattle.stat_plan.proofs.Elements.{all_from}
 use Rattle.overlay_core.proofs.Releases.{legal_log}
 use Rattle.front_end.specs.ReleaseText.{classes_in, heading, kind_text, missing, missing_line, release_text, ranks_line, tree_and_classes}
-use Rattle.front_end.specs.Report.{AllStreamsWait, AreDistinct, AreReleasesOf, IsDirect, IsReport, IsSortedCopy, direct_release, direct_releases, fault_line, release_cmp, report_text}
-use Rattle.front_end.specs.JsonValues.{classes_data, count, list_of, object_of, ranks_data, tree_data}
+use Rattle.front_end.specs.Report.{AllStreamsWait, AreDistinct, AreReleasesOf, IsDirect, IsReport, IsSortedCopy, fault_line, release_cmp, report_text}
+use Rattle.wide_merge.specs.Waves.{direct_release, direct_releases}
+use Rattle.front_end.specs.JsonValues.{classes_data, tree_data}
+use Rattle.json_text.specs.Values.{count, list_of, object_of, ranks_data}
 use Rattle.front_end.specs.JsonReport.{IsJsonReport, all_missing_data, fault_data, has_missing, missing_data, release_data, report_data}
 use Rattle.front_end.proofs.Numbered.{first_number, rest_numbered}
 use Rattle.front_end.proofs.Orders.{in_permutation, one_order, release_cmp_total}

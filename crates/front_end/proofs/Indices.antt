@@ -10,7 +10,7 @@ use Rattle.equiv_class.specs.SeenPaths.{entries_view}
 use Rattle.equiv_class.specs.declared.SeenPath.{SeenPath}
 use Rattle.equiv_class.proofs.IndexPaths.{path_of-index}
 use Rattle.front_end.specs.ClassText.{path_line}
-use Rattle.front_end.specs.JsonTokens.{rest_tokens, value_tokens}
+use Rattle.json_text.specs.Tokens.{rest_tokens, value_tokens}
 
 -- the paths of some indices
 abbrev pub paths_of_indices : List SeenPath → List ℕ → List Path

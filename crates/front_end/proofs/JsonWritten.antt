@@ -14,9 +14,10 @@ use Rattle.overlay_setup.specs.declared.script.Fault.{Fault}
 use Rattle.stat_plan.specs.Plans.{Plan, daemons}
 use Rattle.overlay_core.specs.TreeReleases.{TreeRelease}
 use Rattle.front_end.specs.ReleaseText.{classes_in, kind_text, missing}
-use Rattle.front_end.specs.JsonValues.{classes_data, count, list_of, object_of, ranks_data, tree_data}
+use Rattle.front_end.specs.JsonValues.{classes_data, tree_data}
+use Rattle.json_text.specs.Values.{count, list_of, object_of, ranks_data}
 use Rattle.front_end.specs.JsonReport.{all_missing_data, fate_state, fault_data, has_missing, missing_data, missing_state, release_data, report_data}
-use Rattle.front_end.specs.JsonTokens.{member_tokens, rest_tokens, value_tokens}
+use Rattle.json_text.specs.Tokens.{member_tokens, rest_tokens, value_tokens}
 use Rattle.front_end.proofs.Written.{some_ranks}
 
 -- an object of three members

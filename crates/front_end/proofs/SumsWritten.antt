@@ -1,8 +1,8 @@
 -- The report of sums, written piece by piece.
-use Rattle.std.proofs.Common.{◌≡◌, ℕ, pos, negsuc, List, [], ◌∷◌, ◌++◌, Option, Some, None, drop, map, refl, sym, ap, subst, ◌∙◌, append_assoc, inl, inr}
+use Rattle.std.proofs.Common.{◌≡◌, ℕ, pos, negsuc, List, [], ◌∷◌, ◌++◌, Option, Some, map, refl, ap, ◌∙◌, append_assoc}
 use Rattle.std.specs.Prelude.{codes}
-use Rattle.std.specs.Fmt.{decimal, signed_decimal}
-use Rattle.std.specs.List.{AllByRecursion, flat_map}
+use Rattle.std.specs.Fmt.{signed_decimal}
+use Rattle.std.specs.List.{flat_map}
 use Rattle.std.proofs.Math.IntN.{ℤ}
 use Rattle.json.specs.Print.{print}
 use Rattle.json.specs.Token.{Token, begin_object, end_object, key, number as number_token}
@@ -20,10 +20,10 @@ use Rattle.rank_sums.specs.Words.{fold_word}
 use Rattle.rank_sums.specs.declared.fold.Fold.{Fold}
 use Rattle.front_end.specs.ReleaseText.{kind_text, release_words}
 use Rattle.front_end.specs.Report.{IsSortedCopy}
-use Rattle.front_end.specs.JsonValues.{count, list_of, object_of, ranks_data}
-use Rattle.front_end.specs.JsonTokens.{member_tokens, value_tokens}
+use Rattle.json_text.specs.Values.{count, list_of, object_of, value_data}
+use Rattle.json_text.specs.Tokens.{member_tokens, value_tokens}
 use Rattle.front_end.specs.SumsReport.{IsSumsReport, SayNumbers, sum_line, sums_report_text, tree_value, value_text}
-use Rattle.front_end.specs.JsonSumsReport.{IsJsonSumsReport, sum_data, sums_report_data, value_data}
+use Rattle.front_end.specs.JsonSumsReport.{IsJsonSumsReport, sum_data, sums_report_data}
 use Rattle.front_end.proofs.Orders.{in_permutation}
 use Rattle.front_end.proofs.ViewWritten.{same_map, same_texts}
 

@@ -1,7 +1,7 @@
 -- The report of a view, written piece by piece.
 use Rattle.std.proofs.Common.{◌≡◌, ℕ, List, [], ◌∷◌, ◌++◌, map, refl, sym, ap, ◌∙◌, append_assoc, inl, inr}
 use Rattle.std.specs.Prelude.{codes}
-use Rattle.std.specs.List.{AllByRecursion, flat_map}
+use Rattle.std.specs.List.{flat_map}
 use Rattle.json.specs.Print.{print}
 use Rattle.json.specs.Token.{Token, begin_object, end_object, key}
 use Rattle.serde_json.specs.Data.{Data, string}
@@ -20,8 +20,9 @@ use Rattle.tree_view.specs.Reading.{by_of, by_word}
 use Rattle.tree_view.specs.Views.{TreeView, viewed_classes, viewed_pairs, viewed_ranks, viewed_tree}
 use Rattle.tree_view.proofs.SameViews.{none_empty, own_none_empty, same_viewed_classes, same_viewed_ranks, same_viewed_tree}
 use Rattle.front_end.specs.ReleaseText.{classes_in, heading, kind_text, ranks_line, tree_and_classes}
-use Rattle.front_end.specs.JsonValues.{classes_data, count, list_of, object_of, ranks_data, tree_data}
-use Rattle.front_end.specs.JsonTokens.{member_tokens, value_tokens}
+use Rattle.front_end.specs.JsonValues.{classes_data, tree_data}
+use Rattle.json_text.specs.Values.{count, list_of, object_of, ranks_data}
+use Rattle.json_text.specs.Tokens.{member_tokens, value_tokens}
 use Rattle.front_end.specs.ViewReport.{HavePairs, IsViewReport, own_pairs, view_line, view_report_text, viewed_text}
 use Rattle.front_end.specs.JsonViewReport.{IsJsonViewReport, view_data, view_report_data, viewed_data}
 use Rattle.front_end.proofs.Orders.{in_permutation}

@@ -10,7 +10,8 @@ use Rattle.stat_plan.specs.Plans.{Plan, daemons}
 use Rattle.overlay_core.specs.TreeReleases.{TreeRelease}
 use Rattle.front_end.specs.ReleaseText.{classes_in, kind_text, missing}
 use Rattle.front_end.specs.Report.{IsSortedCopy}
-use Rattle.front_end.specs.JsonValues.{classes_data, count, list_of, object_of, ranks_data, tree_data}
+use Rattle.front_end.specs.JsonValues.{classes_data, tree_data}
+use Rattle.json_text.specs.Values.{count, list_of, object_of, ranks_data}
 
 -- the node of a fault was lost, or it had too few events
 abbrev pub fate_state : Bool → List ℕ

@@ -1,20 +1,14 @@
 -- The report of sums as JSON: the compact text of a value, and a line feed. The keys of an object stand in byte order.
-use Rattle.std.specs.Prelude.{◌≡◌, ℕ, pos, negsuc, List, [], ◌∷◌, ◌++◌, Option, Some, None, codes, map}
+use Rattle.std.specs.Prelude.{◌≡◌, ℕ, List, [], ◌∷◌, ◌++◌, Option, codes, map}
 use Rattle.std.proofs.Math.IntN.{ℤ}
-use Rattle.serde_json.specs.Data.{Data, negative, null, number, string, unsigned}
+use Rattle.serde_json.specs.Data.{Data, string}
 use Rattle.serde_json.specs.Written.{compact_text}
 use Rattle.overlay_core.specs.TreeReleases.{TreeRelease}
 use Rattle.rank_sums.specs.Words.{fold_word}
 use Rattle.rank_sums.specs.declared.fold.Fold.{Fold}
 use Rattle.front_end.specs.ReleaseText.{kind_text}
 use Rattle.front_end.specs.Report.{IsSortedCopy}
-use Rattle.front_end.specs.JsonValues.{count, list_of, object_of, ranks_data}
-
--- a value; `null` where there is none
-abbrev pub value_data : Option ℤ → Data
-value_data None = null
-value_data (Some (pos n)) = number (unsigned n)
-value_data (Some (negsuc n)) = number (negative (negsuc n))
+use Rattle.json_text.specs.Values.{count, list_of, object_of, ranks_data, value_data}
 
 -- all that is said of a release
 unfoldable pub sum_data : Fold → (TreeRelease → Option ℤ) → TreeRelease → Data

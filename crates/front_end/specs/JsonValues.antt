@@ -1,32 +1,10 @@
--- Parts of a report as JSON: values of lists and objects, trees and classes. The keys of an object stand in byte order.
+-- Parts of a report as JSON: trees and classes. The keys of an object stand in byte order.
 use Rattle.std.specs.Prelude.{ℕ, List, [], ◌∷◌, length, codes, map}
-use Rattle.serde_json.specs.Data.{Data, Members, array, member, no_members, number, object, string, unsigned}
-use Rattle.serde_json.specs.View.{items_of}
+use Rattle.serde_json.specs.Data.{Data, string}
 use Rattle.rank_set.specs.Ranks.{Ranks}
-use Rattle.rank_set.specs.Text.{text_of}
 use Rattle.call_path.specs.Path.{Path, path_text}
 use Rattle.prefix_tree.specs.Tree.{Tree, Marks, frame_of, rows_of}
-
--- the members of an object
-abbrev pub members : List (List ℕ × Data) → Members
-members [] = no_members
-members (m ∷ ms) = member m.0 m.1 (members ms)
-
--- an object with these members
-abbrev pub object_of : List (List ℕ × Data) → Data
-object_of ms = object (members ms)
-
--- a list of these values
-abbrev pub list_of : List Data → Data
-list_of values = array (items_of values)
-
--- a number
-abbrev pub count : ℕ → Data
-count n = number (unsigned n)
-
--- the text of a set of ranks; `0:[]` where there is none
-abbrev pub ranks_data : Ranks → Data
-ranks_data s = string (text_of s)
+use Rattle.json_text.specs.Values.{count, list_of, object_of, ranks_data}
 
 -- a class: its paths and its ranks
 abbrev pub class_data : Ranks × List Path → Data

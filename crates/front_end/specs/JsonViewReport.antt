@@ -9,7 +9,8 @@ use Rattle.tree_view.specs.Views.{TreeView, viewed_classes, viewed_ranks, viewed
 use Rattle.front_end.specs.ReleaseText.{kind_text}
 use Rattle.front_end.specs.Report.{IsSortedCopy}
 use Rattle.front_end.specs.ViewReport.{HavePairs}
-use Rattle.front_end.specs.JsonValues.{classes_data, count, list_of, object_of, ranks_data, tree_data}
+use Rattle.front_end.specs.JsonValues.{classes_data, tree_data}
+use Rattle.json_text.specs.Values.{count, list_of, object_of, ranks_data}
 
 -- by what a release is viewed, and the argument as it was given
 abbrev pub view_data : TreeView → List ℕ → Data

@@ -6,7 +6,8 @@ use Rattle.stat_plan.specs.Plans.{Plan}
 use Rattle.overlay_event.specs.declared.event.Event.{Event}
 use Rattle.overlay_core.specs.Whole.{LosesNoDaemon}
 use Rattle.overlay_core.specs.TreeReleases.{TreeRelease}
-use Rattle.front_end.specs.Report.{AllStreamsWait, AreReleasesOf, direct_releases}
+use Rattle.front_end.specs.Report.{AllStreamsWait, AreReleasesOf}
+use Rattle.wide_merge.specs.Waves.{direct_releases}
 
 -- a text is a report of some faults, some releases and the nodes that were lost
 abbrev pub Reporting : Type 1

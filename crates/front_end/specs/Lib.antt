@@ -3,7 +3,6 @@ pub mod ReleaseText
 pub mod Report
 pub mod Shown
 pub mod JsonValues
-pub mod JsonTokens
 pub mod JsonReport
 pub mod ViewReport
 pub mod JsonViewReport

@@ -1,5 +1,5 @@
 -- The text of a report: its releases in order, and then what came of each fault that is to be shown.
-use Rattle.std.specs.Prelude.{◌≡◌, ℕ, Bool, true, false, List, [], ◌∷◌, ◌++◌, codes, map}
+use Rattle.std.specs.Prelude.{◌≡◌, ℕ, Bool, true, false, List, [], ◌∷◌, ◌++◌, codes}
 use Rattle.std.specs.Fmt.{decimal}
 use Rattle.std.specs.List.{AllByRecursion, flat_map, IsDistinct}
 use Rattle.std.specs.List.Sorted.{IsPermutation, IsStrictlySortedBy}
@@ -9,11 +9,10 @@ use Rattle.prefix_tree.specs.Tree.{tree_of}
 use Rattle.equiv_class.specs.Classes.{classes_of}
 use Rattle.overlay_setup.specs.Names.{name_of}
 use Rattle.overlay_setup.specs.NodeSets.{In, member}
-use Rattle.stat_plan.specs.Plans.{Plan, mode, samples, stream_ranks, waves_of}
+use Rattle.stat_plan.specs.Plans.{Plan, mode, samples, waves_of}
 use Rattle.overlay_setup.specs.declared.script.Fault.{Fault}
 use Rattle.overlay_setup.specs.declared.script.Mode.TheVariants.{WaitForAll}
 use Rattle.overlay_event.specs.declared.event.Event.{Event}
-use Rattle.overlay_core.specs.declared.release.Kind.TheVariants.{Final}
 use Rattle.overlay_core.specs.Runs.{IsWhole, after}
 use Rattle.overlay_core.specs.TreeReleases.{AreNumberedInOrder, TreeRelease, bare_releases}
 use Rattle.front_end.specs.ReleaseText.{classes_in, release_text}
@@ -66,18 +65,3 @@ pub record AreReleasesOf (p : Plan) (journal : List Event) (releases : List Tree
 -- every wave of the plan is of a stream that waits for all its daemons
 abbrev pub AllStreamsWait : Plan → Type 0
 AllStreamsWait p = (s w : ℕ) → In (s, w) (waves_of p.streams) → mode p s ≡ WaitForAll
-
--- a wave's first and final release, with the direct merge of its samples over all ranks of its stream, and no node lost
-abbrev pub direct_release : Plan → ℕ × ℕ → TreeRelease
-direct_release p v = record {
-  stream = v.0;
-  wave = v.1;
-  number = 1;
-  kind = Final;
-  tree = tree_of (samples p v.0 v.1) (stream_ranks p v.0);
-  lost = [];
-}
-
--- one such release for each wave of the plan, by stream and wave
-abbrev pub direct_releases : Plan → List TreeRelease
-direct_releases p = map (direct_release p) (waves_of p.streams)

@@ -9,7 +9,6 @@ use Rattle.json.specs.Print.{escape_byte}
 use Rattle.serde_json.specs.Data.{Data, string}
 use Rattle.serde_json.specs.Written.{compact_text}
 use Rattle.rank_set.specs.Ranks.{Ranks, none, has, with_rank, union, those, set_of, in_order}
-use Rattle.rank_set.specs.Text.{text_of}
 use Rattle.call_path.specs.Path.{Path, path_cmp, path_cmp_total}
 use Rattle.call_path.specs.Pairs.{Pairs, pairs_at, prefixes_of}
 use Rattle.prefix_tree.specs.Tree.{Tree, Marks, rows_at, tree_of}
@@ -27,9 +26,11 @@ use Rattle.front_end.specs.ClassText.{classes_text}
 use Rattle.tree_view.specs.Views.{OfEachClass, WithFrame}
 use Rattle.front_end.specs.ViewReport.{view_line}
 use Rattle.front_end.specs.ReleaseText.{heading, kind_text, missing_line, missing_lines, release_text, ranks_line}
-use Rattle.front_end.specs.JsonValues.{classes_data, count, list_of, object_of, ranks_data, row_data}
+use Rattle.front_end.specs.JsonValues.{classes_data, row_data}
+use Rattle.json_text.specs.Values.{count, list_of, object_of, ranks_data}
 use Rattle.front_end.specs.JsonReport.{all_missing_data, fault_data, missing_data, release_data, report_data}
-use Rattle.front_end.specs.Report.{direct_releases, fault_line, release_cmp, report_text}
+use Rattle.front_end.specs.Report.{fault_line, release_cmp, report_text}
+use Rattle.wide_merge.specs.Waves.{direct_releases}
 
 -- the loss of b:0, before any event of its own
 abbrev loss : Fault

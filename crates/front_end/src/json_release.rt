@@ -5,12 +5,12 @@ ghost use Rattle.stat_plan.specs.Plans.{daemons, nodes};
 ghost use Rattle.overlay_core.specs.TreeReleases.{release_view};
 ghost use Rattle.front_end.specs.ReleaseText.{kind_text, missing};
 ghost use Rattle.front_end.specs.JsonReport.{all_missing_data, missing_data, missing_state as text_of_missing, release_data};
-ghost use Rattle.front_end.specs.JsonTokens.{value_tokens};
+ghost use Rattle.json_text.specs.Tokens.{value_tokens};
 
-use crate::json_text::{JsonText, ranks_text};
 use crate::json_tree::{write_classes, write_tree};
 use crate::release_text::daemons_of;
 use equiv_class::classes;
+use json_text::{JsonText, ranks_text};
 use overlay_core::{Kind, Release};
 use prefix_tree::PrefixTree;
 use rank_set::RankSet;

@@ -7,12 +7,12 @@ ghost use Rattle.overlay_core.specs.TreeReleases.{release_view, releases_view};
 ghost use Rattle.front_end.specs.Report.{AreDistinct};
 ghost use Rattle.front_end.specs.Shown.{shown_releases};
 ghost use Rattle.front_end.specs.JsonReport.{IsJsonReport, fate_state as text_of_fate, fault_data, release_data};
-ghost use Rattle.front_end.specs.JsonValues.{list_of};
-ghost use Rattle.front_end.specs.JsonTokens.{value_tokens};
+ghost use Rattle.json_text.specs.Values.{list_of};
+ghost use Rattle.json_text.specs.Tokens.{value_tokens};
 
 use crate::json_release::write_release;
-use crate::json_text::JsonText;
 use crate::report::in_order;
+use json_text::JsonText;
 use overlay_core::Release;
 use overlay_setup::Fault;
 use prefix_tree::PrefixTree;

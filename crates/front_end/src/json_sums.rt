@@ -3,15 +3,15 @@ ghost use Rattle.std.specs.Prelude.{◌≡◌, ◌++◌, IfOk, OnOk, map};
 ghost use Rattle.overlay_core.specs.TreeReleases.{release_view, releases_view};
 ghost use Rattle.rank_sums.specs.PartTrees.{SaysNumbersWithin};
 ghost use Rattle.front_end.specs.JsonSumsReport.{IsJsonSumsReport, sum_data};
-ghost use Rattle.front_end.specs.JsonTokens.{value_tokens};
-ghost use Rattle.front_end.specs.JsonValues.{list_of};
+ghost use Rattle.json_text.specs.Tokens.{value_tokens};
+ghost use Rattle.json_text.specs.Values.{list_of};
 ghost use Rattle.front_end.specs.Report.{AreDistinct};
 ghost use Rattle.front_end.specs.Shown.{shown_releases};
 ghost use Rattle.front_end.specs.SumsReport.{SayNumbers, tree_value};
 
 use crate::json_release::kind_word;
-use crate::json_text::{JsonText, ranks_text};
 use crate::report::in_order;
+use json_text::{JsonText, ranks_text};
 use overlay_core::Release;
 use prefix_tree::PrefixTree;
 use rank_sums::{Fold, value_of};

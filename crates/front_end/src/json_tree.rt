@@ -6,11 +6,12 @@ ghost use Rattle.rank_set.specs.Text.{text_of};
 ghost use Rattle.call_path.specs.Path.{path_text as text_of_path};
 ghost use Rattle.equiv_class.specs.ClassList.{HaveIndices, class_view, classes_view, path_of};
 ghost use Rattle.equiv_class.specs.SeenPaths.{entries_view};
-ghost use Rattle.front_end.specs.JsonValues.{class_data, classes_data, list_of, ranks_data, row_of, tree_data};
-ghost use Rattle.front_end.specs.JsonTokens.{member_tokens, value_tokens};
+ghost use Rattle.front_end.specs.JsonValues.{class_data, classes_data, row_of, tree_data};
+ghost use Rattle.json_text.specs.Values.{list_of, ranks_data};
+ghost use Rattle.json_text.specs.Tokens.{member_tokens, value_tokens};
 
-use crate::json_text::{JsonText, path_text, ranks_text};
 use equiv_class::{Class, SeenPath, TreeClasses};
+use json_text::{JsonText, path_text, ranks_text};
 use prefix_tree::{PrefixTree, Row};
 use std::alloc::AllocError;
 

@@ -2,18 +2,18 @@
 ghost use Rattle.std.specs.Prelude.{◌≡◌, ◌++◌, IfOk, OnOk, map};
 ghost use Rattle.overlay_core.specs.TreeReleases.{release_view, releases_view};
 ghost use Rattle.tree_view.specs.Reading.{tree_view};
-ghost use Rattle.front_end.specs.JsonTokens.{value_tokens};
-ghost use Rattle.front_end.specs.JsonValues.{list_of};
+ghost use Rattle.json_text.specs.Tokens.{value_tokens};
+ghost use Rattle.json_text.specs.Values.{list_of};
 ghost use Rattle.front_end.specs.JsonViewReport.{IsJsonViewReport, IsJsonViewReportOfAny, view_data, viewed_data};
 ghost use Rattle.front_end.specs.Report.{AreDistinct};
 ghost use Rattle.front_end.specs.Shown.{shown_releases};
 ghost use Rattle.front_end.specs.ViewReport.{own_pairs};
 
 use crate::json_release::kind_word;
-use crate::json_text::{JsonText, ranks_text};
 use crate::json_tree::{write_classes, write_tree};
 use crate::report::in_order;
 use equiv_class::classes;
+use json_text::{JsonText, ranks_text};
 use overlay_core::Release;
 use prefix_tree::PrefixTree;
 use std::alloc::{AllocError, Global};

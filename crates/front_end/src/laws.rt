@@ -13,7 +13,8 @@ ghost use Rattle.front_end.specs.JsonReport.{IsJsonReport};
 ghost use Rattle.front_end.specs.Laws.{HasOneText, WaitingIsDirect};
 ghost use Rattle.front_end.specs.ReleaseText.{classes_in};
 ghost use Rattle.front_end.specs.Report.{AreDistinct, IsSortedCopy, IsReport};
-ghost use Rattle.front_end.specs.Report.{direct_releases, release_cmp};
+ghost use Rattle.front_end.specs.Report.{release_cmp};
+ghost use Rattle.wide_merge.specs.Waves.{direct_releases};
 
 /// A law: there is one report, byte for byte, of the same releases and faults of a plan where the same nodes were lost;
 /// and one as JSON.

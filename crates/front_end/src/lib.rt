@@ -18,7 +18,6 @@ mod class_text;
 mod json_release;
 mod json_report;
 mod json_sums;
-mod json_text;
 mod json_tree;
 mod json_view;
 mod laws;

@@ -9,11 +9,11 @@ use Rattle.packet_frame.specs.Frame.{Message}
 use Rattle.capture_text.specs.Captures.{CaptureLaws, IsRefused, capture_of}
 use Rattle.capture_text.specs.CaptureText.{text_of_capture}
 use Rattle.stat_tool.specs.Call.{IsCaptureRefusal}
-use Rattle.stat_tool.specs.Tasks.{CaptureTask, RunOutput}
-use Rattle.stat_tool.specs.NextStep.{Does, by_capture}
+use Rattle.job_files.specs.Tasks.{CaptureTask, RunOutput}
+use Rattle.job_files.specs.NextStep.{Does, by_capture}
 use Rattle.stat_tool.specs.Outputs.{HasCapture}
-use Rattle.stat_tool.specs.Status.{refusal_of_capture}
-use Rattle.stat_tool.specs.declared.status.Status.{Status}
+use Rattle.job_files.specs.Status.{refusal_of_capture}
+use Rattle.job_files.specs.declared.status.Status.{Status}
 
 abbrev text_in : Result (List ℕ) Refusal → List ℕ
 text_in (Ok text) = text

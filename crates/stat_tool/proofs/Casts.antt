@@ -1,5 +1,5 @@
 -- From the net of a cast, after the events that a seed picks, to the output of the job.
-use Rattle.std.proofs.Common.{◌≡◌, ℕ, List, [], None, sym, ap, subst, ◌∙◌}
+use Rattle.std.proofs.Common.{◌≡◌, ℕ, List, [], None, ap, ◌∙◌}
 use Rattle.stat_plan.specs.Invariants.{IsPlan}
 use Rattle.stat_plan.specs.Plans.{Plan}
 use Rattle.control_cast.specs.declared.event.CastEvent.{CastEvent}
@@ -7,7 +7,7 @@ use Rattle.control_cast.specs.Casts.{ObeysAll, ObeysInOrder}
 use Rattle.control_cast.specs.Machine.{State, after, IsLegal, IsQuiet}
 use Rattle.control_cast.specs.Picked.{picked}
 use Rattle.cast_text.specs.CastText.{journal_text, report_text}
-use Rattle.stat_tool.specs.Tasks.{RunOutput}
+use Rattle.job_files.specs.Tasks.{RunOutput}
 use Rattle.stat_tool.specs.Outputs.{HasCast}
 
 -- the laws of the journal that a seed picks

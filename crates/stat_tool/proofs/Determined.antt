@@ -20,13 +20,13 @@ use Rattle.topology_text.specs.Whole.{topology_of}
 use Rattle.sample_text.specs.Whole.{samples_of_text}
 use Rattle.script_text.specs.Whole.{script_of}
 use Rattle.stat_tool.specs.Call.{Answered, AreKnown, Finishes, IsDetermined, all_given, answer_of, answer_of_task, end_of, given}
-use Rattle.stat_tool.specs.Files.{NamedFile, files_of, limit_of}
-use Rattle.stat_tool.specs.Tasks.{Task, RunTask, SimTask, ReplayTask, DirectTask, GenTask, CastTask, SumsTask, ViewTask, CaptureTask, RunOutput}
-use Rattle.stat_tool.specs.NextStep.{AfterPlan, Answers, Does, AreReadResults, Step, Wants, at_capture, at_journal, at_samples, at_script, at_values, by_limit, by_samples, by_script, by_topology, next_step, plan_step}
+use Rattle.job_files.specs.Files.{NamedFile, files_of, limit_of}
+use Rattle.job_files.specs.Tasks.{Task, RunTask, SimTask, ReplayTask, DirectTask, GenTask, CastTask, SumsTask, ViewTask, CaptureTask, RunOutput}
+use Rattle.job_files.specs.NextStep.{AfterPlan, Answers, Does, AreReadResults, Step, Wants, at_capture, at_journal, at_samples, at_script, at_values, by_limit, by_samples, by_script, by_topology, next_step, plan_step}
 use Rattle.stat_tool.specs.Outputs.{HasOutput}
-use Rattle.stat_tool.specs.declared.status.Target.TheVariants.{Report, Journal}
-use Rattle.stat_tool.specs.declared.status.Status.{Status}
-use Rattle.stat_tool.specs.declared.status.Status.TheVariants.{Done, BadWords, DeskFault, BadInput, OverLimit, SinkFault, OutOfMemory, BadJournal, Unfinished, BadFrames}
+use Rattle.job_files.specs.declared.status.Target.TheVariants.{Report, Journal}
+use Rattle.job_files.specs.declared.status.Status.{Status}
+use Rattle.job_files.specs.declared.status.Status.TheVariants.{Done, BadWords, DeskFault, BadInput, OverLimit, SinkFault, OutOfMemory, BadJournal, Unfinished, BadFrames}
 
 -- ---- the texts that the desk can tell determine what is read
 

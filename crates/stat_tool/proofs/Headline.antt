@@ -25,7 +25,8 @@ use Rattle.stat_plan.proofs.PlanFacts.{plan_facts}
 use Rattle.stat_plan.proofs.InLists.{append_right, in_from_filter}
 use Rattle.overlay_core.proofs.Releases.{legal_log}
 use Rattle.overlay_node.specs.Outputs.{ReleaseFits}
-use Rattle.front_end.specs.Report.{AllStreamsWait, AreReleasesOf, IsDirect, direct_releases}
+use Rattle.front_end.specs.Report.{AllStreamsWait, AreReleasesOf, IsDirect}
+use Rattle.wide_merge.specs.Waves.{direct_releases}
 use Rattle.front_end.proofs.Direct.{direct_where_all_wait, direct_json_where_all_wait}
 use Rattle.front_end.proofs.Orders.{reports_same, json_reports_same}
 use Rattle.stat_words.specs.declared.words.ReportForm.{ReportForm}

@@ -15,7 +15,7 @@ use Rattle.overlay_core.specs.Runs.{run, after, IsLegal, IsLegalFrom}
 use Rattle.overlay_core.proofs.Journals.{after_more, legal_more, listed_where_enabled}
 use Rattle.stat_plan.proofs.PlanFacts.{HasPlanFacts, plan_facts}
 use Rattle.journal_text.specs.Events.{AreEventsOf, IsEventOf}
-use Rattle.stat_tool.specs.NextStep.{first_refused}
+use Rattle.job_files.specs.NextStep.{first_refused}
 
 -- ---- the events that can be named are of the plan
 

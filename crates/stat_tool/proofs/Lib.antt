@@ -7,4 +7,4 @@ pub mod JournalTexts
 pub mod Losses
 pub mod Outputs
 pub mod Prepared
-pub mod Stopping
+pub mod Explained

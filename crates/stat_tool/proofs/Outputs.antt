@@ -36,16 +36,16 @@ use Rattle.stat_words.specs.Words.{AskedView}
 use Rattle.stat_words.specs.declared.words.ReportForm.{ReportForm}
 use Rattle.stat_words.specs.declared.words.RunReport.{RunReport}
 use Rattle.stat_words.specs.declared.words.RunReport.TheVariants.{Releases, Frames}
-use Rattle.stat_tool.specs.Tasks.{RunOutput, ReplayTask}
+use Rattle.job_files.specs.Tasks.{RunOutput, ReplayTask}
 use Rattle.stat_tool.specs.Call.{IsEventRefusal, IsJobRefusal}
-use Rattle.stat_tool.specs.NextStep.{Answers, Does, by_bad_line, by_refused, first_refused, replay_step}
+use Rattle.job_files.specs.NextStep.{Answers, Does, by_bad_line, by_refused, first_refused, replay_step}
 use Rattle.stat_tool.specs.Outputs.{HasRun, HasSummary, HasSums, HasView, IsReplay, IsReplayed}
 use Rattle.stat_tool.specs.Reports.{AreReleased, EndsWaves, IsDirectIn, IsSumsReportIn, ViewsSamples, IsWrittenIn, IsWrittenOf}
 use Rattle.stat_tool.proofs.Headline.{are_after, are_released, direct_where_waiting, ends_waves, one_report}
 use Rattle.stat_tool.proofs.Forms.{sums_say}
 use Rattle.stat_tool.proofs.JournalTexts.{accepted, legal_are_of, refused_at}
-use Rattle.stat_tool.specs.declared.status.Status.{Status}
-use Rattle.stat_tool.specs.declared.status.Status.TheVariants.{Done, BadWords, DeskFault, BadInput, OverLimit, SinkFault, OutOfMemory, BadJournal, Unfinished, BadFrames}
+use Rattle.job_files.specs.declared.status.Status.{Status}
+use Rattle.job_files.specs.declared.status.Status.TheVariants.{Done, BadWords, DeskFault, BadInput, OverLimit, SinkFault, OutOfMemory, BadJournal, Unfinished, BadFrames}
 
 -- what a net has released are the releases after the journal that leads to it
 released_of_net : (v : NetView) (p : Plan) (journal : List Event) (releases : List TreeRelease) → IsPlan p → v.plan ≡ p → IsReachedBy v journal → releases ≡ v.releases → AreReleased p journal releases

@@ -12,18 +12,19 @@ use Rattle.stat_words.specs.Words.{Replay, Sums, Frames}
 use Rattle.stat_words.specs.declared.words.RunReport.{RunReport}
 use Rattle.stat_desk.specs.Change.{Change}
 use Rattle.stat_desk.specs.Desk.{Bytes, DeskSeen, HasGiven, ReadResult, TooLong}
-use Rattle.stat_tool.specs.Call.{HasJournal, HasNoJournal, HasRead, IsCaptureRefusal, IsJobRefusal, IsPlanned, IsStopped, IsWhyItStops, LeadsTo, Prepared, Prevented, Prevents, Refuses, StopsAt, ReadsAs, WantsFile}
-use Rattle.stat_tool.specs.Files.{NamedFile, limit_of, names_in, plan_files}
-use Rattle.stat_tool.specs.Tasks.{Task, ReplayTask, SumsTask, CaptureTask, RunOutput}
-use Rattle.stat_tool.specs.NextStep.{AfterPlan, Answers, AreReadResults, Does, Step, Wants, at_capture, at_journal, at_values, by_capture, by_values, plan_step, replay_step, too_long, values_of}
+use Rattle.stat_tool.specs.Call.{HasJournal, HasNoJournal, IsCaptureRefusal, IsJobRefusal, IsWhyItStops, LeadsTo, Prepared, Prevented}
+use Rattle.job_files.specs.Reading.{HasRead, IsPlanned, IsStopped, Prevents, Refuses, StopsAt, ReadsAs, WantsFile}
+use Rattle.job_files.specs.Files.{NamedFile, limit_of, names_in, plan_files}
+use Rattle.job_files.specs.Tasks.{Task, ReplayTask, SumsTask, CaptureTask, RunOutput}
+use Rattle.job_files.specs.NextStep.{AfterPlan, Answers, AreReadResults, Does, Step, Wants, at_capture, at_journal, at_values, by_capture, by_values, plan_step, replay_step, too_long, values_of}
 use Rattle.stat_tool.specs.Outputs.{HasOutput}
-use Rattle.stat_tool.specs.Status.{refusal_of}
+use Rattle.job_files.specs.Status.{refusal_of}
 use Rattle.text_lines.specs.declared.text_error.TextError.{TextError}
-use Rattle.stat_tool.proofs.Stopping.{IsNext, from, given_asked, read_one_more, stops, unread}
-use Rattle.stat_tool.specs.declared.status.FileRole.{FileRole}
-use Rattle.stat_tool.specs.declared.status.FileRole.TheVariants.{Journal, Capture, Values}
-use Rattle.stat_tool.specs.declared.status.Status.{Status}
-use Rattle.stat_tool.specs.declared.status.Status.TheVariants.{Done, BadWords, DeskFault, BadInput, OverLimit, SinkFault, OutOfMemory, BadJournal, Unfinished, BadFrames}
+use Rattle.job_files.proofs.Stopping.{IsNext, from, given_asked, read_one_more, stops, unread}
+use Rattle.job_files.specs.declared.status.FileRole.{FileRole}
+use Rattle.job_files.specs.declared.status.FileRole.TheVariants.{Journal, Capture, Values}
+use Rattle.job_files.specs.declared.status.Status.{Status}
+use Rattle.job_files.specs.declared.status.Status.TheVariants.{Done, BadWords, DeskFault, BadInput, OverLimit, SinkFault, OutOfMemory, BadJournal, Unfinished, BadFrames}
 
 -- a call that stops at one of the files stops where there are more
 prevents_less : (files more : List NamedFile) (desk : Change DeskSeen) (next : Step) (status : Status) → Prevents files desk next status → Prevents (files ++ more) desk next status

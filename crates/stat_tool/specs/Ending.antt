@@ -7,10 +7,10 @@ use Rattle.stat_desk.specs.Sink.{SinkSeen}
 use Rattle.stat_words.specs.Words.{Asked}
 use Rattle.stat_words.specs.declared.words.WordFault.{WordFault}
 use Rattle.stat_tool.specs.Call.{Answered}
-use Rattle.stat_tool.specs.Status.{number_of, refusal_of_status}
+use Rattle.job_files.specs.Status.{number_of, refusal_of_status}
 use Rattle.stat_tool.specs.declared.program.Ending.{Ending}
-use Rattle.stat_tool.specs.declared.status.Status.{Status}
-use Rattle.stat_tool.specs.declared.status.Status.TheVariants.{Done}
+use Rattle.job_files.specs.declared.status.Status.{Status}
+use Rattle.job_files.specs.declared.status.Status.TheVariants.{Done}
 
 -- the status of a program that ends with this line, or with none
 abbrev pub ended_with : Option Status → Status

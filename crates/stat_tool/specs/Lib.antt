@@ -1,7 +1,3 @@
-pub mod Status
-pub mod Files
-pub mod Tasks
-pub mod NextStep
 pub mod Reports
 pub mod Outputs
 pub mod Call

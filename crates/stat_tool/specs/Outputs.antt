@@ -7,7 +7,8 @@ use Rattle.overlay_core.specs.Machine.{enabled_events}
 use Rattle.overlay_core.specs.Pick.{picked}
 use Rattle.overlay_core.specs.Runs.{after}
 use Rattle.overlay_core.specs.Whole.{LosesNoDaemon}
-use Rattle.front_end.specs.Report.{AllStreamsWait, direct_releases}
+use Rattle.front_end.specs.Report.{AllStreamsWait}
+use Rattle.wide_merge.specs.Waves.{direct_releases}
 use Rattle.journal_text.specs.Reading.{ReadJournal, journal_of}
 use Rattle.journal_text.specs.Text.{journal_text}
 use Rattle.packet_frame.specs.Frame.{Message}
@@ -24,8 +25,8 @@ use Rattle.rank_sums.specs.declared.fold.Fold.{Fold}
 use Rattle.stat_words.specs.Words.{AskedView}
 use Rattle.stat_words.specs.declared.words.ReportForm.{ReportForm}
 use Rattle.stat_words.specs.declared.words.RunReport.{RunReport}
-use Rattle.stat_tool.specs.Tasks.{Task, RunTask, SimTask, ReplayTask, DirectTask, GenTask, CastTask, SumsTask, ViewTask, CaptureTask, RunOutput}
-use Rattle.stat_tool.specs.NextStep.{Does, replay_step}
+use Rattle.job_files.specs.Tasks.{Task, RunTask, SimTask, ReplayTask, DirectTask, GenTask, CastTask, SumsTask, ViewTask, CaptureTask, RunOutput}
+use Rattle.job_files.specs.NextStep.{Does, replay_step}
 use Rattle.stat_tool.specs.Reports.{EndsWaves, IsDirectIn, IsReportIn, IsSumsOf, IsViewOf, IsWrittenOf}
 
 -- A given journal, done event by event: what is wanted of it, and the first event that may still come. No journal is written.

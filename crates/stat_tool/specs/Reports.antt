@@ -26,7 +26,8 @@ use Rattle.tree_view.specs.Views.{TreeView}
 use Rattle.front_end.specs.JsonReport.{IsJsonReport}
 use Rattle.front_end.specs.JsonSumsReport.{IsJsonSumsReport}
 use Rattle.front_end.specs.JsonViewReport.{IsJsonViewReport}
-use Rattle.front_end.specs.Report.{IsDirect, IsReport, direct_releases}
+use Rattle.front_end.specs.Report.{IsDirect, IsReport}
+use Rattle.wide_merge.specs.Waves.{direct_releases}
 use Rattle.front_end.specs.SumsReport.{IsSumsReport}
 use Rattle.front_end.specs.ViewReport.{IsViewReport, wave_samples}
 use Rattle.frame_log.specs.FrameLog.{frame_log}

@@ -21,13 +21,13 @@ use Rattle.stat_words.specs.Words.{Gen}
 use Rattle.stat_words.specs.declared.words.ReportForm.TheVariants.{Text}
 use Rattle.stat_words.specs.declared.words.RunReport.{RunReport}
 use Rattle.stat_tool.specs.Call.{IsDetermined, Written}
-use Rattle.stat_tool.specs.Files.{limit_of}
-use Rattle.stat_tool.specs.Tasks.{RunOutput}
+use Rattle.job_files.specs.Files.{limit_of}
+use Rattle.job_files.specs.Tasks.{RunOutput}
 use Rattle.stat_tool.specs.Outputs.{IsReplay, IsReplayed}
 use Rattle.stat_tool.specs.Reports.{CoveragesGrow, EndsWithAll, IsReportOf}
-use Rattle.stat_tool.specs.declared.status.FileRole.TheVariants.{Capture, Journal, Topology}
-use Rattle.stat_tool.specs.declared.status.Status.{Status}
-use Rattle.stat_tool.specs.declared.status.Status.TheVariants.{DeskFault, Done}
+use Rattle.job_files.specs.declared.status.FileRole.TheVariants.{Capture, Journal, Topology}
+use Rattle.job_files.specs.declared.status.Status.{Status}
+use Rattle.job_files.specs.declared.status.Status.TheVariants.{DeskFault, Done}
 
 journal_limit : limit_of Journal ≡ 1073741824
 journal_limit = refl

@@ -1,5 +1,5 @@
 -- What a program's values say.
-use Rattle.stat_tool.specs.Tasks.{RunOutput}
+use Rattle.job_files.specs.Tasks.{RunOutput}
 use Rattle.stat_tool.specs.declared.output.Output.{Output}
 
 -- the output that a program has made

@@ -4,7 +4,7 @@ ghost use Rattle.stat_words.specs.Words.{HasGoodArgument, IsInRanges, asked_of};
 ghost use Rattle.stat_desk.specs.Change.{change};
 ghost use Rattle.stat_tool.specs.Call.{Answered, AreAllRead, HasWritten, IsDetermined, asked_by};
 ghost use Rattle.stat_tool.specs.Call.{Prepared, Prevented, Written, WritesNoJournal};
-ghost use Rattle.stat_tool.specs.Files.{files_of, names_in};
+ghost use Rattle.job_files.specs.Files.{files_of, names_in};
 ghost use Rattle.stat_tool.specs.Views.{output_view};
 
 use crate::modes::{
@@ -12,7 +12,7 @@ use crate::modes::{
     prepare_sim, prepare_sums, prepare_view,
 };
 use crate::output::{Host, Output};
-use crate::status::{Outcome, Status, Target};
+use job_files::{Outcome, Status, Target};
 use overlay_event::{Gate, Journal};
 use prefix_tree::PrefixTree;
 use stat_desk::{Desk, Sink, write_all_to};

@@ -1,6 +1,6 @@
 //! Commands to the nodes of a plan, in an order that a seed picks.
 ghost use Rattle.std.specs.Prelude.{◌≤◌, IfOk};
-ghost use Rattle.stat_tool.specs.Tasks.{CastTask};
+ghost use Rattle.job_files.specs.Tasks.{CastTask};
 ghost use Rattle.stat_tool.specs.Outputs.{HasOutput};
 ghost use Rattle.stat_tool.specs.Views.{output_view};
 

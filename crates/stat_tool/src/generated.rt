@@ -1,6 +1,6 @@
 //! A generated job, run with events that its seed picks.
 ghost use Rattle.std.specs.Prelude.{◌≤◌, IfOk};
-ghost use Rattle.stat_tool.specs.Tasks.{GenTask};
+ghost use Rattle.job_files.specs.Tasks.{GenTask};
 ghost use Rattle.stat_tool.specs.Outputs.{HasOutput};
 ghost use Rattle.stat_tool.specs.Views.{output_view};
 

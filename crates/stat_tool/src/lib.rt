@@ -13,8 +13,8 @@
 //!
 //! A contract sees the desk and the sinks by what the call changed: which files were asked for and what they gave, and
 //! which bytes were taken. `Answered` in `specs/Call.antt` is the headline, and can be read aloud. Below it,
-//! `specs/NextStep.antt` says which file is read next, `specs/Files.antt` what each file comes to, `specs/Tasks.antt`
-//! what there is to do then, `specs/Outputs.antt` what may be written, and `specs/Status.antt` what a refusal says.
+//! `specs/Outputs.antt` says what may be written; which file is read next, and what there is to do then, is said in
+//! `job_files`.
 #![tactic(auto)]
 
 mod call;
@@ -23,12 +23,10 @@ mod generated;
 mod modes;
 mod output;
 mod program;
-mod read;
-mod status;
 mod sums;
 mod view;
 
 pub use call::stat;
+pub use job_files::{FileRole, Outcome, Status, Target};
 pub use program::{Ending, RefusalLine, ending_of, run_program, run_words};
 pub use stat_words::WordFault;
-pub use status::{FileRole, Outcome, Status, Target};

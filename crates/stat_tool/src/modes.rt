@@ -14,10 +14,9 @@ use crate::generated::gen_job;
 use crate::output::{
     Host, Output, capture_output, direct_plan, leave, replay_plan, run_output, sim_plan,
 };
-use crate::read::{read_file, read_plan, read_values};
-use crate::status::{FileRole, Status};
 use crate::sums::sums_plan;
 use crate::view::view_plan;
+use job_files::{FileRole, Status, read_file, read_plan, read_values};
 use journal_text::{JournalRead, read_journal};
 use overlay_event::Gate;
 use overlay_run::run_workers;

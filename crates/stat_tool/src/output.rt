@@ -9,18 +9,18 @@ ghost use Rattle.overlay_core.specs.TreeReleases.{AreNumberedInOrder, releases_v
 ghost use Rattle.overlay_net.specs.Nets.{AllHome, IsReachedBy};
 ghost use Rattle.overlay_run.specs.Boards.{IsWholeRun};
 ghost use Rattle.stat_tool.specs.Call.{IsCaptureRefusal, IsEventRefusal, IsJobRefusal};
-ghost use Rattle.stat_tool.specs.Tasks.{CaptureTask, DirectTask, ReplayTask, RunTask, SimTask};
-ghost use Rattle.stat_tool.specs.NextStep.{Does, by_capture, first_refused, replay_step};
+ghost use Rattle.job_files.specs.Tasks.{CaptureTask, DirectTask, ReplayTask, RunTask, SimTask};
+ghost use Rattle.job_files.specs.NextStep.{Does, by_capture, first_refused, replay_step};
 ghost use Rattle.stat_tool.specs.Outputs.{HasOutput, HasRun, ReplaysAs};
 ghost use Rattle.stat_tool.specs.Reports.{IsReportIn, IsWrittenIn, losses_of};
-ghost use Rattle.stat_tool.specs.Status.{refusal_of_capture};
+ghost use Rattle.job_files.specs.Status.{refusal_of_capture};
 ghost use Rattle.stat_tool.specs.Views.{output_view};
 ghost use Rattle.wide_report.specs.Pieces.{faults_in, losses_in};
 
-use crate::status::Status;
 use capture_text::{capture_text, captures_are_frames};
 use frame_log::frame_log;
 use front_end::{numbered_releases_are_distinct, report_json, report_text};
+use job_files::Status;
 use journal_text::{JournalRead, write_journal};
 use overlay_core::Release;
 use overlay_event::{Event, Gate, Journal};
@@ -33,7 +33,8 @@ use stat_words::{ReportForm, RunReport};
 use std::alloc::{AllocError, Global};
 use std::mem;
 use std::thread::Threads;
-use wide_report::{WideDirect, WideReport, wide_direct, wide_json, wide_text};
+use wide_merge::{WideDirect, wide_direct};
+use wide_report::{WideReport, wide_json, wide_text};
 
 /// What a task has made.
 #[derive(Drop)]

@@ -4,10 +4,10 @@ ghost use Rattle.std.specs.Process.{exit_status};
 ghost use Rattle.stat_desk.specs.Change.{change};
 ghost use Rattle.stat_tool.specs.Call.{asked_by};
 ghost use Rattle.stat_tool.specs.Ending.{EndsAs, IsEnding, ended_with};
-ghost use Rattle.stat_tool.specs.Status.{number_of, refusal_of_status};
+ghost use Rattle.job_files.specs.Status.{number_of, refusal_of_status};
 
 use crate::call::stat;
-use crate::status::Status;
+use job_files::Status;
 use overlay_event::{Gate, OpenGate};
 use prefix_tree::PrefixTree;
 use stat_desk::{Desk, FileDesk, FileSink, Sink, StdSink};

@@ -2,7 +2,7 @@
 ghost use Rattle.std.specs.Prelude.{[], IfOk};
 ghost use Rattle.overlay_core.specs.TreeReleases.{AreNumberedInOrder, releases_view};
 ghost use Rattle.front_end.specs.SumsReport.{SayNumbers, tree_value};
-ghost use Rattle.stat_tool.specs.Tasks.{SumsTask};
+ghost use Rattle.job_files.specs.Tasks.{SumsTask};
 ghost use Rattle.stat_tool.specs.Outputs.{HasOutput};
 ghost use Rattle.stat_tool.specs.Reports.{IsSumsReportIn};
 ghost use Rattle.stat_tool.specs.Views.{output_view};

@@ -1,7 +1,7 @@
 //! A view of each release of a run whose events a seed picks.
 ghost use Rattle.std.specs.Prelude.{◌≡◌, [], IfOk, Some};
 ghost use Rattle.overlay_core.specs.TreeReleases.{AreNumberedInOrder, releases_view};
-ghost use Rattle.stat_tool.specs.Tasks.{ViewTask};
+ghost use Rattle.job_files.specs.Tasks.{ViewTask};
 ghost use Rattle.stat_tool.specs.Outputs.{HasOutput};
 ghost use Rattle.stat_tool.specs.Reports.{ViewsSamples};
 ghost use Rattle.stat_tool.specs.Views.{output_view};

@@ -6,3 +6,4 @@ pub mod Indices
 pub mod Sorts
 pub mod Cutting
 pub mod Sending
+pub mod Waves

@@ -1,19 +1,26 @@
--- A wave that is to be merged may be shared with another thread, where its gate may.
+-- Waves that are to be merged may be shared with another thread, where their gate may.
 use denote.RattleType.{RattleType}
 use denote.Ref.{NamedLft}
 use denote.Param.Send.{IsSend, IsSync, sendable}
 use denote.Param.SendFields.{as_row_send, declared_send}
 use denote.Param.{param}
-use denote.Struct.Field.{row_field, u32-field}
+use denote.Struct.Field.{row_field, u8-field, u32-field}
 use denote.Struct.Tuple.{Tuple, TupleAt, type_at}
 use Rattle.std.proofs.Common.{ℕ, List, [], ◌∷◌}
 use Rattle.core.specs.contracts.marker.ClosureMark as ClosureMark
 use Rattle.std.proofs.Crossing.{crosses}
+use Rattle.wide_merge.specs.contracts.direct.WideDirect as WideDirect
 use Rattle.wide_merge.specs.contracts.parts.WideMerge as WideMerge
 use Rattle.stat_plan.proofs.PlanSharing.{plan_sync}
 
 pub merge_sync : (κ : NamedLft) (G : RattleType) → IsSync G → IsSync (WideMerge.the_row κ G)
 merge_sync κ G gate = search (sendable, crosses, plan_sync) depth 20
+
+pub direct_sync : (κ : NamedLft) (G : RattleType) → IsSync G → IsSync (WideDirect.the_row κ G)
+direct_sync κ G gate = search (sendable, crosses, plan_sync) depth 20
+
+pub wave_sync : IsSync (Tuple (u8-field.row ∷ u8-field.row ∷ []))
+wave_sync = search (sendable, crosses) depth 20
 
 pub number_sync : IsSync u32-field.row
 number_sync = search sendable depth 20

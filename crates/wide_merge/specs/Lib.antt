@@ -1,3 +1,4 @@
 pub mod Parts
 pub mod ClassLists
 pub mod Joining
+pub mod Waves

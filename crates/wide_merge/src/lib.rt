@@ -1,4 +1,7 @@
-//! The direct merge of a wave by several threads, and the classes of a tree by several threads.
+//! Direct merges by several threads, and the classes of a tree by several threads.
+//!
+//! [`wide_direct`] gives the direct release of each wave of a plan. The waves are cut in halves, and each half again,
+//! as long as there is a thread for each part.
 //!
 //! [`wide_tree`] gives the same tree as `merge_filter::direct`. The daemons of the stream are cut in halves, and each
 //! half again, as long as there is a thread for each part. The part of one thread is made by paths, as `direct` makes
@@ -10,20 +13,24 @@
 //! when a list of blocks is the list of classes.
 //!
 //! ```text
+//! let job = WideDirect { alloc, plan: &plan, gate: &OpenGate, workers: 4 };
+//! let releases: Vec<Release<ArenaTree>> = wide_direct(&rt, &job)?;
 //! let merge = WideMerge { alloc, plan: &plan, gate: &OpenGate, stream: 0, wave: 2 };
 //! let all: Contribution<ArenaTree> = wide_tree(&rt, &merge, 4)?;
 //! let found = wide_classes(&rt, alloc, all.tree(), 4)?;
 //! ```
 //!
-//! The definitions are in `specs/Parts.antt`, `specs/ClassLists.antt` and `specs/Joining.antt`.
+//! The definitions are in `specs/Waves.antt`, `specs/Parts.antt`, `specs/ClassLists.antt` and `specs/Joining.antt`.
 #![tactic(auto)]
 
 mod class_parts;
+mod direct;
 mod laws;
 mod parts;
 mod united;
 
 pub use class_parts::wide_classes;
+pub use direct::{WideDirect, wide_direct};
 pub use laws::lists_of_classes;
 pub use parts::{WideMerge, wide_tree};
 pub use united::unite;

@@ -1,4 +1,3 @@
 pub mod Texts
 pub mod Orders
 pub mod Sending
-pub mod Waves

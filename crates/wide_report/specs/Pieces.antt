@@ -9,7 +9,7 @@ use Rattle.prefix_tree.specs.Tree.{Tree}
 use Rattle.overlay_core.specs.TreeReleases.{TreeRelease, releases_view}
 use Rattle.overlay_core.specs.declared.release.Release.{Release}
 use Rattle.front_end.specs.JsonReport.{IsJsonReport, fault_data, release_data}
-use Rattle.front_end.specs.JsonValues.{list_of}
+use Rattle.json_text.specs.Values.{list_of}
 use Rattle.front_end.specs.ReleaseText.{release_text}
 use Rattle.front_end.specs.Report.{IsReport}
 use Rattle.wide_report.specs.declared.parts.Form.{Form}

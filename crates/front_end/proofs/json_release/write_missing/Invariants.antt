@@ -2,7 +2,7 @@ use Rattle.std.proofs.Common.{◌≡◌, ◌++◌, drop, map}
 use Rattle.std.specs.Prelude.{filter}
 use Rattle.stat_plan.specs.Plans.{daemons}
 use Rattle.front_end.specs.JsonReport.{all_missing_data, has_missing, missing_data}
-use Rattle.front_end.specs.JsonTokens.{rest_tokens, value_tokens}
+use Rattle.json_text.specs.Tokens.{rest_tokens, value_tokens}
 use Rattle.front_end.proofs.json_release.write_missing.Given as goal
 
 abbrev pub invariant-loop-daemon : goal.invariant-loop-daemon

@@ -1,9 +1,9 @@
 use Rattle.std.proofs.Common.{◌∙◌, ◌++◌, ap, map}
 use Rattle.std.proofs.lemmas.Result.{IfOk-weaker}
 use Rattle.front_end.specs.Shown.{shown_releases}
-use Rattle.front_end.specs.JsonValues.{list_of}
+use Rattle.json_text.specs.Values.{list_of}
 use Rattle.front_end.specs.JsonReport.{release_data}
-use Rattle.front_end.specs.JsonTokens.{value_tokens}
+use Rattle.json_text.specs.Tokens.{value_tokens}
 use Rattle.front_end.proofs.JsonWritten.{report_line}
 use Rattle.front_end.proofs.json_report.json_with_faults.Goals as goal
 

@@ -3,7 +3,7 @@ use Rattle.json.specs.Print.{print}
 use Rattle.serde_json.proofs.Texts.{print-outline}
 use Rattle.overlay_core.specs.TreeReleases.{release_view}
 use Rattle.front_end.specs.JsonReport.{release_data}
-use Rattle.front_end.specs.JsonTokens.{value_tokens}
+use Rattle.json_text.specs.Tokens.{value_tokens}
 use Rattle.front_end.proofs.json_report.release_json.Goals as goal
 
 pub returns : goal.returns

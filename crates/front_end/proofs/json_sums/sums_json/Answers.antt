@@ -2,8 +2,8 @@ use Rattle.std.proofs.Common.{◌∙◌, ◌++◌, ap, map, sym, subst}
 use Rattle.std.proofs.lemmas.Result.{IfOk-weaker}
 use Rattle.overlay_core.specs.TreeReleases.{releases_view}
 use Rattle.front_end.specs.Shown.{shown_releases}
-use Rattle.front_end.specs.JsonValues.{list_of}
-use Rattle.front_end.specs.JsonTokens.{value_tokens}
+use Rattle.json_text.specs.Values.{list_of}
+use Rattle.json_text.specs.Tokens.{value_tokens}
 use Rattle.front_end.specs.JsonSumsReport.{sum_data}
 use Rattle.front_end.specs.SumsReport.{SayNumbers, tree_value}
 use Rattle.front_end.proofs.SumsWritten.{say_in_order, sums_report_line}

@@ -1,7 +1,7 @@
 use Rattle.std.proofs.Common.{◌≡◌, ◌++◌, drop, map}
 use Rattle.front_end.specs.Shown.{shown_releases}
-use Rattle.front_end.specs.JsonValues.{list_of}
-use Rattle.front_end.specs.JsonTokens.{rest_tokens, value_tokens}
+use Rattle.json_text.specs.Values.{list_of}
+use Rattle.json_text.specs.Tokens.{rest_tokens, value_tokens}
 use Rattle.front_end.specs.JsonSumsReport.{sum_data}
 use Rattle.front_end.specs.SumsReport.{SayNumbers, tree_value}
 use Rattle.front_end.proofs.json_sums.write_sums.Given as goal

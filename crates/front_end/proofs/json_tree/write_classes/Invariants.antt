@@ -2,7 +2,7 @@ use Rattle.std.proofs.Common.{◌≡◌, ◌++◌, drop, map}
 use Rattle.equiv_class.specs.ClassList.{class_views, classes_view}
 use Rattle.equiv_class.specs.SeenPaths.{entries_view}
 use Rattle.front_end.specs.JsonValues.{class_data, classes_data}
-use Rattle.front_end.specs.JsonTokens.{rest_tokens, value_tokens}
+use Rattle.json_text.specs.Tokens.{rest_tokens, value_tokens}
 use Rattle.front_end.proofs.json_tree.write_classes.Given as goal
 
 abbrev pub invariant-loop-class : goal.invariant-loop-class

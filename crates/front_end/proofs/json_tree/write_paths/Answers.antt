@@ -1,7 +1,7 @@
 use Rattle.std.proofs.Common.{◌++◌, ◌∙◌, ap, arith}
 use Rattle.serde_json.specs.Data.{string}
 use Rattle.call_path.specs.Path.{path_text}
-use Rattle.front_end.specs.JsonTokens.{value_tokens}
+use Rattle.json_text.specs.Tokens.{value_tokens}
 use Rattle.front_end.proofs.Indices.{next_value}
 use Rattle.front_end.proofs.json_tree.write_paths.Goals as goal
 

@@ -3,8 +3,8 @@ use Rattle.serde_json.specs.Data.{string}
 use Rattle.call_path.specs.Path.{path_text}
 use Rattle.equiv_class.specs.ClassList.{path_of}
 use Rattle.equiv_class.specs.SeenPaths.{entries_view}
-use Rattle.front_end.specs.JsonValues.{list_of}
-use Rattle.front_end.specs.JsonTokens.{rest_tokens, value_tokens}
+use Rattle.json_text.specs.Values.{list_of}
+use Rattle.json_text.specs.Tokens.{rest_tokens, value_tokens}
 use Rattle.front_end.proofs.json_tree.write_paths.Given as goal
 
 abbrev pub invariant-loop-index : goal.invariant-loop-index

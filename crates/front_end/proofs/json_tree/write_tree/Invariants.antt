@@ -3,7 +3,7 @@ use Rattle.std.specs.Prelude.{string_bytes}
 use Rattle.rank_set.specs.Text.{text_of}
 use Rattle.prefix_tree.specs.Tree.{rows_of}
 use Rattle.front_end.specs.JsonValues.{row_data, tree_data}
-use Rattle.front_end.specs.JsonTokens.{rest_tokens, value_tokens}
+use Rattle.json_text.specs.Tokens.{rest_tokens, value_tokens}
 use Rattle.front_end.proofs.json_tree.write_tree.Given as goal
 
 abbrev pub invariant-loop-row : goal.invariant-loop-row

@@ -2,8 +2,8 @@ use Rattle.std.proofs.Common.{◌∙◌, ◌++◌, ap, map}
 use Rattle.std.proofs.lemmas.Result.{IfOk-weaker}
 use Rattle.tree_view.specs.Reading.{tree_view}
 use Rattle.front_end.specs.Shown.{shown_releases}
-use Rattle.front_end.specs.JsonValues.{list_of}
-use Rattle.front_end.specs.JsonTokens.{value_tokens}
+use Rattle.json_text.specs.Values.{list_of}
+use Rattle.json_text.specs.Tokens.{value_tokens}
 use Rattle.front_end.specs.JsonViewReport.{viewed_data}
 use Rattle.front_end.specs.ViewReport.{own_pairs}
 use Rattle.front_end.proofs.ViewWritten.{view_report_line}

@@ -1,8 +1,8 @@
 use Rattle.std.proofs.Common.{◌≡◌, ◌++◌, drop, map}
 use Rattle.tree_view.specs.Reading.{tree_view}
 use Rattle.front_end.specs.Shown.{shown_releases}
-use Rattle.front_end.specs.JsonValues.{list_of}
-use Rattle.front_end.specs.JsonTokens.{rest_tokens, value_tokens}
+use Rattle.json_text.specs.Values.{list_of}
+use Rattle.json_text.specs.Tokens.{rest_tokens, value_tokens}
 use Rattle.front_end.specs.JsonViewReport.{viewed_data}
 use Rattle.front_end.specs.ViewReport.{own_pairs}
 use Rattle.front_end.proofs.json_view.write_viewed.Given as goal

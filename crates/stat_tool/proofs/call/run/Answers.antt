@@ -5,7 +5,7 @@ use Rattle.stat_words.specs.Words.{Asked, asked, asked_of}
 use Rattle.stat_words.specs.declared.words.WordFault.{WordFault}
 use Rattle.stat_tool.specs.Call.{Answered}
 use Rattle.stat_tool.specs.Views.{output_view}
-use Rattle.stat_tool.proofs.Stopping.{explained, words_need_memory}
+use Rattle.stat_tool.proofs.Explained.{explained, words_need_memory}
 use Rattle.stat_tool.proofs.call.run.Goals as goal
 
 pub returns-in-Err-OutOfMemory-clause-answered : goal.returns-in-Err-OutOfMemory-clause-answered

@@ -4,7 +4,7 @@ use Rattle.control_cast.specs.Machine.{start}
 use Rattle.control_cast.specs.CastViews.{cast_state}
 use Rattle.control_cast.specs.Picked.{picked}
 use Rattle.cast_text.specs.CastText.{report_text}
-use Rattle.stat_tool.specs.Tasks.{RunOutput}
+use Rattle.job_files.specs.Tasks.{RunOutput}
 use Rattle.stat_tool.proofs.Casts.{PickedLaws, events_of, has_cast}
 use Rattle.stat_tool.proofs.cast.cast_plan.Goals as goal
 

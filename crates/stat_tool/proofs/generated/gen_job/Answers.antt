@@ -1,6 +1,6 @@
 use Rattle.std.proofs.Common.{None, refl}
 use Rattle.overlay_core.specs.TreeReleases.{releases_view}
-use Rattle.stat_tool.specs.Tasks.{RunOutput}
+use Rattle.job_files.specs.Tasks.{RunOutput}
 use Rattle.stat_tool.proofs.Outputs.{has_summary}
 use Rattle.stat_tool.proofs.generated.gen_job.Goals as goal
 

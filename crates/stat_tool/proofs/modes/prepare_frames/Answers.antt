@@ -1,11 +1,11 @@
 use Rattle.std.proofs.Common.{List, ℕ, sym, subst}
 use Rattle.stat_desk.specs.Change.{change}
 use Rattle.stat_desk.specs.Desk.{Bytes, HasGiven}
-use Rattle.stat_tool.specs.Files.{limit_of}
+use Rattle.job_files.specs.Files.{limit_of}
 use Rattle.stat_tool.specs.Views.{output_view}
-use Rattle.stat_tool.specs.declared.status.FileRole.TheVariants.{Capture}
+use Rattle.job_files.specs.declared.status.FileRole.TheVariants.{Capture}
 use Rattle.stat_tool.proofs.Prepared.{capture_prepared, capture_refused, capture_stops}
-use Rattle.stat_tool.proofs.Stopping.{if_err, if_ok}
+use Rattle.job_files.proofs.Stopping.{if_err, if_ok}
 use Rattle.stat_tool.proofs.modes.prepare_frames.Goals as goal
 
 pub returns-in-Err-clause-err : goal.returns-in-Err-clause-err

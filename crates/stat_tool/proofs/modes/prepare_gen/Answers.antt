@@ -1,7 +1,7 @@
 use Rattle.std.proofs.Common.{[], refl, sym, append-nil}
 use Rattle.stat_words.specs.Words.{Gen}
-use Rattle.stat_tool.specs.Tasks.{GenTask}
-use Rattle.stat_tool.specs.NextStep.{next_step}
+use Rattle.job_files.specs.Tasks.{GenTask}
+use Rattle.job_files.specs.NextStep.{next_step}
 use Rattle.stat_tool.proofs.Prepared.{not_asked}
 use Rattle.stat_tool.proofs.modes.prepare_gen.Goals as goal
 

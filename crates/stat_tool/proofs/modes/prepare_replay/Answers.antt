@@ -1,11 +1,11 @@
 use Rattle.journal_text.specs.Reading.{read_view}
 use Rattle.stat_desk.specs.Change.{change}
 use Rattle.stat_words.specs.Words.{names_of}
-use Rattle.stat_tool.specs.NextStep.{at_journal}
+use Rattle.job_files.specs.NextStep.{at_journal}
 use Rattle.stat_tool.specs.Views.{output_view}
 use Rattle.stat_tool.proofs.Prepared.{journal_stops, last_stops, replay_prepared, replay_refused}
-use Rattle.stat_tool.proofs.Stopping.{if_err, if_ok}
-use Rattle.stat_tool.specs.declared.status.FileRole.TheVariants.{Journal}
+use Rattle.job_files.proofs.Stopping.{if_err, if_ok}
+use Rattle.job_files.specs.declared.status.FileRole.TheVariants.{Journal}
 use Rattle.stat_tool.proofs.modes.prepare_replay.Goals as goal
 
 pub returns-in-Err-clause-err : goal.returns-in-Err-clause-err

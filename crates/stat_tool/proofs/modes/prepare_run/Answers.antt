@@ -1,6 +1,6 @@
 use Rattle.stat_desk.specs.Change.{change}
 use Rattle.stat_words.specs.Words.{names_of}
-use Rattle.stat_tool.specs.Tasks.{RunTask}
+use Rattle.job_files.specs.Tasks.{RunTask}
 use Rattle.stat_tool.specs.Views.{output_view}
 use Rattle.stat_tool.proofs.Prepared.{task_no_memory, task_prepared, task_stops}
 use Rattle.stat_tool.proofs.modes.prepare_run.Goals as goal

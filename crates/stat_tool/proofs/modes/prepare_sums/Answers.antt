@@ -1,9 +1,9 @@
 use Rattle.stat_desk.specs.Change.{change}
 use Rattle.stat_words.specs.Words.{names_of, sums_asked}
-use Rattle.stat_tool.specs.NextStep.{at_values}
+use Rattle.job_files.specs.NextStep.{at_values}
 use Rattle.stat_tool.specs.Views.{output_view}
 use Rattle.stat_tool.proofs.Prepared.{last_stops, sums_no_memory, sums_prepared, values_stop}
-use Rattle.stat_tool.specs.declared.status.FileRole.TheVariants.{Values}
+use Rattle.job_files.specs.declared.status.FileRole.TheVariants.{Values}
 use Rattle.stat_tool.proofs.modes.prepare_sums.Goals as goal
 
 pub returns-in-Err-clause-err : goal.returns-in-Err-clause-err

@@ -1,6 +1,6 @@
 use Rattle.std.proofs.Common.{None, refl}
 use Rattle.capture_text.specs.Captures.{capture_of}
-use Rattle.stat_tool.specs.Tasks.{RunOutput}
+use Rattle.job_files.specs.Tasks.{RunOutput}
 use Rattle.stat_tool.proofs.Captures.{printed, refused}
 use Rattle.stat_tool.proofs.output.capture_output.Goals as goal
 

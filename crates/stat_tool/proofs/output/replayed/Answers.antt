@@ -2,7 +2,7 @@ use Rattle.std.proofs.Common.{subst}
 use Rattle.overlay_core.specs.Runs.{IsLegal}
 use Rattle.overlay_core.specs.TreeReleases.{releases_view}
 use Rattle.stat_plan.specs.Plans.{Plan}
-use Rattle.stat_tool.specs.Tasks.{RunOutput}
+use Rattle.job_files.specs.Tasks.{RunOutput}
 use Rattle.stat_tool.proofs.Outputs.{has_replay}
 use Rattle.stat_tool.proofs.output.replayed.Goals as goal
 

@@ -2,7 +2,7 @@ use Rattle.std.proofs.Common.{refl}
 use Rattle.overlay_core.specs.TreeReleases.{releases_view}
 use Rattle.wide_report.specs.Pieces.{faults_in, losses_in}
 use Rattle.stat_tool.proofs.Forms.{in_json, in_text}
-use Rattle.stat_tool.proofs.Stopping.{if_ok}
+use Rattle.job_files.proofs.Stopping.{if_ok}
 use Rattle.stat_tool.proofs.output.report_in.Goals as goal
 
 pub returns-in-Text : goal.returns-in-Text

@@ -2,7 +2,7 @@ use Rattle.std.proofs.Common.{refl, ◌∙◌}
 use Rattle.overlay_core.specs.TreeReleases.{releases_view}
 use Rattle.stat_tool.specs.Reports.{losses_of}
 use Rattle.stat_tool.proofs.Forms.{in_json, in_text}
-use Rattle.stat_tool.proofs.Stopping.{if_ok}
+use Rattle.job_files.proofs.Stopping.{if_ok}
 use Rattle.stat_tool.proofs.output.report_of.Goals as goal
 
 pub report_text-requires-clause-distinct : goal.report_text-requires-clause-distinct

@@ -1,6 +1,6 @@
 use Rattle.std.proofs.Common.{None, refl}
 use Rattle.overlay_core.specs.TreeReleases.{releases_view}
-use Rattle.stat_tool.specs.Tasks.{RunOutput}
+use Rattle.job_files.specs.Tasks.{RunOutput}
 use Rattle.stat_tool.proofs.JournalTexts.{legal_are_of}
 use Rattle.stat_tool.proofs.Outputs.{has_run}
 use Rattle.stat_tool.proofs.output.run_output.Goals as goal

@@ -4,10 +4,10 @@ use Rattle.stat_words.specs.Words.{asked}
 use Rattle.stat_desk.specs.Change.{change}
 use Rattle.stat_tool.specs.Call.{Answered}
 use Rattle.stat_tool.specs.Ending.{IsEnding, ended_with}
-use Rattle.stat_tool.specs.Status.{refusal_of_status}
+use Rattle.job_files.specs.Status.{refusal_of_status}
 use Rattle.stat_tool.specs.declared.program.Ending.{Ending}
-use Rattle.stat_tool.specs.declared.status.Status.{Status}
-use Rattle.stat_tool.specs.declared.status.Status.TheVariants.{Done, BadWords, DeskFault, BadInput, OverLimit, SinkFault, OutOfMemory, BadJournal, Unfinished, BadFrames}
+use Rattle.job_files.specs.declared.status.Status.{Status}
+use Rattle.job_files.specs.declared.status.Status.TheVariants.{Done, BadWords, DeskFault, BadInput, OverLimit, SinkFault, OutOfMemory, BadJournal, Unfinished, BadFrames}
 use Rattle.stat_tool.proofs.program.run_words.Goals as goal
 
 -- each status is that of its line

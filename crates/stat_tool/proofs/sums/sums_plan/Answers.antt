@@ -2,7 +2,7 @@ use Rattle.std.proofs.Common.{◌∙◌, None, refl, ap}
 use Rattle.overlay_core.specs.Pick.{picked}
 use Rattle.overlay_core.specs.TreeReleases.{releases_view}
 use Rattle.rank_sums.specs.PartPlans.{part_lines}
-use Rattle.stat_tool.specs.Tasks.{RunOutput}
+use Rattle.job_files.specs.Tasks.{RunOutput}
 use Rattle.stat_tool.proofs.Outputs.{has_sums, net_sums, sums_read}
 use Rattle.stat_tool.proofs.sums.sums_plan.Goals as goal
 

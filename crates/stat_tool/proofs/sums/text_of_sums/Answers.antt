@@ -1,7 +1,7 @@
 use Rattle.overlay_core.specs.TreeReleases.{releases_view}
 use Rattle.front_end.specs.SumsReport.{tree_value}
 use Rattle.stat_tool.proofs.Forms.{in_sums_json, in_sums_text}
-use Rattle.stat_tool.proofs.Stopping.{if_ok}
+use Rattle.job_files.proofs.Stopping.{if_ok}
 use Rattle.stat_tool.proofs.sums.text_of_sums.Goals as goal
 
 pub sums_text-requires-clause-distinct : goal.sums_text-requires-clause-distinct

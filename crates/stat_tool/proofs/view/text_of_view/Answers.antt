@@ -3,7 +3,7 @@ use Rattle.stat_words.specs.Words.{view_asked}
 use Rattle.tree_view.specs.Reading.{tree_view}
 use Rattle.front_end.specs.ViewReport.{wave_samples}
 use Rattle.stat_tool.proofs.Forms.{have_samples, in_view_json, in_view_text}
-use Rattle.stat_tool.proofs.Stopping.{if_ok}
+use Rattle.job_files.proofs.Stopping.{if_ok}
 use Rattle.stat_tool.proofs.view.text_of_view.Goals as goal
 
 pub view_text-requires-clause-distinct : goal.view_text-requires-clause-distinct

@@ -2,7 +2,7 @@ use Rattle.std.proofs.Common.{None, refl}
 use Rattle.overlay_core.specs.TreeReleases.{releases_view}
 use Rattle.stat_words.specs.Words.{view_asked}
 use Rattle.tree_view.specs.Reading.{tree_view}
-use Rattle.stat_tool.specs.Tasks.{RunOutput}
+use Rattle.job_files.specs.Tasks.{RunOutput}
 use Rattle.stat_tool.proofs.Outputs.{has_view}
 use Rattle.stat_tool.proofs.view.view_plan.Goals as goal
 

@@ -1,0 +1,5 @@
+pub mod Status
+pub mod Files
+pub mod Tasks
+pub mod NextStep
+pub mod Reading
