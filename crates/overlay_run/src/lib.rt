@@ -19,9 +19,7 @@
 mod board;
 mod given;
 mod run;
-mod size;
 mod worker;
 
 pub use board::{NetBoard, Ran};
 pub use run::run_workers;
-pub use size::{LARGE_DIRECT, LARGE_RUN, workers_for};

@@ -8,7 +8,6 @@ ghost use Rattle.overlay_run.specs.Boards.{IsWholeRun};
 ghost use Rattle.overlay_run.specs.Seats.{IsIdle, plan_of};
 
 use crate::board::{NetBoard, Ran};
-use crate::size::{LARGE_RUN, workers_for};
 use crate::worker::{WorkContext, work};
 use board_turn::{Turn, TurnSeat};
 use overlay_event::Gate;
@@ -66,8 +65,7 @@ fn finish<'p, R: Wait, T: PrefixTree, G: Gate>(
 }
 
 /// Runs a plan on 1 to 32 workers, each in a thread of its own. All are joined; if a thread can't be made, its part is
-/// done by the one that would have made it. Then the caller does what is left. Each event passes the gate once. There
-/// are fewer workers where [`workers_for`] says so.
+/// done by the one that would have made it. Then the caller does what is left. Each event passes the gate once.
 ///
 /// Fails only if memory runs out.
 pub fn run_workers<R: Threads + Wait + Sync, T: PrefixTree, G: Gate>(
@@ -82,7 +80,6 @@ pub fn run_workers<R: Threads + Wait + Sync, T: PrefixTree, G: Gate>(
 {
     let board: NetBoard<T> = NetBoard::new(alloc, plan)?;
     let (turn, mut first) = Turn::new(alloc, board)?;
-    let workers = workers_for(rt, plan, workers, gate, LARGE_RUN);
     let seats = split_seats(alloc, &turn, &mut first, workers)?;
     let shared = &turn;
     let job = |seat: TurnSeat| -> bool

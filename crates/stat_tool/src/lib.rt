@@ -23,6 +23,7 @@ mod generated;
 mod modes;
 mod output;
 mod program;
+mod size;
 mod sums;
 mod view;
 

@@ -14,6 +14,7 @@ use crate::generated::gen_job;
 use crate::output::{
     Host, Output, capture_output, direct_plan, leave, replay_plan, run_output, sim_plan,
 };
+use crate::size::{LARGE_RUN, workers_for};
 use crate::sums::sums_plan;
 use crate::view::view_plan;
 use job_files::{FileRole, Status, read_file, read_plan, read_values};
@@ -28,7 +29,7 @@ use std::alloc::Global;
 use std::sync::Wait;
 use std::thread::Threads;
 
-/// The run of a plan by so many workers, whose events pass the gate.
+/// The run of a plan by so many workers, or fewer where it is not worth them, whose events pass the gate.
 pub fn prepare_run<R: Threads + Wait + Sync, T: PrefixTree, D: Desk, G: Gate>(
     host: &Host<'_, R, G>,
     files: Files<'_>,
@@ -46,12 +47,12 @@ pub fn prepare_run<R: Threads + Wait + Sync, T: PrefixTree, D: Desk, G: Gate>(
         Ok(plan) => plan,
         Err(status) => return Err(status),
     };
-    let number = u32::from(workers);
+    let number = workers_for(host.rt, &plan, u32::from(workers), host.gate, LARGE_RUN);
     let ran = match run_workers::<R, T, G>(host.rt, host.alloc, &plan, number, host.gate) {
         Ok(ran) => ran,
         Err(_) => return Err(Status::OutOfMemory),
     };
-    match run_output(host, &plan, ran, workers, wanted) {
+    match run_output(host, &plan, ran, number, wanted) {
         Ok(output) => {
             leave(plan);
             Ok(output)

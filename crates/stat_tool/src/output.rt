@@ -17,6 +17,7 @@ ghost use Rattle.job_files.specs.Status.{refusal_of_capture};
 ghost use Rattle.stat_tool.specs.Views.{output_view};
 ghost use Rattle.wide_report.specs.Pieces.{faults_in, losses_in};
 
+use crate::size::{LARGE_DIRECT, workers_for};
 use capture_text::{capture_text, captures_are_frames};
 use frame_log::frame_log;
 use front_end::{numbered_releases_are_distinct, report_json, report_text};
@@ -25,7 +26,7 @@ use journal_text::{JournalRead, write_journal};
 use overlay_core::Release;
 use overlay_event::{Event, Gate, Journal};
 use overlay_net::{Net, NetError};
-use overlay_run::{LARGE_DIRECT, LARGE_RUN, Ran, workers_for};
+use overlay_run::Ran;
 use packet_frame::FrameError;
 use prefix_tree::PrefixTree;
 use stat_plan::Plan;
@@ -66,16 +67,15 @@ pub struct Host<'a, R: Threads + Sync, G: Gate> {
     pub gate: &'a G,
 }
 
-/// The output of a run by so many workers.
+/// The output of a run, with a report that so many threads write.
 pub fn run_output<R: Threads + Sync, T: PrefixTree, G: Gate>(
     host: &Host<'_, R, G>,
     plan: &Plan,
     ran: Ran<T>,
-    workers: u8,
+    workers: u32,
     wanted: RunReport,
 ) -> Result<Output, AllocError>
-    requires workers { 1 ≤ workers }
-    requires whole { IsWholeRun plan.now ran.journal (releases_view T.tree ran.releases.items) }
+    requires { IsWholeRun plan.now ran.journal (releases_view T.tree ran.releases.items) }
     ensures { IfOk result (λ output. HasOutput (RunTask plan.now wanted) (output_view output)) }
 {
     plan.invariant();
@@ -86,7 +86,7 @@ pub fn run_output<R: Threads + Sync, T: PrefixTree, G: Gate>(
         plan,
         shows_faults: true,
         lost: &lost,
-        workers: workers_for(host.rt, plan, u32::from(workers), host.gate, LARGE_RUN),
+        workers,
     };
     let report = run_text(host.rt, &wide, releases, &journal, wanted)?;
     let journal_text = write_journal(host.alloc, plan, &journal)?;
