@@ -16,8 +16,8 @@ const PIECE: usize = 4_096;
 /// The text of a capture, a file of frames one after another: for each frame a line with the offset of its first byte,
 /// below it the rows of its tree besides the root, and at the end the number of frames. `T` is how trees are kept.
 ///
-/// If the bytes are not whole frames, the result is the refusal of the first bytes that are no frame, at their offset in
-/// the capture. It is `Short` if the last frame is not whole.
+/// If the bytes are not whole frames, the result is the refusal of the first bytes that are no frame, at their offset
+/// in the capture. It is `Short` if the last frame is not whole.
 pub fn capture_text<T: PrefixTree>(alloc: Global, bytes: &[u8]) -> Result<Vec<u8>, FrameError>
     ensures text { IfOk result (λ text. result_map text_of_capture (capture_of bytes.now) ≡ Ok text.items) }
     ensures refusal { IfErr result (IsRefused bytes.now) }

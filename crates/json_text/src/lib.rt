@@ -12,8 +12,9 @@
 //! let line = json.into_line()?;                       // {"covered":"2:[0-1]","number":1}
 //! ```
 //!
-//! A contract sees a text as the tokens so far. `specs/Tokens.antt` says which tokens a value and a member have, and
-//! `specs/Values.antt` which value stands for a count, a number or a set.
+//! Each call fails only if memory runs out. The text may then have a part of what was to be added, and is to be
+//! dropped. A contract sees a text as the tokens so far. `specs/Tokens.antt` says which tokens a value and a member
+//! have, and `specs/Values.antt` which value stands for a count, a number or a set.
 #![tactic(auto)]
 
 ghost use Rattle.std.specs.Prelude.{◌≡◌, ◌∷◌, ◌++◌, [], IfOk, OnOk, string_bytes};
