@@ -2,10 +2,10 @@
 //!
 //! Nearly always all ranks of a line are one node's, which then gets the line: a line of its own, or none where its
 //! last one is at the same time in the same path, and takes these ranks up. Other lines list ranks of several nodes.
-//! They are
-//! *spread*: those of one path and time are united, and each node has the numbers of those that list its ranks. What a
-//! spread line lists of a node is cut out of it when it is asked for ([`wave_lines`](crate::wave_lines)), so that all
-//! lines together take memory as the text does, however many nodes they are spread over.
+//! They are *spread*: those of one path and time are united, and each node has the numbers of those that list its
+//! ranks. What a spread line lists of a node is cut out of it when it is asked for
+//! ([`wave_lines`](crate::wave_lines)), so that all lines together take memory as the text does, however many nodes
+//! they are spread over.
 
 ghost use Rattle.std.specs.Prelude.{◌≡◌, ◌≢◌, ◌<◌, ◌&&◌, ℕ, false, nat_eq, IfOk, IfSome, OnOk, [], length, map, get_or};
 ghost use Rattle.std.specs.List.Sorted.{IsPermutation};
