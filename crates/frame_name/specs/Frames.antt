@@ -6,6 +6,10 @@ pub record FrameView : Type 0 where
   pub name : List ℕ
   -- what is shown behind the name: the source file and the line, or nothing
   pub line : List ℕ
+  -- whether the function (its symbol, without a library's name behind it) is `main`
+  pub is_main : Bool
+  -- whether it is one of the frames below which a program or a thread has not begun (`is_start` of its symbol)
+  pub is_start : Bool
   -- whether it is the program's own code
   pub is_own : Bool
   -- whether its library is one of those in which a rank waits for others

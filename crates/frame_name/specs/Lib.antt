@@ -1,3 +1,15 @@
 pub mod Calls
 pub mod CallViews
 pub mod Frames
+pub mod Texts
+pub mod Words
+pub mod WordLists
+pub mod Plain
+pub mod Fitted
+pub mod Tables
+pub mod Binaries
+pub mod Names
+pub mod SourceLines
+pub mod FrameRules
+pub mod RuleViews
+pub mod FrameCuts

@@ -1,0 +1,6 @@
+use Rattle.frame_name.specs.Tables.{begins_with_one, is_mpi_name}
+use Rattle.frame_name.proofs.binaries.is_mpi_name.Goals as goal
+
+pub returns : goal.returns
+unfolding is_mpi_name begins_with_one
+returns c = c.begins_with_one.ensures

@@ -1,0 +1,91 @@
+//! The user's words for names.
+
+ghost use Rattle.std.specs.Prelude.{◌≡◌, ◌||◌, ◌++◌, ℕ, List, []};
+ghost use Rattle.std.specs.Prelude.{cond};
+ghost use Rattle.frame_name.specs.Texts.{contains, closes_with};
+ghost use Rattle.frame_name.specs.Words.{word_fits, any_fits, goes_on, before_star};
+
+use crate::texts::contains;
+use call_path::CallPath;
+use std::marker::Model;
+
+/// Words for names, as the user writes them: parted by `;`, as the frames of a call path are.
+///
+/// A `*` at a word's beginning or end stands for any bytes, and each other byte for itself.
+#[derive(Drop)]
+pub struct Words {
+    path: Option<CallPath>,
+}
+
+impl Model for Words {
+    ghost use Rattle.std.specs.Prelude.{List, ℕ};
+    ghost use Rattle.frame_name.specs.WordLists.{words_of};
+
+    ghost Value = { List (List ℕ) };
+
+    ghost view = { λ a. words_of a.path };
+}
+
+impl Words {
+    /// No words, which fit nothing.
+    pub fn none() -> Words
+        ensures { result ≡ [] }
+    {
+        Words { path: None }
+    }
+
+    /// The frames of a path, as words.
+    pub fn of(path: CallPath) -> Words
+        ensures { result ≡ path }
+    {
+        Words { path: Some(path) }
+    }
+
+    /// Whether one of the words fits a text.
+    pub fn fits(&self, text: &[u8]) -> bool
+        ensures { result ≡ any_fits self.now text.now }
+    {
+        match &self.path {
+            Some(path) => any_fits(path, text),
+            None => false,
+        }
+    }
+}
+
+// Whether a word that goes on behind a `*` at its beginning fits a text.
+fn open_word_fits(word: &[u8], text: &[u8]) -> bool
+    ensures { result ≡ cond (goes_on word.now) (contains (before_star word.now) text.now) (closes_with word.now text.now) }
+{
+    if word.ends_with(b"*") {
+        return contains(&word[..word.len() - 1], text);
+    }
+    text.ends_with(word)
+}
+
+fn word_fits(word: &[u8], text: &[u8]) -> bool
+    ensures { result ≡ word_fits word.now text.now }
+{
+    if word.starts_with(b"*") {
+        return open_word_fits(&word[1..], text);
+    }
+    if word.ends_with(b"*") {
+        return text.starts_with(&word[..word.len() - 1]);
+    }
+    word == text
+}
+
+fn any_fits(words: &CallPath, text: &[u8]) -> bool
+    ensures { result ≡ any_fits words.now text.now }
+{
+    for i in 0..words.len() {
+        if word_fits(words.frame(i).as_bytes(), text) {
+            return true;
+        }
+    }
+    false
+}
+
+/// A law of words: what fits two lists of them together fits one of the two.
+pub fn words_fit_one_by_one()
+    ensures { (a b : List (List ℕ)) (text : List ℕ) → any_fits (a ++ b) text ≡ (any_fits a text || any_fits b text) }
+{}

@@ -1,0 +1,5 @@
+pub mod Views
+pub mod Steps
+pub mod Cycles
+pub mod EndViews
+pub mod CallSteps

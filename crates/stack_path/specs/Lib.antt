@@ -1,0 +1,11 @@
+pub mod Beginnings
+pub mod Stacks
+pub mod Shown
+pub mod Recursion
+pub mod Cuts
+pub mod Ends
+pub mod Choices
+pub mod ChoiceViews
+pub mod Paths
+pub mod StackViews
+pub mod PathViews

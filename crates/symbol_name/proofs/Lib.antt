@@ -1,0 +1,10 @@
+pub mod Places
+pub mod Repeating
+pub mod Ends
+pub mod Shorter
+pub mod WordTexts
+pub mod NoMarks
+pub mod Letters
+pub mod CNames
+pub mod ModuleLetters
+pub mod Stays
