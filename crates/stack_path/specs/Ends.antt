@@ -1,6 +1,6 @@
 -- Of more frames than a path may have both ends are kept, with a frame between that says so; a limit of the user's keeps
 -- the outer frames, and a remark.
-use Rattle.std.specs.Prelude.{ℕ, zero, suc, ◌+◌, ◌-◌, Bool, false, nat_le, cond, List, [], ◌∷◌, ◌++◌, length, take, drop, codes}
+use Rattle.std.specs.Prelude.{ℕ, ◌-◌, Bool, nat_le, cond, List, [], ◌∷◌, ◌++◌, length, take, drop, codes, slice_index_or}
 use Rattle.call_path.specs.Path.{Path}
 use Rattle.frame_name.specs.Plain.{is_remark}
 
@@ -25,9 +25,7 @@ with_remark p remark = both_ends (p ++ remark ∷ [])
 
 -- whether a path ends with a remark
 abbrev pub ends_with_remark : Path → Bool
-ends_with_remark [] = false
-ends_with_remark (f ∷ []) = is_remark f
-ends_with_remark (f ∷ g ∷ p) = ends_with_remark (g ∷ p)
+ends_with_remark p = is_remark (slice_index_or p (length p - 1) [])
 
 -- at most so many frames: the outer ones, and a remark at the end takes the place of the last of these
 unfoldable pub cut_to : ℕ → Path → Path

@@ -12,7 +12,7 @@ use frame_name::Frame;
 use std::alloc::{AllocError, Global};
 
 // The frame that stands for those that are left out.
-const LEFT_OUT: &str = "(frames left out)";
+pub const LEFT_OUT: &str = "(frames left out)";
 
 // Appends frames to a path.
 fn push_frames(path: &mut PathBuilder, frames: &[&Frame]) -> Result<(), AllocError>

@@ -7,9 +7,12 @@ mod cuts;
 mod ends;
 mod paths;
 mod recursion;
+mod remarks;
 mod shown;
 mod stacks;
 
-pub use beginnings::{begun_first, begun_other};
+
 pub use choice::{Choice, End, Recursion};
 pub use paths::{StackPath, first_path, other_path};
+pub use remarks::{cut_to, with_remark};
+pub use stacks::{is_replaced, stack_of};

@@ -3,7 +3,7 @@
 ghost use Rattle.std.specs.Prelude.{◌≡◌, IfOk, map, reverse};
 ghost use Rattle.frame_name.specs.CallViews.{call_view};
 ghost use Rattle.frame_name.specs.RuleViews.{rules_view};
-ghost use Rattle.stack_path.specs.Stacks.{frames_of, stack_of};
+ghost use Rattle.stack_path.specs.Stacks.{frames_of, stack_of, is_replaced};
 ghost use Rattle.stack_path.specs.Beginnings.{without_plumbing};
 
 use frame_name::{Call, Frame, Rules};
@@ -20,4 +20,34 @@ fn frames_of(alloc: Global, rules: &Rules, calls: &[Call]) -> Result<Vec<Frame>,
         rest = inner;
     }
     Ok(frames)
+}
+
+// Takes out the frames of the C++ library's own source files, where there are others.
+fn drop_plumbing(stack: &mut Vec<Frame>)
+    ensures { stack.new.items ≡ without_plumbing stack.old.items }
+{
+    if stack.iter().any(|f| !f.is_plumbing()) {
+        stack.retain(|f| !f.is_plumbing());
+    }
+}
+
+/// The frames of a stack's calls, of which the innermost is the first; the frames have their outermost first. Where lines
+/// are shown, those of the C++ library's own source files are left out. The one error is running out of memory.
+#[tactic(auto, unfolding(crate::specs::Stacks::stack_of))]
+pub fn stack_of(alloc: Global, rules: &Rules, calls: &[Call]) -> Result<Vec<Frame>, AllocError>
+    ensures { IfOk result (λ stack. stack.items ≡ stack_of (rules_view rules.now) (reverse (map call_view calls.now))) }
+{
+    let mut stack = frames_of(alloc, rules, calls)?;
+    if rules.keeps_lines {
+        drop_plumbing(&mut stack);
+        return Ok(stack);
+    }
+    Ok(stack)
+}
+
+/// Whether code of the program's own that is on a stack was removed or replaced while it ran.
+pub fn is_replaced(stack: &[Frame]) -> bool
+    ensures { result ≡ is_replaced stack.now }
+{
+    stack.iter().any(|f| f.is_own() && f.is_deleted())
 }

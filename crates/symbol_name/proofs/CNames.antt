@@ -1,7 +1,7 @@
 -- The names in C that are made of words in Fortran.
-use Rattle.std.proofs.Common.{◌≡◌, ◌∙◌, ◌+◌, ◌-◌, ◌<◌, ◌≤◌, ◌⊎◌, inl, inr, ℕ, Bool, true, false, cond, eqb, List, [], ◌∷◌, ◌++◌, length, map, drop, get_or, refl, sym, ap, arith}
-use Rattle.std.specs.Prelude.{Option, None, Some, ◌||◌, not, nat_eq, nat_lt, option_map, is_some, unwrap_or, codes}
-use Rattle.std.specs.Char.{is_ascii_digit, is_ascii_uppercase, is_ascii_lowercase, to_ascii_lowercase, to_ascii_uppercase}
+use Rattle.std.proofs.Common.{◌≡◌, ◌∙◌, inl, inr, ℕ, Bool, true, false, cond, eqb, List, [], ◌∷◌, ◌++◌, length, map, drop, get_or, refl, sym, ap, arith}
+use Rattle.std.specs.Prelude.{Option, None, Some, not, option_map, is_some, unwrap_or, codes}
+use Rattle.std.specs.Char.{is_ascii_uppercase, to_ascii_lowercase, to_ascii_uppercase}
 use Rattle.std.specs.List.{list_all}
 use Rattle.std.specs.Option.{option_and_then, option_or}
 use Rattle.std.proofs.lemmas.Bool.{and_parts, and_from, and_left, and_right, eqb-false, false≢true}
@@ -9,8 +9,8 @@ use Rattle.std.proofs.lemmas.Bool.Decides.{nat_tests}
 use Rattle.std.proofs.lemmas.List.{append-nil}
 use Rattle.std.proofs.lemmas.List.Folds.{list_all-map}
 use Rattle.std.proofs.lemmas.Option.{none-some, option_and_then_some, same_Some}
-use Rattle.symbol_name.specs.Texts.{behind, before, is_word_byte, begins_lower}
-use Rattle.symbol_name.specs.Mpi.{is_small, is_capital, begins_upper_twice, kept, before_f08, without_f08, without_lows, mangled_word, tail_word, open_mpi_word, capital_word, plain_word, fortran_word, capitalized}
+use Rattle.symbol_name.specs.Texts.{behind, before, is_word_byte}
+use Rattle.symbol_name.specs.Mpi.{is_lower_word, is_upper_word, kept, before_f08, without_f08, without_underscores, mangled_word, tail_word, open_mpi_word, capital_word, plain_word, fortran_word, capitalized}
 use Rattle.symbol_name.proofs.Ends.{let_through, passed, behind_is, before_is, before_append, before_cons}
 use Rattle.symbol_name.proofs.Shorter.{either_some}
 use Rattle.symbol_name.proofs.WordTexts.{AreWords, implied, f08_end, small_words, capital_words}
@@ -90,16 +90,16 @@ none_of : (o : Option (List ℕ)) → not (is_some o) ≡ true → o ≡ None
 none_of None e = refl
 none_of (Some left) e = absurd (false≢true e)
 
-small_written : (word : List ℕ) → is_small word ≡ true → IsWritten word
+small_written : (word : List ℕ) → is_lower_word word ≡ true → IsWritten word
 small_written word e = record {
-  some = (λ none. false≢true (sym (ap is_small none) ∙ e));
+  some = (λ none. false≢true (sym (ap is_lower_word none) ∙ e));
   words = small_words word e;
   no_low_end = none_of (before (codes "_") word) (and_parts _ _ e).1;
 }
 
-capital_written : (word : List ℕ) → is_capital word ≡ true → IsWritten word
+capital_written : (word : List ℕ) → is_upper_word word ≡ true → IsWritten word
 capital_written word e = record {
-  some = (λ none. false≢true (sym (ap is_capital none) ∙ e));
+  some = (λ none. false≢true (sym (ap is_upper_word none) ∙ e));
   words = capital_words word e;
   no_low_end = none_of (before (codes "_") word) (and_parts _ _ e).1;
 }
@@ -110,33 +110,33 @@ keeps passes text word e = ap passes (sym (same_Some text word (let_through _ _ 
 
 mangled_written : (name word : List ℕ) → mangled_word name ≡ Some word → IsWritten word
 mangled_written name word e =
-    option_and_then_some (λ rest. kept is_small (without_lows rest)) (option_or (behind (codes "mpi_") name) (behind (codes "pmpi_") name)) word e
-    (λ rest is k. small_written word (keeps is_small (without_lows rest) word k))
+    option_and_then_some (λ rest. kept is_lower_word (without_underscores rest)) (option_or (behind (codes "mpi_") name) (behind (codes "pmpi_") name)) word e
+    (λ rest is k. small_written word (keeps is_lower_word (without_underscores rest) word k))
 
 tail_written : (name word : List ℕ) → tail_word name ≡ Some word → IsWritten word
 tail_written name word e =
-    option_and_then_some (kept is_small) (behind (codes "ompi_mpi_") name) word e (λ rest is k. small_written word (keeps is_small rest word k))
+    option_and_then_some (kept is_lower_word) (behind (codes "ompi_mpi_") name) word e (λ rest is k. small_written word (keeps is_lower_word rest word k))
 
 open_mpi_written : (name word : List ℕ) → open_mpi_word name ≡ Some word → IsWritten word
 open_mpi_written name word e =
-    option_and_then_some (kept is_small) (option_and_then (before (codes "_f")) (behind (codes "ompi_") name)) word e
-    (λ rest is k. small_written word (keeps is_small rest word k))
+    option_and_then_some (kept is_lower_word) (option_and_then (before (codes "_f")) (behind (codes "ompi_") name)) word e
+    (λ rest is k. small_written word (keeps is_lower_word rest word k))
 
 capital_word_written : (name word : List ℕ) → capital_word name ≡ Some word → IsWritten word
 capital_word_written name word e =
-    option_and_then_some (kept is_capital) (behind (codes "MPI_") name) word e (λ rest is k. capital_written word (keeps is_capital rest word k))
+    option_and_then_some (kept is_upper_word) (behind (codes "MPI_") name) word e (λ rest is k. capital_written word (keeps is_upper_word rest word k))
 
 plain_written : (name word : List ℕ) → plain_word name ≡ Some word → IsWritten word
 plain_written name word e =
     elim (either_some (mangled_word name) (option_or (tail_word name) (option_or (open_mpi_word name) (capital_word name))) word e) [
       | inl mangled ↦ mangled_written name word mangled
       | inr other ↦ elim (either_some (tail_word name) (option_or (open_mpi_word name) (capital_word name)) word other) [
-          | inl tail ↦ tail_written name word tail
-          | inr more ↦ elim (either_some (open_mpi_word name) (capital_word name) word more) [
-              | inl open_mpi ↦ open_mpi_written name word open_mpi
-              | inr capital ↦ capital_word_written name word capital
-            ]
+        | inl tail ↦ tail_written name word tail
+        | inr more ↦ elim (either_some (open_mpi_word name) (capital_word name) word more) [
+          | inl open_mpi ↦ open_mpi_written name word open_mpi
+          | inr capital ↦ capital_word_written name word capital
         ]
+      ]
     ]
 
 pub written : (name word : List ℕ) → fortran_word name ≡ Some word → IsWritten word
@@ -168,7 +168,7 @@ module _ (word : List ℕ) (is : IsWritten word) where
 -- no such name is one of Fortran's
 module _ (word : List ℕ) where
   -- a part of the capitalized word, from its first byte on, isn't in upper case alone
-  not_capital : (part end : List ℕ) → capitalized word ≡ part ++ end → is_capital part ≡ false
+  not_capital : (part end : List ℕ) → capitalized word ≡ part ++ end → is_upper_word part ≡ false
   not_capital [] end e = refl
   not_capital (b ∷ []) end e = and_left _ _ (and_left _ _ (and_right (is_ascii_uppercase b) false refl))
   not_capital (b ∷ c ∷ part) end e =
@@ -176,7 +176,7 @@ module _ (word : List ℕ) where
       (sym (ap (λ t. is_ascii_uppercase (get_or t 1 0)) e) ∙ second_small word)))
 
   capital_none : (front end : List ℕ) (o : Option (List ℕ)) → behind (codes "MPI_") front ≡ o → codes "MPI_" ++ capitalized word ≡ front ++ end →
-      option_and_then (kept is_capital) o ≡ None
+      option_and_then (kept is_upper_word) o ≡ None
   capital_none front end None e f = refl
   capital_none front end (Some part) e f =
       ap (λ t. cond t (Some part) None)

@@ -1,17 +1,22 @@
 -- Texts before an end and behind a beginning.
-use Rattle.std.proofs.Common.{◌≡◌, ◌∙◌, ◌<◌, ◌≤◌, ◌+◌, ◌-◌, ℕ, suc, Bool, true, false, cond, List, [], ◌∷◌, ◌++◌, length, take, drop, refl, sym, ap, arith, length-append}
+use Rattle.std.proofs.Common.{◌≡◌, ◌∙◌, ◌+◌, ◌-◌, ℕ, Bool, true, false, cond, List, [], ◌∷◌, ◌++◌, length, take, drop, refl, sym, ap, arith, length-append}
 use Rattle.std.specs.Prelude.{Option, None, Some, option_map}
 use Rattle.std.specs.Str.{bytes_eq}
 use Rattle.std.proofs.lemmas.List.{take-append-drop}
 use Rattle.std.proofs.Math.Seq.{drop-append_seam, take-append_seam}
 use Rattle.std.proofs.lemmas.Slice.Eq.{bytes_eq-Decides}
 use Rattle.std.proofs.lemmas.Option.{same_Some, none-some}
-use Rattle.symbol_name.specs.Texts.{behind, before, place_of, cut_at}
+use Rattle.symbol_name.specs.Texts.{behind, before, offset_of, cut_at}
 
 -- what a test lets through, and that it does
 pub let_through : {X : Type 0} (b : Bool) (o : Option X) (x : X) → cond b o None ≡ Some x → o ≡ Some x
 let_through true o x e = e
 let_through false o x e = absurd (none-some x e)
+
+-- of nothing it lets nothing through
+pub none_through : {X : Type 0} (b : Bool) (o : Option X) → o ≡ None → cond b o None ≡ None
+none_through true o e = e
+none_through false o e = refl
 
 pub passed : {X : Type 0} (b : Bool) (o : Option X) (x : X) → cond b o None ≡ Some x → b ≡ true
 passed true o x e = refl
@@ -63,7 +68,7 @@ pub before_cons : (end : List ℕ) (b : ℕ) (text : List ℕ) → (b ∷ text �
     before end (b ∷ text) ≡ option_map (λ t. b ∷ t) (before end text)
 before_cons end b text other = in_front end b text other (before end text) refl (before end (b ∷ text)) refl
 
--- what stands before and behind a place, with the part between
+-- what stands before and behind a part, with the part between
 cut_is_at : (part text : List ℕ) (n : ℕ) (o : Option (List ℕ)) → behind part (drop n text) ≡ o → (a b : List ℕ) →
     option_map {U = List ℕ × List ℕ} (λ rest. (take n text, rest)) o ≡ Some (a, b) → text ≡ a ++ (part ++ b)
 cut_is_at part text n None e a b f = absurd (none-some (a, b) f)
@@ -72,4 +77,4 @@ cut_is_at part text n (Some rest) e a b f =
     sym (take-append-drop n text) ∙ (λ i. (same i).0 ++ behind_is part (drop n text) rest e i) ∙ (λ i. a ++ (part ++ (same i).1))
 
 pub cut_is : (part text a b : List ℕ) → cut_at part text ≡ Some (a, b) → text ≡ a ++ (part ++ b)
-cut_is part text a b e = cut_is_at part text (place_of part text) _ refl a b e
+cut_is part text a b e = cut_is_at part text (offset_of part text) _ refl a b e

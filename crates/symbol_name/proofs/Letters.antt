@@ -1,6 +1,6 @@
 -- A letter in front of a name: marks at its end are those of the rest.
-use Rattle.std.proofs.Common.{◌≡◌, ◌∙◌, ◌-◌, ◌+◌, ◌<◌, ◌≤◌, ◌⊎◌, inl, inr, ℕ, zero, suc, Bool, true, false, cond, eqb, get_or, List, [], ◌∷◌, ◌++◌, length, take, drop, reverse, refl, sym, ap, arith, eq-eqb}
-use Rattle.std.specs.Prelude.{Option, None, Some, option_map, unwrap_or, codes}
+use Rattle.std.proofs.Common.{◌≡◌, ◌∙◌, ◌-◌, ◌+◌, ◌<◌, ◌≤◌, inl, inr, ℕ, zero, suc, Bool, true, false, cond, eqb, get_or, List, [], ◌∷◌, length, take, drop, reverse, refl, sym, ap, arith, eq-eqb}
+use Rattle.std.specs.Prelude.{Option, None, Some, option_map, codes}
 use Rattle.std.specs.List.{prefix_len, suffix_len}
 use Rattle.std.specs.Option.{option_and_then, option_or}
 use Rattle.std.proofs.lemmas.Bool.{eqb-false, ne_eqb, cases_lt}
@@ -11,7 +11,7 @@ use Rattle.std.proofs.lemmas.Option.{none-some}
 use Rattle.symbol_name.specs.Texts.{before, before_run, end_run, is_word_byte}
 use Rattle.symbol_name.specs.Repeats.{settled}
 use Rattle.symbol_name.specs.Copies.{is_number, is_copy_word, is_version_byte, is_version, without_number, without_copy_word, without_part, without_parts, without_bracket, without_version, unless_empty, without_mark}
-use Rattle.symbol_name.proofs.Ends.{before_cons}
+use Rattle.symbol_name.proofs.Ends.{none_through, before_cons}
 use Rattle.symbol_name.proofs.Repeating.{Shortens, settled_none, settled_some}
 use Rattle.symbol_name.proofs.Shorter.{number_shortens, part_shortens}
 
@@ -31,7 +31,7 @@ module _ (p : ℕ → Bool) (b : ℕ) (text : List ℕ) where
   part_len less =
       let other : suffix_len p text ≡ length text → ⊥ = λ e. absurd (omega (arith, e, less)) in
       let same : suffix_len p (b ∷ text) ≡ suffix_len p text =
-          run_of p b text ∙ ap (λ t. cond t (length text + cond (p b) (1 + 0) 0) (suffix_len p text)) (ne_eqb _ _ other) in
+      run_of p b text ∙ ap (λ t. cond t (length text + cond (p b) (1 + 0) 0) (suffix_len p text)) (ne_eqb _ _ other) in
       omega (arith, same, less)
 
   pub part_front : suffix_len p text < length text → before_run p (b ∷ text) ≡ b ∷ before_run p text
@@ -44,9 +44,9 @@ module _ (p : ℕ → Bool) (b : ℕ) (text : List ℕ) where
   whole_len passes all =
       let same : suffix_len p text ≡ length text = omega (arith, suffix_len-le-length p text, all) in
       let longer : suffix_len p (b ∷ text) ≡ length text + (1 + 0) =
-          run_of p b text
-          ∙ ap (λ t. cond t (length text + cond (p b) (1 + 0) 0) (suffix_len p text)) (eq-eqb _ _ same)
-          ∙ ap (λ t. length text + cond t (1 + 0) 0) passes in
+      run_of p b text
+      ∙ ap (λ t. cond t (length text + cond (p b) (1 + 0) 0) (suffix_len p text)) (eq-eqb _ _ same)
+      ∙ ap (λ t. length text + cond t (1 + 0) 0) passes in
       omega (arith, longer)
 
   pub whole_front : p b ≡ true → length text ≤ suffix_len p text → before_run p (b ∷ text) ≡ []
@@ -60,10 +60,6 @@ module _ (p : ℕ → Bool) (b : ℕ) (text : List ℕ) where
 through : (b : ℕ) (t : Bool) (o : Option (List ℕ)) → cond t (with_front b o) None ≡ with_front b (cond t o None)
 through b true o = refl
 through b false o = refl
-
-nothing_through : (t : Bool) (o : Option (List ℕ)) → o ≡ None → cond t o None ≡ None
-nothing_through true o e = e
-nothing_through false o e = refl
 
 -- the letter that stands in front of `MPI_X` in `PMPI_X`
 abbrev pub letter : ℕ
@@ -84,8 +80,8 @@ dotted_letter q text =
           ∙ ap (λ o. cond (q (end_run is_word_byte text)) o None) (before_cons (codes ".") letter (before_run is_word_byte text) (no_head 46 _ _ refl))
           ∙ through letter (q (end_run is_word_byte text)) (before (codes ".") (before_run is_word_byte text))
       | inr all ↦
-          nothing_through (q (end_run is_word_byte (letter ∷ text))) _ (ap (before (codes ".")) (whole_front is_word_byte letter text refl all))
-          ∙ sym (ap (with_front letter) (nothing_through (q (end_run is_word_byte text)) _ (ap (before (codes ".")) (whole_rest is_word_byte letter text all))))
+          none_through (q (end_run is_word_byte (letter ∷ text))) _ (ap (before (codes ".")) (whole_front is_word_byte letter text refl all))
+          ∙ sym (ap (with_front letter) (none_through (q (end_run is_word_byte text)) _ (ap (before (codes ".")) (whole_rest is_word_byte letter text all))))
     ]
 
 -- steps that do the same behind a letter
@@ -148,12 +144,12 @@ version_of front version = option_or (before (codes "@@") front) (cond (is_versi
 version_behind : (front version : List ℕ) → version_of (letter ∷ front) version ≡ with_front letter (version_of front version)
 version_behind front version =
     (λ i. option_or (before_cons (codes "@@") letter front (no_head 64 _ _ refl) i)
-      (cond (is_version version) (before_cons (codes "@") letter front (no_head 64 _ _ refl) i) None))
+    (cond (is_version version) (before_cons (codes "@") letter front (no_head 64 _ _ refl) i) None))
     ∙ ap (option_or (with_front letter (before (codes "@@") front))) (through letter (is_version version) (before (codes "@") front))
     ∙ either_letter (before (codes "@@") front) (cond (is_version version) (before (codes "@") front) None)
 
 no_version : (front version : List ℕ) → front ≡ [] → version_of front version ≡ None
-no_version front version e = ap (λ f. version_of f version) e ∙ nothing_through (is_version version) None refl
+no_version front version e = ap (λ f. version_of f version) e ∙ none_through (is_version version) None refl
 
 version_letter : (text : List ℕ) → without_version (letter ∷ text) ≡ with_front letter (without_version text)
 version_letter text =

@@ -1,4 +1,4 @@
-pub mod Places
+pub mod Offsets
 pub mod Repeating
 pub mod Ends
 pub mod Shorter

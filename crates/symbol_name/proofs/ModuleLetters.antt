@@ -1,13 +1,12 @@
 -- A letter in front of a name that begins with `M`: it says a module of Fortran where the rest does.
-use Rattle.std.proofs.Common.{◌≡◌, ◌∙◌, ℕ, suc, Bool, true, false, cond, eqb, List, [], ◌∷◌, length, take, drop, refl, sym, ap, arith}
-use Rattle.std.specs.Prelude.{Option, None, Some, ◌&&◌, not, nat_eq, option_map, codes}
-use Rattle.std.specs.List.{list_all}
+use Rattle.std.proofs.Common.{◌≡◌, ◌∙◌, ℕ, suc, Bool, true, false, cond, List, ◌∷◌, length, take, drop, refl, sym, ap, arith}
+use Rattle.std.specs.Prelude.{Option, None, Some, ◌&&◌, not, option_map, codes}
 use Rattle.std.specs.Option.{option_and_then, option_or}
 use Rattle.std.proofs.lemmas.Bool.{and_parts, and_from, ne_eqb}
 use Rattle.std.proofs.lemmas.Option.{none-some}
-use Rattle.symbol_name.specs.Texts.{behind, before, place_of, cut_at, is_word, is_word_byte}
-use Rattle.symbol_name.specs.Modules.{both_pass, gfortran_parts, ifort_parts, flang_parts, module_parts}
-use Rattle.symbol_name.proofs.Ends.{passed, before_cons}
+use Rattle.symbol_name.specs.Texts.{behind, before, offset_of, cut_at, is_word}
+use Rattle.symbol_name.specs.Modules.{both_pass, ifort_parts, module_parts}
+use Rattle.symbol_name.proofs.Ends.{before_cons}
 use Rattle.symbol_name.proofs.Letters.{letter, no_head}
 
 abbrev cut_front : List ℕ × List ℕ → List ℕ × List ℕ
@@ -20,9 +19,9 @@ moved n text None = refl
 moved n text (Some rest) = refl
 
 cut_letter : (text : List ℕ) → cut_at (codes "_mp_") (letter ∷ text) ≡ option_map cut_front (cut_at (codes "_mp_") text)
-unfolding place_of
+unfolding offset_of
 cut_letter text =
-    moved (place_of (codes "_mp_") text) text (behind (codes "_mp_") (drop (place_of (codes "_mp_") text) text))
+    moved (offset_of (codes "_mp_") text) text (behind (codes "_mp_") (drop (offset_of (codes "_mp_") text) text))
 
 word_letter : (text : List ℕ) → is_word text ≡ true → is_word (letter ∷ text) ≡ true
 word_letter text e =

@@ -1,12 +1,12 @@
 -- Steps that shorten a text.
-use Rattle.std.proofs.Common.{◌≡◌, ◌∙◌, ◌<◌, ◌≤◌, ◌+◌, ◌-◌, ◌⊎◌, inl, inr, ℕ, Bool, true, false, cond, List, [], ◌∷◌, length, take, drop, refl, sym, ap, arith, lit<, subst, length-take}
+use Rattle.std.proofs.Common.{◌≡◌, ◌<◌, ◌≤◌, ◌-◌, ◌⊎◌, inl, inr, ℕ, Bool, List, [], ◌∷◌, length, refl, ap, arith, lit<, subst, length-take}
 use Rattle.std.specs.Prelude.{Option, None, Some, option_map, codes}
-use Rattle.std.specs.Option.{option_and_then, option_or}
+use Rattle.std.specs.Option.{option_or}
 use Rattle.std.specs.List.{suffix_len}
 use Rattle.std.proofs.lemmas.Option.{same_Some, none-some, option_and_then_some}
 use Rattle.symbol_name.specs.Texts.{before, before_run, is_word_byte}
 use Rattle.symbol_name.specs.Repeats.{settled}
-use Rattle.symbol_name.specs.Copies.{is_number, is_copy_word, without_number, without_copy_word, without_part, without_parts, without_bracket, is_version_byte, is_version, unless_empty, without_version, without_mark}
+use Rattle.symbol_name.specs.Copies.{without_number, without_copy_word, without_part, without_parts, without_bracket, is_version_byte, unless_empty, without_version, without_mark}
 use Rattle.symbol_name.proofs.Ends.{let_through, before_length}
 use Rattle.symbol_name.proofs.Repeating.{Shortens, settled_not_longer}
 
@@ -56,8 +56,8 @@ bracket_less_of text parts inner left ends less last =
 bracket_less : (text left : List ℕ) → without_bracket text ≡ Some left → length left < length text
 bracket_less text left e =
     option_and_then_some (before (codes " [clone ")) _ left e (λ inner is last.
-      option_and_then_some without_parts _ inner is (λ parts ends less.
-        bracket_less_of text parts inner left ends less last))
+    option_and_then_some without_parts _ inner is (λ parts ends less.
+    bracket_less_of text parts inner left ends less last))
 
 version_less : (text left : List ℕ) → without_version text ≡ Some left → length left < length text
 version_less text left e =
@@ -72,9 +72,9 @@ any_less text left e =
     elim (either_some _ _ left e) [
       | inl bracket ↦ bracket_less text left bracket
       | inr other ↦ elim (either_some _ _ left other) [
-          | inl part ↦ part_less text left part
-          | inr version ↦ version_less text left version
-        ]
+        | inl part ↦ part_less text left part
+        | inr version ↦ version_less text left version
+      ]
     ]
 
 not_empty : (name left : List ℕ) → unless_empty name ≡ Some left → name ≡ left

@@ -1,13 +1,13 @@
 -- The one name for a function is its own one name.
-use Rattle.std.proofs.Common.{◌≡◌, ◌∙◌, ◌⊎◌, inl, inr, ℕ, Bool, true, false, cond, List, [], ◌∷◌, ◌++◌, length, take, drop, refl, sym, ap, subst}
-use Rattle.std.specs.Prelude.{Option, None, Some, ◌&&◌, ◌||◌, nat_eq, codes}
+use Rattle.std.proofs.Common.{◌≡◌, ◌∙◌, ◌⊎◌, inl, inr, ℕ, Bool, true, false, cond, List, ◌∷◌, ◌++◌, drop, refl, sym, ap, subst}
+use Rattle.std.specs.Prelude.{Option, None, Some, ◌||◌, nat_eq, codes}
 use Rattle.std.specs.List.{list_all}
 use Rattle.std.specs.Option.{option_and_then}
 use Rattle.std.specs.Str.{bytes_eq}
-use Rattle.std.proofs.lemmas.Bool.{and_parts, false≢true, true≢false}
+use Rattle.std.proofs.lemmas.Bool.{and_parts, false≢true}
 use Rattle.std.proofs.lemmas.List.Folds.{list_all-append}
 use Rattle.std.proofs.lemmas.Slice.Eq.{bytes_eq-Decides}
-use Rattle.symbol_name.specs.Texts.{behind, before, cut_at, is_word, is_word_byte, is_one_of}
+use Rattle.symbol_name.specs.Texts.{behind, cut_at, is_word, is_word_byte, is_one_of}
 use Rattle.symbol_name.specs.Repeats.{repeat, settled}
 use Rattle.symbol_name.specs.Copies.{without_mark, without_copies}
 use Rattle.symbol_name.specs.Modules.{both_pass, module_parts, in_module, module_name}
@@ -16,7 +16,7 @@ use Rattle.symbol_name.specs.Symbols.{signal_mark, is_signal, original_symbol, s
 use Rattle.symbol_name.proofs.Ends.{behind_is}
 use Rattle.symbol_name.proofs.Repeating.{settled_none, settled_stays}
 use Rattle.symbol_name.proofs.Shorter.{mark_shortens}
-use Rattle.symbol_name.proofs.WordTexts.{AreWords, implied, all_of_both, module_words, parts_words, fortran_words}
+use Rattle.symbol_name.proofs.WordTexts.{AreWords, implied, all_of_both, module_words, parts_words}
 use Rattle.symbol_name.proofs.NoMarks.{is_name_byte, no_marks}
 use Rattle.symbol_name.proofs.Letters.{letter, no_mark_behind}
 use Rattle.symbol_name.proofs.CNames.{written, c_words, c_no_low, c_no_fortran}
@@ -61,7 +61,7 @@ c_final in_mpi name word e =
         no_mark = no_marks (codes "MPI_" ++ capitalized word) (implied is_word_byte is_name_byte word_is_name (codes "MPI_" ++ capitalized word) (c_words word is));
         no_signal = refl;
         no_parts = no_module (80 ∷ 73 ∷ 95 ∷ capitalized word)
-          (ap (λ o. option_and_then (both_pass is_word) (option_and_then (cut_at (codes "_mp_")) o)) (c_no_low word is));
+            (ap (λ o. option_and_then (both_pass is_word) (option_and_then (cut_at (codes "_mp_")) o)) (c_no_low word is));
       };
       no_profiling = refl;
       no_word = λ _. c_no_fortran word;
@@ -133,12 +133,12 @@ not_signal name odd names false e = refl
 not_signal name odd names true e =
     elim (either_true (is_one_of (codes "__restore_rt __kernel_rt_sigreturn") name) (bytes_eq name signal_mark) e) [
       | inl one ↦ elim (either_true (bytes_eq (codes "__restore_rt") name) (bytes_eq (codes "__kernel_rt_sigreturn") name || false) one) [
-          | inl first ↦ absurd (odd (ap (list_all is_word_byte) (sym ((bytes_eq-Decides (codes "__restore_rt") name).0 first))))
-          | inr other ↦ elim (either_true (bytes_eq (codes "__kernel_rt_sigreturn") name) false other) [
-              | inl second ↦ absurd (odd (ap (list_all is_word_byte) (sym ((bytes_eq-Decides (codes "__kernel_rt_sigreturn") name).0 second))))
-              | inr none ↦ absurd (false≢true none)
-            ]
+        | inl first ↦ absurd (odd (ap (list_all is_word_byte) (sym ((bytes_eq-Decides (codes "__restore_rt") name).0 first))))
+        | inr other ↦ elim (either_true (bytes_eq (codes "__kernel_rt_sigreturn") name) false other) [
+          | inl second ↦ absurd (odd (ap (list_all is_word_byte) (sym ((bytes_eq-Decides (codes "__kernel_rt_sigreturn") name).0 second))))
+          | inr none ↦ absurd (false≢true none)
         ]
+      ]
       | inr mark ↦ absurd (false≢true (sym (ap (list_all is_name_byte) ((bytes_eq-Decides name signal_mark).0 mark)) ∙ names))
     ]
 
@@ -169,7 +169,7 @@ final_name : (in_mpi : Bool) (name : List ℕ) → without_mark name ≡ None �
 final_name in_mpi name mark true e = inl (ap (λ b. cond b signal_mark (mpi_name in_mpi (module_name name))) e)
 final_name in_mpi name mark false e =
     inr (subst (IsFinal in_mpi) (sym (ap (λ b. cond b signal_mark (mpi_name in_mpi (module_name name))) e))
-      (mpi_final in_mpi (module_name name) (module_plain name (module_parts name) refl mark e)))
+    (mpi_final in_mpi (module_name name) (module_plain name (module_parts name) refl mark e)))
 
 signal_stays : (in_mpi : Bool) → symbol in_mpi signal_mark ≡ signal_mark
 unfolding repeat settled

@@ -9,7 +9,7 @@ use Rattle.std.proofs.lemmas.List.Folds.{list_all-append}
 use Rattle.std.proofs.lemmas.Option.{option_and_then_some, same_Some}
 use Rattle.symbol_name.specs.Texts.{behind, before, cut_at, is_word_byte, is_word}
 use Rattle.symbol_name.specs.Modules.{is_lower_byte, is_lower, both_pass, gfortran_parts, ifort_parts, flang_parts, module_parts}
-use Rattle.symbol_name.specs.Mpi.{is_small, is_upper_byte, is_capital, kept, before_f08, without_f08, without_lows, mangled_word, tail_word, open_mpi_word, capital_word, plain_word, fortran_word}
+use Rattle.symbol_name.specs.Mpi.{is_lower_word, is_upper_byte, is_upper_word, kept, before_f08, without_f08, without_underscores, mangled_word, tail_word, open_mpi_word, capital_word, plain_word, fortran_word}
 use Rattle.symbol_name.proofs.Ends.{let_through, passed, behind_is, before_is, cut_is}
 use Rattle.symbol_name.proofs.Shorter.{either_some}
 
@@ -73,32 +73,32 @@ lower_words text e = implied is_lower_byte is_word_byte lower_is_word text (and_
 gfortran_words : (name : List ℕ) (parts : List ℕ × List ℕ) → gfortran_parts name ≡ Some parts → AreWords name
 gfortran_words name parts e =
     option_and_then_some (both_pass is_word) _ parts e (λ cut is pass.
-      option_and_then_some (cut_at (codes "_MOD_")) _ cut is (λ rest begins cuts.
-        let two = both_words is_word word_words cut parts pass in
-        words_behind (codes "__") name rest refl begins (words_cut (codes "_MOD_") rest cut refl cuts two.0 two.1)))
+    option_and_then_some (cut_at (codes "_MOD_")) _ cut is (λ rest begins cuts.
+    let two = both_words is_word word_words cut parts pass in
+    words_behind (codes "__") name rest refl begins (words_cut (codes "_MOD_") rest cut refl cuts two.0 two.1)))
 
 ifort_words : (name : List ℕ) (parts : List ℕ × List ℕ) → ifort_parts name ≡ Some parts → AreWords name
 ifort_words name parts e =
     option_and_then_some (both_pass is_word) _ parts e (λ cut is pass.
-      option_and_then_some (cut_at (codes "_mp_")) _ cut is (λ rest ends cuts.
-        let two = both_words is_word word_words cut parts pass in
-        words_before (codes "_") name rest refl ends (words_cut (codes "_mp_") rest cut refl cuts two.0 two.1)))
+    option_and_then_some (cut_at (codes "_mp_")) _ cut is (λ rest ends cuts.
+    let two = both_words is_word word_words cut parts pass in
+    words_before (codes "_") name rest refl ends (words_cut (codes "_mp_") rest cut refl cuts two.0 two.1)))
 
 flang_words : (name : List ℕ) (parts : List ℕ × List ℕ) → flang_parts name ≡ Some parts → AreWords name
 flang_words name parts e =
     option_and_then_some (both_pass is_lower) _ parts e (λ cut is pass.
-      option_and_then_some (cut_at (codes "P")) _ cut is (λ rest begins cuts.
-        let two = both_words is_lower lower_words cut parts pass in
-        words_behind (codes "_QM") name rest refl begins (words_cut (codes "P") rest cut refl cuts two.0 two.1)))
+    option_and_then_some (cut_at (codes "P")) _ cut is (λ rest begins cuts.
+    let two = both_words is_lower lower_words cut parts pass in
+    words_behind (codes "_QM") name rest refl begins (words_cut (codes "P") rest cut refl cuts two.0 two.1)))
 
 pub module_words : (name : List ℕ) (parts : List ℕ × List ℕ) → module_parts name ≡ Some parts → AreWords name
 module_words name parts e =
     elim (either_some _ _ parts e) [
       | inl gfortran ↦ gfortran_words name parts gfortran
       | inr other ↦ elim (either_some _ _ parts other) [
-          | inl ifort ↦ ifort_words name parts ifort
-          | inr flang ↦ flang_words name parts flang
-        ]
+        | inl ifort ↦ ifort_words name parts ifort
+        | inr flang ↦ flang_words name parts flang
+      ]
     ]
 
 -- what both parts of a module's name are
@@ -129,16 +129,16 @@ parts_words name parts e =
     elim (either_some (gfortran_parts name) (option_or (ifort_parts name) (flang_parts name)) parts e) [
       | inl gfortran ↦ gfortran_both name parts gfortran
       | inr other ↦ elim (either_some (ifort_parts name) (flang_parts name) parts other) [
-          | inl ifort ↦ ifort_both name parts ifort
-          | inr flang ↦ flang_both name parts flang
-        ]
+        | inl ifort ↦ ifort_both name parts ifort
+        | inr flang ↦ flang_both name parts flang
+      ]
     ]
 
 -- functions of MPI
-pub small_words : (word : List ℕ) → is_small word ≡ true → AreWords word
+pub small_words : (word : List ℕ) → is_lower_word word ≡ true → AreWords word
 small_words word e = (and_parts _ _ (and_parts _ _ e).0).1
 
-pub capital_words : (word : List ℕ) → is_capital word ≡ true → AreWords word
+pub capital_words : (word : List ℕ) → is_upper_word word ≡ true → AreWords word
 capital_words word e = implied is_upper_byte is_word_byte upper_is_word word (and_parts _ _ (and_parts _ _ e).0).1
 
 unwrapped : (name : List ℕ) (o : Option (List ℕ)) → ((left : List ℕ) → o ≡ Some left → AreWords left → AreWords name) →
@@ -146,13 +146,13 @@ unwrapped : (name : List ℕ) (o : Option (List ℕ)) → ((left : List ℕ) →
 unwrapped name None h w = w
 unwrapped name (Some left) h w = h left refl w
 
-lows_words : (name : List ℕ) → AreWords (without_lows name) → AreWords name
+lows_words : (name : List ℕ) → AreWords (without_underscores name) → AreWords name
 lows_words name w =
     unwrapped name (option_or (before (codes "__") name) (before (codes "_") name)) (λ left e v.
-      elim (either_some _ _ left e) [
-        | inl two ↦ words_before (codes "__") name left refl two v
-        | inr one ↦ words_before (codes "_") name left refl one v
-      ]) w
+    elim (either_some _ _ left e) [
+      | inl two ↦ words_before (codes "__") name left refl two v
+      | inr one ↦ words_before (codes "_") name left refl one v
+    ]) w
 
 -- the mark of `mpi_f08` that a name ends with
 pub record EndsBehind (name left : List ℕ) : Type 0 where
@@ -168,56 +168,56 @@ f08_end name left e =
     elim (either_some (before (codes "_f08") name) _ left e) [
       | inl a ↦ ends_behind name left (codes "_f08") refl a
       | inr rest ↦ elim (either_some (before (codes "_f08_") name) _ left rest) [
-          | inl b ↦ ends_behind name left (codes "_f08_") refl b
-          | inr more ↦ elim (either_some (before (codes "_f08ts") name) _ left more) [
-              | inl c ↦ ends_behind name left (codes "_f08ts") refl c
-              | inr d ↦ ends_behind name left (codes "_f08ts_") refl d
-            ]
+        | inl b ↦ ends_behind name left (codes "_f08_") refl b
+        | inr more ↦ elim (either_some (before (codes "_f08ts") name) _ left more) [
+          | inl c ↦ ends_behind name left (codes "_f08ts") refl c
+          | inr d ↦ ends_behind name left (codes "_f08ts_") refl d
         ]
+      ]
     ]
 
 f08_words : (name : List ℕ) → AreWords (without_f08 name) → AreWords name
 f08_words name w =
     unwrapped name (before_f08 name) (λ left e v.
-      let cut = f08_end name left e in words_before cut.end name left cut.words cut.ends v) w
+    let cut = f08_end name left e in words_before cut.end name left cut.words cut.ends v) w
 
 mangled_words : (name word : List ℕ) → mangled_word name ≡ Some word → AreWords name
 mangled_words name word e =
-    option_and_then_some (λ rest. kept is_small (without_lows rest)) _ word e (λ rest is keeps.
-      let w = lows_words rest (small_words (without_lows rest) (passed _ _ word keeps)) in
-      elim (either_some _ _ rest is) [
-        | inl mpi ↦ words_behind (codes "mpi_") name rest refl mpi w
-        | inr pmpi ↦ words_behind (codes "pmpi_") name rest refl pmpi w
-      ])
+    option_and_then_some (λ rest. kept is_lower_word (without_underscores rest)) _ word e (λ rest is keeps.
+    let w = lows_words rest (small_words (without_underscores rest) (passed _ _ word keeps)) in
+    elim (either_some _ _ rest is) [
+      | inl mpi ↦ words_behind (codes "mpi_") name rest refl mpi w
+      | inr pmpi ↦ words_behind (codes "pmpi_") name rest refl pmpi w
+    ])
 
 tail_words : (name word : List ℕ) → tail_word name ≡ Some word → AreWords name
 tail_words name word e =
-    option_and_then_some (kept is_small) _ word e (λ rest is keeps.
-      words_behind (codes "ompi_mpi_") name rest refl is (small_words rest (passed _ _ word keeps)))
+    option_and_then_some (kept is_lower_word) _ word e (λ rest is keeps.
+    words_behind (codes "ompi_mpi_") name rest refl is (small_words rest (passed _ _ word keeps)))
 
 open_mpi_words : (name word : List ℕ) → open_mpi_word name ≡ Some word → AreWords name
 open_mpi_words name word e =
-    option_and_then_some (kept is_small) _ word e (λ left is keeps.
-      option_and_then_some (before (codes "_f")) _ left is (λ rest begins ends.
-        words_behind (codes "ompi_") name rest refl begins
-        (words_before (codes "_f") rest left refl ends (small_words left (passed _ _ word keeps)))))
+    option_and_then_some (kept is_lower_word) _ word e (λ left is keeps.
+    option_and_then_some (before (codes "_f")) _ left is (λ rest begins ends.
+    words_behind (codes "ompi_") name rest refl begins
+    (words_before (codes "_f") rest left refl ends (small_words left (passed _ _ word keeps)))))
 
 capital_word_words : (name word : List ℕ) → capital_word name ≡ Some word → AreWords name
 capital_word_words name word e =
-    option_and_then_some (kept is_capital) _ word e (λ rest is keeps.
-      words_behind (codes "MPI_") name rest refl is (capital_words rest (passed _ _ word keeps)))
+    option_and_then_some (kept is_upper_word) _ word e (λ rest is keeps.
+    words_behind (codes "MPI_") name rest refl is (capital_words rest (passed _ _ word keeps)))
 
 plain_words : (name word : List ℕ) → plain_word name ≡ Some word → AreWords name
 plain_words name word e =
     elim (either_some _ _ word e) [
       | inl mangled ↦ mangled_words name word mangled
       | inr other ↦ elim (either_some _ _ word other) [
-          | inl tail ↦ tail_words name word tail
-          | inr more ↦ elim (either_some _ _ word more) [
-              | inl open_mpi ↦ open_mpi_words name word open_mpi
-              | inr capital ↦ capital_word_words name word capital
-            ]
+        | inl tail ↦ tail_words name word tail
+        | inr more ↦ elim (either_some _ _ word more) [
+          | inl open_mpi ↦ open_mpi_words name word open_mpi
+          | inr capital ↦ capital_word_words name word capital
         ]
+      ]
     ]
 
 pub fortran_words : (name word : List ℕ) → fortran_word name ≡ Some word → AreWords name

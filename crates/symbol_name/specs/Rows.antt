@@ -1,7 +1,7 @@
 -- Names as debuggers print them, and what is made of them.
 use Rattle.std.specs.Prelude.{◌≡◌, refl, [], true, false, codes}
 use Rattle.symbol_name.specs.Repeats.{repeat, settled}
-use Rattle.symbol_name.specs.Texts.{place_of}
+use Rattle.symbol_name.specs.Texts.{offset_of}
 use Rattle.symbol_name.specs.Copies.{without_copies}
 use Rattle.symbol_name.specs.Modules.{module_name}
 use Rattle.symbol_name.specs.Standard.{is_standard}
@@ -140,44 +140,44 @@ all_but_one = refl
 
 -- functions in modules of Fortran
 gfortran : module_name (codes "__work_MOD_wait_all") ≡ codes "work::wait_all"
-unfolding place_of
+unfolding offset_of
 gfortran = refl
 
 ifort : module_name (codes "m_mp_f_") ≡ codes "m::f"
-unfolding place_of
+unfolding offset_of
 ifort = refl
 
 flang : module_name (codes "_QMmPf") ≡ codes "m::f"
-unfolding place_of
+unfolding offset_of
 flang = refl
 
 no_function : module_name (codes "__work_MOD_") ≡ codes "__work_MOD_"
-unfolding place_of
+unfolding offset_of
 no_function = refl
 
 no_module : module_name (codes "_mp_f_") ≡ codes "_mp_f_"
-unfolding place_of
+unfolding offset_of
 no_module = refl
 
 no_fortran : module_name (codes "_QMmPF") ≡ codes "_QMmPF"
-unfolding place_of
+unfolding offset_of
 no_fortran = refl
 
 main : module_name (codes "MAIN__") ≡ codes "MAIN__"
-unfolding place_of
+unfolding offset_of
 main = refl
 
 -- what a handler returns to
 signal : symbol false (codes "__restore_rt") ≡ codes "<signal handler called>"
-unfolding repeat settled place_of
+unfolding repeat settled offset_of
 signal = refl
 
 kernel_signal : symbol false (codes "__kernel_rt_sigreturn") ≡ codes "<signal handler called>"
-unfolding repeat settled place_of
+unfolding repeat settled offset_of
 kernel_signal = refl
 
 gdb_signal : symbol false (codes "<signal handler called>") ≡ codes "<signal handler called>"
-unfolding repeat settled place_of
+unfolding repeat settled offset_of
 gdb_signal = refl
 
 no_signal : is_signal (codes "on_alarm") ≡ false
@@ -185,105 +185,105 @@ no_signal = refl
 
 -- MPI by its other names
 profiled : symbol false (codes "PMPI_Recv") ≡ codes "MPI_Recv"
-unfolding repeat settled place_of
+unfolding repeat settled offset_of
 profiled = refl
 
 extension : symbol false (codes "PMPIX_Comm_shrink") ≡ codes "MPIX_Comm_shrink"
-unfolding repeat settled place_of
+unfolding repeat settled offset_of
 extension = refl
 
 no_call : symbol false (codes "PMPI_") ≡ codes "PMPI_"
-unfolding repeat settled place_of
+unfolding repeat settled offset_of
 no_call = refl
 
 two_lows : symbol true (codes "pmpi_allreduce__") ≡ codes "MPI_Allreduce"
-unfolding repeat settled place_of
+unfolding repeat settled offset_of
 two_lows = refl
 
 one_low : symbol true (codes "mpi_comm_rank_") ≡ codes "MPI_Comm_rank"
-unfolding repeat settled place_of
+unfolding repeat settled offset_of
 one_low = refl
 
 no_low : symbol true (codes "mpi_send") ≡ codes "MPI_Send"
-unfolding repeat settled place_of
+unfolding repeat settled offset_of
 no_low = refl
 
 open_mpi : symbol true (codes "ompi_wait_f") ≡ codes "MPI_Wait"
-unfolding repeat settled place_of
+unfolding repeat settled offset_of
 open_mpi = refl
 
 open_mpi_recv : symbol true (codes "ompi_recv_f") ≡ codes "MPI_Recv"
-unfolding repeat settled place_of
+unfolding repeat settled offset_of
 open_mpi_recv = refl
 
 mpich : symbol true (codes "pmpi_recv_") ≡ codes "MPI_Recv"
-unfolding repeat settled place_of
+unfolding repeat settled offset_of
 mpich = refl
 
 capitals : symbol true (codes "MPI_BARRIER") ≡ codes "MPI_Barrier"
-unfolding repeat settled place_of
+unfolding repeat settled offset_of
 capitals = refl
 
 profiled_capitals : symbol true (codes "PMPI_BARRIER") ≡ codes "MPI_Barrier"
-unfolding repeat settled place_of
+unfolding repeat settled offset_of
 profiled_capitals = refl
 
 f08 : symbol true (codes "mpi_wait_f08_") ≡ codes "MPI_Wait"
-unfolding repeat settled place_of
+unfolding repeat settled offset_of
 f08 = refl
 
 f08ts : symbol true (codes "mpi_wait_f08ts") ≡ codes "MPI_Wait"
-unfolding repeat settled place_of
+unfolding repeat settled offset_of
 f08ts = refl
 
 tail : symbol true (codes "ompi_mpi_finalize") ≡ codes "MPI_Finalize"
-unfolding repeat settled place_of
+unfolding repeat settled offset_of
 tail = refl
 
 in_c : symbol true (codes "MPI_Send") ≡ codes "MPI_Send"
-unfolding repeat settled place_of
+unfolding repeat settled offset_of
 in_c = refl
 
 tool : symbol true (codes "MPI_T_init_thread") ≡ codes "MPI_T_init_thread"
-unfolding repeat settled place_of
+unfolding repeat settled offset_of
 tool = refl
 
 internal : symbol true (codes "ompi_request_wait") ≡ codes "ompi_request_wait"
-unfolding repeat settled place_of
+unfolding repeat settled offset_of
 internal = refl
 
 one_capital : symbol true (codes "MPI_A") ≡ codes "MPI_A"
-unfolding repeat settled place_of
+unfolding repeat settled offset_of
 one_capital = refl
 
 -- a function of the program's own
 own : symbol false (codes "mpi_exchange_halo_") ≡ codes "mpi_exchange_halo_"
-unfolding repeat settled place_of
+unfolding repeat settled offset_of
 own = refl
 
 own_capitals : symbol false (codes "MPI_BARRIER") ≡ codes "MPI_BARRIER"
-unfolding repeat settled place_of
+unfolding repeat settled offset_of
 own_capitals = refl
 
 own_tail : symbol false (codes "ompi_mpi_finalize") ≡ codes "ompi_mpi_finalize"
-unfolding repeat settled place_of
+unfolding repeat settled offset_of
 own_tail = refl
 
 subroutine : symbol false (codes "pack_cells_") ≡ codes "pack_cells_"
-unfolding repeat settled place_of
+unfolding repeat settled offset_of
 subroutine = refl
 
 vdso : symbol false (codes "__vdso_gettimeofday") ≡ codes "__vdso_gettimeofday"
-unfolding repeat settled place_of
+unfolding repeat settled offset_of
 vdso = refl
 
 -- marks are taken off first
 first_the_copy : symbol true (codes "pmpi_recv_.part.0") ≡ codes "MPI_Recv"
-unfolding repeat settled place_of
+unfolding repeat settled offset_of
 first_the_copy = refl
 
 module_copy : symbol false (codes "__work_MOD_relax.constprop.0") ≡ codes "work::relax"
-unfolding repeat settled place_of
+unfolding repeat settled offset_of
 module_copy = refl
 
 -- where programs and threads begin

@@ -1,5 +1,5 @@
 -- Parts of a text.
-use Rattle.std.specs.Prelude.{ℕ, suc, Bool, false, ◌-◌, ◌&&◌, ◌||◌, not, nat_eq, nat_lt, cond, List, [], ◌∷◌, length, take, drop, Option, None, Some, is_some, option_map}
+use Rattle.std.specs.Prelude.{ℕ, suc, Bool, false, ◌-◌, ◌&&◌, ◌||◌, not, nat_eq, cond, List, [], ◌∷◌, length, take, drop, Option, None, Some, is_some, option_map}
 use Rattle.std.specs.Char.{is_ascii_alphanumeric, is_ascii_uppercase, is_ascii_lowercase}
 use Rattle.std.specs.List.{list_any, list_all, slice_split, suffix_len}
 use Rattle.std.specs.Str.{bytes_eq}
@@ -45,19 +45,19 @@ end_run passes text = drop (length text - suffix_len passes text) text
 abbrev pub before_run : (ℕ → Bool) → List ℕ → List ℕ
 before_run passes text = take (length text - suffix_len passes text) text
 
--- how many bytes of a text stand before the first place at which it goes on with this part; all where it never does
-unfoldable pub place_of : List ℕ → List ℕ → ℕ
-place_of part [] = 0
-place_of part (b ∷ rest) = cond (begins_with part (b ∷ rest)) 0 (suc (place_of part rest))
+-- the offset at which this part first stands in a text; the text's length where it doesn't stand there
+unfoldable pub offset_of : List ℕ → List ℕ → ℕ
+offset_of part [] = 0
+offset_of part (b ∷ rest) = cond (begins_with part (b ∷ rest)) 0 (suc (offset_of part rest))
 
--- what stands before and behind that place
+-- what stands before and behind the part there
 abbrev pub cut_at : List ℕ → List ℕ → Option (List ℕ × List ℕ)
-cut_at part text = option_map (λ rest. (take (place_of part text) text, rest)) (behind part (drop (place_of part text) text))
+cut_at part text = option_map (λ rest. (take (offset_of part text) text, rest)) (behind part (drop (offset_of part text) text))
 
 -- a blank or a line feed
-abbrev pub parts_names : ℕ → Bool
-parts_names b = nat_eq b 32 || nat_eq b 10
+abbrev pub is_separator : ℕ → Bool
+is_separator b = nat_eq b 32 || nat_eq b 10
 
 -- whether a name is one of those that stand in a text, parted by blanks and line feeds
 abbrev pub is_one_of : List ℕ → List ℕ → Bool
-is_one_of names name = list_any (λ one. bytes_eq one name) (slice_split parts_names names)
+is_one_of names name = list_any (λ one. bytes_eq one name) (slice_split is_separator names)

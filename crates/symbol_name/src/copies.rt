@@ -9,6 +9,9 @@ ghost use Rattle.symbol_name.specs.Texts.{end_run, before_run};
 
 use crate::text::{before, begins_upper, begins_with, cut_word, is_one_of};
 
+// The optimizations that make copies, parted by blanks.
+const OPTIMIZATIONS: &[u8] = b"isra part constprop cold lto_priv localalias llvm default";
+
 fn are_digits(word: &[u8]) -> bool
     ensures { result ≡ list_all is_ascii_digit word.now }
 {
@@ -26,7 +29,7 @@ fn is_number(word: &[u8]) -> bool
 fn is_copy_word(word: &[u8]) -> bool
     ensures { result ≡ is_copy_word word.now }
 {
-    is_one_of(word, b"isra part constprop cold lto_priv localalias llvm default")
+    is_one_of(word, OPTIMIZATIONS)
         || begins_with(word, b"avx")
         || begins_with(word, b"sse")
         || begins_with(word, b"fma")
@@ -37,8 +40,11 @@ fn is_copy_word(word: &[u8]) -> bool
 fn without_number(text: &[u8]) -> Option<&[u8]>
     ensures { option_map (λ r. r.now) result ≡ without_number text.now }
 {
-    let (front, word) = cut_word(text);
-    if is_number(word) { before(front, b".") } else { None }
+    let (rest, word) = cut_word(text);
+    let Some(left) = before(rest, b".") else {
+        return None;
+    };
+    if is_number(word) { Some(left) } else { None }
 }
 
 // A text without the numbers at its end.
@@ -46,8 +52,8 @@ fn without_numbers(text: &[u8]) -> &[u8]
     ensures { result.now ≡ settled without_number text.now }
 {
     let mut left = text;
-    while let Some(front) = without_number(left) {
-        left = front;
+    while let Some(shorter) = without_number(left) {
+        left = shorter;
     }
     left
 }
@@ -56,8 +62,11 @@ fn without_numbers(text: &[u8]) -> &[u8]
 fn without_copy_word(text: &[u8]) -> Option<&[u8]>
     ensures { option_map (λ r. r.now) result ≡ without_copy_word text.now }
 {
-    let (front, word) = cut_word(text);
-    if is_copy_word(word) { before(front, b".") } else { None }
+    let (rest, word) = cut_word(text);
+    let Some(left) = before(rest, b".") else {
+        return None;
+    };
+    if is_copy_word(word) { Some(left) } else { None }
 }
 
 // A text without the word for a copy at its end and the numbers behind it.
@@ -72,8 +81,8 @@ fn without_more_parts(text: &[u8]) -> &[u8]
     ensures { result.now ≡ settled without_part text.now }
 {
     let mut left = text;
-    while let Some(front) = without_part(left) {
-        left = front;
+    while let Some(shorter) = without_part(left) {
+        left = shorter;
     }
     left
 }
@@ -103,13 +112,16 @@ fn version_len(text: &[u8]) -> usize
     ensures value { result ≡ suffix_len is_version_byte text.now }
     ensures within { result ≤ length text.now }
 {
-    text.iter().rev().take_while(|b| is_version_byte(**b)).count()
+    text.iter()
+        .rev()
+        .take_while(|b| is_version_byte(**b))
+        .count()
 }
 
-// A text cut in front of the version at its end.
+// A text cut before the version at its end.
 fn cut_version(text: &[u8]) -> (&[u8], &[u8])
-    ensures front { result.0.now ≡ before_run is_version_byte text.now }
-    ensures end { result.1.now ≡ end_run is_version_byte text.now }
+    ensures prefix { result.0.now ≡ before_run is_version_byte text.now }
+    ensures version { result.1.now ≡ end_run is_version_byte text.now }
 {
     text.split_at(text.len() - version_len(text))
 }
@@ -125,11 +137,15 @@ fn is_version(version: &[u8]) -> bool
 fn without_version(text: &[u8]) -> Option<&[u8]>
     ensures { option_map (λ r. r.now) result ≡ without_version text.now }
 {
-    let (front, version) = cut_version(text);
-    if let Some(left) = before(front, b"@@") {
+    let (rest, version) = cut_version(text);
+    if let Some(left) = before(rest, b"@@") {
         return Some(left);
     }
-    if is_version(version) { before(front, b"@") } else { None }
+    if is_version(version) {
+        before(rest, b"@")
+    } else {
+        None
+    }
 }
 
 // A name without the mark at its end; none where there is no mark, or it is all of the name.
@@ -153,8 +169,8 @@ pub fn without_copies(name: &[u8]) -> &[u8]
     ensures { result.now ≡ without_copies name.now }
 {
     let mut left = name;
-    while let Some(front) = without_mark(left) {
-        left = front;
+    while let Some(shorter) = without_mark(left) {
+        left = shorter;
     }
     left
 }

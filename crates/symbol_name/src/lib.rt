@@ -20,6 +20,12 @@ pub use standard::is_standard;
 /// The mark of a signal in a stack, below the function that handles it.
 pub const SIGNAL_MARK: &[u8] = b"<signal handler called>";
 
+// The functions of the C library that call `main`, parted by blanks.
+const C_LIBRARY_STARTS: &[u8] = b"__libc_start_main __libc_start_call_main __libc_start_main_impl";
+
+// The functions of C that give memory, or take it back.
+const C_ALLOCATORS: &[u8] = b"malloc free calloc realloc aligned_alloc posix_memalign";
+
 /// Whether a name without the marks of copies is the mark of a signal, or a function to which a signal's handler returns.
 pub fn is_signal(name: &[u8]) -> bool
     ensures { result ≡ is_signal name.now }
@@ -57,8 +63,7 @@ pub fn symbol_of(alloc: Global, name: &[u8], in_mpi: bool) -> Result<Vec<u8>, Al
 fn is_program_start(name: &[u8]) -> bool
     ensures { result ≡ is_program_start name.now }
 {
-    is_one_of(name, b"_start _dl_start generic_start_main")
-        || is_one_of(name, b"__libc_start_main __libc_start_call_main __libc_start_main_impl")
+    is_one_of(name, b"_start _dl_start generic_start_main") || is_one_of(name, C_LIBRARY_STARTS)
 }
 
 /// Whether a function stands below a program's own beginning, or that of a thread. The name has no mark of a version.
@@ -86,7 +91,7 @@ fn begins_with_words(name: &[u8], words: &[u8]) -> bool
 pub fn is_allocator(name: &[u8]) -> bool
     ensures { result ≡ is_allocator name.now }
 {
-    is_one_of(name, b"malloc free calloc realloc aligned_alloc posix_memalign")
+    is_one_of(name, C_ALLOCATORS)
         || begins_with_words(name, b"operator new")
         || begins_with_words(name, b"operator delete")
 }

@@ -31,7 +31,11 @@ fn gfortran_parts(name: &[u8]) -> Option<(&[u8], &[u8])>
     ensures { option_map (λ r. (r.0.now, r.1.now)) result ≡ gfortran_parts name.now }
 {
     let (scope, function) = cut_at(behind(name, b"__")?, b"_MOD_")?;
-    if is_word(scope) && is_word(function) { Some((scope, function)) } else { None }
+    if is_word(scope) && is_word(function) {
+        Some((scope, function))
+    } else {
+        None
+    }
 }
 
 // The module and the function of ifort's `m_mp_f_`.
@@ -39,7 +43,11 @@ fn ifort_parts(name: &[u8]) -> Option<(&[u8], &[u8])>
     ensures { option_map (λ r. (r.0.now, r.1.now)) result ≡ ifort_parts name.now }
 {
     let (scope, function) = cut_at(before(name, b"_")?, b"_mp_")?;
-    if is_word(scope) && is_word(function) { Some((scope, function)) } else { None }
+    if is_word(scope) && is_word(function) {
+        Some((scope, function))
+    } else {
+        None
+    }
 }
 
 // The module and the function of flang's `_QMmPf`.
@@ -47,7 +55,11 @@ fn flang_parts(name: &[u8]) -> Option<(&[u8], &[u8])>
     ensures { option_map (λ r. (r.0.now, r.1.now)) result ≡ flang_parts name.now }
 {
     let (scope, function) = cut_at(behind(name, b"_QM")?, b"P")?;
-    if is_lower(scope) && is_lower(function) { Some((scope, function)) } else { None }
+    if is_lower(scope) && is_lower(function) {
+        Some((scope, function))
+    } else {
+        None
+    }
 }
 
 /// The module and the function that a name says, as gfortran, ifort or flang writes them.

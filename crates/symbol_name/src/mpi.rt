@@ -2,7 +2,7 @@
 
 ghost use Rattle.std.specs.Prelude.{◌≡◌, option_map, IfOk};
 ghost use Rattle.std.specs.List.{list_all};
-ghost use Rattle.symbol_name.specs.Mpi.{upper_behind, is_profiled, without_profiling, is_small, is_upper_byte, begins_upper_twice, is_capital, before_f08, without_f08, without_lows, mangled_word, tail_word, open_mpi_word, capital_word, plain_word, fortran_word, capitalized, in_c, mpi_name};
+ghost use Rattle.symbol_name.specs.Mpi.{upper_behind, is_profiled, without_profiling, is_lower_word, is_upper_byte, begins_upper_twice, is_upper_word, before_f08, without_f08, without_underscores, mangled_word, tail_word, open_mpi_word, capital_word, plain_word, fortran_word, capitalized, in_c, mpi_name};
 
 use crate::text::{are_word_bytes, before, begins_lower, begins_upper, behind, ends_with};
 use std::alloc::{AllocError, Global};
@@ -32,8 +32,8 @@ fn without_profiling(name: &[u8]) -> &[u8]
 }
 
 // Whether a word is a function as Fortran's compilers write it.
-fn is_small(word: &[u8]) -> bool
-    ensures { result ≡ is_small word.now }
+fn is_lower_word(word: &[u8]) -> bool
+    ensures { result ≡ is_lower_word word.now }
 {
     begins_lower(word) && are_word_bytes(word) && !ends_with(word, b"_")
 }
@@ -61,8 +61,8 @@ fn begins_upper_twice(text: &[u8]) -> bool
 }
 
 // Whether a word is a function in upper case alone, from two letters on.
-fn is_capital(word: &[u8]) -> bool
-    ensures { result ≡ is_capital word.now }
+fn is_upper_word(word: &[u8]) -> bool
+    ensures { result ≡ is_upper_word word.now }
 {
     begins_upper_twice(word) && are_upper_bytes(word) && !ends_with(word, b"_")
 }
@@ -91,8 +91,8 @@ fn without_f08(name: &[u8]) -> &[u8]
 }
 
 // A name without up to two `_` at its end.
-fn without_lows(name: &[u8]) -> &[u8]
-    ensures { result.now ≡ without_lows name.now }
+fn without_underscores(name: &[u8]) -> &[u8]
+    ensures { result.now ≡ without_underscores name.now }
 {
     if let Some(left) = before(name, b"__") {
         return left;
@@ -108,16 +108,24 @@ fn mangled_word(name: &[u8]) -> Option<&[u8]>
         Some(rest) => rest,
         None => behind(name, b"pmpi_")?,
     };
-    let word = without_lows(rest);
-    if is_small(word) { Some(word) } else { None }
+    let word = without_underscores(rest);
+    if is_lower_word(word) {
+        Some(word)
+    } else {
+        None
+    }
 }
 
-// The x of Open MPI's `ompi_mpi_x`.
+// The x of `ompi_mpi_x`, the function of Open MPI to which `MPI_X` jumps at its end.
 fn tail_word(name: &[u8]) -> Option<&[u8]>
     ensures { option_map (λ r. r.now) result ≡ tail_word name.now }
 {
     let word = behind(name, b"ompi_mpi_")?;
-    if is_small(word) { Some(word) } else { None }
+    if is_lower_word(word) {
+        Some(word)
+    } else {
+        None
+    }
 }
 
 // The x of Open MPI's `ompi_x_f`.
@@ -125,7 +133,11 @@ fn open_mpi_word(name: &[u8]) -> Option<&[u8]>
     ensures { option_map (λ r. r.now) result ≡ open_mpi_word name.now }
 {
     let word = before(behind(name, b"ompi_")?, b"_f")?;
-    if is_small(word) { Some(word) } else { None }
+    if is_lower_word(word) {
+        Some(word)
+    } else {
+        None
+    }
 }
 
 // The X of `MPI_X` in upper case alone.
@@ -133,7 +145,11 @@ fn capital_word(name: &[u8]) -> Option<&[u8]>
     ensures { option_map (λ r. r.now) result ≡ capital_word name.now }
 {
     let word = behind(name, b"MPI_")?;
-    if is_capital(word) { Some(word) } else { None }
+    if is_upper_word(word) {
+        Some(word)
+    } else {
+        None
+    }
 }
 
 // Which function of MPI a name says, other than in C, where no mark of `mpi_f08` is left.

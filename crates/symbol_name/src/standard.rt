@@ -6,7 +6,8 @@ ghost use Rattle.symbol_name.specs.Standard.{is_standard};
 use crate::text::is_one_of;
 
 /// The C names of the functions of MPI 4.1, in order, parted by blanks and line feeds.
-const FUNCTIONS: &[u8] = b"MPI_Abort MPI_Accumulate MPI_Accumulate_c MPI_Add_error_class MPI_Add_error_code MPI_Add_error_string
+const FUNCTIONS: &[u8] =
+    b"MPI_Abort MPI_Accumulate MPI_Accumulate_c MPI_Add_error_class MPI_Add_error_code MPI_Add_error_string
 MPI_Aint_add MPI_Aint_diff MPI_Allgather MPI_Allgather_c MPI_Allgather_init MPI_Allgather_init_c
 MPI_Allgatherv MPI_Allgatherv_c MPI_Allgatherv_init MPI_Allgatherv_init_c MPI_Alloc_mem MPI_Allreduce
 MPI_Allreduce_c MPI_Allreduce_init MPI_Allreduce_init_c MPI_Alltoall MPI_Alltoall_c MPI_Alltoall_init

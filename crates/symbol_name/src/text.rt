@@ -2,7 +2,7 @@
 
 ghost use Rattle.std.specs.Prelude.{◌≡◌, ◌+◌, ◌<◌, ◌≤◌, option_map, length};
 ghost use Rattle.std.specs.List.{list_all, suffix_len};
-ghost use Rattle.symbol_name.specs.Texts.{behind, begins_with, before, ends_with, is_word_byte, is_word, begins_upper, begins_lower, place_of, cut_at, end_run, before_run, parts_names, is_one_of};
+ghost use Rattle.symbol_name.specs.Texts.{behind, begins_with, before, ends_with, is_word_byte, is_word, begins_upper, begins_lower, offset_of, cut_at, end_run, before_run, is_separator, is_one_of};
 
 /// What is left of a text behind this beginning.
 pub fn behind<'t>(text: &'t [u8], start: &[u8]) -> Option<&'t [u8]>
@@ -81,17 +81,17 @@ fn word_len(text: &[u8]) -> usize
     text.iter().rev().take_while(|b| is_word_byte(**b)).count()
 }
 
-/// A text cut in front of the longest run of letters, digits and `_` at its end.
+/// A text cut before the longest run of letters, digits and `_` at its end.
 pub fn cut_word(text: &[u8]) -> (&[u8], &[u8])
-    ensures front { result.0.now ≡ before_run is_word_byte text.now }
-    ensures end { result.1.now ≡ end_run is_word_byte text.now }
+    ensures prefix { result.0.now ≡ before_run is_word_byte text.now }
+    ensures word { result.1.now ≡ end_run is_word_byte text.now }
 {
     text.split_at(text.len() - word_len(text))
 }
 
-// How many bytes of a text stand before the first place at which it goes on with this part; all where it never does.
-fn place_of(text: &[u8], part: &[u8]) -> usize
-    ensures value { result ≡ place_of part.now text.now }
+// The offset at which this part first stands in a text; the text's length where it doesn't stand there.
+fn offset_of(text: &[u8], part: &[u8]) -> usize
+    ensures value { result ≡ offset_of part.now text.now }
     ensures within { result ≤ length text.now }
 {
     for i in 0..text.len() {
@@ -103,17 +103,19 @@ fn place_of(text: &[u8], part: &[u8]) -> usize
     text.len()
 }
 
-/// What stands before and behind the first place at which a text goes on with this part.
+/// What stands before and behind a part of a text, where the part first stands there.
 pub fn cut_at<'t>(text: &'t [u8], part: &[u8]) -> Option<(&'t [u8], &'t [u8])>
     ensures { option_map (λ r. (r.0.now, r.1.now)) result ≡ cut_at part.now text.now }
 {
-    let (front, rest) = text.split_at(place_of(text, part));
-    Some((front, behind(rest, part)?))
+    let (prefix, rest) = text.split_at(offset_of(text, part));
+    Some((prefix, behind(rest, part)?))
 }
 
 /// Whether a name is one of those that stand in a text, parted by blanks and line feeds.
 pub fn is_one_of(name: &[u8], names: &[u8]) -> bool
     ensures { result ≡ is_one_of names.now name.now }
 {
-    names.split(|b| *b == b' ' || *b == b'\n').any(|one| one == name)
+    names
+        .split(|b| *b == b' ' || *b == b'\n')
+        .any(|one| one == name)
 }

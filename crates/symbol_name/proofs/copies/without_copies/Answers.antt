@@ -4,12 +4,12 @@ use Rattle.symbol_name.proofs.Repeating.{settled_none, settled_some}
 use Rattle.symbol_name.proofs.Shorter.{mark_shortens}
 use Rattle.symbol_name.proofs.copies.without_copies.Goals as goal
 
-pub loop-front-smaller : goal.loop-front-smaller
-loop-front-smaller c = mark_shortens.less c.loop-front.left.now c.in-Some.front.now (sym c.in-Some.ensures)
+pub loop-shorter-smaller : goal.loop-shorter-smaller
+loop-shorter-smaller c = mark_shortens.less c.loop-shorter.left.now c.in-Some.shorter.now (sym c.in-Some.ensures)
 
-pub loop-front-preserved : goal.loop-front-preserved
-loop-front-preserved c =
-    sym (settled_some without_mark mark_shortens c.loop-front.left.now c.in-Some.front.now (sym c.in-Some.ensures)) ∙ c.loop-front.invariant
+pub loop-shorter-preserved : goal.loop-shorter-preserved
+loop-shorter-preserved c =
+    sym (settled_some without_mark mark_shortens c.loop-shorter.left.now c.in-Some.shorter.now (sym c.in-Some.ensures)) ∙ c.loop-shorter.invariant
 
 pub returns : goal.returns
-returns c = sym (settled_none without_mark mark_shortens c.loop-front.left.now (sym c.in_default.ensures)) ∙ c.loop-front.invariant
+returns c = sym (settled_none without_mark mark_shortens c.loop-shorter.left.now (sym c.in_default.ensures)) ∙ c.loop-shorter.invariant

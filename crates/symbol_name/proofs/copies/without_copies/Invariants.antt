@@ -3,8 +3,8 @@ use Rattle.symbol_name.specs.Copies.{without_mark}
 use Rattle.symbol_name.specs.Repeats.{settled}
 use Rattle.symbol_name.proofs.copies.without_copies.Given as goal
 
-abbrev pub invariant-loop-front : goal.invariant-loop-front
-invariant-loop-front l = settled without_mark l.left ≡ settled without_mark l.name
+abbrev pub invariant-loop-shorter : goal.invariant-loop-shorter
+invariant-loop-shorter l = settled without_mark l.left ≡ settled without_mark l.name
 
-abbrev pub decreases-loop-front : goal.decreases-loop-front
-decreases-loop-front l = length l.left
+abbrev pub decreases-loop-shorter : goal.decreases-loop-shorter
+decreases-loop-shorter l = length l.left

@@ -1,12 +1,12 @@
-use Rattle.std.proofs.Common.{rules, tests, refl}
+use Rattle.std.proofs.Common.{rules, tests}
 use Rattle.std.specs.Str.{bytes_eq}
 use Rattle.std.proofs.lemmas.Iterator.Search.{any_from_yields_List}
 use Rattle.std.proofs.lemmas.Iterator.Splits.{YieldsList-from_slice_split}
-use Rattle.symbol_name.specs.Texts.{parts_names}
+use Rattle.symbol_name.specs.Texts.{is_separator}
 use Rattle.symbol_name.proofs.text.is_one_of.Goals as goal
 
 pub returns : goal.returns
 returns c =
     any_from_yields_List (λ one. bytes_eq one c.args.name.now) _ _ _ c.any.ensures.ran
-    (YieldsList-from_slice_split _ parts_names c.args.names.now c.split.ensures.rest c.split.ensures.done c.split.ensures.closure (λ x b q k. search (rules, tests)))
+    (YieldsList-from_slice_split _ is_separator c.args.names.now c.split.ensures.rest c.split.ensures.done c.split.ensures.closure (λ x b q k. search (rules, tests)))
     (λ x b q k. search (rules, tests))
