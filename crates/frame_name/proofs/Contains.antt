@@ -1,5 +1,5 @@
 -- A text contains a part exactly where it is something, the part, and something.
-use Rattle.std.proofs.Common.{◌≡◌, ℕ, ◌+◌, ◌<◌, Bool, true, false, List, [], ◌∷◌, ◌++◌, length, take, drop, Option, None, Some, refl, sym, ap, ◌∙◌, subst, ⊎_elim, arith}
+use Rattle.std.proofs.Common.{◌≡◌, ℕ, ◌+◌, Bool, true, false, List, [], ◌∷◌, ◌++◌, length, take, drop, Option, None, Some, refl, sym, ap, ◌∙◌, ⊎_elim, arith}
 use Rattle.std.specs.Prelude.{◌||◌}
 use Rattle.std.specs.Option.{is_some}
 use Rattle.std.proofs.lemmas.Bool.{or_cases, cases_Bool}
@@ -27,8 +27,8 @@ pub contained : (part text : List ℕ) → contains part text ≡ true → (fron
 contained part [] h = ([], drop (length part) [], begins part [] h)
 contained part (b ∷ text) h =
     ⊎_elim (λ e. ([], drop (length part) (b ∷ text), begins part (b ∷ text) e))
-        (λ e. let r = contained part text e in (b ∷ r.0, r.1, ap (λ t. b ∷ t) r.2))
-        (or_cases (begins_with part (b ∷ text)) (contains part text) h)
+    (λ e. let r = contained part text e in (b ∷ r.0, r.1, ap (λ t. b ∷ t) r.2))
+    (or_cases (begins_with part (b ∷ text)) (contains part text) h)
 
 pub contained_from : (part text front rest : List ℕ) → text ≡ front ++ (part ++ rest) → contains part text ≡ true
 contained_from part [] [] rest e = begins_from part [] rest e
@@ -46,11 +46,11 @@ occurs part text front rest e = record {
 from_occurs : (part text : List ℕ) (k : ℕ) → OccursAt text part k → contains part text ≡ true
 from_occurs part text k o =
     contained_from part text (take k text) (drop (k + length part) text)
-        (sym (take-append-drop k text) ∙ ap (λ t. take k text ++ t) (at_from_reads 0 text part k o.fits o.reads))
+    (sym (take-append-drop k text) ∙ ap (λ t. take k text ++ t) (at_from_reads 0 text part k o.fits o.reads))
 
 pub found : (part text : List ℕ) (r : Option ℕ) → FindsNeedle text part 0 r → is_some r ≡ contains part text
 found part text (Some k) h = sym (from_occurs part text k h.1)
 found part text None h =
     ⊎_elim (λ e. let c = contained part text e in
-            absurd (h (length c.0) (omega arith) (omega (arith, ap length c.2, length-append c.0 (part ++ c.1))) (occurs part text c.0 c.1 c.2)))
-        sym (cases_Bool (contains part text))
+    absurd (h (length c.0) (omega arith) (omega (arith, ap length c.2, length-append c.0 (part ++ c.1))) (occurs part text c.0 c.1 c.2)))
+    sym (cases_Bool (contains part text))

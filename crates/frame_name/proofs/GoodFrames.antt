@@ -1,5 +1,5 @@
 -- The frame of a call is good: 1 to 1,023 plain bytes, in UTF-8.
-use Rattle.std.proofs.Common.{◌≡◌, ℕ, ◌+◌, ◌<◌, ◌≤◌, Bool, true, false, cond, List, [], ◌++◌, length, take, refl, sym, ap, ◌∙◌, subst, arith}
+use Rattle.std.proofs.Common.{◌≡◌, ℕ, ◌<◌, ◌≤◌, Bool, true, false, cond, List, [], ◌++◌, length, take, refl, sym, ap, ◌∙◌, subst, arith}
 use Rattle.std.specs.Prelude.{◌&&◌, nat_lt, nat_le, IsTrue}
 use Rattle.std.specs.List.{list_all}
 use Rattle.std.proofs.lemmas.Bool.{and_from, lt-ltb, le-leb}
@@ -49,7 +49,7 @@ joined name line n l =
       good = and_from (nat_lt 0 (length (name ++ line))) (nat_le (length (name ++ line)) 1023 && list_all is_plain (name ++ line))
           (lt-ltb 0 (length (name ++ line)) (omega (arith, n.not_empty)))
           (and_from (nat_le (length (name ++ line)) 1023) (list_all is_plain (name ++ line))
-              (le-leb (length (name ++ line)) 1023 (omega (arith, n.within_limit, l.within_limit))) text.plain);
+          (le-leb (length (name ++ line)) 1023 (omega (arith, n.within_limit, l.within_limit))) text.plain);
     }
 
 pub frame_is : (keeps_lines is_innermost : Bool) (call : CallView) → IsFrame (name_of is_innermost call) (cond keeps_lines (line_of call) [])

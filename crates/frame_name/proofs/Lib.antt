@@ -6,3 +6,8 @@ pub mod Digits
 pub mod ShortTexts
 pub mod SourceTexts
 pub mod GoodFrames
+pub mod Remarks
+pub mod ToldApart
+pub mod LastBytes
+pub mod Versions
+pub mod Unlined

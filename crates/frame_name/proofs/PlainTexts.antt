@@ -1,10 +1,9 @@
 -- A plain text is one that a frame may have: of at least one byte, and no remark.
-use Rattle.std.proofs.Common.{◌≡◌, ℕ, ◌-◌, ◌<◌, ◌≤◌, Bool, true, false, cond, List, [], ◌∷◌, ◌++◌, length, map, refl, sym, ap, ◌∙◌, subst, arith}
-use Rattle.std.specs.Prelude.{◌&&◌, ◌||◌, not, nat_eq, nat_lt, nat_le}
+use Rattle.std.proofs.Common.{◌≡◌, ℕ, ◌-◌, ◌<◌, ◌≤◌, Bool, true, false, cond, List, [], ◌∷◌, ◌++◌, length, map, refl, ap, ◌∙◌, arith}
+use Rattle.std.specs.Prelude.{◌&&◌, ◌||◌, not, nat_eq, nat_lt}
 use Rattle.std.specs.List.{list_all, prefix_len, suffix_len}
-use Rattle.std.specs.Str.{IsUtf8}
 use Rattle.std.specs.Str.Lossy.{utf8_lossy}
-use Rattle.std.proofs.lemmas.Bool.{and_from, le-leb, ltb-false, eqb-true, true≢false, lt-ltb, le-ltb, ne_eqb}
+use Rattle.std.proofs.lemmas.Bool.{and_from, le-leb, ltb-false, eqb-true, true≢false, le-ltb, ne_eqb}
 use Rattle.call_path.specs.Good.{is_plain}
 use Rattle.frame_name.specs.Plain.{is_control, plain_byte, is_blank, trimmed, without_blanks, unknown, is_remark, or_unknown, plain}
 use Rattle.frame_name.proofs.FrameTexts.{IsFrameText, ascii_text, append_text, take_text, drop_text, boundary_behind, boundary_before, map_utf8}

@@ -1,19 +1,19 @@
 -- A text that is too long, by its ends and its SHA-256, is a text of frames.
-use Rattle.std.proofs.Common.{◌≡◌, ◌⊎◌, ℕ, zero, suc, ◌+◌, ◌-◌, ◌*◌, ◌<◌, ◌≤◌, Bool, true, false, cond, List, [], ◌∷◌, ◌++◌, length, take, drop, get_or, refl, sym, ap, ◌∙◌, subst, ⊎_elim, arith}
-use Rattle.std.specs.Prelude.{◌&&◌, nat_le, nat_lt, reverse, codes}
+use Rattle.std.proofs.Common.{◌≡◌, ℕ, zero, suc, ◌+◌, ◌-◌, ◌*◌, ◌<◌, ◌≤◌, Bool, true, false, cond, List, [], ◌∷◌, ◌++◌, length, take, drop, get_or, refl, sym, ap, ◌∙◌, subst, ⊎_elim, arith}
+use Rattle.std.specs.Prelude.{nat_le, nat_lt, reverse, codes}
 use Rattle.std.specs.List.{prefix_len, suffix_len}
 use Rattle.std.specs.Str.{IsUtf8, IsCharBoundary}
-use Rattle.std.proofs.lemmas.Bool.{and_parts, cases_lt, leb-true, leb-false, ltb-true, true≢false}
-use Rattle.std.proofs.lemmas.List.{length-take, length-take-le, length-drop, length-append, length-reverse, get_or-take, get_or-drop, get_or-reverse, drop-drop, drop_at}
-use Rattle.std.proofs.lemmas.List.Sums.{prefix_len_passes, prefix_len_stops, prefix_len-le-length, suffix_len-le-length}
-use Rattle.std.proofs.lemmas.Str.{IsUtf8-nil, IsUtf8-append, IsUtf8-drop, IsCharBoundary-start, IsCharBoundary-at_seam, IsCharBoundary-from_rest, length-encode, len_utf8_bounds}
+use Rattle.std.proofs.lemmas.Bool.{and_parts, cases_lt, leb-true, leb-false, ltb-true}
+use Rattle.std.proofs.lemmas.List.{length-take-le, length-drop, length-append, length-reverse, get_or-take, get_or-drop, get_or-reverse, drop-drop, drop_at}
+use Rattle.std.proofs.lemmas.List.Sums.{prefix_len_passes, prefix_len_stops, prefix_len-le-length}
+use Rattle.std.proofs.lemmas.Str.{IsUtf8-nil, IsCharBoundary-start, IsCharBoundary-at_seam, IsCharBoundary-from_rest, length-encode, len_utf8_bounds}
 use Rattle.std.proofs.Math.Utf8.{encode, encodes, scalars, scalar}
-use Rattle.frame_name.specs.Fitted.{is_inside, whole_front, whole_back, without_inside, digits_of, shortened, within}
+use Rattle.frame_name.specs.Fitted.{is_inside, whole_front, whole_back, digits_of, shortened, within}
 use Rattle.frame_name.proofs.FrameTexts.{IsFrameText, ascii_text, append_text, take_text, drop_text, boundary_at}
 use Rattle.frame_name.proofs.Digits.{digits_text, digits_len}
 
 -- how many bytes at the end of the first n + 1 are inside of characters
-abbrev inside_len : ℕ → List ℕ → ℕ
+abbrev pub inside_len : ℕ → List ℕ → ℕ
 inside_len n text = suffix_len is_inside (take (n + 1) text)
 
 -- the byte at the k-th place from the end of the first n + 1
@@ -28,9 +28,9 @@ front_boundary : (n : ℕ) (text : List ℕ) → n < length text → IsUtf8 text
 front_boundary n text h u = ⊎_elim
     (λ all. subst (λ i. IsCharBoundary text i) (omega arith) (IsCharBoundary-start text u))
     (λ some. boundary_at text (n - inside_len n text) (omega arith)
-        (λ _. ap is_inside (sym (from_end n (inside_len n text) text h some))
-            ∙ prefix_len_stops is_inside (reverse (take (n + 1) text)) 0
-                (let len = length-take-le (n + 1) text (omega arith) in omega (arith, length-reverse (take (n + 1) text)))))
+    (λ _. ap is_inside (sym (from_end n (inside_len n text) text h some))
+    ∙ prefix_len_stops is_inside (reverse (take (n + 1) text)) 0
+    (let len = length-take-le (n + 1) text (omega arith) in omega (arith, length-reverse (take (n + 1) text)))))
     (cases_lt n (inside_len n text))
 
 -- a character has at most four bytes, so that one begins at one of four places in a row
@@ -42,12 +42,15 @@ begins_before (c ∷ cs) n h le =
     let bounds = len_utf8_bounds c in
     let whole = length-append (encode c) (encodes cs) in
     ⊎_elim
-        (λ low. (0, omega arith, omega (arith, low, len, bounds), IsCharBoundary-start (encodes (c ∷ cs)) (c ∷ cs, (h, refl))))
-        (λ high. let r = begins_before cs (n - length (encode c)) parts.1 (omega arith) in
-            (length (encode c) + r.0, omega (arith, r.1, high), omega (arith, r.2, high),
-                IsCharBoundary-from_rest (encodes (c ∷ cs)) (length (encode c)) r.0 (omega arith)
-                    (subst (λ t. IsCharBoundary t r.0) (sym (drop_at (encode c) (encodes cs) (length (encode c)) refl)) r.3)))
-        (cases_lt n (length (encode c)))
+    (λ low. (0, omega arith, omega (arith, low, len, bounds), IsCharBoundary-start (encodes (c ∷ cs)) (c ∷ cs, (h, refl))))
+    (λ high. let r = begins_before cs (n - length (encode c)) parts.1 (omega arith) in (
+      length (encode c) + r.0,
+      omega (arith, r.1, high),
+      omega (arith, r.2, high),
+      IsCharBoundary-from_rest (encodes (c ∷ cs)) (length (encode c)) r.0 (omega arith)
+          (subst (λ t. IsCharBoundary t r.0) (sym (drop_at (encode c) (encodes cs) (length (encode c)) refl)) r.3),
+    ))
+    (cases_lt n (length (encode c)))
 
 begins_behind : (cs : List ℕ) (n : ℕ) → scalars cs ≡ true → n ≤ length (encodes cs) → (j : ℕ) × (n ≤ j) × (j ≤ n + 3) × IsCharBoundary (encodes cs) j
 begins_behind [] n h le = (0, omega arith, omega arith, IsCharBoundary-start [] IsUtf8-nil)
@@ -58,13 +61,20 @@ begins_behind (c ∷ cs) (suc n) h le =
     let bounds = len_utf8_bounds c in
     let whole = length-append (encode c) (encodes cs) in
     ⊎_elim
-        (λ low. (length (encode c), omega (arith, low), omega (arith, low, len, bounds),
-            IsCharBoundary-at_seam (encodes (c ∷ cs)) (encode c) (encodes cs) refl (cs, (parts.1, refl))))
-        (λ high. let r = begins_behind cs (suc n - length (encode c)) parts.1 (omega arith) in
-            (length (encode c) + r.0, omega (arith, r.1, high), omega (arith, r.2, high),
-                IsCharBoundary-from_rest (encodes (c ∷ cs)) (length (encode c)) r.0 (omega arith)
-                    (subst (λ t. IsCharBoundary t r.0) (sym (drop_at (encode c) (encodes cs) (length (encode c)) refl)) r.3)))
-        (cases_lt (suc n) (length (encode c)))
+    (λ low. (
+      length (encode c),
+      omega (arith, low),
+      omega (arith, low, len, bounds),
+      IsCharBoundary-at_seam (encodes (c ∷ cs)) (encode c) (encodes cs) refl (cs, (parts.1, refl)),
+    ))
+    (λ high. let r = begins_behind cs (suc n - length (encode c)) parts.1 (omega arith) in (
+      length (encode c) + r.0,
+      omega (arith, r.1, high),
+      omega (arith, r.2, high),
+      IsCharBoundary-from_rest (encodes (c ∷ cs)) (length (encode c)) r.0 (omega arith)
+          (subst (λ t. IsCharBoundary t r.0) (sym (drop_at (encode c) (encodes cs) (length (encode c)) refl)) r.3),
+    ))
+    (cases_lt (suc n) (length (encode c)))
 
 -- no character begins inside of one
 not_inside : (text : List ℕ) (j : ℕ) → j < length text → IsCharBoundary text j → is_inside (get_or text j 0) ≡ true → ⊥
@@ -75,22 +85,24 @@ not_inside text j h b e =
 pub front_len : (n : ℕ) (text : List ℕ) → n < length text → IsUtf8 text → (length (whole_front n text) ≤ n) × (n ≤ length (whole_front n text) + 3)
 front_len n text h u =
     let len = length-take-le (n - inside_len n text) text (omega arith) in
-    let near : (j : ℕ) × (j ≤ n) × (n ≤ j + 3) × IsCharBoundary text j = subst (λ t. n ≤ length t → (j : ℕ) × (j ≤ n) × (n ≤ j + 3) × IsCharBoundary t j) u.1.1 (begins_before u.0 n u.1.0) (omega arith) in
-    (omega arith, ⊎_elim
-        (λ inside. absurd (not_inside text near.0 (omega (arith, near.1)) near.3
-            (ap is_inside (ap (λ i. get_or text i 0) (omega (arith, near.1)) ∙ sym (from_end n (n - near.0) text h (omega arith)))
-            ∙ prefix_len_passes is_inside (reverse (take (n + 1) text)) (n - near.0) 0 (omega (arith, inside, near.1)))))
-        (λ e. omega (arith, e, near.2, len))
-        (cases_lt (n - inside_len n text) near.0))
+    let near : (j : ℕ) × (j ≤ n) × (n ≤ j + 3) × IsCharBoundary text j = subst (λ t. n ≤ length t → (j : ℕ) × (j ≤ n) × (n ≤ j + 3) × IsCharBoundary t j) u.1.1 (begins_before u.0 n u.1.0) (omega arith) in (
+      omega arith,
+      ⊎_elim
+          (λ inside. absurd (not_inside text near.0 (omega (arith, near.1)) near.3
+          (ap is_inside (ap (λ i. get_or text i 0) (omega (arith, near.1)) ∙ sym (from_end n (n - near.0) text h (omega arith)))
+          ∙ prefix_len_passes is_inside (reverse (take (n + 1) text)) (n - near.0) 0 (omega (arith, inside, near.1)))))
+          (λ e. omega (arith, e, near.2, len))
+          (cases_lt (n - inside_len n text) near.0),
+    )
 
 pub front_text : (n : ℕ) (text : List ℕ) → n < length text → IsFrameText text → IsFrameText (whole_front n text)
 front_text n text h t = take_text (n - inside_len n text) text t (front_boundary n text h t.utf8)
 
 -- where the whole characters among the last n bytes begin
-abbrev back_start : ℕ → List ℕ → ℕ
+abbrev pub back_start : ℕ → List ℕ → ℕ
 back_start n text = (length text - n) + prefix_len is_inside (drop (length text - n) text)
 
-back_is : (n : ℕ) (text : List ℕ) → whole_back n text ≡ drop (back_start n text) text
+pub back_is : (n : ℕ) (text : List ℕ) → whole_back n text ≡ drop (back_start n text) text
 back_is n text = drop-drop (prefix_len is_inside (drop (length text - n) text)) (length text - n) text
 
 back_boundary : (n : ℕ) (text : List ℕ) → n < length text → IsCharBoundary text (back_start n text)
@@ -99,8 +111,8 @@ back_boundary n text h =
     let len = length-drop (length text - n) text in
     let some = prefix_len-le-length is_inside rest in
     boundary_at text (back_start n text) (omega arith)
-        (λ l. ap is_inside (sym (get_or-drop (length text - n) text (prefix_len is_inside rest) 0))
-            ∙ prefix_len_stops is_inside rest 0 (omega arith))
+    (λ l. ap is_inside (sym (get_or-drop (length text - n) text (prefix_len is_inside rest) 0))
+    ∙ prefix_len_stops is_inside rest 0 (omega arith))
 
 pub back_text : (n : ℕ) (text : List ℕ) → n < length text → IsFrameText text → IsFrameText (whole_back n text)
 back_text n text h t = subst IsFrameText (sym (back_is n text)) (drop_text (back_start n text) text t (back_boundary n text h))
@@ -112,24 +124,26 @@ back_len n text h u =
     let len = length-drop start text in
     let some = prefix_len-le-length is_inside rest in
     let back = length-drop (prefix_len is_inside rest) rest in
-    let near : (j : ℕ) × (start ≤ j) × (j ≤ start + 3) × IsCharBoundary text j = subst (λ t. start ≤ length t → (j : ℕ) × (start ≤ j) × (j ≤ start + 3) × IsCharBoundary t j) u.1.1 (begins_behind u.0 start u.1.0) (omega arith) in
-    (omega arith, ⊎_elim
-        (λ inside. absurd (not_inside text near.0 (omega (arith, inside, some, len, near.1)) near.3
-            (ap is_inside (ap (λ i. get_or text i 0) (omega (arith, near.1)) ∙ sym (get_or-drop start text (near.0 - start) 0))
-            ∙ prefix_len_passes is_inside rest (near.0 - start) 0 (omega (arith, inside, near.1)))))
-        (λ e. omega (arith, e, near.2, near.1, len, back, some))
-        (cases_lt near.0 (start + prefix_len is_inside rest)))
+    let near : (j : ℕ) × (start ≤ j) × (j ≤ start + 3) × IsCharBoundary text j = subst (λ t. start ≤ length t → (j : ℕ) × (start ≤ j) × (j ≤ start + 3) × IsCharBoundary t j) u.1.1 (begins_behind u.0 start u.1.0) (omega arith) in (
+      omega arith,
+      ⊎_elim
+          (λ inside. absurd (not_inside text near.0 (omega (arith, inside, some, len, near.1)) near.3
+          (ap is_inside (ap (λ i. get_or text i 0) (omega (arith, near.1)) ∙ sym (get_or-drop start text (near.0 - start) 0))
+          ∙ prefix_len_passes is_inside rest (near.0 - start) 0 (omega (arith, inside, near.1)))))
+          (λ e. omega (arith, e, near.2, near.1, len, back, some))
+          (cases_lt near.0 (start + prefix_len is_inside rest)),
+    )
 
 pub short_text : (n : ℕ) (text : List ℕ) → n < length text → IsFrameText text → IsFrameText (shortened n text)
 unfolding shortened
 short_text n text h t =
     append_text (whole_front n text ++ codes "..(" ++ digits_of text ++ codes ")..") (whole_back n text)
-        (append_text (whole_front n text ++ codes "..(" ++ digits_of text) (codes ")..")
-            (append_text (whole_front n text ++ codes "..(") (digits_of text)
-                (append_text (whole_front n text) (codes "..(") (front_text n text h t) (ascii_text (codes "..(") refl refl))
-                (digits_text text))
-            (ascii_text (codes ")..") refl refl))
-        (back_text n text h t)
+    (append_text (whole_front n text ++ codes "..(" ++ digits_of text) (codes ")..")
+    (append_text (whole_front n text ++ codes "..(") (digits_of text)
+    (append_text (whole_front n text) (codes "..(") (front_text n text h t) (ascii_text (codes "..(") refl refl))
+    (digits_text text))
+    (ascii_text (codes ")..") refl refl))
+    (back_text n text h t)
 
 pub short_len : (n : ℕ) (text : List ℕ) → n < length text → IsUtf8 text → (length (shortened n text) ≤ 2 * n + 70) × (70 ≤ length (shortened n text))
 unfolding shortened

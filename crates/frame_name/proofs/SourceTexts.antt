@@ -1,9 +1,9 @@
 -- What is shown of a source file and a line is a text of frames, of at most 268 bytes.
-use Rattle.std.proofs.Common.{◌≡◌, ℕ, ◌+◌, ◌-◌, ◌*◌, ◌/◌, ◌%◌, ◌^◌, ◌<◌, ◌≤◌, Bool, true, false, cond, List, [], ◌∷◌, ◌++◌, length, map, refl, sym, ap, ◌∙◌, subst, arith}
+use Rattle.std.proofs.Common.{◌≡◌, ℕ, ◌+◌, ◌/◌, ◌%◌, ◌^◌, ◌<◌, ◌≤◌, Bool, true, false, cond, List, [], ◌∷◌, ◌++◌, length, map, refl, ap, ◌∙◌, arith}
 use Rattle.std.specs.Prelude.{◌&&◌, ◌||◌, nat_eq, nat_lt, nat_le, codes, decimal}
 use Rattle.std.specs.List.{list_all}
 use Rattle.std.specs.Str.Lossy.{utf8_lossy}
-use Rattle.std.proofs.lemmas.Bool.{and_parts, and_from, agree_below_at, leb-true, le-ltb, ne_eqb, true≢false}
+use Rattle.std.proofs.lemmas.Bool.{and_parts, and_from, agree_below_at, leb-true, ne_eqb}
 use Rattle.std.proofs.lemmas.Fmt.{decimal_by_steps, length-decimal-le}
 use Rattle.std.proofs.lemmas.List.{length-append}
 use Rattle.std.proofs.lemmas.List.Folds.{list_all-append}
@@ -11,7 +11,6 @@ use Rattle.call_path.specs.Good.{is_plain}
 use Rattle.frame_name.specs.Calls.{CallView}
 use Rattle.frame_name.specs.Texts.{base_name}
 use Rattle.frame_name.specs.Plain.{is_control, is_blank}
-use Rattle.frame_name.specs.Fitted.{within}
 use Rattle.frame_name.specs.SourceLines.{file_byte, file_text, has_line, line_of}
 use Rattle.frame_name.proofs.FrameTexts.{IsFrameText, ascii_text, append_text, is_low}
 use Rattle.frame_name.proofs.PlainTexts.{plain_from, high_control, bytes_text}
@@ -60,15 +59,19 @@ decimal_plain n h = decimal_by_steps ArePlain one more n h
   where
     digit_plain : (k : ℕ) → k < 10 → is_plain (48 + k) ≡ true
     digit_plain k e = agree_below_at (λ i. is_plain (48 + i)) (λ i. true) 10 k refl e
+
     digit_low : (k : ℕ) → k < 10 → is_low (48 + k) ≡ true
     digit_low k e = agree_below_at (λ i. is_low (48 + i)) (λ i. true) 10 k refl e
+
     one : (k : ℕ) → k < 10 → ArePlain k ((48 + k) ∷ [])
     one k e = (and_from (is_plain (48 + k)) true (digit_plain k e) refl, and_from (is_low (48 + k)) true (digit_low k e) refl)
+
     more : (k : ℕ) (ds : List ℕ) → 10 ≤ k → ArePlain (k / 10) ds → ArePlain k (ds ++ ((48 + k % 10) ∷ []))
     more k ds e p =
-        let last = one (k % 10) (omega arith) in
-        (list_all-append is_plain ds ((48 + k % 10) ∷ []) ∙ and_from (list_all is_plain ds) (list_all is_plain ((48 + k % 10) ∷ [])) p.0 last.0,
-         list_all-append is_low ds ((48 + k % 10) ∷ []) ∙ and_from (list_all is_low ds) (list_all is_low ((48 + k % 10) ∷ [])) p.1 last.1)
+        let last = one (k % 10) (omega arith) in (
+          list_all-append is_plain ds ((48 + k % 10) ∷ []) ∙ and_from (list_all is_plain ds) (list_all is_plain ((48 + k % 10) ∷ [])) p.0 last.0,
+          list_all-append is_low ds ((48 + k % 10) ∷ []) ∙ and_from (list_all is_low ds) (list_all is_low ((48 + k % 10) ∷ [])) p.1 last.1,
+        )
 
 pub known_line : (call : CallView) → has_line call ≡ true → call.line < 1000000000
 known_line call h =
@@ -91,8 +94,8 @@ line_text call = by (has_line call) refl
         record {
           text_is = append_text (codes " (" ++ file_text call.file ++ codes ")@") (decimal call.line)
               (append_text (codes " (" ++ file_text call.file) (codes ")@")
-                  (append_text (codes " (") (file_text call.file) (ascii_text (codes " (") refl refl) (file_is_text call.file))
-                  (ascii_text (codes ")@") refl refl))
+              (append_text (codes " (") (file_text call.file) (ascii_text (codes " (") refl refl) (file_is_text call.file))
+              (ascii_text (codes ")@") refl refl))
               (ascii_text (decimal call.line) digits.0 digits.1);
           within_limit =
               let whole = length-append (codes " (" ++ file_text call.file ++ codes ")@") (decimal call.line) in

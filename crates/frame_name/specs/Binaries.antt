@@ -1,7 +1,7 @@
 -- The executable or the shared library that a function is in.
 use Rattle.std.specs.Prelude.{ℕ, Bool, ◌&&◌, ◌||◌, not, nat_eq, nat_lt, cond, List, ◌++◌, length, take, codes}
 use Rattle.std.specs.Char.{is_ascii_digit}
-use Rattle.std.specs.List.{list_any, prefix_len}
+use Rattle.std.specs.List.{prefix_len}
 use Rattle.frame_name.specs.Texts.{begins_with, closes_with, last_bytes, before_last_bytes, base_name}
 use Rattle.frame_name.specs.Tables.{in_system, is_mpi_name, is_other_waiting_name}
 
@@ -11,9 +11,9 @@ is_version b = is_ascii_digit b || nat_eq b 46
 
 -- a shared library's name without its version: `.so`, a dot, and digits and dots to the end
 unfoldable pub without_version : List ℕ → List ℕ
-without_version name = cond
-    (closes_with (codes ".so") (before_last_bytes is_version name) && begins_with (codes ".") (last_bytes is_version name))
-    (before_last_bytes is_version name) name
+without_version name =
+    let stem = before_last_bytes is_version name in
+    cond (closes_with (codes ".so") stem && begins_with (codes ".") (last_bytes is_version name)) stem name
 
 -- the name that a file is called by
 unfoldable pub file_name : List ℕ → List ℕ
@@ -33,9 +33,13 @@ without_number name = cond (nat_lt (length (before_colon name)) (length name)) (
 unfoldable pub binary_name : List ℕ → List ℕ
 binary_name binary = cond (is_bracketed binary) (without_number binary) (file_name binary)
 
--- whether it is a file: it is known, and is none of those that the kernel lends
+-- whether it is lent by the kernel
+abbrev pub is_lent : List ℕ → Bool
+is_lent binary = is_bracketed binary || begins_with (codes "linux-vdso") (base_name binary)
+
+-- whether it is known, and a file
 unfoldable pub is_file : List ℕ → Bool
-is_file binary = nat_lt 0 (length binary) && not (is_bracketed binary || begins_with (codes "linux-vdso") (base_name binary))
+is_file binary = nat_lt 0 (length binary) && not (is_lent binary)
 
 unfoldable pub is_shared : List ℕ → Bool
 is_shared binary = is_file binary && closes_with (codes ".so") (file_name binary)
@@ -48,11 +52,8 @@ is_program binary = is_file binary && not (is_shared binary || in_system binary)
 unfoldable pub is_mpi : List ℕ → Bool
 is_mpi binary = is_shared binary && is_mpi_name (base_name binary)
 
-unfoldable pub is_other_waiting : List ℕ → Bool
-is_other_waiting binary = is_shared binary && is_other_waiting_name (base_name binary)
-
 unfoldable pub waits : List ℕ → Bool
-waits binary = is_mpi binary || is_other_waiting binary
+waits binary = is_mpi binary || (is_shared binary && is_other_waiting_name (base_name binary))
 
 -- whether it is a library that came with the program or that the program loaded, so that names in it are its own
 unfoldable pub is_plugin : List ℕ → Bool

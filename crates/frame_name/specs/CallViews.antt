@@ -4,6 +4,10 @@ use Rattle.frame_name.specs.Calls.{CallView}
 
 abbrev pub call_view : Call → CallView
 call_view c = record {
-  name = c.name.items; binary = c.binary.items; is_deleted = c.is_deleted; offset = c.offset.items;
-  file = c.file.items; line = c.line;
+  name = c.name.items;
+  binary = c.binary.items;
+  is_deleted = c.is_deleted;
+  offset = c.offset.items;
+  file = c.file.items;
+  line = c.line;
 }

@@ -1,5 +1,5 @@
 -- Texts that are too long are given by their ends and by their SHA-256.
-use Rattle.std.specs.Prelude.{ℕ, Bool, ◌+◌, ◌-◌, ◌&&◌, nat_le, nat_lt, cond, List, ◌++◌, length, take, drop, codes}
+use Rattle.std.specs.Prelude.{◌≡◌, ℕ, Bool, ◌+◌, ◌-◌, ◌≤◌, ◌&&◌, nat_le, nat_lt, cond, List, ◌++◌, length, take, drop, codes}
 use Rattle.std.specs.List.{prefix_len, suffix_len}
 use Rattle.sha2.specs.Sha256.{sha256}
 use Rattle.hex.specs.Hex.{encode_lower}
@@ -34,3 +34,10 @@ within most n text = cond (nat_le (length text) most) text (shortened n text)
 -- a name of at most 740 bytes
 abbrev pub fitted : List ℕ → List ℕ
 fitted name = within 740 320 name
+
+-- a text that looks as if it had been shortened: between two ends of at most n bytes it has the digits of something
+pub record LooksShortened (n : ℕ) (text front digits back : List ℕ) : Type 0 where
+  pub parts : text ≡ front ++ codes "..(" ++ digits ++ codes ").." ++ back
+  pub front_len : length front ≤ n
+  pub digits_len : length digits ≡ 64
+  pub back_len : length back ≤ n

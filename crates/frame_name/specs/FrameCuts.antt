@@ -1,5 +1,5 @@
 -- How a frame is held: as one text, that begins with the name.
-use Rattle.std.specs.Prelude.{ℕ, ◌≤◌, List, length, IsTrue}
+use Rattle.std.specs.Prelude.{ℕ, List, IsTrue}
 use Rattle.std.specs.Str.{IsCharBoundary}
 use Rattle.call_path.specs.Good.{is_good_frame}
 

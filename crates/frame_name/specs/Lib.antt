@@ -13,3 +13,4 @@ pub mod SourceLines
 pub mod FrameRules
 pub mod RuleViews
 pub mod FrameCuts
+pub mod Rows

@@ -33,6 +33,9 @@ abbrev pub name_text : List ℕ → Bool → CallView → List ℕ
 name_text function is_innermost call =
     cond (has_name call.name) (function ++ library_mark call.binary) (place_text is_innermost call)
 
+abbrev pub shown_name : List ℕ → Bool → CallView → List ℕ
+shown_name function is_innermost call = fitted (plain (name_text function is_innermost call))
+
 -- the name of a call's frame
 unfoldable pub name_of : Bool → CallView → List ℕ
-name_of is_innermost call = fitted (plain (name_text (function_of call) is_innermost call))
+name_of is_innermost call = shown_name (function_of call) is_innermost call

@@ -26,9 +26,10 @@ trimmed text = before_last_bytes is_blank (without_blanks text)
 abbrev pub unknown : List ℕ
 unknown = codes "??"
 
--- a frame that is a remark of this program, and no function; compilers write `(anonymous namespace)` in functions' names
+-- a frame that is a remark of this program, and no function; in functions' names compilers write `(anonymous namespace)`
 abbrev pub is_remark : List ℕ → Bool
-is_remark text = begins_with (codes "(") text && (closes_with (codes ")") text && not (begins_with (codes "(anonymous") text))
+is_remark text =
+    begins_with (codes "(") text && (closes_with (codes ")") text && not (begins_with (codes "(anonymous") text))
 
 -- the text, or `??` where there is none; and with `??` before it where it would be taken for a remark
 abbrev pub or_unknown : List ℕ → List ℕ

@@ -6,7 +6,7 @@ ghost use Rattle.std.specs.List.{prefix_len, suffix_len, list_any};
 ghost use Rattle.std.proofs.Common.{Bor};
 ghost use Rattle.frame_name.specs.Texts.{begins_with};
 ghost use Rattle.frame_name.specs.Tables.{in_system, is_mpi_name, is_other_waiting_name};
-ghost use Rattle.frame_name.specs.Binaries.{is_version, without_version, file_name, is_bracketed, before_colon, without_number, binary_name, is_file, is_shared, is_program, is_mpi, is_other_waiting, waits, is_plugin};
+ghost use Rattle.frame_name.specs.Binaries.{is_version, without_version, file_name, before_colon, without_number, binary_name, is_file, is_shared, is_program, is_mpi, waits, is_plugin};
 
 use crate::texts::base_name;
 use std::alloc::AllocError;
@@ -56,7 +56,11 @@ fn without_version(name: &[u8]) -> &[u8]
     ensures { result.now ≡ without_version name.now }
 {
     let (stem, version) = name.split_at(name.len() - version_len(name));
-    if stem.ends_with(b".so") && version.starts_with(b".") { stem } else { name }
+    if stem.ends_with(b".so") && version.starts_with(b".") {
+        stem
+    } else {
+        name
+    }
 }
 
 /// The name that a file is called by: behind the last `/` of its path, and of a shared library without the version.
@@ -65,12 +69,6 @@ pub fn file_name(binary: &[u8]) -> &[u8]
     ensures { result.now ≡ file_name binary.now }
 {
     without_version(base_name(binary))
-}
-
-fn is_bracketed(binary: &[u8]) -> bool
-    ensures { result ≡ is_bracketed binary.now }
-{
-    binary.starts_with(b"[")
 }
 
 // How many bytes stand before a name's first colon.
@@ -106,7 +104,7 @@ fn push_without_number(out: &mut Vec<u8>, name: &[u8]) -> Result<(), AllocError>
 pub fn push_binary_name(out: &mut Vec<u8>, binary: &[u8]) -> Result<(), AllocError>
     ensures { OnOk result (out.new.items ≡ out.old.items ++ binary_name binary.now) }
 {
-    if is_bracketed(binary) {
+    if binary.starts_with(b"[") {
         return push_without_number(out, binary);
     }
     out.extend_from_slice(file_name(binary))
@@ -118,7 +116,7 @@ fn is_file(binary: &[u8]) -> bool
     ensures { result ≡ is_file binary.now }
 {
     !binary.is_empty()
-        && !(is_bracketed(binary) || base_name(binary).starts_with(b"linux-vdso"))
+        && !(binary.starts_with(b"[") || base_name(binary).starts_with(b"linux-vdso"))
 }
 
 /// Whether a binary is a shared library.
@@ -173,20 +171,12 @@ pub fn is_mpi(binary: &[u8]) -> bool
     is_shared(binary) && is_mpi_name(base_name(binary))
 }
 
-// Whether a binary is another library in which a rank waits for others.
-#[tactic(auto, unfolding(crate::specs::Binaries::is_other_waiting))]
-fn is_other_waiting(binary: &[u8]) -> bool
-    ensures { result ≡ is_other_waiting binary.now }
-{
-    is_shared(binary) && is_other_waiting_name(base_name(binary))
-}
-
 /// Whether a binary is a library in which a rank waits for others.
 #[tactic(auto, unfolding(crate::specs::Binaries::waits))]
 pub fn waits(binary: &[u8]) -> bool
     ensures { result ≡ waits binary.now }
 {
-    is_mpi(binary) || is_other_waiting(binary)
+    is_mpi(binary) || (is_shared(binary) && is_other_waiting_name(base_name(binary)))
 }
 
 /// Whether a binary is a library that came with the program or that the program loaded.

@@ -3,7 +3,7 @@
 ghost use Rattle.std.specs.Prelude.{◌≡◌, ◌++◌, length, cond, IfOk, OnOk, [], codes, string_bytes};
 ghost use Rattle.std.specs.Str.{bytes_eq};
 ghost use Rattle.frame_name.specs.CallViews.{call_view};
-ghost use Rattle.frame_name.specs.FrameRules.{is_own_binary, is_own_function, is_plumbing_file};
+ghost use Rattle.frame_name.specs.FrameRules.{is_own_function, is_plumbing_file};
 ghost use Rattle.frame_name.specs.Names.{function_of, name_of};
 ghost use Rattle.frame_name.specs.SourceLines.{line_of};
 
@@ -41,9 +41,16 @@ impl Model for Frame {
     ghost Value = { FrameView };
 
     ghost view = { λ f. record {
-        name = take f.name_len (string_bytes f.text); line = drop f.name_len (string_bytes f.text);
-        is_main = f.is_main; is_start = f.is_start; is_own = f.is_own; waits = f.waits; is_mpi = f.is_mpi;
-        is_standard = f.is_standard; is_plumbing = f.is_plumbing; is_deleted = f.is_deleted
+      name = take f.name_len (string_bytes f.text);
+      line = drop f.name_len (string_bytes f.text);
+      is_main = f.is_main;
+      is_start = f.is_start;
+      is_own = f.is_own;
+      waits = f.waits;
+      is_mpi = f.is_mpi;
+      is_standard = f.is_standard;
+      is_plumbing = f.is_plumbing;
+      is_deleted = f.is_deleted;
     } };
 
     ghost invariant = { λ f. IsFrameCut f.name_len (string_bytes f.text) };
@@ -59,7 +66,12 @@ impl Frame {
 
     /// The frame of a call. The innermost call of a stack is shown without its offset. The one error is running out of
     /// memory.
-    pub fn of(alloc: Global, rules: &Rules, call: &Call, is_innermost: bool) -> Result<Frame, AllocError>
+    pub fn of(
+        alloc: Global,
+        rules: &Rules,
+        call: &Call,
+        is_innermost: bool,
+    ) -> Result<Frame, AllocError>
         ensures { IfOk result (λ frame. frame ≡ frame_of (rules_view rules.now) is_innermost (call_view call.now)) }
     {
         let function = function_of(alloc, call)?;
@@ -167,7 +179,12 @@ struct Shown {
 }
 
 // Appends what is shown of the source file and the line of a call, where lines are kept.
-fn push_kept_line(alloc: Global, out: &mut Vec<u8>, keeps_lines: bool, call: &Call) -> Result<(), AllocError>
+fn push_kept_line(
+    alloc: Global,
+    out: &mut Vec<u8>,
+    keeps_lines: bool,
+    call: &Call,
+) -> Result<(), AllocError>
     ensures { OnOk result (out.new.items ≡ out.old.items ++ cond keeps_lines (line_of (call_view call.now)) []) }
 {
     if !keeps_lines {
@@ -177,7 +194,13 @@ fn push_kept_line(alloc: Global, out: &mut Vec<u8>, keeps_lines: bool, call: &Ca
 }
 
 // What is shown of a call of a function.
-fn shown_of(alloc: Global, keeps_lines: bool, function: &[u8], is_innermost: bool, call: &Call) -> Result<Shown, AllocError>
+fn shown_of(
+    alloc: Global,
+    keeps_lines: bool,
+    function: &[u8],
+    is_innermost: bool,
+    call: &Call,
+) -> Result<Shown, AllocError>
     requires { function.now ≡ function_of (call_view call.now) }
     ensures text { IfOk result (λ shown. string_bytes shown.text
         ≡ name_of is_innermost (call_view call.now) ++ cond keeps_lines (line_of (call_view call.now)) []) }
@@ -192,19 +215,13 @@ fn shown_of(alloc: Global, keeps_lines: bool, function: &[u8], is_innermost: boo
     }
 }
 
-// Whether a binary is the program, or a shared library of its own.
-fn is_own_binary(own: &Words, binary: &[u8]) -> bool
-    ensures { result ≡ is_own_binary own.now binary.now }
-{
-    is_program(binary) || (is_shared(binary) && own.fits(file_name(binary)))
-}
-
 // Whether a function of a binary is the program's own code.
 #[tactic(auto, unfolding(crate::specs::FrameRules::is_own_function))]
 fn is_own_function(own: &Words, binary: &[u8], function: &[u8]) -> bool
     ensures { result ≡ is_own_function own.now binary.now function.now }
 {
-    is_signal(function) || (is_own_binary(own, binary) && !is_allocator(function))
+    let is_own = is_program(binary) || (is_shared(binary) && own.fits(file_name(binary)));
+    is_signal(function) || (is_own && !is_allocator(function))
 }
 
 // Whether a source file is one of the C++ library's.

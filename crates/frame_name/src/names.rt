@@ -2,9 +2,7 @@
 
 ghost use Rattle.std.specs.Prelude.{◌≡◌, ◌++◌, IfOk, OnOk};
 ghost use Rattle.frame_name.specs.CallViews.{call_view};
-ghost use Rattle.frame_name.specs.Names.{has_name, function_of, library_mark, offset_text, place_text, name_text};
-ghost use Rattle.frame_name.specs.Plain.{plain};
-ghost use Rattle.frame_name.specs.Fitted.{fitted};
+ghost use Rattle.frame_name.specs.Names.{has_name, function_of, library_mark, offset_text, place_text, name_text, shown_name};
 
 use crate::Call;
 use crate::binaries::{file_name, is_mpi, is_plugin, push_binary_name};
@@ -69,7 +67,12 @@ fn place_text(alloc: Global, is_innermost: bool, call: &Call) -> Result<Vec<u8>,
 }
 
 // What is shown of a call of a function.
-fn name_text(alloc: Global, function: &[u8], is_innermost: bool, call: &Call) -> Result<Vec<u8>, AllocError>
+fn name_text(
+    alloc: Global,
+    function: &[u8],
+    is_innermost: bool,
+    call: &Call,
+) -> Result<Vec<u8>, AllocError>
     ensures { IfOk result (λ text. text.items ≡ name_text function.now is_innermost (call_view call.now)) }
 {
     if !has_name(&call.name) {
@@ -81,8 +84,13 @@ fn name_text(alloc: Global, function: &[u8], is_innermost: bool, call: &Call) ->
 }
 
 /// The name of the frame of a call of a function.
-pub fn name_of(alloc: Global, function: &[u8], is_innermost: bool, call: &Call) -> Result<Vec<u8>, AllocError>
-    ensures { IfOk result (λ name. name.items ≡ fitted (plain (name_text function.now is_innermost (call_view call.now)))) }
+pub fn name_of(
+    alloc: Global,
+    function: &[u8],
+    is_innermost: bool,
+    call: &Call,
+) -> Result<Vec<u8>, AllocError>
+    ensures { IfOk result (λ name. name.items ≡ shown_name function.now is_innermost (call_view call.now)) }
 {
     let text = name_text(alloc, function, is_innermost, call)?;
     let name = plain(alloc, &text)?;

@@ -63,7 +63,10 @@ fn plain_bytes(alloc: Global, text: &[u8]) -> Result<Vec<u8>, AllocError>
     ensures { IfOk result (λ bytes. bytes.items ≡ map plain_byte (utf8_lossy text.now)) }
 {
     let text = String::from_utf8_lossy(alloc, text)?;
-    text.as_bytes().iter().map(|b| plain_byte(*b)).collect(alloc)
+    text.as_bytes()
+        .iter()
+        .map(|b| plain_byte(*b))
+        .collect(alloc)
 }
 
 // The text, or `??` where there is none, and with `??` before it where it would be taken for a remark.

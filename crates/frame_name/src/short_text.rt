@@ -1,8 +1,8 @@
 //! Texts that are too long, by their ends and their SHA-256.
 
-ghost use Rattle.std.specs.Prelude.{◌≡◌, ◌≤◌, ◌<◌, length, IfOk, string_bytes};
+ghost use Rattle.std.specs.Prelude.{◌≡◌, ◌≤◌, ◌<◌, length, IfOk};
 ghost use Rattle.std.specs.List.{prefix_len, suffix_len};
-ghost use Rattle.frame_name.specs.Fitted.{is_inside, whole_front, whole_back, digits_of, shortened, within, fitted};
+ghost use Rattle.frame_name.specs.Fitted.{is_inside, whole_front, whole_back, shortened, within, fitted};
 
 use sha2::{Digest, Sha256};
 use std::alloc::{AllocError, Global};
@@ -52,19 +52,13 @@ fn whole_back(n: usize, text: &[u8]) -> &[u8]
     &back[first_inside(back)..]
 }
 
-// The digits of a text's SHA-256.
-fn digits_of(alloc: Global, text: &[u8]) -> Result<String, AllocError>
-    ensures { IfOk result (λ digits. string_bytes digits ≡ digits_of text.now) }
-{
-    hex::encode(alloc, Sha256::digest(text))
-}
-
+// A text by its ends of `n` bytes and the digits of its SHA-256.
 #[tactic(auto, unfolding(crate::specs::Fitted::shortened))]
 fn shortened(alloc: Global, n: usize, text: &[u8]) -> Result<Vec<u8>, AllocError>
     requires { n < length text.now }
     ensures { IfOk result (λ short. short.items ≡ shortened n text.now) }
 {
-    let digits = digits_of(alloc, text)?;
+    let digits = hex::encode(alloc, Sha256::digest(text))?;
     let mut short = Vec::from_slice(alloc, whole_front(n, text))?;
     short.extend_from_slice(b"..(")?;
     short.extend_from_slice(digits.as_bytes())?;

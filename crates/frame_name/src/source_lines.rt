@@ -1,6 +1,6 @@
 //! What is shown of the source file and the line that a call stands at: ` (FILE)@LINE`.
 
-ghost use Rattle.std.specs.Prelude.{◌≡◌, ◌++◌, map, IfOk, OnOk, decimal};
+ghost use Rattle.std.specs.Prelude.{◌≡◌, ◌++◌, map, IfOk, OnOk};
 ghost use Rattle.std.specs.Str.Lossy.{utf8_lossy};
 ghost use Rattle.frame_name.specs.CallViews.{call_view};
 ghost use Rattle.frame_name.specs.SourceLines.{file_byte, file_text, has_line, line_of};
@@ -13,6 +13,7 @@ use std::alloc::{AllocError, Global};
 
 // The name of a source file has at most so many bytes; of a longer one so many of either end are left.
 const FILE_BYTES: usize = 255;
+
 const FILE_ENDS: usize = 90;
 
 // A line has at most nine digits.
@@ -51,14 +52,6 @@ fn has_line(call: &Call) -> bool
     !base_name(&call.file).is_empty() && call.line > 0 && call.line <= LAST_LINE
 }
 
-// Appends a number.
-fn push_number(out: &mut Vec<u8>, number: u32) -> Result<(), AllocError>
-    ensures { OnOk result (out.new.items ≡ out.old.items ++ decimal number) }
-{
-    let mut buffer = itoa::Buffer::new();
-    out.extend_from_slice(buffer.format(number).as_bytes())
-}
-
 /// Appends what is shown of the source file and the line of a call: nothing where they aren't known.
 #[tactic(auto, unfolding(crate::specs::SourceLines::line_of))]
 pub fn push_line(alloc: Global, out: &mut Vec<u8>, call: &Call) -> Result<(), AllocError>
@@ -71,5 +64,6 @@ pub fn push_line(alloc: Global, out: &mut Vec<u8>, call: &Call) -> Result<(), Al
     out.extend_from_slice(b" (")?;
     out.extend_from_slice(&file)?;
     out.extend_from_slice(b")@")?;
-    push_number(out, call.line)
+    let mut digits = itoa::Buffer::new();
+    out.extend_from_slice(digits.format(call.line).as_bytes())
 }

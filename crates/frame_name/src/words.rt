@@ -1,9 +1,7 @@
 //! The user's words for names.
 
-ghost use Rattle.std.specs.Prelude.{◌≡◌, ◌||◌, ◌++◌, ℕ, List, []};
-ghost use Rattle.std.specs.Prelude.{cond};
-ghost use Rattle.frame_name.specs.Texts.{contains, closes_with};
-ghost use Rattle.frame_name.specs.Words.{word_fits, any_fits, goes_on, before_star};
+ghost use Rattle.std.specs.Prelude.{◌≡◌, []};
+ghost use Rattle.frame_name.specs.Words.{fits_anywhere, word_fits, any_fits};
 
 use crate::texts::contains;
 use call_path::CallPath;
@@ -52,9 +50,9 @@ impl Words {
     }
 }
 
-// Whether a word that goes on behind a `*` at its beginning fits a text.
-fn open_word_fits(word: &[u8], text: &[u8]) -> bool
-    ensures { result ≡ cond (goes_on word.now) (contains (before_star word.now) text.now) (closes_with word.now text.now) }
+// Whether a text ends with a word, or contains it where a `*` stands behind the word.
+fn fits_anywhere(word: &[u8], text: &[u8]) -> bool
+    ensures { result ≡ fits_anywhere word.now text.now }
 {
     if word.ends_with(b"*") {
         return contains(&word[..word.len() - 1], text);
@@ -66,7 +64,7 @@ fn word_fits(word: &[u8], text: &[u8]) -> bool
     ensures { result ≡ word_fits word.now text.now }
 {
     if word.starts_with(b"*") {
-        return open_word_fits(&word[1..], text);
+        return fits_anywhere(&word[1..], text);
     }
     if word.ends_with(b"*") {
         return text.starts_with(&word[..word.len() - 1]);
@@ -84,8 +82,3 @@ fn any_fits(words: &CallPath, text: &[u8]) -> bool
     }
     false
 }
-
-/// A law of words: what fits two lists of them together fits one of the two.
-pub fn words_fit_one_by_one()
-    ensures { (a b : List (List ℕ)) (text : List ℕ) → any_fits (a ++ b) text ≡ (any_fits a text || any_fits b text) }
-{}

@@ -1,6 +1,7 @@
 //! The frames of a stack's calls.
 
-ghost use Rattle.std.specs.Prelude.{◌≡◌, IfOk, map, reverse};
+ghost use Rattle.std.specs.Prelude.{◌≡◌, IfOk, map, reverse, not};
+ghost use Rattle.std.specs.List.{list_any, filter};
 ghost use Rattle.frame_name.specs.CallViews.{call_view};
 ghost use Rattle.frame_name.specs.RuleViews.{rules_view};
 ghost use Rattle.stack_path.specs.Stacks.{frames_of, stack_of, is_replaced};
@@ -22,12 +23,26 @@ fn frames_of(alloc: Global, rules: &Rules, calls: &[Call]) -> Result<Vec<Frame>,
     Ok(frames)
 }
 
+// Whether a frame is of another source file than the C++ library's own.
+fn has_other_files(stack: &[Frame]) -> bool
+    ensures { result ≡ list_any (λ f. not f.is_plumbing) stack.now }
+{
+    stack.iter().any(|f| !f.is_plumbing())
+}
+
+// Keeps the frames of other source files than the C++ library's own.
+fn keep_other_files(stack: &mut Vec<Frame>)
+    ensures { stack.new.items ≡ filter (λ f. not f.is_plumbing) stack.old.items }
+{
+    stack.retain(|f| !f.is_plumbing());
+}
+
 // Takes out the frames of the C++ library's own source files, where there are others.
 fn drop_plumbing(stack: &mut Vec<Frame>)
     ensures { stack.new.items ≡ without_plumbing stack.old.items }
 {
-    if stack.iter().any(|f| !f.is_plumbing()) {
-        stack.retain(|f| !f.is_plumbing());
+    if has_other_files(stack.as_slice()) {
+        keep_other_files(stack);
     }
 }
 

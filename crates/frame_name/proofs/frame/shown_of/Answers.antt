@@ -1,22 +1,19 @@
-use Rattle.std.proofs.Common.{◌≡◌, true, false, cond, [], ◌++◌, List, ℕ, Bool, sym, ap, ◌∙◌, subst, Vec, Global, length, arith}
-use Rattle.std.specs.Prelude.{string_bytes}
+use Rattle.std.proofs.Common.{◌≡◌, cond, [], ◌++◌, List, ℕ, Bool, sym, ap, ◌∙◌, subst, Vec, Global, length, arith}
 use Rattle.std.specs.Str.{IsUtf8}
 use Rattle.std.proofs.lemmas.Bool.{false≢true}
 use Rattle.frame_name.specs.CallViews.{call_view}
 use Rattle.frame_name.specs.Calls.{CallView}
-use Rattle.frame_name.specs.Fitted.{fitted}
-use Rattle.frame_name.specs.Plain.{plain}
-use Rattle.frame_name.specs.Names.{name_text, name_of, function_of}
+use Rattle.frame_name.specs.Names.{shown_name, name_of, function_of}
 use Rattle.frame_name.specs.SourceLines.{line_of}
 use Rattle.frame_name.proofs.GoodFrames.{frame_is}
 use Rattle.frame_name.proofs.frame.shown_of.Goals as goal
 
-named : (function name : List ℕ) (is_innermost : Bool) (call : CallView) → function ≡ function_of call → name ≡ fitted (plain (name_text function is_innermost call)) → name ≡ name_of is_innermost call
+named : (function name : List ℕ) (is_innermost : Bool) (call : CallView) → function ≡ function_of call → name ≡ shown_name function is_innermost call → name ≡ name_of is_innermost call
 unfolding name_of
-named function name is_innermost call e f = f ∙ ap (λ t. fitted (plain (name_text t is_innermost call))) e
+named function name is_innermost call e f = f ∙ ap (λ t. shown_name t is_innermost call) e
 
 -- the text, if its name is that of the function's call
-text_is : (function name bytes : List ℕ) (keeps_lines is_innermost : Bool) (call : CallView) → function ≡ function_of call → name ≡ fitted (plain (name_text function is_innermost call)) → bytes ≡ name ++ cond keeps_lines (line_of call) [] → bytes ≡ name_of is_innermost call ++ cond keeps_lines (line_of call) []
+text_is : (function name bytes : List ℕ) (keeps_lines is_innermost : Bool) (call : CallView) → function ≡ function_of call → name ≡ shown_name function is_innermost call → bytes ≡ name ++ cond keeps_lines (line_of call) [] → bytes ≡ name_of is_innermost call ++ cond keeps_lines (line_of call) []
 text_is function name bytes keeps_lines is_innermost call e f g = g ∙ ap (λ t. t ++ cond keeps_lines (line_of call) []) (named function name is_innermost call e f)
 
 pub unreachable-requires : goal.unreachable-requires

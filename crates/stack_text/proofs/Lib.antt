@@ -1,0 +1,9 @@
+pub mod DigitRuns
+pub mod Places
+pub mod ClosedBrackets
+pub mod Addresses
+pub mod BareLines
+pub mod BareThreads
+pub mod Pieces
+pub mod ThreadLines
+pub mod PartedLines
