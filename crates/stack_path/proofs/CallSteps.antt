@@ -23,4 +23,4 @@ outermost_view rules calls inner call is_innermost parts h =
     ∙ ap (λ cs. frames_of rules (reverse cs)) (map-append call_view inner (call ∷ []))
     ∙ ap (frames_of rules) (reverse-append (map call_view inner) (call_view call ∷ []))
     ∙ outermost rules (call_view call) (reverse (map call_view inner)) is_innermost
-      (h ∙ ap (λ n. n == 0) (sym (length-reverse (map call_view inner) ∙ length-map inner call_view)))
+    (h ∙ ap (λ n. n == 0) (sym (length-reverse (map call_view inner) ∙ length-map inner call_view)))

@@ -42,6 +42,6 @@ ends_fit frames outer inner p q r s more is_outer is_inner begins first middle l
     ∙ append_assoc (texts_of outer) (left_out ∷ []) (texts_of inner)
     ∙ ap (λ t. t ++ left_out ∷ texts_of inner) (ap texts_of is_outer ∙ sym (texts_take 63 frames))
     ∙ ap (λ t. take 63 (texts_of frames) ++ left_out ∷ t)
-      (ap texts_of is_inner ∙ sym (texts_drop (length frames - 64) frames)
-      ∙ ap (λ n. drop (n - 64) (texts_of frames)) (sym (texts_len frames)))
+    (ap texts_of is_inner ∙ sym (texts_drop (length frames - 64) frames)
+    ∙ ap (λ n. drop (n - 64) (texts_of frames)) (sym (texts_len frames)))
     ∙ sym (long_path (texts_of frames) (omega (arith, texts_len frames)))

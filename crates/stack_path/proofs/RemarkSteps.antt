@@ -15,9 +15,9 @@ range_more path p q r start i f from_start at within so_far next =
     let size = length-drop start path in
     let lt : i - start < length rest = omega (arith, size) in
     let item : get_or rest (i - start) f ≡ f =
-        get_or-drop start path (i - start) f
-        ∙ (let e : start + (i - start) ≡ i = omega arith in ap (λ k. get_or path k f) e)
-        ∙ get_or_from_slice_get path i f f at in
+    get_or-drop start path (i - start) f
+    ∙ (let e : start + (i - start) ≡ i = omega arith in ap (λ k. get_or path k f) e)
+    ∙ get_or_from_slice_get path i f f at in
     let count : i - start + 1 ≡ i + 1 - start = omega arith in
     next ∙ ap (λ t. t ++ f ∷ []) so_far ∙ append_assoc p (take (i - start) rest) (f ∷ [])
     ∙ ap (λ g. p ++ (take (i - start) rest ++ g ∷ [])) (sym item)
@@ -44,7 +44,7 @@ ends_with p a b c d e remark full begins first middle last end =
     let long : both_ends all ≡ take 63 all ++ left_out ∷ drop (length all - 64) all = long_path all (omega (arith, size)) in
     let outer : take 63 all ≡ take 63 p = take-append-le 63 p (remark ∷ []) (omega (arith, full)) in
     let rest : drop (length all - 64) all ≡ drop 65 p ++ remark ∷ [] =
-        ap (λ n. drop (n - 64) all) size ∙ drop-append-le 65 p (remark ∷ []) (omega (arith, full)) in
+    ap (λ n. drop (n - 64) all) size ∙ drop-append-le 65 p (remark ∷ []) (omega (arith, full)) in
     end ∙ ap (λ t. t ++ remark ∷ []) (last ∙ ap (λ t. t ++ take 63 (drop 65 p)) (middle ∙ ap (λ t. t ++ left_out ∷ []) (first ∙ ap (λ t. t ++ take 63 p) begins)))
     ∙ ap (λ t. take 63 p ++ left_out ∷ [] ++ t ++ remark ∷ []) inner
     ∙ append_assoc (take 63 p ++ left_out ∷ []) (drop 65 p) (remark ∷ [])

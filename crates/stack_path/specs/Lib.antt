@@ -9,3 +9,4 @@ pub mod ChoiceViews
 pub mod Paths
 pub mod StackViews
 pub mod PathViews
+pub mod Rows

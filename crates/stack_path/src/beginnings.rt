@@ -52,7 +52,11 @@ pub fn begun_first(stack: &[Frame]) -> &[Frame]
     ensures { result.now ≡ begun_first stack.now }
 {
     let (_, begun) = stack.split_at(main_index(stack));
-    if begun.is_empty() { without_start(stack) } else { begun }
+    if begun.is_empty() {
+        without_start(stack)
+    } else {
+        begun
+    }
 }
 
 /// What is shown of another thread's stack: from the program's own code on. It is empty where there is none.

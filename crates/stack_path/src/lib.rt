@@ -11,7 +11,6 @@ mod remarks;
 mod shown;
 mod stacks;
 
-
 pub use choice::{Choice, End, Recursion};
 pub use paths::{StackPath, first_path, other_path};
 pub use remarks::{cut_to, with_remark};

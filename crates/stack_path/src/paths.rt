@@ -88,7 +88,11 @@ pub fn first_path(alloc: Global, choice: &Choice, stack: &[Frame]) -> Result<Sta
 /// The path of another thread's stack, from the program's own code on; none where it runs none. The one error is running
 /// out of memory.
 #[tactic(auto, unfolding(crate::specs::Paths::other_path))]
-pub fn other_path(alloc: Global, choice: &Choice, stack: &[Frame]) -> Result<Option<StackPath>, AllocError>
+pub fn other_path(
+    alloc: Global,
+    choice: &Choice,
+    stack: &[Frame],
+) -> Result<Option<StackPath>, AllocError>
     ensures { IfOk result (λ p. option_map stack_path_view p ≡ other_path (choice_view choice.now) stack.now) }
 {
     let begun = begun_other(stack);

@@ -84,7 +84,11 @@ fn len_before(stack: &[&Frame], frame: &Frame) -> usize
 }
 
 // What is shown with one call more.
-fn add_call<'f>(stack: &mut Vec<&'f Frame>, recursion: Recursion, frame: &'f Frame) -> Result<(), AllocError>
+fn add_call<'f>(
+    stack: &mut Vec<&'f Frame>,
+    recursion: Recursion,
+    frame: &'f Frame,
+) -> Result<(), AllocError>
     ensures { OnOk result
         (stack_view stack.new.items ≡ with_call (recursion_view recursion) (stack_view stack.old.items) frame.now) }
 {
@@ -108,7 +112,11 @@ fn add_call<'f>(stack: &mut Vec<&'f Frame>, recursion: Recursion, frame: &'f Fra
 }
 
 /// What is shown of a stack's calls, outermost first.
-pub fn once<'f>(alloc: Global, calls: &[&'f Frame], recursion: Recursion) -> Result<Vec<&'f Frame>, AllocError>
+pub fn once<'f>(
+    alloc: Global,
+    calls: &[&'f Frame],
+    recursion: Recursion,
+) -> Result<Vec<&'f Frame>, AllocError>
     ensures { IfOk result (λ shown. stack_view shown.items ≡ once (recursion_view recursion) (stack_view calls.now)) }
 {
     let mut shown = Vec::new(alloc);

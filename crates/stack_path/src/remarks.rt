@@ -10,7 +10,12 @@ use frame_name::is_remark;
 use std::alloc::{AllocError, Global};
 
 // Appends the frames of a path from one number up to another.
-fn push_range(out: &mut PathBuilder, path: &CallPath, from: usize, to: usize) -> Result<(), AllocError>
+fn push_range(
+    out: &mut PathBuilder,
+    path: &CallPath,
+    from: usize,
+    to: usize,
+) -> Result<(), AllocError>
     requires order { from ≤ to }
     requires within { to ≤ length path.now }
     requires room { length out.old + (to - from) ≤ FRAME_LIMIT }
