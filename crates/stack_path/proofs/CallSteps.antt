@@ -1,5 +1,5 @@
 -- The frame of the outermost call that is left.
-use Rattle.std.proofs.Common.{◌≡◌, ◌∙◌, ℕ, Bool, List, [], ◌∷◌, ◌++◌, refl, ap, sym, map, length}
+use Rattle.std.proofs.Common.{◌≡◌, ◌∙◌, Bool, List, [], ◌∷◌, ◌++◌, ap, sym, map, length}
 use Rattle.std.specs.Prelude.{reverse, ◌==◌}
 use Rattle.std.proofs.lemmas.List.{map-append, length-map, reverse-append, length-reverse}
 use Rattle.std.proofs.Math.Dec.{eqb-suc-zero}

@@ -1,5 +1,5 @@
 -- The search for the shortest cycle, step by step.
-use Rattle.std.proofs.Common.{◌≡◌, ◌∙◌, ℕ, zero, suc, ◌+◌, ◌-◌, ◌<◌, Bool, true, false, cond, refl, ap, sym, arith}
+use Rattle.std.proofs.Common.{◌≡◌, ◌∙◌, ℕ, suc, ◌+◌, ◌-◌, ◌<◌, true, false, cond, refl, ap, sym, arith}
 use Rattle.stack_path.specs.Beginnings.{Stack}
 use Rattle.stack_path.specs.Recursion.{ends_twice, cycle_from, cycle_len}
 

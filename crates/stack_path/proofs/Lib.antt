@@ -5,3 +5,10 @@ pub mod EndViews
 pub mod CallSteps
 pub mod Plumbing
 pub mod RemarkSteps
+pub mod SameNames
+pub mod Settled
+pub mod LoopsSettled
+pub mod CutsTwice
+pub mod BareFrames
+pub mod ShownPaths
+pub mod Depths

@@ -1,5 +1,5 @@
 -- The steps of the loops.
-use Rattle.std.proofs.Common.{◌≡◌, ◌∙◌, ℕ, ◌+◌, ◌<◌, suc, Bool, true, false, ◌&&◌, not, cond, List, [], ◌∷◌, ◌++◌, refl, ap, sym, map, drop, get_or, length, append_assoc}
+use Rattle.std.proofs.Common.{◌≡◌, ◌∙◌, Bool, true, false, ◌&&◌, not, cond, [], ◌∷◌, ap}
 use Rattle.frame_name.specs.Frames.{FrameView}
 use Rattle.stack_path.specs.Beginnings.{Stack}
 use Rattle.stack_path.specs.Shown.{shown_below}

@@ -1,5 +1,5 @@
 -- Frames by reference, and what they stand for.
-use Rattle.std.proofs.Common.{◌≡◌, ◌∙◌, ℕ, suc, ◌+◌, ◌-◌, ◌≤◌, Bool, cond, List, [], ◌∷◌, ◌++◌, refl, ap, sym, map, Bor, take, drop, length, arith, add_assoc, add-one}
+use Rattle.std.proofs.Common.{◌≡◌, ◌∙◌, ℕ, suc, ◌+◌, ◌-◌, ◌≤◌, Bool, cond, List, [], ◌∷◌, ◌++◌, refl, ap, sym, Bor, take, drop, length, arith, add_assoc, add-one}
 use Rattle.std.proofs.lemmas.List.{take-map, drop-map, map-append, length-map, length-take-le, drop-drop}
 use Rattle.std.proofs.Math.Seq.{take-append_seam, drop-append-add}
 use Rattle.stack_path.specs.Recursion.{without_before}

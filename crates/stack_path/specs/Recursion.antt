@@ -1,5 +1,5 @@
 -- Recursion: of calls that come again, the last ones are shown. A stack has its outermost frame first.
-use Rattle.std.specs.Prelude.{ℕ, zero, suc, ◌+◌, ◌-◌, Bool, ◌&&◌, not, nat_le, cond, List, [], ◌∷◌, ◌++◌, length, take, drop, map, true, false}
+use Rattle.std.specs.Prelude.{ℕ, zero, suc, ◌+◌, ◌-◌, Bool, ◌&&◌, not, nat_le, cond, List, [], ◌∷◌, ◌++◌, length, take, drop, true, false}
 use Rattle.std.specs.List.{prefix_len}
 use Rattle.std.specs.Str.{bytes_eq}
 use Rattle.frame_name.specs.Frames.{FrameView}

@@ -2,7 +2,6 @@
 -- come differs from moment to moment. The program's own code that the library calls is shown.
 use Rattle.std.specs.Prelude.{Bool, true, false, ◌&&◌, not, cond, [], ◌∷◌}
 use Rattle.std.specs.List.{list_any}
-use Rattle.frame_name.specs.Frames.{FrameView}
 use Rattle.stack_path.specs.Beginnings.{Stack}
 
 -- whether a stack shows no library of MPI's: then MPI may be part of the program, and its calls are told by their names

@@ -1,4 +1,4 @@
-use Rattle.std.proofs.Common.{◌≡◌, ◌≤◌, ◌+◌, ◌-◌, ◌∙◌, length, arith}
+use Rattle.std.proofs.Common.{◌+◌, ◌-◌, arith}
 use Rattle.stack_path.proofs.Views.{removed_one, middle_view}
 use Rattle.stack_path.proofs.recursion.remove_before.Goals as goal
 

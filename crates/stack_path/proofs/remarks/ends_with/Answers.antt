@@ -1,4 +1,4 @@
-use Rattle.std.proofs.Common.{◌≡◌, ◌∙◌, ◌≤◌, ◌<◌, ◌+◌, length, drop, ap, arith, ◌++◌, ◌∷◌, []}
+use Rattle.std.proofs.Common.{◌∙◌, length, drop, ap, arith, ◌∷◌, []}
 use Rattle.std.proofs.lemmas.List.{length-append}
 use Rattle.stack_path.specs.Ends.{left_out}
 use Rattle.stack_path.proofs.RemarkSteps.{no_longer, ends_with}

@@ -1,4 +1,4 @@
-use Rattle.std.proofs.Common.{◌≡◌, ◌∙◌, ◌<◌, length, ap, arith, ◌++◌, ◌∷◌, []}
+use Rattle.std.proofs.Common.{◌∙◌, ◌<◌, length, ap, arith, ◌++◌, ◌∷◌, []}
 use Rattle.stack_path.proofs.RemarkSteps.{fits_with}
 use Rattle.stack_path.proofs.remarks.with_remark.Goals as goal
 

@@ -1,6 +1,5 @@
 use Rattle.std.proofs.Common.{rules, not}
 use Rattle.std.proofs.lemmas.Fn.{filter_same}
-use Rattle.frame_name.specs.Frames.{FrameView}
 use Rattle.stack_path.proofs.stacks.keep_other_files.Goals as goal
 
 pub returns : goal.returns
