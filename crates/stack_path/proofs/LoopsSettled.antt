@@ -90,9 +90,15 @@ distinct_settled s distinct kept f rest e =
     let all : len_before f.name kept ≡ length kept = all_before f.name kept none in
     ap (λ t. t ++ f ∷ []) (take_all (len_before f.name kept) kept (omega (arith, all)))
 
+loops_distinct : (s : Stack) → IsDistinct (once Loops s)
+loops_distinct s = distinct_calls [] s tt
+
+pub loops_once : (s outer inner : Stack) (f : FrameView) → once Loops s ≡ outer ++ f ∷ inner → len_before f.name outer ≡ length outer
+loops_once s outer inner f e = all_before f.name outer (distinct_kept outer f inner (subst IsDistinct e (loops_distinct s)))
+
 settled : (how : RecursionView) (s : Stack) → IsSettled how (once how s)
 settled Cycles s = cycles_settled s
-settled Loops s = distinct_settled (once Loops s) (distinct_calls [] s tt)
+settled Loops s = distinct_settled (once Loops s) (loops_distinct s)
 settled Each s = λ kept f rest e. refl
 
 pub once_again : (how : RecursionView) (s : Stack) → once how (once how s) ≡ once how s

@@ -145,5 +145,8 @@ free_settled s free kept f rest e =
     ap (λ n. without_before n (kept ++ f ∷ [])) none
     ∙ take-append-drop (length (kept ++ f ∷ []) - 0) (kept ++ f ∷ [])
 
+pub cycles_free : (s : Stack) (k : ℕ) → cycle_len (take k (once Cycles s)) ≡ 0
+cycles_free s = free_calls [] s (λ k. ap cycle_len (take_all k [] (omega arith)) ∙ none_of_none)
+
 pub cycles_settled : (s : Stack) → IsSettled Cycles (once Cycles s)
-cycles_settled s = free_settled (once Cycles s) (free_calls [] s (λ k. ap cycle_len (take_all k [] (omega arith)) ∙ none_of_none))
+cycles_settled s = free_settled (once Cycles s) (cycles_free s)

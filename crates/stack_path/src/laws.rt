@@ -1,30 +1,35 @@
 //! Laws of paths.
 
-ghost use Rattle.std.specs.Prelude.{◌≡◌, ◌<◌, ◌≤◌, ◌||◌, ◌++◌, ℕ, Bool, true, List, [], length, take, map};
+ghost use Rattle.std.specs.Prelude.{◌≡◌, ◌<◌, ◌≤◌, ◌||◌, ◌++◌, ℕ, Bool, true, List, [], ◌∷◌, length, take, map};
 ghost use Rattle.call_path.specs.Path.{Path};
 ghost use Rattle.frame_name.specs.Frames.{FrameView};
 ghost use Rattle.stack_path.specs.Beginnings.{Stack, begun_first, begun_other};
-ghost use Rattle.stack_path.specs.Recursion.{RecursionView, once};
+ghost use Rattle.stack_path.specs.Recursion.{RecursionView, Cycles, Loops, cycle_len, len_before, once};
 ghost use Rattle.stack_path.specs.Cuts.{until, is_cut_by};
 ghost use Rattle.stack_path.specs.Ends.{both_ends, ends_with_remark, cut_to};
 ghost use Rattle.stack_path.specs.Choices.{ChoiceView};
 ghost use Rattle.stack_path.specs.Paths.{kept};
 
-/// A law of recursion: what is shown of a stack has nothing more to leave out.
+/// A law of recursion: what is shown of a stack has nothing more to leave out. Of cycles none comes twice in a row, up to
+/// any frame, and of loops no function comes twice.
 pub fn recursion_once()
-    ensures { (how : RecursionView) (s : Stack) → once how (once how s) ≡ once how s }
+    ensures again { (how : RecursionView) (s : Stack) → once how (once how s) ≡ once how s }
+    ensures cycles { (s : Stack) (k : ℕ) → cycle_len (take k (once Cycles s)) ≡ 0 }
+    ensures loops { (s outer inner : Stack) (f : FrameView) → once Loops s ≡ outer ++ f ∷ inner →
+        len_before f.name outer ≡ length outer }
 {}
 
 /// A law of cuts: what ends at more frames is a function of what ends at fewer, and so with more words.
 pub fn more_words_are_coarser()
-    ensures more { (cuts more : FrameView → Bool) (s : Stack) → until more (until cuts s) ≡ until (λ f. cuts f || more f) s }
+    ensures more { (cuts more : FrameView → Bool) (s : Stack) →
+        until more (until cuts s) ≡ until (λ f. cuts f || more f) s }
     ensures again { (cuts : FrameView → Bool) (s : Stack) → until cuts (until cuts s) ≡ until cuts s }
     ensures words { (words more : List (List ℕ)) (s : Stack) →
         until (is_cut_by (words ++ more)) s ≡ until (is_cut_by more) (until (is_cut_by words) s) }
 {}
 
-/// A law of lines: which frames are shown doesn't rest on them, so paths with lines determine those without.
-pub fn lines_are_finer()
+/// A law of lines: where a stack begins, and which of its frames are shown, doesn't rest on them.
+pub fn lines_change_no_frames()
     ensures kept { (choice : ChoiceView) (s : Stack) →
         let bare : FrameView → FrameView = λ f. record f { line = [] } in
         map bare (kept choice s) ≡ kept choice (map bare s) }

@@ -1,5 +1,5 @@
 use Rattle.stack_path.proofs.BareFrames.{kept_bare, first_bare, other_bare}
-use Rattle.stack_path.proofs.laws.lines_are_finer.Goals as goal
+use Rattle.stack_path.proofs.laws.lines_change_no_frames.Goals as goal
 
 pub returns-clause-kept : goal.returns-clause-kept
 returns-clause-kept c = kept_bare
